@@ -1,0 +1,58 @@
+ghost use Rattle.std.specs.Prelude.{◌≡◌, ◌↔◌, OkIff};
+ghost use Rattle.bac_values.specs.BitString.{IsBitString};
+
+use std::marker::Model;
+
+/// A string of at most 64 bits. The first bit is the lowest of the number.
+#[derive(Clone, Copy, Debug, PartialEq, Eq)]
+pub struct Bits {
+    size: u8,
+    bits: u64,
+}
+
+impl Model for Bits {
+    ghost use Rattle.bac_values.specs.BitString.{BitString, IsBitString};
+
+    ghost Value = { BitString };
+
+    ghost view = { λ string. record { size = string.size; bits = string.bits } };
+
+    ghost invariant = { λ string. IsBitString string.size string.bits };
+
+    ghost inverse = { λ string. record { size = string.size; bits = string.bits } };
+}
+
+/// A length above 64, or a bit that is set at or above the length.
+#[derive(Clone, Copy, Debug, PartialEq, Eq)]
+pub struct TooManyBits;
+
+impl Bits {
+    /// The string with a length and its bits, the first one lowest.
+    pub fn new(length: u8, bits: u64) -> Result<Bits, TooManyBits>
+        ensures made { OkIff result (IsBitString length bits) (record { size = length; bits = bits }) }
+    {
+        if length > 64 {
+            return Err(TooManyBits);
+        }
+        if length < 64 && bits >= 1 << length {
+            return Err(TooManyBits);
+        }
+        Ok(Bits { size: length, bits })
+    }
+
+    /// How many bits there are, at most 64.
+    pub fn length(&self) -> u8
+        ensures length { result ≡ self.now.size }
+        ensures range { IsBitString self.now.size self.now.bits }
+    {
+        self.size
+    }
+
+    /// The bits as a number whose lowest bit is the first. None is set at or above the length.
+    pub fn bits(&self) -> u64
+        ensures bits { result ≡ self.now.bits }
+        ensures range { IsBitString self.now.size self.now.bits }
+    {
+        self.bits
+    }
+}

@@ -1,0 +1,52 @@
+ghost use Rattle.std.specs.Prelude.{◌≡◌, []};
+ghost use Rattle.bac_values.specs.Address.{console};
+
+use crate::Mac;
+use std::marker::Model;
+
+/// A peer on the network. On the local network, 0, there is no station behind the address.
+/// The order is by the fields, in their order.
+#[derive(Clone, Copy, Debug, PartialEq, Eq, PartialOrd, Ord)]
+pub struct Peer {
+    /// The address of IPv4, its first octet highest.
+    pub ip: u32,
+    /// The port of UDP.
+    pub port: u16,
+    /// The number of the network behind a router, or 0.
+    pub net: u16,
+    /// The station on that network.
+    pub mac: Mac,
+}
+
+impl Model for Peer {
+    ghost use Rattle.bac_values.specs.Address.{Address, IsAddress};
+
+    ghost Value = { Address };
+
+    ghost view = { λ peer. record { ip = peer.ip; port = peer.port; net = peer.net; mac = peer.mac } };
+
+    ghost invariant = { λ peer. IsAddress peer.net peer.mac };
+
+    ghost inverse = { λ peer. record { ip = peer.ip; port = peer.port; net = peer.net; mac = peer.mac } };
+}
+
+impl Peer {
+    /// The console, which is the peer of zeros.
+    pub fn console() -> Peer
+        ensures console { result ≡ console }
+    {
+        Peer::local(0, 0)
+    }
+
+    /// The peer at an address and a port of the local network.
+    pub fn local(ip: u32, port: u16) -> Peer
+        ensures local { result ≡ record { ip = ip; port = port; net = 0; mac = [] } }
+    {
+        Peer {
+            ip,
+            port,
+            net: 0,
+            mac: Mac::none(),
+        }
+    }
+}
