@@ -1,8 +1,7 @@
 -- The octets of a station's address give back their seven places.
-use Rattle.std.specs.Prelude.{◌≡◌, ℕ, List, length, take, refl}
-use Rattle.std.proofs.Common.{sym, ◌∙◌, ap, subst, min}
+use Rattle.std.specs.Prelude.{◌≡◌, ℕ, List, length, take}
+use Rattle.std.proofs.Common.{sym, ◌∙◌, ap}
 use Rattle.std.proofs.lemmas.List.{length-take-le}
-use Rattle.std.proofs.Common.{rules, arith}
 use Rattle.bac_values.specs.declared.mac.Mac.TheInside.{Inside}
 use Rattle.bac_values.specs.Address.{IsPadded, padded}
 
