@@ -1,0 +1,5 @@
+pub mod Facts
+pub mod Rules
+pub mod Matches
+pub mod SameValue
+pub mod Conditions

@@ -1,0 +1,22 @@
+//! The rules by which an object's event state changes: which are tried in a state, when the condition of each holds, and
+//! for how long it must last (ANSI/ASHRAE 135-2020, 13.3).
+//!
+//! A rule looks at one moment alone. That its condition must last, and since when it has, is told by whoever keeps the
+//! moments: as long as the key of a rule stays the same, its condition has gone on.
+#![tactic(auto)]
+
+mod conditions;
+mod matches;
+mod rules;
+mod snapshot;
+mod table;
+#[cfg(test)]
+mod tests;
+mod waiting;
+
+pub use conditions::key;
+pub use matches::matched;
+pub use rules::rule;
+pub use snapshot::Snapshot;
+pub use table::{Algorithm, Rule, Test, Waiting};
+pub use waiting::delay;

@@ -1,0 +1,5 @@
+mod Looking
+mod Numbering
+mod Places
+mod Sequences
+mod Latest

@@ -1,0 +1,59 @@
+-- An event log (ANSI/ASHRAE 135-2020, 12.27) as plain data.
+use Rattle.std.specs.Prelude.{◌≡◌, ℕ, ◌+◌, ◌-◌, ◌^◌, ◌≤◌, ◌<◌, ◌==◌, Bool, not, ◌&&◌, nat_lt, nat_le, List, [], ◌∷◌, ◌++◌, length, slice_get, Some, if◌then◌else◌}
+use Rattle.circular_buffer.specs.Buffer.{keep_last}
+use Rattle.bac_values.specs.declared.stamp.Stamp.{Stamp}
+use Rattle.event_log.specs.declared.log_record.LogRecord.{LogRecord}
+
+-- Buffer_Size, Stop_When_Full, Enable, Total_Record_Count, and the records in Log_Buffer, the oldest first
+pub record Log : Type 0 where
+  pub size : ℕ
+  pub stops : Bool
+  pub enabled : Bool
+  pub total : ℕ
+  pub records : List LogRecord
+
+-- the number that follows a number of records; 1 follows the greatest of 32 bits
+abbrev pub number_after : ℕ → ℕ
+number_after total = if total == 2 ^ 32 - 1 then 1 else total + 1
+
+-- the number of the record that lies so many records back from the one with a number
+abbrev pub number_back : ℕ → ℕ → ℕ
+number_back total back = if nat_lt back total then total - back else total + (2 ^ 32 - 1) - back
+
+-- the newest record has the total as its number, and each one before it the number before
+abbrev pub AreNumbered : ℕ → List LogRecord → Type 0
+AreNumbered total records = (place : ℕ) (entry : LogRecord) → slice_get records place ≡ Some entry → entry.sequence ≡ number_back total (length records - 1 - place)
+
+-- what is so of every log: numbers of 32 bits, no more records than its size, none where none was ever taken, and all in their numbers
+pub record IsLog (log : Log) : Type 0 where
+  pub size : log.size < 2 ^ 32
+  pub total : log.total < 2 ^ 32
+  pub short : length log.records ≤ log.size
+  pub begun : 0 < length log.records → 0 < log.total
+  pub numbered : AreNumbered log.total log.records
+
+-- a log that has taken nothing yet
+abbrev pub new_log : ℕ → Bool → Bool → Log
+new_log size stops enabled = record { size = size; stops = stops; enabled = enabled; total = 0; records = [] }
+
+-- whether a record is taken: where the log is enabled, and isn't both full and set to stop when it is
+abbrev pub is_taken : Bool → Bool → ℕ → ℕ → Bool
+is_taken enabled stops size count = enabled && not (stops && nat_le size count)
+
+abbrev pub entry_of : Stamp → List ℕ → ℕ → LogRecord
+entry_of stamp body number = record { stamp = stamp; sequence = number; body = body }
+
+-- with one more record, of which the last ones stay that the size allows
+abbrev pub with_entry : Stamp → List ℕ → Log → Log
+with_entry stamp body log = record log { total = number_after log.total; records = keep_last log.size (log.records ++ entry_of stamp body (number_after log.total) ∷ []) }
+
+-- after a record came; where it isn't taken, the log is as it was
+abbrev pub recorded : Stamp → List ℕ → Log → Log
+recorded stamp body log = if is_taken log.enabled log.stops log.size (length log.records) then with_entry stamp body log else log
+
+-- without records; the total stays
+abbrev pub cleared : Log → Log
+cleared log = record log { records = [] }
+
+abbrev pub switched : Bool → Log → Log
+switched on log = record log { enabled = on }

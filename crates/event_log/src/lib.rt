@@ -1,0 +1,16 @@
+//! A bounded log of event notifications (ANSI/ASHRAE 135-2020, 12.27), and the ranges by which it is read (15.8).
+//!
+//! Memory is taken when a log is made, and never after.
+#![tactic(auto)]
+
+mod event_log;
+mod log_range;
+mod log_record;
+mod order;
+#[cfg(test)]
+mod tests;
+
+pub use event_log::EventLog;
+pub use log_range::LogRange;
+pub use log_record::LogRecord;
+pub use order::is_before;
