@@ -56,3 +56,11 @@ Each P disk = (image : List ℕ) → MayLeave disk image → P image
 abbrev pub Always : (List ℕ → Type 0) → Disk → List Entry → Type 0
 Always P disk [] = Each P disk
 Always P disk (entry ∷ entries) = Each P disk × Always P (after_entry entry disk) entries
+
+-- an entry of a device of this size: what it wrote lies on the device, and a failed write left as many octets as were tried
+abbrev pub IsInside : ℕ → Entry → Type 0
+IsInside size (Wrote place octets) = place + length octets ≤ size
+IsInside size (Broke place tried left) = (place + length tried ≤ size) × (length left ≡ length tried)
+IsInside size Synced = Unit {0}
+IsInside size (Emitted peer octets) = Unit {0}
+IsInside size (Lost peer octets) = Unit {0}

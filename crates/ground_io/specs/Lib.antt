@@ -1,3 +1,6 @@
 pub mod Counts
 pub mod Disk
+pub mod Image
+pub mod InMemory
+pub mod Past
 pub mod Trace

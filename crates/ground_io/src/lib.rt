@@ -6,9 +6,24 @@
 #![tactic(auto)]
 
 mod entry;
+mod failing;
+mod file_ground;
+mod filling;
 mod ground;
+mod image;
+mod memory_ground;
+mod memory_source;
+mod past;
 mod source;
+mod std_source;
+#[cfg(test)]
+mod tests;
 
 pub use entry::Entry;
+pub use file_ground::FileGround;
+pub use filling::Filling;
 pub use ground::Ground;
+pub use memory_ground::MemoryGround;
+pub use memory_source::MemorySource;
 pub use source::{Failed, Source};
+pub use std_source::StdSource;

@@ -1,0 +1,4 @@
+pub mod Consuming
+pub mod Disks
+pub mod Images
+pub mod Telling

@@ -1,0 +1,156 @@
+use crate::*;
+use bac_values::Peer;
+use std::fs::{self, OpenOptions};
+use std::net::UdpSocket;
+use std::test::Fail;
+use std::time::Duration;
+
+#[test]
+fn memory_source_gives_its_octets_and_fails_at_the_listed_calls(
+    rt: HostRuntime,
+) -> Result<(), Fail> {
+    let alloc = rt.alloc();
+    let mut source = MemorySource::new(b"alarm".to_vec(alloc)?, vec![in alloc; 2u64, 4]?);
+    let mut into = [0u8; 3];
+    assert_eq!(rt; source.read(&mut into), Ok(3));
+    assert_eq!(rt; into, *b"ala");
+    assert_eq!(rt; source.read(&mut into), Err(Failed));
+    assert_eq!(rt; source.read(&mut into), Ok(2));
+    assert_eq!(rt; into, *b"rma");
+    assert_eq!(rt; source.read(&mut into), Err(Failed));
+    assert_eq!(rt; source.read(&mut into), Ok(0));
+    Ok(())
+}
+
+#[test]
+fn std_source_reads_a_reader(rt: HostRuntime) {
+    let mut source = StdSource::new(b"set 1".as_slice());
+    let mut into = [0u8; 4];
+    assert_eq!(rt; source.read(&mut into), Ok(4));
+    assert_eq!(rt; into, *b"set ");
+    assert_eq!(rt; source.read(&mut into), Ok(1));
+    assert_eq!(rt; source.read(&mut into), Ok(0));
+}
+
+#[test]
+fn memory_ground_tells_all_and_fails_at_the_listed_calls(rt: HostRuntime) -> Result<(), Fail> {
+    let alloc = rt.alloc();
+    let mut device = MemoryGround::new(alloc, vec![in alloc; 7u8; 6]?, vec![in alloc; 5u64, 7, 9]?);
+    assert_eq!(rt; device.size(), Ok(6));
+    assert_eq!(rt; write_within(&mut device, 1, b"ab"), Ok(()));
+    assert_eq!(rt; write_within(&mut device, 3, b"cd"), Err(Failed));
+    assert_eq!(rt; device.sync(), Ok(()));
+    assert_eq!(rt; device.sync(), Err(Failed));
+    assert_eq!(rt; device.emit(Peer::console(), b"line"), Ok(()));
+    assert_eq!(rt; device.emit(Peer::local(1, 2), b"lost"), Err(Failed));
+    assert_eq!(rt; device.contents(), [7, 97, 98, 7, 7, 7].as_slice());
+    let trace = device.trace().ok_or("told")?;
+    let [first, second, third, fourth, fifth] = trace else {
+        return Err("five entries".into());
+    };
+    assert!(rt;
+        matches!(first, Entry::Wrote { place: 1, octets } if octets.as_slice() == b"ab".as_slice())
+    );
+    assert!(rt;
+        matches!(second, Entry::Broke { place: 3, tried, left } if tried.as_slice() == b"cd".as_slice() && left.as_slice() == [7, 7].as_slice())
+    );
+    assert!(rt; matches!(third, Entry::Synced));
+    assert!(rt;
+        matches!(fourth, Entry::Emitted { octets, .. } if octets.as_slice() == b"line".as_slice())
+    );
+    assert!(rt; matches!(fifth, Entry::Lost { peer, .. } if *peer == Peer::local(1, 2)));
+    Ok(())
+}
+
+#[test]
+fn images_show_what_a_crash_may_leave(rt: HostRuntime) -> Result<(), Fail> {
+    let alloc = rt.alloc();
+    let mut device = MemoryGround::new(alloc, vec![in alloc; 7u8; 5]?, vec![in alloc; 7u64]?);
+    let _ = write_within(&mut device, 0, b"ab");
+    let _ = device.sync();
+    let _ = write_within(&mut device, 1, b"cd");
+    let _ = write_within(&mut device, 3, b"ef");
+    for (upto, filling, wanted) in [
+        (0, Filling::New, [7, 7, 7, 7, 7]),
+        (1, Filling::Old, [7, 7, 7, 7, 7]),
+        (1, Filling::New, [97, 98, 7, 7, 7]),
+        (2, Filling::Old, [97, 98, 7, 7, 7]),
+        (3, Filling::Octet(255), [97, 255, 255, 7, 7]),
+        (4, Filling::Old, [97, 98, 7, 7, 7]),
+        (9, Filling::New, [97, 99, 100, 101, 102]),
+        (4, Filling::Octet(1), [97, 1, 1, 1, 1]),
+    ] {
+        let image = device.image(alloc, upto, filling)?;
+        assert_eq!(rt;
+            image.as_slice(),
+            wanted.as_slice(),
+            "after {upto} with {filling:?}"
+        );
+    }
+    Ok(())
+}
+
+#[test]
+fn file_ground_keeps_a_file_and_sends_to_peers(rt: HostRuntime) -> Result<(), Fail> {
+    let path = "/tmp/ground_io_test_device";
+    let file = OpenOptions::new()
+        .read(true)
+        .write(true)
+        .create(true)
+        .truncate(true)
+        .open(&rt, path)?;
+    file.set_len(8)?;
+    let peer = UdpSocket::bind(&rt, "127.0.0.1:0")?;
+    peer.set_read_timeout(Some(Duration::from_secs(5)))?;
+    let socket = UdpSocket::bind(&rt, "127.0.0.1:0")?;
+    let port = peer.local_addr()?.port();
+    let mut console = Vec::new(rt.alloc());
+    let mut device = FileGround::new(Some(file), &mut console, Some(socket))?;
+    assert_eq!(rt; device.size(), Ok(8));
+    assert_eq!(rt; write_within(&mut device, 5, b"abc"), Ok(()));
+    assert_eq!(rt; device.sync(), Ok(()));
+    assert_eq!(rt; read_within(&mut device, 4), Ok([0, 97, 98, 99]));
+    assert_eq!(rt; device.emit(Peer::console(), b"line\n"), Ok(()));
+    assert_eq!(rt;
+        device.emit(Peer::local(0x7f00_0001, port), b"note"),
+        Ok(())
+    );
+    let mut into = [0u8; 8];
+    let (length, _) = peer.recv_from(&mut into)?;
+    assert_eq!(rt; length, 4);
+    assert_eq!(rt; &into[..4], b"note".as_slice());
+    drop(device);
+    assert_eq!(rt; console.as_slice(), b"line\n".as_slice());
+    fs::remove_file(&rt, path)?;
+    Ok(())
+}
+
+#[test]
+fn without_a_file_there_is_no_device(rt: HostRuntime) -> Result<(), Fail> {
+    let mut device = FileGround::new(None, Vec::new(rt.alloc()), None)?;
+    assert_eq!(rt; device.size(), Ok(0));
+    assert_eq!(rt; device.sync(), Ok(()));
+    assert_eq!(rt; device.emit(Peer::local(1, 2), b"note"), Err(Failed));
+    Ok(())
+}
+
+// Writes where the range lies within the device.
+fn write_within<G: Ground>(device: &mut G, place: u64, octets: &[u8]) -> Result<(), Failed> {
+    let size = device.size()?;
+    let count = octets.len() as u64;
+    if size < count || place > size - count {
+        return Err(Failed);
+    }
+    device.write_at(place, octets)
+}
+
+// Reads four octets where they lie within the device.
+fn read_within<G: Ground>(device: &mut G, place: u64) -> Result<[u8; 4], Failed> {
+    let size = device.size()?;
+    if size < 4 || place > size - 4 {
+        return Err(Failed);
+    }
+    let mut into = [0; 4];
+    device.read_at(place, &mut into)?;
+    Ok(into)
+}
