@@ -1,0 +1,552 @@
+-- Each step of a turnstile keeps its rule.
+use Rattle.std.proofs.Common.{◌≡◌, ◌≢◌, inl, inr, ⊎_elim, ℕ, ◌+◌, ◌%◌, ◌^◌, ◌<◌, ◌≤◌, Bool, true, List, [], ◌∷◌, ◌++◌, length, set, get_or, refl, sym, ap, ◌∙◌, subst, arith, append-nil, eq-eqb, ne_eqb, eqb, length-set, length-append, le_refl}
+use mathlib.Core.Option.{Option, none, some, some-injective, some-ne-none}
+use mathlib.Core.Logic.{dite}
+use native.Mathlib.Decide.{ℕ_discrete, dec_le}
+use lib.ListN.{get_elem?}
+use lib.Seq.{set-get_or}
+use prog.Atomic.{either}
+use Rattle.std.specs.Prelude.{◌==◌, if◌then◌else◌, max, Some}
+use Rattle.turnstile.specs.declared.memo.Memo.{Memo}
+use Rattle.atomic_table.specs.Table.{State, Me, Act, step, keeps, takes, gives, stepped, Allows, Enters, Splits, Joins, opening, put_back, homes_after, carried_after, Valid}
+use Rattle.atomic_table.proofs.Lists.{at_set, at_snoc, set_else, set_again, at_longer, exchanged}
+use Rattle.turnstile.specs.Histories.{StartsWith, entries_under, times, Licensed}
+use Rattle.turnstile.specs.Views.{own_number, with_call, longer, is_within, IsWithin, shut_of, newcomer, note_of, nobody, joined, heard, at_stage, inside, after_call, with_mark}
+use Rattle.turnstile.specs.declared.view.View.{View}
+use Rattle.turnstile.specs.declared.view.Place.{Place}
+use Rattle.turnstile.specs.declared.view.Place.TheVariants.{Empty, Held, Given}
+use Rattle.turnstile.specs.declared.view.Stage.{Stage}
+use Rattle.turnstile.specs.declared.view.Stage.TheVariants.{Idle, Waits, Within, Shut}
+use Rattle.turnstile.specs.Rule.{total, has_ticket, has_some_ticket, Staged, Holds, Fits, Locked, Kept}
+use Rattle.turnstile.specs.Steps.{Drew, PassedOn, Entered, Settled, Closed, Raised, Loaded, Turned, Looked}
+use Rattle.turnstile.proofs.Counts.{total_set, total_snoc, total_at, total_two, under_other, times_append, times_here, times_with_call, accounts_append, accounts_other, accounts_own, starts_append, times_one, times_none, total_zero, there_set, there_same, starts_both}
+use Rattle.std.proofs.lemmas.Bool.{le-leb, lt-leb}
+
+module _ {T E O : Type 0} (stands : T → List (ℕ × E) → Type 0) (origin : T → O) (first : O) (licenses : List (ℕ × E) → ℕ → Type 0) where
+  abbrev Log : Type 0
+  Log = List (ℕ × E)
+
+  abbrev right : T → Type 0
+  right x = origin x ≡ first
+
+  abbrev P : Type 0
+  P = Place T E
+
+  abbrev St : Type 0
+  St = State P (View E O)
+
+  abbrev M : Type 0
+  M = Me P (View E O)
+
+  abbrev Rule : St → Type 0
+  Rule = Kept stands origin first licenses
+
+  abbrev F : Log → ℕ → ℕ → List (Option P) → View E O → Type 0
+  F = Fits stands origin first licenses
+
+  abbrev ticket : ℕ → View E O → ℕ
+  ticket t v = has_ticket t v.stage
+
+  abbrev some_ticket : View E O → ℕ
+  some_ticket v = has_some_ticket v.stage
+
+  abbrev number : ℕ → View E O → ℕ
+  number n v = times n v.calls
+
+  pub opens : (x : T) → stands x [] → right x → Rule (opening (0 ∷ 0 ∷ 0 ∷ []) (Held x ∷ []) (newcomer first 0))
+  opens x h r = record {
+    log = [];
+    drawn = 0;
+    mark = 0;
+    words = refl;
+    few = omega arith;
+    counted = omega arith;
+    licensed = λ ne. absurd (ne refl);
+    locked = inl (Held x, refl, (h, r));
+    each = λ k v at. ⊎_elim (λ none_there. absurd (some-ne-none v (sym none_there))) (λ (is : newcomer first 0 ≡ v). subst (F [] 0 0 (some (Held x) ∷ [])) is record {
+      seen = ([], refl);
+      told = ([], refl);
+      calls = (refl, tt);
+      marked = omega arith;
+      licensed = λ ne. absurd (ne refl);
+      staged = tt;
+      whole = λ h. absurd h;
+      from = λ o e. cc;
+    }) (at_snoc [] (newcomer first 0) v k at);
+    queue = λ t. omega arith;
+    once = λ n. let one = times_one {E = E} n (0, []) in omega arith;
+    fresh = λ n above. (ap (λ (z : ℕ). z + 0) (times_none {E = E} n (0, []) (λ is. omega arith)), refl);
+  }
+
+  -- the seat id goes from v to w, and the rest of the state to what is given
+  moved : (s : St) (r : Rule s) (id : ℕ) (v w : View E O) (log : Log) (drawn mark : ℕ) (words : List ℕ) (homes : List (Option P)) → get_elem? s.views id ≡ some v
+      → words ≡ drawn ∷ length log ∷ mark ∷ [] → drawn < 2 ^ 64 → (length log + some_ticket w) + r.drawn ≡ (drawn + some_ticket v) + length r.log → Licensed licenses log mark → Locked stands origin first licenses log homes (set s.views id w)
+      → F log drawn mark homes w → ((k : ℕ) (u : View E O) → k ≢ id → get_elem? s.views k ≡ some u → F log drawn mark homes u)
+      → ((t : ℕ) → total (ticket t) (set s.views id w) ≤ 1) → ((n : ℕ) → number n w ≡ number n v) → ((n : ℕ) → length s.views ≤ n → entries_under n log ≡ [])
+      → Rule record { words = words; homes = homes; views = set s.views id w }
+  moved s r id v w log drawn mark words homes at is few even licensed locked mine others queue same fresh = record {
+    log = log;
+    drawn = drawn;
+    mark = mark;
+    words = is;
+    few = few;
+    counted = let a = total_set some_ticket s.views id v w at in let c = r.counted in omega arith;
+    licensed = licensed;
+    locked = locked;
+    each = λ k u there. ⊎_elim (λ (e : (k ≡ id) × (w ≡ u)). subst (F log drawn mark homes) e.1 mine) (λ (e : (k ≢ id) × (get_elem? s.views k ≡ some u)). others k u e.0 e.1) (at_set s.views id k w u there);
+    queue = queue;
+    once = λ n. let a = total_set (number n) s.views id v w at in let b = same n in let o = r.once n in omega arith;
+    fresh = λ n above. let long : length s.views ≤ n = omega (arith, length-set s.views id w) in
+        ((let a = total_set (number n) s.views id v w at in let b = same n in let o = (r.fresh n long).0 in omega arith), fresh n long);
+  }
+
+  -- the seat has the ticket of another only if it is the same seat
+  one_ticket : (s : St) (r : Rule s) (t j k : ℕ) (v w : View E O) → get_elem? s.views j ≡ some v → get_elem? s.views k ≡ some w → has_ticket t v.stage ≡ 1 → has_ticket t w.stage ≡ 1 → j ≡ k
+  one_ticket s r t j k v w a b x y = dite (ℕ_discrete j k) (λ e. e) (λ ne. let two = total_two (ticket t) s.views j k v w ne a b in let q = r.queue t in absurd (omega arith))
+
+  has_own : (t : ℕ) → ◌≡◌ {A = ℕ} (if t == t then 1 else 0) 1
+  has_own t = ap (λ b. if b then 1 else 0) (eq-eqb t t refl)
+
+  -- a seat within has the ticket that is served
+  within_served : (homes : List (Option P)) (served drawn : ℕ) (st : Stage) → Staged homes served drawn st → IsWithin st → has_ticket served st ≡ 1
+  within_served homes served drawn Idle a b = absurd b
+  within_served homes served drawn (Waits t) a b = absurd b
+  within_served homes served drawn (Within t) a b = ap (λ z. if z then 1 else 0) (eq-eqb t served a.1)
+  within_served homes served drawn (Shut t) a b = ap (λ z. if z then 1 else 0) (eq-eqb t served a.1)
+
+  -- a stage that keeps its meaning while more tickets are drawn
+  more_drawn : (homes : List (Option P)) (served drawn drawn' : ℕ) (st : Stage) → drawn ≤ drawn' → Staged homes served drawn st → Staged homes served drawn' st
+  more_drawn homes served drawn drawn' Idle le a = tt
+  more_drawn homes served drawn drawn' (Waits t) le a = omega arith
+  more_drawn homes served drawn drawn' (Within t) le a = (let h = a.0 in omega arith, a.1, a.2)
+  more_drawn homes served drawn drawn' (Shut t) le a = (let h = a.0 in omega arith, a.1, a.2)
+
+  -- a step that leaves the log and the slot as they are
+  locked_still : (s : St) (r : Rule s) (id : ℕ) (v w : View E O) → get_elem? s.views id ≡ some v → (IsWithin v.stage → IsWithin w.stage) → Locked stands origin first licenses r.log s.homes s.views → Locked stands origin first licenses r.log s.homes (set s.views id w)
+  locked_still s r id v w at keep l = ⊎_elim inl (λ (i : (k : ℕ) × (u : View E O) × (get_elem? s.views k ≡ some u) × IsWithin u.stage).
+      dite (ℕ_discrete i.0 id)
+      (λ e. inr (id, w, there_set s.views id v w at, keep (subst (λ (z : View E O). IsWithin z.stage) (there_same s.views i.0 id i.1 v e i.2 at) i.3)))
+      (λ ne. inr (i.0, i.1, set_else s.views id i.0 w ne ∙ i.2, i.3))) l
+
+  queue_same : (s : St) (r : Rule s) (id : ℕ) (v w : View E O) → get_elem? s.views id ≡ some v → ((t : ℕ) → ticket t w ≡ ticket t v) → (t : ℕ) → total (ticket t) (set s.views id w) ≤ 1
+  queue_same s r id v w at same t = let a = total_set (ticket t) s.views id v w at in let b = same t in let q = r.queue t in omega arith
+
+  -- a step that leaves the words, the slot and the log as they are
+  still : (s : St) (r : Rule s) (i id : ℕ) (c : List (ℕ × P)) (v w : View E O) → get_elem? s.views id ≡ some v → (IsWithin v.stage → IsWithin w.stage) → (some_ticket w ≡ some_ticket v) → ((t : ℕ) → ticket t w ≡ ticket t v)
+      → ((n : ℕ) → number n w ≡ number n v) → F r.log r.drawn r.mark s.homes w → Rule (stepped s i (get_or s.words i 0) id c w keeps)
+  still s r i id c v w at keep some_same tickets numbers mine = subst (λ (ws : List ℕ). Rule record { words = ws; homes = s.homes; views = set s.views id w }) (sym (set-get_or s.words i 0))
+      (moved s r id v w r.log r.drawn r.mark s.words s.homes at r.words r.few (omega arith) r.licensed (locked_still s r id v w at keep r.locked) mine (λ k u ne there. r.each k u there)
+      (queue_same s r id v w at tickets) numbers (λ n above. (r.fresh n above).1))
+
+  -- a load that changes nothing
+  unchanged : (s : St) (r : Rule s) (i id : ℕ) (c : List (ℕ × P)) (v : View E O) → get_elem? s.views id ≡ some v → Rule (stepped s i (get_or s.words i 0) id c v keeps)
+  unchanged s r i id c v at = still s r i id c v v at (λ h. h) refl (λ t. refl) (λ n. refl) (r.each id v at)
+
+  -- no view has the next ticket
+  next_free : (s : St) (r : Rule s) → total (ticket r.drawn) s.views ≡ 0
+  next_free s r = total_zero (ticket r.drawn) s.views (λ k v there. below v.stage (r.each k v there).staged)
+    where
+      below : (st : Stage) → Staged s.homes (length r.log) r.drawn st → has_ticket r.drawn st ≡ 0
+      below Idle a = refl
+      below (Waits t) a = ap (λ z. if z then 1 else 0) (ne_eqb t r.drawn (λ e. omega arith))
+      below (Within t) a = let h = a.0 in ap (λ z. if z then 1 else 0) (ne_eqb t r.drawn (λ e. omega arith))
+      below (Shut t) a = let h = a.0 in ap (λ z. if z then 1 else 0) (ne_eqb t r.drawn (λ e. omega arith))
+
+  at_drawn : (st : Stage) (t u : ℕ) → t ≢ u → has_ticket u (Waits t) ≡ 0
+  at_drawn st t u ne = ap (λ z. if z then 1 else 0) (ne_eqb t u ne)
+
+  -- the next ticket is drawn
+  ticketed : (s : St) (r : Rule s) (id : ℕ) (v : View E O) (n : ℕ) (c : List (ℕ × P)) → get_elem? s.views id ≡ some v → v.stage ≡ Idle → n ≡ r.drawn → n + 1 < 2 ^ 64 → Rule (stepped s 0 (n + 1) id c (at_stage v (Waits n)) keeps)
+  ticketed s r id v n c at idle is room =
+      let w : View E O = at_stage v (Waits n) in let old = r.each id v at in let not_within : IsWithin v.stage → IsWithin w.stage = λ h. absurd (subst IsWithin idle h) in
+      moved s r id v w r.log (n + 1) r.mark (set s.words 0 (n + 1)) s.homes at (ap (λ (ws : List ℕ). set ws 0 (n + 1)) r.words) room (let none_yet : some_ticket v ≡ 0 = ap has_some_ticket idle in omega arith) r.licensed (locked_still s r id v w at not_within r.locked)
+      record { seen = old.seen; told = old.told; calls = old.calls; marked = old.marked; licensed = old.licensed; staged = omega arith; whole = λ h. absurd h; from = old.from }
+      (λ k u ne there. let o = r.each k u there in record { seen = o.seen; told = o.told; calls = o.calls; marked = o.marked; licensed = o.licensed; staged = more_drawn s.homes (length r.log) r.drawn (n + 1) u.stage (omega arith) o.staged; whole = o.whole; from = o.from })
+      (λ t. let a = total_set (ticket t) s.views id v w at in let z : ticket t v ≡ 0 = ap (has_ticket t) idle in let q = r.queue t in
+      dite (ℕ_discrete n t)
+      (λ e. let free : total (ticket t) s.views ≡ 0 = subst (λ (u : ℕ). total (ticket u) s.views ≡ 0) (sym is ∙ e) (next_free s r) in let one : ticket t w ≡ 1 = ap (λ b. if b then 1 else 0) (eq-eqb n t e) in omega arith)
+      (λ ne. let none_here : ticket t w ≡ 0 = at_drawn Idle n t ne in omega arith))
+      (λ m. refl) (λ m above. (r.fresh m above).1)
+
+  pub draws : (slots id n : ℕ) (m : M) → m.0.stage ≡ Idle → n + 1 < 2 ^ 64 → Allows Rule slots id m 0 (λ y. either (eqb y n) (n + 1) y) (Drew (step slots 0 n (n + 1) none) m)
+  draws slots id n m idle room s r wide at _ = let y : ℕ = get_or s.words 0 0 in let is : y ≡ r.drawn = ap (λ (ws : List ℕ). get_or ws 0 0) r.words in
+      exchanged y n (n + 1) (λ z. (w : View E O) × (a : Act P) × Valid s.homes m.1 a × Rule (stepped s 0 z id m.1 w a) × Drew (step slots 0 n (n + 1) none) m y (w, carried_after m.1 a))
+      (λ hit. (at_stage m.0 (Waits n), keeps, tt, ticketed s r id m.0 n m.1 at idle (sym hit ∙ is) room, ((λ _. refl), λ miss. absurd (miss hit))))
+      (λ miss. (m.0, keeps, tt, unchanged s r 0 id m.1 m.0 at, ((λ hit. absurd (miss hit)), λ _. refl)))
+
+  -- where a seat has the ticket that is served, no other is within
+  alone : (s : St) (r : Rule s) (id : ℕ) (v : View E O) → get_elem? s.views id ≡ some v → has_ticket (length r.log) v.stage ≡ 1 → (k : ℕ) (u : View E O) → k ≢ id → get_elem? s.views k ≡ some u → IsWithin u.stage → ⊥
+  alone s r id v at mine k u ne there h = ne (one_ticket s r (length r.log) k id u v there at (within_served s.homes (length r.log) r.drawn u.stage (r.each k u there).staged h) mine)
+
+  restaged : (homes homes' : List (Option P)) (served served' drawn : ℕ) (st : Stage) → (IsWithin st → ⊥) → Staged homes served drawn st → Staged homes' served' drawn st
+  restaged homes homes' served served' drawn Idle out a = tt
+  restaged homes homes' served served' drawn (Waits t) out a = a
+  restaged homes homes' served served' drawn (Within t) out a = absurd (out tt)
+  restaged homes homes' served served' drawn (Shut t) out a = absurd (out tt)
+
+  -- a step that reads a word only, and moves the slot
+  slotted : (s : St) (r : Rule s) (i id : ℕ) (v w : View E O) (homes : List (Option P)) → get_elem? s.views id ≡ some v → has_ticket (length r.log) v.stage ≡ 1 → Locked stands origin first licenses r.log homes (set s.views id w)
+      → F r.log r.drawn r.mark homes w → (some_ticket w ≡ some_ticket v) → ((t : ℕ) → ticket t w ≡ ticket t v) → ((n : ℕ) → number n w ≡ number n v) → Rule record { words = set s.words i (get_or s.words i 0); homes = homes; views = set s.views id w }
+  slotted s r i id v w homes at mine locked fits some_same tickets numbers = subst (λ (ws : List ℕ). Rule record { words = ws; homes = homes; views = set s.views id w }) (sym (set-get_or s.words i 0))
+      (moved s r id v w r.log r.drawn r.mark s.words homes at r.words r.few (omega arith) r.licensed locked fits
+      (λ k u ne there. let o = r.each k u there in let out = alone s r id v at mine k u ne there in
+      record { seen = o.seen; told = o.told; calls = o.calls; marked = o.marked; licensed = o.licensed; staged = restaged s.homes homes (length r.log) (length r.log) r.drawn u.stage out o.staged; whole = λ h. absurd (out h); from = o.from })
+      (queue_same s r id v w at tickets) numbers (λ n above. (r.fresh n above).1))
+
+  held_from : {R : T → Type 0} (log : Log) (p : P) → ((x : T) → right x → R x) → Holds stands right log p → Holds stands R log p
+  held_from log Empty f h = absurd h
+  held_from log (Held x) f h = (h.0, f x h.1)
+  held_from log (Given x e) f h = (h.0, f x h.1)
+
+  entered_turn : (s : St) (r : Rule s) (id t : ℕ) (m : M) → get_elem? s.views id ≡ some m.0 → m.0.stage ≡ Waits t → m.1 ≡ [] → length r.log ≡ t → (p : P) → s.homes ≡ some p ∷ [] → Holds stands right r.log p
+      → Rule (stepped s 1 (get_or s.words 1 0) id m.1 (inside m.0 r.log t) (takes 0 p)) × Turned stands origin licenses m.0 t (inside m.0 r.log t, (0, p) ∷ m.1)
+  entered_turn s r id t m at st empty is p home h =
+      let v : View E O = m.0 in let w : View E O = inside v r.log t in let old = r.each id v at in
+      let below : t < r.drawn = subst (Staged s.homes (length r.log) r.drawn) st old.staged in let few : r.drawn < 2 ^ 64 = r.few in
+      let own : has_ticket (length r.log) v.stage ≡ 1 = ap (has_ticket (length r.log)) st ∙ ap (λ b. if b then 1 else 0) (eq-eqb t (length r.log) (sym is)) in
+      let out : set s.homes 0 none ≡ none ∷ [] = ap (λ (hs : List (Option P)). set hs 0 none) home in (
+        slotted s r 1 id v w (set s.homes 0 none) at own (inr (id, w, there_set s.views id v w at, tt))
+            record { seen = ([], sym (append-nil r.log)); told = old.told; calls = old.calls; marked = old.marked; licensed = old.licensed; staged = (below, sym is, out); whole = λ _. refl; from = old.from }
+            (sym (ap has_some_ticket st)) (λ u. sym (ap (has_ticket u) st)) (λ n. refl),
+        record {
+          place = p;
+          taken = ap (λ (c : List (ℕ × P)). (0, p) ∷ c) empty;
+          holds = held_from r.log p (λ x e o is. e ∙ sym (old.from o is)) h;
+          is = refl;
+          long = is;
+          small = omega arith;
+          begins = old.seen;
+          accounts = old.calls;
+          once = λ n. let a = total_at (number n) s.views id v at in let o = r.once n in omega arith;
+          licensed = old.licensed;
+        },
+      )
+
+  waits_same : (t u : ℕ) (st : Stage) → st ≡ Waits t → st ≡ Waits u → t ≡ u
+  waits_same t u st a b = cc
+
+  pub looks : (slots id t : ℕ) (m : M) → m.0.stage ≡ Waits t → m.1 ≡ [] → Allows Rule slots id m 1 (λ n. n) (Looked stands origin licenses (step slots 1 0 0 none) m)
+  looks slots id t m st empty s r wide at _ = let y : ℕ = get_or s.words 1 0 in let is : y ≡ length r.log = ap (λ (ws : List ℕ). get_or ws 1 0) r.words in
+      dite (ℕ_discrete y t)
+      (λ hit. ⊎_elim
+      (λ (l : (p : P) × (s.homes ≡ some p ∷ []) × Holds stands right r.log p).
+      let e = entered_turn s r id t m at st empty (sym is ∙ hit) l.0 l.1 l.2 in (
+        inside m.0 r.log t,
+        takes 0 l.0,
+        ap (λ (hs : List (Option P)). get_elem? hs 0) l.1,
+        e.0,
+        (λ u su. let tu : t ≡ u = waits_same t u m.0.stage st su in ((λ _. subst (λ (z : ℕ). Turned stands origin licenses m.0 z (inside m.0 r.log t, (0, l.0) ∷ m.1)) tu e.1), λ miss. absurd (miss (hit ∙ tu)))),
+      ))
+      (λ (i : (k : ℕ) × (u : View E O) × (get_elem? s.views k ≡ some u) × IsWithin u.stage).
+      let own : has_ticket (length r.log) m.0.stage ≡ 1 = ap (has_ticket (length r.log)) st ∙ ap (λ b. if b then 1 else 0) (eq-eqb t (length r.log) (sym hit ∙ is)) in
+      absurd (dite (ℕ_discrete i.0 id) (λ e. subst IsWithin (ap (λ (z : View E O). z.stage) (there_same s.views i.0 id i.1 m.0 e i.2 at) ∙ st) i.3) (λ ne. alone s r id m.0 at own i.0 i.1 ne i.2 i.3)))
+      r.locked)
+      (λ miss. (m.0, keeps, tt, unchanged s r 1 id m.1 m.0 at, λ u su. ((λ hit. absurd (miss (hit ∙ sym (waits_same t u m.0.stage st su)))), λ _. refl)))
+
+  within_some : (st : Stage) → is_within st ≡ true → has_some_ticket st ≡ 1
+  within_some Idle e = cc
+  within_some (Waits t) e = refl
+  within_some (Within t) e = refl
+  within_some (Shut t) e = refl
+
+  within_is : (st : Stage) → is_within st ≡ true → IsWithin st
+  within_is Idle e = cc
+  within_is (Waits t) e = cc
+  within_is (Within t) e = tt
+  within_is (Shut t) e = tt
+
+  -- what is known of a seat within: the slot is out, its ticket is served, and more tickets were drawn than turns were given
+  within_out : (homes : List (Option P)) (served drawn : ℕ) (st : Stage) → is_within st ≡ true → Staged homes served drawn st → (homes ≡ none ∷ []) × (served < drawn)
+  within_out homes served drawn Idle e a = cc
+  within_out homes served drawn (Waits t) e a = cc
+  within_out homes served drawn (Within t) e a = (a.2, (let x = a.0 in let y = a.1 in omega arith))
+  within_out homes served drawn (Shut t) e a = cc
+
+  own_times : (cs : List (ℕ × List E)) → 0 < length cs → 1 ≤ times (own_number cs) cs
+  own_times [] h = absurd (omega arith)
+  own_times (c ∷ cs) h = omega (arith, times_here c.0 c cs refl)
+
+  small_mod : (n : ℕ) → n < 2 ^ 64 → n % 2 ^ 64 ≡ n
+  small_mod n h = omega arith
+
+  abbrev head_place : List (ℕ × P) → P
+  head_place [] = Empty
+  head_place (c ∷ cs) = c.1
+
+  value_given : (x y : T) (e d : Memo E) → ◌≡◌ {A = List (ℕ × P)} ((0, Given x e) ∷ []) ((0, Given y d) ∷ []) → e.value ≡ d.value
+  value_given x y e d is = let places : Given x e ≡ Given y d = ap head_place is in let same : e ≡ d = cc in ap (λ (z : Memo E). z.value) same
+
+  rest_of : (c : List (ℕ × P)) (x : T) (e : Memo E) → c ≡ (0, Given x e) ∷ [] → Rattle.atomic_table.specs.Table.rest c ≡ []
+  rest_of c x e is = ap Rattle.atomic_table.specs.Table.rest is
+
+  module _ (more : (log rest : List (ℕ × E)) (to : ℕ) → licenses log to → licenses (log ++ rest) to) where
+    licensed_more : (log rest : Log) (to : ℕ) → Licensed licenses log to → Licensed licenses (log ++ rest) to
+    licensed_more log rest to l ne = more log rest to (l ne)
+
+    passed_on : (s : St) (r : Rule s) (id : ℕ) (m : M) (x : T) (e : Memo E) → get_elem? s.views id ≡ some m.0 → m.1 ≡ (0, Given x e) ∷ [] → is_within m.0.stage ≡ true → 0 < length m.0.calls
+        → stands x (m.0.seen ++ (own_number m.0.calls, e.value) ∷ []) → right x → Rule (stepped s 1 ((get_or s.words 1 0 + 1) % 2 ^ 64) id m.1 (after_call m.0 e.value) gives)
+    passed_on s r id m x e at hand within some_number stand ok =
+        let v : View E O = m.0 in let old = r.each id v at in let w : View E O = after_call v e.value in let k : ℕ = own_number v.calls in let n : ℕ = length r.log in
+        let inside_is = within_is v.stage within in let whole : v.seen ≡ r.log = old.whole inside_is in let known = within_out s.homes n r.drawn v.stage within old.staged in
+        let log' : Log = r.log ++ (k, e.value) ∷ [] in let below : n < r.drawn = known.1 in let few : r.drawn < 2 ^ 64 = r.few in
+        let own : has_ticket n v.stage ≡ 1 = within_served s.homes n r.drawn v.stage old.staged inside_is in
+        let k_here : 1 ≤ times k v.calls = own_times v.calls some_number in let k_once = r.once k in let k_total = total_at (number k) s.views id v at in
+        let found : get_or s.words 1 0 ≡ n = ap (λ (ws : List ℕ). get_or ws 1 0) r.words in
+        let long : length log' ≡ n + 1 = omega (arith, length-append r.log ((k, e.value) ∷ [])) in
+        let next : (get_or s.words 1 0 + 1) % 2 ^ 64 ≡ length log' = ap (λ (z : ℕ). (z + 1) % 2 ^ 64) found ∙ (small_mod (n + 1) (omega arith) ∙ sym long) in
+        let homes' : List (Option P) = put_back s.homes m.1 in
+        let back : homes' ≡ some (Given x e) ∷ [] = (λ i. put_back (known.0 i) (hand i)) in
+        moved s r id v w log' r.drawn r.mark (set s.words 1 ((get_or s.words 1 0 + 1) % 2 ^ 64)) homes' at
+        (ap (λ (ws : List ℕ). set ws 1 ((get_or s.words 1 0 + 1) % 2 ^ 64)) r.words ∙ ap (λ (z : ℕ). r.drawn ∷ z ∷ r.mark ∷ []) next)
+        r.few (let one : some_ticket v ≡ 1 = within_some v.stage within in omega arith) (licensed_more r.log ((k, e.value) ∷ []) r.mark r.licensed)
+        (inl (Given x e, back, (subst (λ (z : Log). stands x (z ++ (k, e.value) ∷ [])) whole stand, ok)))
+        record {
+          seen = ([], sym (append-nil (v.seen ++ (k, e.value) ∷ []) ∙ ap (λ (z : Log). z ++ (k, e.value) ∷ []) whole));
+          told = starts_append r.log v.told ((k, e.value) ∷ []) old.told;
+          calls = accounts_own r.log e.value v.calls (omega arith) old.calls;
+          marked = old.marked;
+          licensed = licensed_more r.log ((k, e.value) ∷ []) v.mark old.licensed;
+          staged = tt;
+          whole = λ h. absurd h;
+          from = old.from;
+        }
+        (λ j u ne there. let o = r.each j u there in let out = alone s r id v at own j u ne there in let two = total_two (number k) s.views j id u v ne there at in
+        record {
+          seen = starts_append r.log u.seen ((k, e.value) ∷ []) o.seen;
+          told = starts_append r.log u.told ((k, e.value) ∷ []) o.told;
+          calls = accounts_other k r.log e.value u.calls (omega arith) o.calls;
+          marked = o.marked;
+          licensed = licensed_more r.log ((k, e.value) ∷ []) u.mark o.licensed;
+          staged = restaged s.homes homes' n (length log') r.drawn u.stage out o.staged;
+          whole = λ h. absurd (out h);
+          from = o.from;
+        })
+        (λ t. let a = total_set (ticket t) s.views id v w at in let q = r.queue t in omega arith)
+        (λ z. times_with_call z v.calls e.value)
+        (λ z above. let f = r.fresh z above in under_other z k r.log e.value (λ same. let none_there = (r.fresh k (subst (λ (y : ℕ). length s.views ≤ y) (sym same) above)).0 in omega arith) ∙ f.1)
+
+    pub gives_turn : (slots id : ℕ) (m : M) (x : T) (e : Memo E) → m.1 ≡ (0, Given x e) ∷ [] → is_within m.0.stage ≡ true → 0 < length m.0.calls
+        → stands x (m.0.seen ++ (own_number m.0.calls, e.value) ∷ []) → right x → Allows Rule slots id m 1 (λ n. (n + 1) % 2 ^ 64) (PassedOn (step slots 1 1 0 none) m)
+    gives_turn slots id m x e hand within some_number stand ok s r wide at _ = (
+      after_call m.0 e.value,
+      gives,
+      tt,
+      passed_on s r id m x e at hand within some_number stand ok,
+      λ y d is. λ i. (after_call m.0 (value_given x y e d (sym hand ∙ is) i), rest_of m.1 x e hand i),
+    )
+
+    pub raises : (slots id to : ℕ) (m : M) → Licensed licenses m.0.seen to → to < 2 ^ 64 → Allows Rule slots id m 2 (λ n. max n to) (Raised (step slots 2 to 0 none) m)
+    raises slots id to m ok small s r wide at _ =
+        let v : View E O = m.0 in let old = r.each id v at in let w : View E O = with_mark v (max v.mark to) in let top : ℕ = max r.mark to in
+        let found : get_or s.words 2 0 ≡ r.mark = ap (λ (ws : List ℕ). get_or ws 2 0) r.words in
+        let to_licensed : Licensed licenses r.log to = subst (λ (z : Log). Licensed licenses z to) (sym old.seen.1) (licensed_more v.seen old.seen.0 to ok) in
+        let known = old.marked in (
+          w,
+          keeps,
+          tt,
+          moved s r id v w r.log r.drawn top (set s.words 2 (max (get_or s.words 2 0) to)) s.homes at
+              (ap (λ (ws : List ℕ). set ws 2 (max (get_or s.words 2 0) to)) r.words ∙ ap (λ (z : ℕ). r.drawn ∷ length r.log ∷ max z to ∷ []) found) r.few (omega arith) (greater r.log r.mark to r.licensed to_licensed)
+              (locked_still s r id v w at (λ h. h) r.locked)
+              record { seen = old.seen; told = old.told; calls = old.calls; marked = omega arith; licensed = greater r.log v.mark to old.licensed to_licensed; staged = old.staged; whole = old.whole; from = old.from }
+              (λ k u ne there. let o = r.each k u there in let below = o.marked in record { seen = o.seen; told = o.told; calls = o.calls; marked = omega arith; licensed = o.licensed; staged = o.staged; whole = o.whole; from = o.from })
+              (queue_same s r id v w at (λ t. refl)) (λ n. refl) (λ n above. (r.fresh n above).1),
+          refl,
+        )
+      where
+        greater : (log : Log) (a b : ℕ) → Licensed licenses log a → Licensed licenses log b → Licensed licenses log (max a b)
+        greater log a b x y = dite (dec_le a b) (λ le. subst (Licensed licenses log) (let e : b ≡ max a b = omega arith in e) y)
+            (λ gt. subst (Licensed licenses log) (let e : a ≡ max a b = omega arith in e) x)
+
+  pub loads : (slots id : ℕ) (m : M) → Allows Rule slots id m 2 (λ n. n) (Loaded (step slots 2 0 0 none) m)
+  loads slots id m s r wide at _ =
+      let v : View E O = m.0 in let old = r.each id v at in let y : ℕ = get_or s.words 2 0 in let w : View E O = with_mark v y in
+      let found : y ≡ r.mark = ap (λ (ws : List ℕ). get_or ws 2 0) r.words in let known = old.marked in (
+        w,
+        keeps,
+        tt,
+        still s r 2 id m.1 v w at (λ h. h) refl (λ t. refl) (λ n. refl)
+            record { seen = old.seen; told = old.told; calls = old.calls; marked = omega arith; licensed = subst (Licensed licenses r.log) (sym found) r.licensed; staged = old.staged; whole = old.whole; from = old.from },
+        (omega arith, refl),
+      )
+
+  pub settles : (slots id : ℕ) (m : M) → m.0.stage ≡ Idle → Allows Rule slots id m 0 (λ n. n) (Settled (step slots 0 0 0 none) m)
+  settles slots id m idle s r wide at _ =
+      let v : View E O = m.0 in let old = r.each id v at in let w : View E O = heard v in
+      let l = longest r.log v.seen v.told old.seen old.told in (
+        w,
+        keeps,
+        tt,
+        still s r 0 id m.1 v w at (λ h. h) refl (λ t. refl) (λ n. refl)
+            record { seen = l.0; told = (r.log, refl); calls = old.calls; marked = old.marked; licensed = old.licensed; staged = old.staged; whole = λ h. absurd (subst IsWithin idle h); from = old.from },
+        (refl, l.1, l.2, λ n. let a = total_at (number n) s.views id v at in let o = r.once n in omega arith),
+      )
+    where
+      longest : (log a b : Log) → StartsWith log a → StartsWith log b → StartsWith log (longer a b) × StartsWith (longer a b) a × StartsWith (longer a b) b
+      longest log a b x y = dite (dec_le (length a) (length b))
+          (λ le. subst (λ (t : Bool). let l : Log = if t then b else a in StartsWith log l × StartsWith l a × StartsWith l b) (sym (le-leb (length a) (length b) le)) (y, starts_both log a b x y le, ([], sym (append-nil b))))
+          (λ gt. subst (λ (t : Bool). let l : Log = if t then b else a in StartsWith log l × StartsWith l a × StartsWith l b) (sym (lt-leb (length a) (length b) (omega arith))) (x, ([], sym (append-nil a)), starts_both log b a y x (omega arith)))
+
+  pub shuts : (slots id : ℕ) (m : M) → m.1 ≡ (0, Empty) ∷ [] → is_within m.0.stage ≡ true → Allows Rule slots id m 0 (λ n. n) (Closed (step slots 0 0 0 none) m)
+  shuts slots id m hand within s r wide at _ =
+      let v : View E O = m.0 in let old = r.each id v at in let w : View E O = at_stage v (shut_of v.stage) in let n : ℕ = length r.log in
+      let inside_is = within_is v.stage within in let known = within_out s.homes n r.drawn v.stage within old.staged in
+      let own : has_ticket n v.stage ≡ 1 = within_served s.homes n r.drawn v.stage old.staged inside_is in
+      let homes' : List (Option P) = put_back s.homes m.1 in let back : homes' ≡ some Empty ∷ [] = (λ i. put_back (known.0 i) (hand i)) in (
+        w,
+        gives,
+        tt,
+        slotted s r 0 id v w homes' at own (inr (id, w, there_set s.views id v w at, shut_within v.stage within))
+            record { seen = old.seen; told = old.told; calls = old.calls; marked = old.marked; licensed = old.licensed; staged = shut_staged s.homes homes' n r.drawn v.stage within back old.staged; whole = λ h. old.whole inside_is; from = old.from }
+            (shut_some v.stage) (λ t. shut_ticket t v.stage) (λ k. refl),
+        (λ i. (w, Rattle.atomic_table.specs.Table.rest (hand i))),
+      )
+    where
+      shut_within : (st : Stage) → is_within st ≡ true → IsWithin (shut_of st)
+      shut_within Idle e = cc
+      shut_within (Waits t) e = cc
+      shut_within (Within t) e = tt
+      shut_within (Shut t) e = tt
+
+      shut_some : (st : Stage) → has_some_ticket (shut_of st) ≡ has_some_ticket st
+      shut_some Idle = refl
+      shut_some (Waits u) = refl
+      shut_some (Within u) = refl
+      shut_some (Shut u) = refl
+
+      shut_ticket : (t : ℕ) (st : Stage) → has_ticket t (shut_of st) ≡ has_ticket t st
+      shut_ticket t Idle = refl
+      shut_ticket t (Waits u) = refl
+      shut_ticket t (Within u) = refl
+      shut_ticket t (Shut u) = refl
+
+      shut_staged : (homes homes' : List (Option P)) (served drawn : ℕ) (st : Stage) → is_within st ≡ true → homes' ≡ some Empty ∷ [] → Staged homes served drawn st → Staged homes' served drawn (shut_of st)
+      shut_staged homes homes' served drawn Idle e b a = cc
+      shut_staged homes homes' served drawn (Waits t) e b a = cc
+      shut_staged homes homes' served drawn (Within t) e b a = (a.0, a.1, b)
+      shut_staged homes homes' served drawn (Shut t) e b a = cc
+
+  -- a new pass has a number that no view has, and no entry
+  pub enters : (slots : ℕ) (old : M) → old.0.origin ≡ Some first → Enters Rule slots 0 (λ r w. Entered (step slots 0 0 0 none) old r (w, []))
+  enters slots old is s r wide _ = let n : ℕ = length s.views in let w : View E O = newcomer first n in (
+    w,
+    record {
+      log = r.log;
+      drawn = r.drawn;
+      mark = r.mark;
+      words = r.words;
+      few = r.few;
+      counted = let a = total_snoc some_ticket s.views w in let c = r.counted in omega arith;
+      licensed = r.licensed;
+      locked = ⊎_elim inl (λ (i : (k : ℕ) × (u : View E O) × (get_elem? s.views k ≡ some u) × IsWithin u.stage). inr (i.0, i.1, at_longer s.views (w ∷ []) i.0 i.1 i.2, i.3)) r.locked;
+      each = λ k u there. ⊎_elim (λ was. r.each k u was) (λ (is : w ≡ u). subst (F r.log r.drawn r.mark s.homes) is record {
+        seen = (r.log, refl);
+        told = (r.log, refl);
+        calls = ((r.fresh n (le_refl n)).1, tt);
+        marked = omega arith;
+        licensed = λ ne. absurd (ne refl);
+        staged = tt;
+        whole = λ h. absurd h;
+        from = λ o e. cc;
+      }) (at_snoc s.views w u k there);
+      queue = λ t. let a = total_snoc (ticket t) s.views w in let q = r.queue t in omega arith;
+      once = λ z. let a = total_snoc (number z) s.views w in let o = r.once z in dite (ℕ_discrete n z)
+          (λ e. let f : total (number z) s.views ≡ 0 = (r.fresh z (omega arith)).0 in let one : number z w ≤ 1 = times_one {E = E} z (n, []) in omega arith)
+          (λ ne. let none_here : number z w ≡ 0 = times_none {E = E} z (n, []) ne in omega arith);
+      fresh = λ z above. let long : n + 1 ≤ z = omega (arith, length-append s.views (w ∷ [])) in let f = r.fresh z (omega arith) in let a = total_snoc (number z) s.views w in
+          let none_here : number z w ≡ 0 = times_none {E = E} z (n, []) (λ e. omega arith) in ((let b = f.0 in omega arith), f.1);
+    },
+    λ o e. (n, ap (λ (z : O). newcomer z n) (let same : first ≡ o = cc in same)),
+  )
+
+  -- a pass tells what it has seen
+  pub splits : (id : ℕ) (v : View E O) → Splits Rule id v v (note_of v)
+  splits id v s r at = let w : View E O = note_of v in let old = r.each id v at in
+      subst (λ (vs : List (View E O)). Rule record { words = s.words; homes = s.homes; views = vs ++ w ∷ [] }) (sym (set_again s.views id v at)) record {
+        log = r.log;
+        drawn = r.drawn;
+        mark = r.mark;
+        words = r.words;
+        few = r.few;
+        counted = let a = total_snoc some_ticket s.views w in let c = r.counted in omega arith;
+        licensed = r.licensed;
+        locked = ⊎_elim inl (λ (i : (k : ℕ) × (u : View E O) × (get_elem? s.views k ≡ some u) × IsWithin u.stage). inr (i.0, i.1, at_longer s.views (w ∷ []) i.0 i.1 i.2, i.3)) r.locked;
+        each = λ k u there. ⊎_elim (λ was. r.each k u was) (λ (is : w ≡ u). subst (F r.log r.drawn r.mark s.homes) is record {
+          seen = old.seen;
+          told = (r.log, refl);
+          calls = tt;
+          marked = old.marked;
+          licensed = old.licensed;
+          staged = tt;
+          whole = λ h. absurd h;
+          from = λ o e. cc;
+        }) (at_snoc s.views w u k there);
+        queue = λ t. let a = total_snoc (ticket t) s.views w in let q = r.queue t in omega arith;
+        once = λ z. let a = total_snoc (number z) s.views w in let o = r.once z in omega arith;
+        fresh = λ z above. let f = r.fresh z (omega (arith, length-append s.views (w ∷ []))) in let a = total_snoc (number z) s.views w in ((let b = f.0 in omega arith), f.1);
+      }
+
+  pub joins : (id : ℕ) (v : View E O) (other : ℕ) (w : View E O) → w.stage ≡ Idle → Joins Rule id v other w (joined v w) nobody
+  joins id v other w idle s r at ne there =
+      let b : View E O = joined v w in let first : List (View E O) = set s.views id b in let last : List (View E O) = set first other nobody in
+      let was : get_elem? s.views other ≡ some w = sym (set_else s.views id other b ne) ∙ there in
+      let old = r.each id v at in let its = r.each other w was in let known = old.marked in let known' = its.marked in record {
+        log = r.log;
+        drawn = r.drawn;
+        mark = r.mark;
+        words = r.words;
+        few = r.few;
+        counted = let x = total_set some_ticket s.views id v b at in let y = total_set some_ticket first other w nobody there in let z : some_ticket w ≡ 0 = ap has_some_ticket idle in let c = r.counted in omega arith;
+        licensed = r.licensed;
+        locked = ⊎_elim inl (λ (i : (k : ℕ) × (u : View E O) × (get_elem? s.views k ≡ some u) × IsWithin u.stage).
+            dite (ℕ_discrete i.0 other)
+            (λ e. absurd (subst IsWithin (ap (λ (z : View E O). z.stage) (there_same s.views i.0 other i.1 w e i.2 was) ∙ idle) i.3))
+            (λ apart. dite (ℕ_discrete i.0 id)
+            (λ e. inr (id, b, set_else first other id nobody (λ x. ne (sym x)) ∙ there_set s.views id v b at, subst IsWithin (ap (λ (z : View E O). z.stage) (there_same s.views i.0 id i.1 v e i.2 at)) i.3))
+            (λ apart'. inr (i.0, i.1, set_else first other i.0 nobody apart ∙ (set_else s.views id i.0 b apart' ∙ i.2), i.3)))) r.locked;
+        each = λ k u here. ⊎_elim
+            (λ (e : (k ≡ other) × (nobody ≡ u)). subst (F r.log r.drawn r.mark s.homes) e.1 record { seen = (r.log, refl); told = (r.log, refl); calls = tt; marked = omega arith; licensed = λ z. absurd (z refl); staged = tt; whole = λ h. absurd h; from = λ o e. cc })
+            (λ (e : (k ≢ other) × (get_elem? first k ≡ some u)). ⊎_elim
+            (λ (f : (k ≡ id) × (b ≡ u)). subst (F r.log r.drawn r.mark s.homes) f.1 record {
+              seen = old.seen;
+              told = its.seen;
+              calls = accounts_append r.log v.calls w.calls old.calls its.calls;
+              marked = omega arith;
+              licensed = either_licensed r.log v.mark w.mark old.licensed its.licensed;
+              staged = old.staged;
+              whole = old.whole;
+              from = old.from;
+            })
+            (λ (f : (k ≢ id) × (get_elem? s.views k ≡ some u)). r.each k u f.1) (at_set s.views id k b u e.1)) (at_set first other k nobody u here);
+        queue = λ t. let x = total_set (ticket t) s.views id v b at in let y = total_set (ticket t) first other w nobody there in let q = r.queue t in omega arith;
+        once = λ z. let x = total_set (number z) s.views id v b at in let y = total_set (number z) first other w nobody there in let q = r.once z in let sum = times_append z v.calls w.calls in omega arith;
+        fresh = λ z above. let long : length s.views ≤ z = omega (arith, length-set s.views id b, length-set first other nobody) in let f = r.fresh z long in
+            let x = total_set (number z) s.views id v b at in let y = total_set (number z) first other w nobody there in let sum = times_append z v.calls w.calls in ((let q = f.0 in omega arith), f.1);
+      }
+    where
+      either_licensed : (log : Log) (x y : ℕ) → Licensed licenses log x → Licensed licenses log y → Licensed licenses log (max x y)
+      either_licensed log x y p q = dite (dec_le x y) (λ le. subst (Licensed licenses log) (let e : y ≡ max x y = omega arith in e) q)
+          (λ gt. subst (Licensed licenses log) (let e : x ≡ max x y = omega arith in e) p)
+
+  -- once a seat has shut the turnstile, its slot is empty for good
+  shut_out : (homes : List (Option P)) (served drawn : ℕ) (st : Stage) → is_within st ≡ true → Staged homes served drawn (shut_of st) → homes ≡ some Empty ∷ []
+  shut_out homes served drawn Idle e a = cc
+  shut_out homes served drawn (Waits t) e a = cc
+  shut_out homes served drawn (Within t) e a = a.2
+  shut_out homes served drawn (Shut t) e a = cc
+
+  pub closes : (s : St) (id : ℕ) (v w : View E O) (last : P) (slots : List P) → Rule s → get_elem? s.views id ≡ some w → w ≡ at_stage v (shut_of v.stage) → is_within v.stage ≡ true
+      → ((k : ℕ) (y : P) → get_elem? s.homes k ≡ some (some y) → get_elem? slots k ≡ some y) → get_elem? slots 0 ≡ some last → last ≡ Empty
+  closes s id v w last slots r at is within kept there =
+      let out : s.homes ≡ some Empty ∷ [] = shut_out s.homes (length r.log) r.drawn v.stage within (subst (λ (z : View E O). Staged s.homes (length r.log) r.drawn z.stage) is (r.each id w at).staged) in
+      some-injective last Empty (sym there ∙ kept 0 Empty (ap (λ (hs : List (Option P)). get_elem? hs 0) out))
+
+module _ {T E O : Type 0} where
+  -- what a seat knows after its turn was given back
+  pub gave_me : (m m1 m2 : Me (Place T E) (View E O)) (x : T) (e : Memo E) (entry : E) → m.1 ≡ (0, Empty) ∷ [] → m1 ≡ (m.0, (0, Given x e) ∷ Rattle.atomic_table.specs.Table.rest m.1) → e.value ≡ entry
+      → ((y : T) (d : Memo E) → m1.1 ≡ (0, Given y d) ∷ [] → m2 ≡ (after_call m1.0 d.value, [])) → m2 ≡ (after_call m.0 entry, [])
+  gave_me m m1 m2 x e entry taken put says told =
+      told x e (ap (λ (z : Me (Place T E) (View E O)). z.1) put ∙ ap (λ (z : List (ℕ × Place T E)). (0, Given x e) ∷ Rattle.atomic_table.specs.Table.rest z) taken) ∙ (λ i. (after_call (put i).0 (says i), []))
+
+pub still_numbered : {E : Type 0} (cs : List (ℕ × List E)) (e : E) → 0 < length cs → 0 < length (with_call cs e)
+still_numbered [] e h = h
+still_numbered (c ∷ cs) e h = h

@@ -1,0 +1,37 @@
+//! What lies beside a value for the proof alone.
+ghost use Rattle.std.specs.Prelude.{◌≡◌};
+ghost use base.Fml.{ftrue};
+
+use std::marker::{Model, PhantomData};
+
+/// A `T` as contracts see it. It has no bytes and owns nothing, so any thread may have it.
+pub struct Memo<T> {
+    marker: PhantomData<T>,
+    pub ghost value: { T },
+}
+
+impl<T> Model for Memo<T> {
+    ghost also_owns = { λ _. ftrue };
+}
+
+impl<T> Memo<T> {
+    /// A memo of what the reference shows.
+    pub fn of(shown: &T) -> Memo<T>
+        ensures { result.value ≡ shown.now }
+    {
+        let _ = shown;
+        Memo {
+            marker: PhantomData,
+        }
+    }
+}
+
+unsafe impl<T> Send for Memo<T> {}
+
+unsafe impl<T> Sync for Memo<T> {}
+
+impl<T> Drop for Memo<T> {
+    fn drop(self) {
+        let Self { marker: _ } = self;
+    }
+}
