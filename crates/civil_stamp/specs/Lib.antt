@@ -1,0 +1,2 @@
+pub mod LocalTime
+pub mod CivilStamp

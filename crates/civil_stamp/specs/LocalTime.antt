@@ -1,0 +1,97 @@
+-- Local time: what a clock shows that stands a fixed number of minutes ahead of UTC, as a Date and a Time (ANSI/ASHRAE 135-2020, 20.2.12 and 20.2.13).
+use Rattle.std.specs.Prelude.{◌≡◌, ℕ, zero, suc, ◌+◌, ◌-◌, ◌*◌, ◌/◌, ◌%◌, ◌<◌, List, [], ◌∷◌, length, ℤ, pos, neg_ℤ, ◌+ℤ◌, ◌-ℤ◌, ◌*ℤ◌, unsigned_abs, slice_index, nat_le, if◌then◌else◌}
+use Rattle.std.specs.Int.{int_div_euclid, int_rem_euclid}
+use Rattle.jiff_core.specs.Calendar.{IsBetween, IsCivilDate, days_from_civil, days_of_months, weekday_number}
+use Rattle.jiff_tz.specs.Year.{year_of_day}
+use Rattle.bac_values.specs.declared.stamp.Stamp.{Stamp}
+
+-- the minutes of a zone, at most fourteen hours from UTC
+abbrev pub IsZone : ℤ → Type 0
+IsZone minutes = IsBetween (neg_ℤ (pos 840)) (pos 840) minutes
+
+-- the hundredths of a second since 1970-01-01T00:00:00 on the clock of the zone, rounded down
+abbrev pub local_hundredths : ℤ → ℕ → ℤ
+local_hundredths minutes moment = int_div_euclid (pos moment +ℤ minutes *ℤ pos 60_000) (pos 10)
+
+-- the parts of a stamp: the year is kept less 1900, and Monday is 1
+abbrev pub stamp_year : Stamp → ℤ
+stamp_year stamp = pos (1900 + slice_index stamp.octets 0)
+
+abbrev pub stamp_month : Stamp → ℕ
+stamp_month stamp = slice_index stamp.octets 1
+
+abbrev pub stamp_day : Stamp → ℕ
+stamp_day stamp = slice_index stamp.octets 2
+
+abbrev pub stamp_weekday : Stamp → ℕ
+stamp_weekday stamp = slice_index stamp.octets 3
+
+abbrev pub stamp_hour : Stamp → ℕ
+stamp_hour stamp = slice_index stamp.octets 4
+
+abbrev pub stamp_minute : Stamp → ℕ
+stamp_minute stamp = slice_index stamp.octets 5
+
+abbrev pub stamp_second : Stamp → ℕ
+stamp_second stamp = slice_index stamp.octets 6
+
+abbrev pub stamp_hundredth : Stamp → ℕ
+stamp_hundredth stamp = slice_index stamp.octets 7
+
+-- the number of the stamp's day: 0 is 1970-01-01
+abbrev pub stamp_epoch_day : Stamp → ℤ
+stamp_epoch_day stamp = days_from_civil (stamp_year stamp) (stamp_month stamp) (stamp_day stamp)
+
+-- the hundredths of a second since midnight
+abbrev pub stamp_time : Stamp → ℕ
+stamp_time stamp =
+    ((stamp_hour stamp * 60 + stamp_minute stamp) * 60 + stamp_second stamp) * 100
+    + stamp_hundredth stamp
+
+-- a clock shows this hour, minute, second and hundredth
+pub record IsTimeOfDay (stamp : Stamp) : Type 0 where
+  pub hour : stamp_hour stamp < 24
+  pub minute : stamp_minute stamp < 60
+  pub second : stamp_second stamp < 60
+  pub hundredth : stamp_hundredth stamp < 100
+
+-- the stamp is what the clock of the zone shows at the moment: a day of the calendar and a time of that day, which
+-- together count the clock's hundredths, and the weekday of that day
+pub record IsLocalStamp (minutes : ℤ) (moment : ℕ) (stamp : Stamp) : Type 0 where
+  pub size : length stamp.octets ≡ 8
+  pub date : IsCivilDate (stamp_year stamp) (stamp_month stamp) (stamp_day stamp)
+  pub time : IsTimeOfDay stamp
+  pub count : stamp_epoch_day stamp *ℤ pos 8_640_000 +ℤ pos (stamp_time stamp) ≡ local_hundredths minutes moment
+  pub weekday : stamp_weekday stamp ≡ weekday_number (stamp_epoch_day stamp) + 1
+
+-- How the stamp is computed.
+
+-- the most months, at most n, whose days fit in that many days of the year
+unfoldable pub months_within : ℤ → ℕ → ℕ → ℕ
+months_within year zero days = 0
+months_within year (suc n) days =
+    if nat_le (days_of_months year (suc n)) days then suc n else months_within year n days
+
+-- the days of its year before the day
+unfoldable pub days_into_year : ℤ → ℕ
+days_into_year day = unsigned_abs (day -ℤ days_from_civil (year_of_day day) 1 1)
+
+unfoldable pub month_of_day : ℤ → ℕ
+month_of_day day = months_within (year_of_day day) 11 (days_into_year day) + 1
+
+unfoldable pub day_of_month : ℤ → ℕ
+day_of_month day = days_into_year day - days_of_months (year_of_day day) (month_of_day day - 1) + 1
+
+-- the octets of a day and of the hundredths since midnight
+unfoldable pub octets_of_day_and_time : ℤ → ℕ → List ℕ
+octets_of_day_and_time day time =
+    unsigned_abs (year_of_day day -ℤ pos 1900) ∷ month_of_day day ∷ day_of_month day ∷ (weekday_number day + 1)
+    ∷ (time / 360_000) ∷ (time / 6_000 % 60) ∷ (time / 100 % 60) ∷ (time % 100) ∷ []
+
+-- the stamp that the clock of the zone shows at the moment
+unfoldable pub local_stamp : ℤ → ℕ → Stamp
+local_stamp minutes moment =
+    record {
+      octets = octets_of_day_and_time (int_div_euclid (local_hundredths minutes moment) (pos 8_640_000))
+          (unsigned_abs (int_rem_euclid (local_hundredths minutes moment) (pos 8_640_000)));
+    }
