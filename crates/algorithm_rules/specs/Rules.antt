@@ -1,7 +1,7 @@
 -- The rules of each event algorithm, in the order in which they are tried (ANSI/ASHRAE 135-2020, 13.3).
 use Rattle.std.specs.Prelude.{List, [], ◌∷◌}
 use Rattle.bac_values.specs.declared.event_state.EventState.{EventState}
-use Rattle.bac_values.specs.declared.event_state.EventState.TheVariants.{Normal, Fault, Offnormal, HighLimit, LowLimit}
+use Rattle.bac_values.specs.declared.event_state.EventState.TheVariants.{Normal, Offnormal, HighLimit, LowLimit}
 use Rattle.algorithm_rules.specs.declared.table.Algorithm.{Algorithm}
 use Rattle.algorithm_rules.specs.declared.table.Algorithm.TheVariants.{ChangeOfBitstring, ChangeOfState, CommandFailure, UnsignedRange, SignedOutOfRange, UnsignedOutOfRange, ChangeOfCharacterstring}
 use Rattle.algorithm_rules.specs.declared.table.Rule.{Rule}

@@ -9,15 +9,27 @@ use bac_values::{Bits, Text, Value};
 use std::test::Fail;
 
 /// An object with limits 20 and 80, a deadband of 5, both limits enabled, and a delay of 10 seconds.
-fn object(algorithm: Algorithm, value: &Value) -> Snapshot<'_>
-    ensures none { result.alarm_values.now ≡ [] }
+fn object<'a>(algorithm: Algorithm, value: &'a Value, alarms: &'a [Value]) -> Snapshot<'a>
+    ensures { result.alarm_values.now ≡ alarms.now }
+{
+    with_feedback(algorithm, value, alarms, None, None)
+}
+
+fn with_feedback<'a>(
+    algorithm: Algorithm,
+    value: &'a Value,
+    alarm_values: &'a [Value],
+    alarm_value: Option<&'a Value>,
+    feedback: Option<&'a Value>,
+) -> Snapshot<'a>
+    ensures { result.alarm_values.now ≡ alarm_values.now }
 {
     Snapshot {
         algorithm,
         value,
-        feedback: None,
-        alarm_value: None,
-        alarm_values: &[],
+        feedback,
+        alarm_value,
+        alarm_values,
         mask: None,
         low: 20,
         high: 80,
@@ -169,10 +181,7 @@ fn texts_match_the_empty_text_or_what_occurs_in_them(rt: HostRuntime) -> Result<
     ];
     for (text, place) in [("", Some(0)), ("no fire here", Some(1)), ("calm", None)] {
         let value = Value::Text(Text::new(rt.alloc(), text)?);
-        let snapshot = Snapshot {
-            alarm_values: &alarms,
-            ..object(ChangeOfCharacterstring, &value)
-        };
+        let snapshot = object(ChangeOfCharacterstring, &value, &alarms);
         assert_eq!(rt; matched(&snapshot), place, "{text}");
         assert_eq!(rt; is_met(SomeMatch, &snapshot), place.is_some(), "{text}");
         assert_eq!(rt; is_met(NoMatch, &snapshot), place.is_none(), "{text}");
@@ -196,10 +205,7 @@ fn bit_strings_match_where_the_mask_has_bits(rt: HostRuntime) -> Result<(), Fail
         (0b0011, None, None),
     ] {
         let value = Value::Bits(Bits::new(4, bits)?);
-        let plain = Snapshot {
-            alarm_values: &alarms,
-            ..object(ChangeOfBitstring, &value)
-        };
+        let plain = object(ChangeOfBitstring, &value, &alarms);
         let masked = Snapshot { mask, ..plain };
         assert_eq!(rt; matched(&masked), place, "{bits}");
         assert_eq!(rt; matched(&plain), plainly, "{bits}");
@@ -212,10 +218,7 @@ fn states_match_where_they_are_equal(rt: HostRuntime) {
     let alarms = [Value::Unsigned(2), Value::Unsigned(3)];
     for (state, place) in [(1, None), (2, Some(0)), (3, Some(1))] {
         let value = Value::Unsigned(state);
-        let snapshot = Snapshot {
-            alarm_values: &alarms,
-            ..object(ChangeOfState, &value)
-        };
+        let snapshot = object(ChangeOfState, &value, &alarms);
         let other = Rule {
             target: Offnormal,
             test: OtherMatch,
@@ -226,18 +229,10 @@ fn states_match_where_they_are_equal(rt: HostRuntime) {
     }
     let active = Value::Enumerated(1);
     let inactive = Value::Enumerated(0);
-    let alarmed = Snapshot {
-        alarm_value: Some(&active),
-        ..object(ChangeOfState, &active)
-    };
+    let alarmed = with_feedback(ChangeOfState, &active, &[], Some(&active), None);
     assert_eq!(rt; matched(&alarmed), Some(0));
-    assert_eq!(rt;
-        matched(&Snapshot {
-            value: &inactive,
-            ..alarmed
-        }),
-        None
-    );
+    let quiet = with_feedback(ChangeOfState, &inactive, &[], Some(&active), None);
+    assert_eq!(rt; matched(&quiet), None);
 }
 
 #[test]
@@ -253,7 +248,7 @@ fn limits_are_strict_and_the_deadband_lies_within(rt: HostRuntime) {
         (19, false, true, true, false, false),
     ] {
         let value = Value::Signed(number);
-        let snapshot = object(SignedOutOfRange, &value);
+        let snapshot = object(SignedOutOfRange, &value, &[]);
         assert_eq!(rt; is_met(AboveEnabledHigh, &snapshot), above, "{number}");
         assert_eq!(rt; is_met(BelowEnabledLow, &snapshot), below, "{number}");
         assert_eq!(rt; is_met(BelowHighLessDeadband, &snapshot), less, "{number}");
@@ -280,7 +275,7 @@ fn sums_have_no_bounds(rt: HostRuntime) {
         low: -2_147_483_647,
         high: 2_147_483_647,
         deadband: 4_294_967_295,
-        ..object(SignedOutOfRange, &least)
+        ..object(SignedOutOfRange, &least, &[])
     };
     assert_eq!(rt; is_met(BelowEnabledLow, &lowest), true);
     let highest = Snapshot {
@@ -301,15 +296,8 @@ fn sums_have_no_bounds(rt: HostRuntime) {
 #[test]
 fn feedback_is_compared_and_delays_are_chosen(rt: HostRuntime) {
     let (value, other) = (Value::Signed(50), Value::Signed(51));
-    let alone = object(CommandFailure, &value);
-    let equal = Snapshot {
-        feedback: Some(&value),
-        ..alone
-    };
-    let differs = Snapshot {
-        feedback: Some(&other),
-        ..alone
-    };
+    let equal = with_feedback(CommandFailure, &value, &[], None, Some(&value));
+    let differs = with_feedback(CommandFailure, &value, &[], None, Some(&other));
     assert_eq!(rt; is_met(FeedbackEquals, &equal), true);
     assert_eq!(rt; is_met(FeedbackDiffers, &equal), false);
     assert_eq!(rt; is_met(FeedbackEquals, &differs), false);
@@ -319,30 +307,18 @@ fn feedback_is_compared_and_delays_are_chosen(rt: HostRuntime) {
         test: FeedbackEquals,
         wait: NormalDelay,
     };
-    assert_eq!(rt; delay(&rule, &alone), 10);
+    assert_eq!(rt; delay(&rule, &equal), 10);
     let quick = Snapshot {
         time_delay_normal: Some(0),
-        ..alone
+        ..equal
     };
     assert_eq!(rt; delay(&rule, &quick), 0);
-    assert_eq!(rt;
-        delay(
-            &Rule {
-                wait: TimeDelay,
-                ..rule
-            },
-            &quick
-        ),
-        10
-    );
-    assert_eq!(rt;
-        delay(
-            &Rule {
-                wait: AtOnce,
-                ..rule
-            },
-            &alone
-        ),
-        0
-    );
+    for (wait, seconds) in [(TimeDelay, 10), (NormalDelay, 0), (AtOnce, 0)] {
+        let rule = Rule {
+            target: Normal,
+            test: Within,
+            wait,
+        };
+        assert_eq!(rt; delay(&rule, &quick), seconds);
+    }
 }

@@ -1,5 +1,5 @@
 -- What `unwrap` answers, from what reading gives.
-use Rattle.std.proofs.Common.{◌≡◌, ℕ, ◌-◌, ◌≤◌, List, length, drop, Option, Some, None, refl, sym, ap, subst, ◌∙◌}
+use Rattle.std.proofs.Common.{◌≡◌, ℕ, ◌-◌, ◌≤◌, List, length, drop, Some, None, sym, ap, subst, ◌∙◌}
 use Rattle.std.proofs.lemmas.Option.{some_pair_parts, none-some}
 use Rattle.bac_values.specs.Address.{Address}
 use Rattle.bvlc_npdu.specs.Frame.{IsFrame}

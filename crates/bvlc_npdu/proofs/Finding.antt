@@ -1,5 +1,5 @@
 -- What is in the grammar is found by reading, and its APDU stands at the end.
-use Rattle.std.proofs.Common.{◌≡◌, ℕ, zero, suc, ◌+◌, ◌-◌, ◌*◌, ◌^◌, ◌<◌, ◌≤◌, Bool, true, false, not, ◌&&◌, ltb, eqb, cond, ◌⊎◌, List, [], ◌∷◌, ◌++◌, length, take, drop, Option, Some, None, refl, sym, ap, subst, ◌∙◌, inl, inr, arith}
+use Rattle.std.proofs.Common.{◌≡◌, ℕ, ◌+◌, ◌-◌, ◌^◌, ◌<◌, ◌≤◌, Bool, true, false, ltb, eqb, cond, List, [], ◌∷◌, ◌++◌, length, drop, Some, refl, sym, ap, ◌∙◌, inl, inr, arith}
 use Rattle.std.specs.Bool.{MatchBool}
 use Rattle.std.specs.Int.{bytes_high_first}
 use Rattle.std.proofs.lemmas.Bool.{eq-eqb, ne_eqb, le-ltb}
@@ -7,7 +7,7 @@ use Rattle.std.proofs.lemmas.List.{append_assoc, take_at, drop_at, length-append
 use Rattle.byteorder.specs.Endian.{big_number}
 use Rattle.byteorder.specs.Numbers.{big_number-reads_back}
 use Rattle.bac_values.specs.Address.{Address}
-use Rattle.bvlc_npdu.specs.Frame.{has_bit, IsMessage, IsCarried, IsOriginal, IsForwarded, IsGlobalBroadcast, IsStation, IsDestination, IsSource, IsHopCount, IsNpdu, IsFrame}
+use Rattle.bvlc_npdu.specs.Frame.{has_bit, IsMessage, IsCarried, IsGlobalBroadcast, IsStation, IsNpdu, IsFrame}
 use Rattle.bvlc_npdu.specs.Reading.{◌>>=◌, past, message_at, forwarded_at, origin_at, after_global_broadcast, after_destination, station_at, source_at, after_hop_count, addressed_at, npdu_at, frame_at}
 
 message_spelled : (function n : ℕ) (content : List ℕ) → n < 2 ^ 16 → n ≡ 4 + length content → message_at (0x81 ∷ function ∷ bytes_high_first 2 n ++ content) ≡ Some (function, content)

@@ -1,6 +1,5 @@
 -- What is written is a frame.
-use Rattle.std.proofs.Common.{◌≡◌, ℕ, ◌+◌, ◌^◌, ◌<◌, ◌≤◌, Bool, true, false, eqb, cond, List, [], ◌∷◌, ◌++◌, length, refl, sym, ap, subst, inl, arith}
-use Rattle.std.specs.Bool.{MatchBool}
+use Rattle.std.proofs.Common.{◌≡◌, ℕ, ◌<◌, ◌≤◌, Bool, true, false, cond, List, [], ◌∷◌, ◌++◌, length, refl, sym, ap, subst, inl, arith}
 use Rattle.std.specs.Int.{bytes_high_first}
 use Rattle.bac_values.specs.Address.{Address}
 use Rattle.bvlc_npdu.specs.Frame.{IsFrame, IsNpdu}

@@ -1,13 +1,13 @@
 -- What reading takes is in the grammar.
-use Rattle.std.proofs.Common.{◌≡◌, ℕ, zero, suc, ◌+◌, ◌*◌, ◌^◌, ◌<◌, ◌≤◌, Bool, true, false, not, ◌&&◌, ◌==◌, ltb, eqb, cond, ◌⊎◌, List, [], ◌∷◌, ◌++◌, length, get_or, take, drop, Option, Some, None, refl, sym, ap, subst, ◌∙◌, inl, inr, arith}
+use Rattle.std.proofs.Common.{◌≡◌, ℕ, suc, ◌≤◌, Bool, true, false, not, ◌&&◌, ltb, eqb, cond, ◌⊎◌, List, [], ◌∷◌, ◌++◌, length, take, drop, Some, None, refl, sym, ap, subst, ◌∙◌, inl, inr, arith}
 use Rattle.std.specs.Bool.{MatchBool}
 use Rattle.std.specs.Int.{bytes_high_first}
 use Rattle.std.proofs.lemmas.Bool.{and_parts, eqb-true, eqb-false, ltb-false, not-true}
-use Rattle.std.proofs.lemmas.List.{append_assoc, take-append-drop, length-take-le}
+use Rattle.std.proofs.lemmas.List.{take-append-drop, length-take-le}
 use Rattle.std.proofs.lemmas.Option.{same_Some}
 use Rattle.byteorder.specs.Endian.{big_number}
 use Rattle.bac_values.specs.Address.{Address}
-use Rattle.bvlc_npdu.specs.Frame.{has_bit, IsMessage, IsCarried, IsOriginal, IsForwarded, IsGlobalBroadcast, IsStation, IsDestination, IsSource, IsHopCount, IsNpdu, IsFrame}
+use Rattle.bvlc_npdu.specs.Frame.{has_bit, IsMessage, IsCarried, IsForwarded, IsGlobalBroadcast, IsStation, IsDestination, IsSource, IsHopCount, IsNpdu, IsFrame}
 use Rattle.bvlc_npdu.specs.Reading.{◌>>=◌, past, message_at, forwarded_at, origin_at, after_global_broadcast, after_destination, station_at, source_at, after_hop_count, addressed_at, npdu_at, frame_at}
 use Rattle.bvlc_npdu.proofs.Steps.{bind_some, guard_some, test_some, branch_taken}
 use Rattle.bvlc_npdu.proofs.Numbers.{AreOctets, AreOctets-behind, octets_of_two, octets_of_four}

@@ -1,5 +1,5 @@
 -- Which datagrams are taken: those that are a message of BACnet/IP (ANSI/ASHRAE 135-2020, annex J.2) with an NPDU (6.2), and in that an APDU for this device.
-use Rattle.std.specs.Prelude.{◌≡◌, ℕ, ◌+◌, ◌^◌, ◌<◌, ◌≤◌, ◌⊎◌, Bool, false, not, ◌==◌, List, [], ◌∷◌, ◌++◌, length, bit_and}
+use Rattle.std.specs.Prelude.{◌≡◌, ℕ, ◌^◌, ◌<◌, ◌≤◌, ◌⊎◌, Bool, false, not, ◌==◌, List, [], ◌∷◌, ◌++◌, length, bit_and}
 use Rattle.std.specs.Bool.{MatchBool}
 use Rattle.std.specs.Int.{bytes_high_first}
 use Rattle.bac_values.specs.Address.{Address}

@@ -1,5 +1,5 @@
 -- Reading a datagram from left to right: a step answers what it read and the octets behind it.
-use Rattle.std.specs.Prelude.{◌≡◌, ℕ, ◌-◌, List, [], length, drop, take, slice_index, Bool, not, ◌&&◌, ◌||◌, Option, Some, None, nat_lt, ◌==◌, if◌then◌else◌}
+use Rattle.std.specs.Prelude.{◌≡◌, ℕ, ◌-◌, List, [], length, drop, take, slice_index, not, ◌&&◌, Option, Some, None, nat_lt, ◌==◌, if◌then◌else◌}
 use Rattle.byteorder.specs.Endian.{big_number}
 use Rattle.bac_values.specs.Address.{Address}
 use Rattle.bvlc_npdu.specs.declared.reading.Incoming.{Incoming}

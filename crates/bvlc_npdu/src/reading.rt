@@ -1,7 +1,9 @@
-ghost use Rattle.std.specs.Prelude.{◌≡◌, ◌≤◌, List, ℕ, drop, length, ◌≢◌, IfSome, IsSomeAnd};
+ghost use Rattle.std.specs.Prelude.{◌≡◌, ◌≢◌, ◌≤◌, List, ℕ, drop, length, IfSome, IsSomeAnd};
 ghost use Rattle.bac_values.specs.Address.{Address};
-ghost use Rattle.bvlc_npdu.specs.Frame.{IsFrame, has_bit};
-ghost use Rattle.bvlc_npdu.specs.Reading.{Answers, past, message_at, forwarded_at, origin_at, after_global_broadcast, after_destination, station_at, source_at, after_hop_count, addressed_at, npdu_at, frame_at, incoming_at};
+ghost use Rattle.bvlc_npdu.specs.Frame.{IsFrame};
+ghost use Rattle.bvlc_npdu.specs.Reading.{Answers, past, message_at, forwarded_at, origin_at};
+ghost use Rattle.bvlc_npdu.specs.Reading.{after_global_broadcast, after_destination, station_at, source_at};
+ghost use Rattle.bvlc_npdu.specs.Reading.{after_hop_count, addressed_at, npdu_at, frame_at, incoming_at};
 
 use crate::layout::{
     ALL_NETWORKS, BVLL_OF_IP, FORWARDED, HAS_DESTINATION, HAS_SOURCE, IS_NETWORK_MESSAGE,
@@ -98,7 +100,8 @@ fn skip_destination(control: u8, octets: &[u8]) -> Option<&[u8]>
 /// The network and the address of a station, and the octets behind them.
 #[tactic(auto, unfolding(crate::specs::Reading::station_at))]
 fn read_station(octets: &[u8]) -> Option<(u16, Mac, &[u8])>
-    ensures exact { Answers (λ station. (station.0, station.1, station.2.now)) result (station_at octets.now) }
+    ensures exact { Answers (λ station. (station.0, station.1, station.2.now)) result
+        (station_at octets.now) }
     ensures remote { IfSome result (λ station. station.0 ≢ 0) }
 {
     if octets.len() < 3 {
@@ -189,13 +192,14 @@ fn read_frame(sender: Peer, bytes: &[u8]) -> Option<(Peer, &[u8])>
     Some((peer, apdu))
 }
 
-/// The APDU in a datagram that came from `sender`, and the peer that it is from. None is given for what isn't
-/// taken: a datagram that isn't a whole message of BACnet/IP, carries no APDU or one for another network, or
-/// comes from where no answer can go.
+/// The APDU in a datagram that came from `sender`, and the peer to which an answer goes. None is given for what
+/// isn't taken: a datagram that isn't a whole message of BACnet/IP, carries no APDU or one for another network,
+/// or comes from where no answer can go.
 pub fn unwrap(sender: Peer, bytes: &[u8]) -> Option<Incoming>
     ensures exact { result ≡ incoming_at sender bytes.now }
     ensures within { IfSome result (λ incoming. incoming.start ≤ length bytes.now) }
-    ensures found { IfSome result (λ incoming. IsFrame sender bytes.now incoming.peer (drop incoming.start bytes.now)) }
+    ensures found { IfSome result (λ incoming.
+        IsFrame sender bytes.now incoming.peer (drop incoming.start bytes.now)) }
     ensures only { (peer : Address) (apdu : List ℕ) → IsFrame sender bytes.now peer apdu
         → IsSomeAnd result (λ incoming. (incoming.peer ≡ peer) × (drop incoming.start bytes.now ≡ apdu)) }
 {

@@ -1,25 +1,26 @@
--- Each step of a turnstile keeps its rule.
-use Rattle.std.proofs.Common.{◌≡◌, ◌≢◌, inl, inr, ⊎_elim, ℕ, ◌+◌, ◌%◌, ◌^◌, ◌<◌, ◌≤◌, Bool, true, List, [], ◌∷◌, ◌++◌, length, set, get_or, refl, sym, ap, ◌∙◌, subst, arith, append-nil, eq-eqb, ne_eqb, eqb, length-set, length-append, le_refl}
-use mathlib.Core.Option.{Option, none, some, some-injective, some-ne-none}
+-- Each step on a word keeps the rule: the walk of a seat through its turn, and the marks.
+use Rattle.std.proofs.Common.{◌≡◌, ◌≢◌, inl, inr, ⊎_elim, ℕ, ◌+◌, ◌%◌, ◌^◌, ◌<◌, ◌≤◌, Bool, true, List, [], ◌∷◌, ◌++◌, length, set, get_or, refl, sym, ap, ◌∙◌, subst, arith, append-nil, eq-eqb, ne_eqb, eqb, length-set, length-append}
+use mathlib.Core.Option.{Option, none, some, some-injective}
 use mathlib.Core.Logic.{dite}
 use native.Mathlib.Decide.{ℕ_discrete, dec_le}
 use lib.ListN.{get_elem?}
 use lib.Seq.{set-get_or}
 use prog.Atomic.{either}
-use Rattle.std.specs.Prelude.{◌==◌, if◌then◌else◌, max, Some}
+use Rattle.std.specs.Prelude.{if◌then◌else◌, max}
 use Rattle.turnstile.specs.declared.memo.Memo.{Memo}
 use Rattle.atomic_table.specs.Table.{State, Me, Act, step, keeps, takes, gives, stepped, Allows, Enters, Splits, Joins, opening, put_back, homes_after, carried_after, Valid}
-use Rattle.atomic_table.proofs.Lists.{at_set, at_snoc, set_else, set_again, at_longer, exchanged}
+use Rattle.atomic_table.proofs.Lists.{at_set, set_else, exchanged}
 use Rattle.turnstile.specs.Histories.{StartsWith, entries_under, times, Licensed}
-use Rattle.turnstile.specs.Views.{own_number, with_call, longer, is_within, IsWithin, shut_of, newcomer, note_of, nobody, joined, heard, at_stage, inside, after_call, with_mark}
+use Rattle.turnstile.specs.Views.{IsHolding, own_number, longer, is_within, IsWithin, shut_of, heard, at_stage, inside, after_call, with_mark}
 use Rattle.turnstile.specs.declared.view.View.{View}
 use Rattle.turnstile.specs.declared.view.Place.{Place}
 use Rattle.turnstile.specs.declared.view.Place.TheVariants.{Empty, Held, Given}
 use Rattle.turnstile.specs.declared.view.Stage.{Stage}
 use Rattle.turnstile.specs.declared.view.Stage.TheVariants.{Idle, Waits, Within, Shut}
 use Rattle.turnstile.specs.Rule.{total, has_ticket, has_some_ticket, Staged, Holds, Fits, Locked, Kept}
-use Rattle.turnstile.specs.Steps.{Drew, PassedOn, Entered, Settled, Closed, Raised, Loaded, Turned, Looked}
-use Rattle.turnstile.proofs.Counts.{total_set, total_snoc, total_at, total_two, under_other, times_append, times_here, times_with_call, accounts_append, accounts_other, accounts_own, starts_append, times_one, times_none, total_zero, there_set, there_same, starts_both}
+use Rattle.turnstile.specs.Steps.{Drew, PassedOn, Settled, Closed, Raised, Loaded, Turned, Looked}
+use Rattle.turnstile.proofs.Counts.{total_set, total_at, total_two, under_other, times_here, times_with_call, accounts_other, accounts_own, starts_append, total_zero, there_set, there_same, starts_both}
+use Rattle.turnstile.proofs.Stages.{other_ticket, waits_same, within_some, within_is, within_served, more_drawn, restaged, within_out, shut_out}
 use Rattle.std.proofs.lemmas.Bool.{le-leb, lt-leb}
 
 module _ {T E O : Type 0} (stands : T → List (ℕ × E) → Type 0) (origin : T → O) (first : O) (licenses : List (ℕ × E) → ℕ → Type 0) where
@@ -53,31 +54,6 @@ module _ {T E O : Type 0} (stands : T → List (ℕ × E) → Type 0) (origin : 
   abbrev number : ℕ → View E O → ℕ
   number n v = times n v.calls
 
-  pub opens : (x : T) → stands x [] → right x → Rule (opening (0 ∷ 0 ∷ 0 ∷ []) (Held x ∷ []) (newcomer first 0))
-  opens x h r = record {
-    log = [];
-    drawn = 0;
-    mark = 0;
-    words = refl;
-    few = omega arith;
-    counted = omega arith;
-    licensed = λ ne. absurd (ne refl);
-    locked = inl (Held x, refl, (h, r));
-    each = λ k v at. ⊎_elim (λ none_there. absurd (some-ne-none v (sym none_there))) (λ (is : newcomer first 0 ≡ v). subst (F [] 0 0 (some (Held x) ∷ [])) is record {
-      seen = ([], refl);
-      told = ([], refl);
-      calls = (refl, tt);
-      marked = omega arith;
-      licensed = λ ne. absurd (ne refl);
-      staged = tt;
-      whole = λ h. absurd h;
-      from = λ o e. cc;
-    }) (at_snoc [] (newcomer first 0) v k at);
-    queue = λ t. omega arith;
-    once = λ n. let one = times_one {E = E} n (0, []) in omega arith;
-    fresh = λ n above. (ap (λ (z : ℕ). z + 0) (times_none {E = E} n (0, []) (λ is. omega arith)), refl);
-  }
-
   -- the seat id goes from v to w, and the rest of the state to what is given
   moved : (s : St) (r : Rule s) (id : ℕ) (v w : View E O) (log : Log) (drawn mark : ℕ) (words : List ℕ) (homes : List (Option P)) → get_elem? s.views id ≡ some v
       → words ≡ drawn ∷ length log ∷ mark ∷ [] → drawn < 2 ^ 64 → (length log + some_ticket w) + r.drawn ≡ (drawn + some_ticket v) + length r.log → Licensed licenses log mark → Locked stands origin first licenses log homes (set s.views id w)
@@ -103,23 +79,6 @@ module _ {T E O : Type 0} (stands : T → List (ℕ × E) → Type 0) (origin : 
   -- the seat has the ticket of another only if it is the same seat
   one_ticket : (s : St) (r : Rule s) (t j k : ℕ) (v w : View E O) → get_elem? s.views j ≡ some v → get_elem? s.views k ≡ some w → has_ticket t v.stage ≡ 1 → has_ticket t w.stage ≡ 1 → j ≡ k
   one_ticket s r t j k v w a b x y = dite (ℕ_discrete j k) (λ e. e) (λ ne. let two = total_two (ticket t) s.views j k v w ne a b in let q = r.queue t in absurd (omega arith))
-
-  has_own : (t : ℕ) → ◌≡◌ {A = ℕ} (if t == t then 1 else 0) 1
-  has_own t = ap (λ b. if b then 1 else 0) (eq-eqb t t refl)
-
-  -- a seat within has the ticket that is served
-  within_served : (homes : List (Option P)) (served drawn : ℕ) (st : Stage) → Staged homes served drawn st → IsWithin st → has_ticket served st ≡ 1
-  within_served homes served drawn Idle a b = absurd b
-  within_served homes served drawn (Waits t) a b = absurd b
-  within_served homes served drawn (Within t) a b = ap (λ z. if z then 1 else 0) (eq-eqb t served a.1)
-  within_served homes served drawn (Shut t) a b = ap (λ z. if z then 1 else 0) (eq-eqb t served a.1)
-
-  -- a stage that keeps its meaning while more tickets are drawn
-  more_drawn : (homes : List (Option P)) (served drawn drawn' : ℕ) (st : Stage) → drawn ≤ drawn' → Staged homes served drawn st → Staged homes served drawn' st
-  more_drawn homes served drawn drawn' Idle le a = tt
-  more_drawn homes served drawn drawn' (Waits t) le a = omega arith
-  more_drawn homes served drawn drawn' (Within t) le a = (let h = a.0 in omega arith, a.1, a.2)
-  more_drawn homes served drawn drawn' (Shut t) le a = (let h = a.0 in omega arith, a.1, a.2)
 
   -- a step that leaves the log and the slot as they are
   locked_still : (s : St) (r : Rule s) (id : ℕ) (v w : View E O) → get_elem? s.views id ≡ some v → (IsWithin v.stage → IsWithin w.stage) → Locked stands origin first licenses r.log s.homes s.views → Locked stands origin first licenses r.log s.homes (set s.views id w)
@@ -152,9 +111,6 @@ module _ {T E O : Type 0} (stands : T → List (ℕ × E) → Type 0) (origin : 
       below (Within t) a = let h = a.0 in ap (λ z. if z then 1 else 0) (ne_eqb t r.drawn (λ e. omega arith))
       below (Shut t) a = let h = a.0 in ap (λ z. if z then 1 else 0) (ne_eqb t r.drawn (λ e. omega arith))
 
-  at_drawn : (st : Stage) (t u : ℕ) → t ≢ u → has_ticket u (Waits t) ≡ 0
-  at_drawn st t u ne = ap (λ z. if z then 1 else 0) (ne_eqb t u ne)
-
   -- the next ticket is drawn
   ticketed : (s : St) (r : Rule s) (id : ℕ) (v : View E O) (n : ℕ) (c : List (ℕ × P)) → get_elem? s.views id ≡ some v → v.stage ≡ Idle → n ≡ r.drawn → n + 1 < 2 ^ 64 → Rule (stepped s 0 (n + 1) id c (at_stage v (Waits n)) keeps)
   ticketed s r id v n c at idle is room =
@@ -165,7 +121,7 @@ module _ {T E O : Type 0} (stands : T → List (ℕ × E) → Type 0) (origin : 
       (λ t. let a = total_set (ticket t) s.views id v w at in let z : ticket t v ≡ 0 = ap (has_ticket t) idle in let q = r.queue t in
       dite (ℕ_discrete n t)
       (λ e. let free : total (ticket t) s.views ≡ 0 = subst (λ (u : ℕ). total (ticket u) s.views ≡ 0) (sym is ∙ e) (next_free s r) in let one : ticket t w ≡ 1 = ap (λ b. if b then 1 else 0) (eq-eqb n t e) in omega arith)
-      (λ ne. let none_here : ticket t w ≡ 0 = at_drawn Idle n t ne in omega arith))
+      (λ ne. let none_here : ticket t w ≡ 0 = other_ticket n t ne in omega arith))
       (λ m. refl) (λ m above. (r.fresh m above).1)
 
   pub draws : (slots id n : ℕ) (m : M) → m.0.stage ≡ Idle → n + 1 < 2 ^ 64 → Allows Rule slots id m 0 (λ y. either (eqb y n) (n + 1) y) (Drew (step slots 0 n (n + 1) none) m)
@@ -177,12 +133,6 @@ module _ {T E O : Type 0} (stands : T → List (ℕ × E) → Type 0) (origin : 
   -- where a seat has the ticket that is served, no other is within
   alone : (s : St) (r : Rule s) (id : ℕ) (v : View E O) → get_elem? s.views id ≡ some v → has_ticket (length r.log) v.stage ≡ 1 → (k : ℕ) (u : View E O) → k ≢ id → get_elem? s.views k ≡ some u → IsWithin u.stage → ⊥
   alone s r id v at mine k u ne there h = ne (one_ticket s r (length r.log) k id u v there at (within_served s.homes (length r.log) r.drawn u.stage (r.each k u there).staged h) mine)
-
-  restaged : (homes homes' : List (Option P)) (served served' drawn : ℕ) (st : Stage) → (IsWithin st → ⊥) → Staged homes served drawn st → Staged homes' served' drawn st
-  restaged homes homes' served served' drawn Idle out a = tt
-  restaged homes homes' served served' drawn (Waits t) out a = a
-  restaged homes homes' served served' drawn (Within t) out a = absurd (out tt)
-  restaged homes homes' served served' drawn (Shut t) out a = absurd (out tt)
 
   -- a step that reads a word only, and moves the slot
   slotted : (s : St) (r : Rule s) (i id : ℕ) (v w : View E O) (homes : List (Option P)) → get_elem? s.views id ≡ some v → has_ticket (length r.log) v.stage ≡ 1 → Locked stands origin first licenses r.log homes (set s.views id w)
@@ -222,9 +172,6 @@ module _ {T E O : Type 0} (stands : T → List (ℕ × E) → Type 0) (origin : 
         },
       )
 
-  waits_same : (t u : ℕ) (st : Stage) → st ≡ Waits t → st ≡ Waits u → t ≡ u
-  waits_same t u st a b = cc
-
   pub looks : (slots id t : ℕ) (m : M) → m.0.stage ≡ Waits t → m.1 ≡ [] → Allows Rule slots id m 1 (λ n. n) (Looked stands origin licenses (step slots 1 0 0 none) m)
   looks slots id t m st empty s r wide at _ = let y : ℕ = get_or s.words 1 0 in let is : y ≡ length r.log = ap (λ (ws : List ℕ). get_or ws 1 0) r.words in
       dite (ℕ_discrete y t)
@@ -242,25 +189,6 @@ module _ {T E O : Type 0} (stands : T → List (ℕ × E) → Type 0) (origin : 
       absurd (dite (ℕ_discrete i.0 id) (λ e. subst IsWithin (ap (λ (z : View E O). z.stage) (there_same s.views i.0 id i.1 m.0 e i.2 at) ∙ st) i.3) (λ ne. alone s r id m.0 at own i.0 i.1 ne i.2 i.3)))
       r.locked)
       (λ miss. (m.0, keeps, tt, unchanged s r 1 id m.1 m.0 at, λ u su. ((λ hit. absurd (miss (hit ∙ sym (waits_same t u m.0.stage st su)))), λ _. refl)))
-
-  within_some : (st : Stage) → is_within st ≡ true → has_some_ticket st ≡ 1
-  within_some Idle e = cc
-  within_some (Waits t) e = refl
-  within_some (Within t) e = refl
-  within_some (Shut t) e = refl
-
-  within_is : (st : Stage) → is_within st ≡ true → IsWithin st
-  within_is Idle e = cc
-  within_is (Waits t) e = cc
-  within_is (Within t) e = tt
-  within_is (Shut t) e = tt
-
-  -- what is known of a seat within: the slot is out, its ticket is served, and more tickets were drawn than turns were given
-  within_out : (homes : List (Option P)) (served drawn : ℕ) (st : Stage) → is_within st ≡ true → Staged homes served drawn st → (homes ≡ none ∷ []) × (served < drawn)
-  within_out homes served drawn Idle e a = cc
-  within_out homes served drawn (Waits t) e a = cc
-  within_out homes served drawn (Within t) e a = (a.2, (let x = a.0 in let y = a.1 in omega arith))
-  within_out homes served drawn (Shut t) e a = cc
 
   own_times : (cs : List (ℕ × List E)) → 0 < length cs → 1 ≤ times (own_number cs) cs
   own_times [] h = absurd (omega arith)
@@ -325,7 +253,7 @@ module _ {T E O : Type 0} (stands : T → List (ℕ × E) → Type 0) (origin : 
         (λ z. times_with_call z v.calls e.value)
         (λ z above. let f = r.fresh z above in under_other z k r.log e.value (λ same. let none_there = (r.fresh k (subst (λ (y : ℕ). length s.views ≤ y) (sym same) above)).0 in omega arith) ∙ f.1)
 
-    pub gives_turn : (slots id : ℕ) (m : M) (x : T) (e : Memo E) → m.1 ≡ (0, Given x e) ∷ [] → is_within m.0.stage ≡ true → 0 < length m.0.calls
+    gives_turn : (slots id : ℕ) (m : M) (x : T) (e : Memo E) → m.1 ≡ (0, Given x e) ∷ [] → is_within m.0.stage ≡ true → 0 < length m.0.calls
         → stands x (m.0.seen ++ (own_number m.0.calls, e.value) ∷ []) → right x → Allows Rule slots id m 1 (λ n. (n + 1) % 2 ^ 64) (PassedOn (step slots 1 1 0 none) m)
     gives_turn slots id m x e hand within some_number stand ok s r wide at _ = (
       after_call m.0 e.value,
@@ -334,6 +262,17 @@ module _ {T E O : Type 0} (stands : T → List (ℕ × E) → Type 0) (origin : 
       passed_on s r id m x e at hand within some_number stand ok,
       λ y d is. λ i. (after_call m.0 (value_given x y e d (sym hand ∙ is) i), rest_of m.1 x e hand i),
     )
+
+    -- a seat that holds the turn puts the value back beside a memo of the entry, and passes the turn on
+    pub gives_back : (slots id : ℕ) (m m1 : M) (x : T) (e : Memo E) (entry : E) → IsHolding m → m1 ≡ (m.0, (0, Given x e) ∷ Rattle.atomic_table.specs.Table.rest m.1) → e.value ≡ entry
+        → stands x (m.0.seen ++ (own_number m.0.calls, entry) ∷ []) → right x → Allows Rule slots id m1 1 (λ n. (n + 1) % 2 ^ 64) (PassedOn (step slots 1 1 0 none) m1)
+    gives_back slots id m m1 x e entry holds put says stand ok =
+        let view : m1.0 ≡ m.0 = ap (λ (z : M). z.0) put in
+        gives_turn slots id m1 x e (ap (λ (z : M). z.1) put ∙ ap (λ (z : List (ℕ × P)). (0, Given x e) ∷ Rattle.atomic_table.specs.Table.rest z) holds.0)
+        (ap (λ (v : View E O). is_within v.stage) view ∙ holds.1)
+        (subst (λ (v : View E O). 0 < length v.calls) (sym view) holds.2)
+        (subst (λ (k : View E O × E). stands x (k.0.seen ++ (own_number k.0.calls, k.1) ∷ [])) (λ i. (sym view i, sym says i)) stand)
+        ok
 
     pub raises : (slots id to : ℕ) (m : M) → Licensed licenses m.0.seen to → to < 2 ^ 64 → Allows Rule slots id m 2 (λ n. max n to) (Raised (step slots 2 to 0 none) m)
     raises slots id to m ok small s r wide at _ =
@@ -425,115 +364,6 @@ module _ {T E O : Type 0} (stands : T → List (ℕ × E) → Type 0) (origin : 
       shut_staged homes homes' served drawn (Within t) e b a = (a.0, a.1, b)
       shut_staged homes homes' served drawn (Shut t) e b a = cc
 
-  -- a new pass has a number that no view has, and no entry
-  pub enters : (slots : ℕ) (old : M) → old.0.origin ≡ Some first → Enters Rule slots 0 (λ r w. Entered (step slots 0 0 0 none) old r (w, []))
-  enters slots old is s r wide _ = let n : ℕ = length s.views in let w : View E O = newcomer first n in (
-    w,
-    record {
-      log = r.log;
-      drawn = r.drawn;
-      mark = r.mark;
-      words = r.words;
-      few = r.few;
-      counted = let a = total_snoc some_ticket s.views w in let c = r.counted in omega arith;
-      licensed = r.licensed;
-      locked = ⊎_elim inl (λ (i : (k : ℕ) × (u : View E O) × (get_elem? s.views k ≡ some u) × IsWithin u.stage). inr (i.0, i.1, at_longer s.views (w ∷ []) i.0 i.1 i.2, i.3)) r.locked;
-      each = λ k u there. ⊎_elim (λ was. r.each k u was) (λ (is : w ≡ u). subst (F r.log r.drawn r.mark s.homes) is record {
-        seen = (r.log, refl);
-        told = (r.log, refl);
-        calls = ((r.fresh n (le_refl n)).1, tt);
-        marked = omega arith;
-        licensed = λ ne. absurd (ne refl);
-        staged = tt;
-        whole = λ h. absurd h;
-        from = λ o e. cc;
-      }) (at_snoc s.views w u k there);
-      queue = λ t. let a = total_snoc (ticket t) s.views w in let q = r.queue t in omega arith;
-      once = λ z. let a = total_snoc (number z) s.views w in let o = r.once z in dite (ℕ_discrete n z)
-          (λ e. let f : total (number z) s.views ≡ 0 = (r.fresh z (omega arith)).0 in let one : number z w ≤ 1 = times_one {E = E} z (n, []) in omega arith)
-          (λ ne. let none_here : number z w ≡ 0 = times_none {E = E} z (n, []) ne in omega arith);
-      fresh = λ z above. let long : n + 1 ≤ z = omega (arith, length-append s.views (w ∷ [])) in let f = r.fresh z (omega arith) in let a = total_snoc (number z) s.views w in
-          let none_here : number z w ≡ 0 = times_none {E = E} z (n, []) (λ e. omega arith) in ((let b = f.0 in omega arith), f.1);
-    },
-    λ o e. (n, ap (λ (z : O). newcomer z n) (let same : first ≡ o = cc in same)),
-  )
-
-  -- a pass tells what it has seen
-  pub splits : (id : ℕ) (v : View E O) → Splits Rule id v v (note_of v)
-  splits id v s r at = let w : View E O = note_of v in let old = r.each id v at in
-      subst (λ (vs : List (View E O)). Rule record { words = s.words; homes = s.homes; views = vs ++ w ∷ [] }) (sym (set_again s.views id v at)) record {
-        log = r.log;
-        drawn = r.drawn;
-        mark = r.mark;
-        words = r.words;
-        few = r.few;
-        counted = let a = total_snoc some_ticket s.views w in let c = r.counted in omega arith;
-        licensed = r.licensed;
-        locked = ⊎_elim inl (λ (i : (k : ℕ) × (u : View E O) × (get_elem? s.views k ≡ some u) × IsWithin u.stage). inr (i.0, i.1, at_longer s.views (w ∷ []) i.0 i.1 i.2, i.3)) r.locked;
-        each = λ k u there. ⊎_elim (λ was. r.each k u was) (λ (is : w ≡ u). subst (F r.log r.drawn r.mark s.homes) is record {
-          seen = old.seen;
-          told = (r.log, refl);
-          calls = tt;
-          marked = old.marked;
-          licensed = old.licensed;
-          staged = tt;
-          whole = λ h. absurd h;
-          from = λ o e. cc;
-        }) (at_snoc s.views w u k there);
-        queue = λ t. let a = total_snoc (ticket t) s.views w in let q = r.queue t in omega arith;
-        once = λ z. let a = total_snoc (number z) s.views w in let o = r.once z in omega arith;
-        fresh = λ z above. let f = r.fresh z (omega (arith, length-append s.views (w ∷ []))) in let a = total_snoc (number z) s.views w in ((let b = f.0 in omega arith), f.1);
-      }
-
-  pub joins : (id : ℕ) (v : View E O) (other : ℕ) (w : View E O) → w.stage ≡ Idle → Joins Rule id v other w (joined v w) nobody
-  joins id v other w idle s r at ne there =
-      let b : View E O = joined v w in let first : List (View E O) = set s.views id b in let last : List (View E O) = set first other nobody in
-      let was : get_elem? s.views other ≡ some w = sym (set_else s.views id other b ne) ∙ there in
-      let old = r.each id v at in let its = r.each other w was in let known = old.marked in let known' = its.marked in record {
-        log = r.log;
-        drawn = r.drawn;
-        mark = r.mark;
-        words = r.words;
-        few = r.few;
-        counted = let x = total_set some_ticket s.views id v b at in let y = total_set some_ticket first other w nobody there in let z : some_ticket w ≡ 0 = ap has_some_ticket idle in let c = r.counted in omega arith;
-        licensed = r.licensed;
-        locked = ⊎_elim inl (λ (i : (k : ℕ) × (u : View E O) × (get_elem? s.views k ≡ some u) × IsWithin u.stage).
-            dite (ℕ_discrete i.0 other)
-            (λ e. absurd (subst IsWithin (ap (λ (z : View E O). z.stage) (there_same s.views i.0 other i.1 w e i.2 was) ∙ idle) i.3))
-            (λ apart. dite (ℕ_discrete i.0 id)
-            (λ e. inr (id, b, set_else first other id nobody (λ x. ne (sym x)) ∙ there_set s.views id v b at, subst IsWithin (ap (λ (z : View E O). z.stage) (there_same s.views i.0 id i.1 v e i.2 at)) i.3))
-            (λ apart'. inr (i.0, i.1, set_else first other i.0 nobody apart ∙ (set_else s.views id i.0 b apart' ∙ i.2), i.3)))) r.locked;
-        each = λ k u here. ⊎_elim
-            (λ (e : (k ≡ other) × (nobody ≡ u)). subst (F r.log r.drawn r.mark s.homes) e.1 record { seen = (r.log, refl); told = (r.log, refl); calls = tt; marked = omega arith; licensed = λ z. absurd (z refl); staged = tt; whole = λ h. absurd h; from = λ o e. cc })
-            (λ (e : (k ≢ other) × (get_elem? first k ≡ some u)). ⊎_elim
-            (λ (f : (k ≡ id) × (b ≡ u)). subst (F r.log r.drawn r.mark s.homes) f.1 record {
-              seen = old.seen;
-              told = its.seen;
-              calls = accounts_append r.log v.calls w.calls old.calls its.calls;
-              marked = omega arith;
-              licensed = either_licensed r.log v.mark w.mark old.licensed its.licensed;
-              staged = old.staged;
-              whole = old.whole;
-              from = old.from;
-            })
-            (λ (f : (k ≢ id) × (get_elem? s.views k ≡ some u)). r.each k u f.1) (at_set s.views id k b u e.1)) (at_set first other k nobody u here);
-        queue = λ t. let x = total_set (ticket t) s.views id v b at in let y = total_set (ticket t) first other w nobody there in let q = r.queue t in omega arith;
-        once = λ z. let x = total_set (number z) s.views id v b at in let y = total_set (number z) first other w nobody there in let q = r.once z in let sum = times_append z v.calls w.calls in omega arith;
-        fresh = λ z above. let long : length s.views ≤ z = omega (arith, length-set s.views id b, length-set first other nobody) in let f = r.fresh z long in
-            let x = total_set (number z) s.views id v b at in let y = total_set (number z) first other w nobody there in let sum = times_append z v.calls w.calls in ((let q = f.0 in omega arith), f.1);
-      }
-    where
-      either_licensed : (log : Log) (x y : ℕ) → Licensed licenses log x → Licensed licenses log y → Licensed licenses log (max x y)
-      either_licensed log x y p q = dite (dec_le x y) (λ le. subst (Licensed licenses log) (let e : y ≡ max x y = omega arith in e) q)
-          (λ gt. subst (Licensed licenses log) (let e : x ≡ max x y = omega arith in e) p)
-
-  -- once a seat has shut the turnstile, its slot is empty for good
-  shut_out : (homes : List (Option P)) (served drawn : ℕ) (st : Stage) → is_within st ≡ true → Staged homes served drawn (shut_of st) → homes ≡ some Empty ∷ []
-  shut_out homes served drawn Idle e a = cc
-  shut_out homes served drawn (Waits t) e a = cc
-  shut_out homes served drawn (Within t) e a = a.2
-  shut_out homes served drawn (Shut t) e a = cc
-
   pub closes : (s : St) (id : ℕ) (v w : View E O) (last : P) (slots : List P) → Rule s → get_elem? s.views id ≡ some w → w ≡ at_stage v (shut_of v.stage) → is_within v.stage ≡ true
       → ((k : ℕ) (y : P) → get_elem? s.homes k ≡ some (some y) → get_elem? slots k ≡ some y) → get_elem? slots 0 ≡ some last → last ≡ Empty
   closes s id v w last slots r at is within kept there =
@@ -546,7 +376,3 @@ module _ {T E O : Type 0} where
       → ((y : T) (d : Memo E) → m1.1 ≡ (0, Given y d) ∷ [] → m2 ≡ (after_call m1.0 d.value, [])) → m2 ≡ (after_call m.0 entry, [])
   gave_me m m1 m2 x e entry taken put says told =
       told x e (ap (λ (z : Me (Place T E) (View E O)). z.1) put ∙ ap (λ (z : List (ℕ × Place T E)). (0, Given x e) ∷ Rattle.atomic_table.specs.Table.rest z) taken) ∙ (λ i. (after_call (put i).0 (says i), []))
-
-pub still_numbered : {E : Type 0} (cs : List (ℕ × List E)) (e : E) → 0 < length cs → 0 < length (with_call cs e)
-still_numbered [] e h = h
-still_numbered (c ∷ cs) e h = h

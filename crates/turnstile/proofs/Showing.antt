@@ -4,10 +4,11 @@ use Rattle.atomic_table.specs.Table.{Me}
 use Rattle.atomic_table.specs.Seated.{TableId}
 use Rattle.turnstile.specs.Histories.{StartsWith, Accounts, IsOnce}
 use Rattle.turnstile.specs.Passes.{Known, Sees, Joins}
-use Rattle.turnstile.specs.Views.{own_number, own_calls, carried_calls, of_view, of_views, IsAtRest, AreAtRest, heard, joined}
+use Rattle.turnstile.specs.Views.{own_number, own_calls, carried_calls, of_view, of_views, IsAtRest, AreAtRest, heard, joined, at_stage}
 use Rattle.turnstile.specs.Steps.{Turned}
 use Rattle.turnstile.specs.declared.view.View.{View}
 use Rattle.turnstile.specs.declared.view.Place.{Place}
+use Rattle.turnstile.specs.declared.view.Stage.TheVariants.{Waits}
 
 -- the calls of a seat with a number are its own and those that it carries
 all_of : {E : Type 0} (cs : List (ℕ × List E)) → 0 < length cs → (own_number cs, own_calls cs) ∷ carried_calls cs ≡ cs
@@ -32,7 +33,7 @@ module _ {E O : Type 0} where
   rest_of_seat views w r is = let same : r.0 ≡ w = (let a = r.1 in cc) in subst IsAtRest same r.2
 
   -- at its turn a seat sees what a pass is to see
-  pub sees : {T : Type 0} (stands : T → List (ℕ × E) → Type 0) (origin : T → O) (licenses : List (ℕ × E) → ℕ → Type 0) (t t' : TableId) (v : View E O) (ticket : ℕ) (m : Me (Place T E) (View E O))
+  sees : {T : Type 0} (stands : T → List (ℕ × E) → Type 0) (origin : T → O) (licenses : List (ℕ × E) → ℕ → Type 0) (t t' : TableId) (v : View E O) (ticket : ℕ) (m : Me (Place T E) (View E O))
       → t' ≡ t → 0 < length v.calls → Turned stands origin licenses v ticket m → Sees licenses (of_view t v) (of_view t' m.0)
   sees stands origin licenses t t' v ticket m same some_number turned =
       let calls : m.0.calls ≡ v.calls = ap (λ (w : View E O). w.calls) turned.is in
@@ -52,6 +53,14 @@ module _ {E O : Type 0} where
         once = subst IsOnce (sym mine) (subst IsOnce (sym calls) turned.once);
         licensed = λ ne. subst (licenses m.0.seen) (sym mark) (turned.licensed (λ zero. ne (mark ∙ zero)));
       }
+
+  -- the same after the seat drew its ticket (m to drawn), waited (to come), and took the value out (to now)
+  pub turn_shown : {T : Type 0} (stands : T → List (ℕ × E) → Type 0) (origin : T → O) (licenses : List (ℕ × E) → ℕ → Type 0) (t t' : TableId) (ticket : ℕ) (m drawn come now : Me (Place T E) (View E O)) (held : List (ℕ × Place T E))
+      → t' ≡ t → 0 < length m.0.calls → drawn ≡ (at_stage m.0 (Waits ticket), m.1) → Turned stands origin licenses drawn.0 ticket come → now ≡ (come.0, held) → Sees licenses (of_view t m.0) (of_view t' now.0)
+  turn_shown {T} stands origin licenses t t' ticket m drawn come now held same some_number draws turned took =
+      subst (λ (z : Me (Place T E) (View E O)). Sees licenses (of_view t m.0) (of_view t' z.0)) (sym took)
+      (sees stands origin licenses t t' (at_stage m.0 (Waits ticket)) ticket come same some_number
+      (subst (λ (z : Me (Place T E) (View E O)). Turned stands origin licenses z.0 ticket come) draws turned))
 
   -- a seat that took in another shows what a join is to show
   pub joins_known : (t t' u : TableId) (v w x : View E O) (p q : Known E O) → of_view t v ≡ p → of_view u w ≡ q → t' ≡ t → 0 < length v.calls → 0 < length w.calls → x ≡ heard (joined v w)

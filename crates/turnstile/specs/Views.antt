@@ -9,6 +9,10 @@ use Rattle.turnstile.specs.declared.view.Place.TheVariants.{Empty}
 use Rattle.turnstile.specs.declared.view.Stage.{Stage}
 use Rattle.turnstile.specs.declared.view.Stage.TheVariants.{Idle, Waits, Within, Shut}
 
+-- the table has three words and one slot
+abbrev pub IsBoard : TableId → Type 0
+IsBoard t = (t.words ≡ 3) × (t.slots ≡ 1)
+
 module _ {E : Type 0} where
   -- the first of the calls are the seat's own, and the rest it carries
   abbrev pub own_number : List (ℕ × List E) → ℕ

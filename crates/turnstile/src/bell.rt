@@ -11,8 +11,8 @@
 //! ringing thread sees the sleeper and wakes it, or the sleeper's comparison sees the ring and doesn't
 //! sleep. No wake-up is lost.
 //!
-//! The comparison sees the low 32 bits of the count. Between a caller's reading and its sleep, a bell is
-//! rung at most once for each other caller that has a ticket, since its turns come one by one.
+//! The comparison sees the low 32 bits of the count. That is enough: between a caller's reading and its
+//! sleep each other thread rings at most once, since its next turn comes after the caller's own.
 
 use std::hint;
 use std::sync::Wait;

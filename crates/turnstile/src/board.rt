@@ -6,7 +6,7 @@ ghost use Rattle.std.specs.Prelude.{◌≡◌, [], ◌∷◌, ◌++◌, length, 
 ghost use Rattle.turnstile.specs.declared.view.Stage.TheVariants.{Idle, Waits};
 ghost use Rattle.turnstile.specs.Histories.{StartsWith, IsOnce};
 ghost use Rattle.turnstile.specs.Passes.{Sees};
-ghost use Rattle.turnstile.specs.Views.{own_number, of_view, at_stage, after_call, heard, joined, IsHolding};
+ghost use Rattle.turnstile.specs.Views.{IsBoard, own_number, of_view, at_stage, after_call, heard, joined, IsHolding};
 ghost use Rattle.turnstile.specs.Steps.{Turned};
 
 use crate::bell::{Bell, Bells};
@@ -33,7 +33,8 @@ pub type Board<T> = Shared<
 
 /// Draws the next ticket. Once 2^64 - 1 tickets were drawn there is none, and it sleeps for good.
 pub fn draw_ticket<T: Chronicle, R: Wait>(rt: &R, board: &Board<T>, seat: &mut SeatOf<T>) -> u64
-    requires table { (board.now.table_id.words ≡ 3) × (board.now.table_id.slots ≡ 1) × (seat.old.table_id ≡ board.now.table_id) }
+    requires board { IsBoard board.now.table_id }
+    requires seat { seat.old.table_id ≡ board.now.table_id }
     requires idle { seat.old.me.0.stage ≡ Idle }
     ensures table { seat.new.table_id ≡ seat.old.table_id }
     ensures drawn { seat.new.me ≡ (at_stage seat.old.me.0 (Waits result), seat.old.me.1) }
@@ -60,7 +61,8 @@ pub fn await_turn<T: Chronicle, R: Wait>(
     seat: &mut SeatOf<T>,
     ticket: u64,
 )
-    requires table { (board.now.table_id.words ≡ 3) × (board.now.table_id.slots ≡ 1) × (seat.old.table_id ≡ board.now.table_id) }
+    requires board { IsBoard board.now.table_id }
+    requires seat { seat.old.table_id ≡ board.now.table_id }
     requires empty { seat.old.me.1 ≡ [] }
     requires waits { seat.old.me.0.stage ≡ Waits ticket }
     ensures table { seat.new.table_id ≡ seat.old.table_id }
@@ -85,7 +87,8 @@ pub fn take_turn<T: Chronicle, R: Wait>(
     bells: &Bells,
     seat: &mut SeatOf<T>,
 ) -> (u64, T)
-    requires table { (board.now.table_id.words ≡ 3) × (board.now.table_id.slots ≡ 1) × (seat.old.table_id ≡ board.now.table_id) }
+    requires board { IsBoard board.now.table_id }
+    requires seat { seat.old.table_id ≡ board.now.table_id }
     requires rest { (seat.old.me.1 ≡ []) × (seat.old.me.0.stage ≡ Idle) × (0 < length seat.old.me.0.calls) }
     ensures table { seat.new.table_id ≡ seat.old.table_id }
     ensures holds { IsHolding seat.new.me }
@@ -107,7 +110,8 @@ pub fn give_turn<T: Chronicle>(
     value: T,
     entry: &T::Entry,
 )
-    requires table { (board.now.table_id.words ≡ 3) × (board.now.table_id.slots ≡ 1) × (seat.old.table_id ≡ board.now.table_id) }
+    requires board { IsBoard board.now.table_id }
+    requires seat { seat.old.table_id ≡ board.now.table_id }
     requires holds { IsHolding seat.old.me }
     requires value { T.stands value (seat.old.me.0.seen ++ (own_number seat.old.me.0.calls, entry.now) ∷ []) }
     requires origin { T.origin value ≡ T.origin board.now.key.value }
@@ -123,7 +127,9 @@ pub fn give_turn<T: Chronicle>(
 
 /// Takes in what a note or another seat tells, and the calls that it has.
 pub fn take_in<T: Chronicle>(board: &Board<T>, seat: &mut SeatOf<T>, other: SeatOf<T>)
-    requires table { (board.now.table_id.words ≡ 3) × (board.now.table_id.slots ≡ 1) × (seat.old.table_id ≡ board.now.table_id) × (other.table_id ≡ board.now.table_id) }
+    requires board { IsBoard board.now.table_id }
+    requires seat { seat.old.table_id ≡ board.now.table_id }
+    requires other { other.table_id ≡ board.now.table_id }
     requires empty { (seat.old.me.1 ≡ []) × (other.me.1 ≡ []) }
     requires idle { (seat.old.me.0.stage ≡ Idle) × (other.me.0.stage ≡ Idle) }
     ensures table { seat.new.table_id ≡ seat.old.table_id }

@@ -17,6 +17,8 @@ mod memo;
 mod no_memory;
 mod pass;
 mod steps;
+#[cfg(test)]
+mod tests;
 mod turnstile;
 mod view;
 

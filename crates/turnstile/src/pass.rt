@@ -26,8 +26,8 @@ impl<E, O> Model for Pass<E, O> {
     ghost invariant = { λ pass. AreAtRest pass.badge.views };
 }
 
-/// The pass of a caller that has the turn. Contracts see the same of it as of a [`Pass`].
-#[derive(Drop)]
+/// The pass of a caller that has the turn. Contracts see the same of it as of a [`Pass`]. It can't be
+/// dropped.
 pub struct Holding<T: Chronicle> {
     pub(crate) seat: Seat<Place<T, T::Entry>, View<T::Entry, T::Origin>>,
 }
@@ -43,8 +43,8 @@ impl<T: Chronicle> Model for Holding<T> {
     ghost invariant = { λ pass. IsHolding pass.seat.me };
 }
 
-/// A turn: the lock is taken, and the value is in hand.
-#[derive(Drop)]
+/// A turn: the lock is taken, and the value is in hand. It can't be dropped: a turn is given back, or ends
+/// the turnstile.
 pub struct Turn<T: Chronicle> {
     /// The pass that has the turn. It has seen the whole history.
     pub pass: Holding<T>,

@@ -28,14 +28,14 @@ pub struct Turnstile<T: Chronicle> {
 }
 
 impl<T: Chronicle> Model for Turnstile<T> {
-    ghost use Rattle.std.specs.Prelude.{◌≡◌};
     ghost use Rattle.turnstile.specs.Passes.{Identity};
+    ghost use Rattle.turnstile.specs.Views.{IsBoard};
 
     ghost Value = { Identity T.Origin };
 
     ghost view = { λ t. record { table = t.table.shared.table_id; origin = T.origin t.table.shared.key.value } };
 
-    ghost invariant = { λ t. (t.table.shared.table_id.words ≡ 3) × (t.table.shared.table_id.slots ≡ 1) };
+    ghost invariant = { λ t. IsBoard t.table.shared.table_id };
 }
 
 impl<T: Chronicle> Turnstile<T> {

@@ -1,4 +1,4 @@
-use Rattle.std.proofs.Common.{sym, ◌+◌, ◌≤◌, length, arith, ⊎_elim}
+use Rattle.std.proofs.Common.{sym, arith, ⊎_elim}
 use Rattle.std.proofs.lemmas.Bool.{cases_Bool}
 use Rattle.algorithm_rules.specs.Matches.{occurs_in}
 use Rattle.algorithm_rules.proofs.Occurrences.{occurs_in-true, occurs_in-place}

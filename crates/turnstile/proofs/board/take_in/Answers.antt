@@ -1,5 +1,6 @@
 use Rattle.std.proofs.Common.{rules, ap, ◌∙◌}
-use Rattle.turnstile.proofs.Keeps.{joins, settles}
+use Rattle.turnstile.proofs.Keeps.{settles}
+use Rattle.turnstile.proofs.Seats.{joins}
 use Rattle.turnstile.proofs.board.take_in.Goals as goal
 
 pub join_seat-requires : goal.join_seat-requires

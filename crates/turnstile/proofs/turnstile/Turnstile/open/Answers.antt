@@ -1,6 +1,6 @@
 use Rattle.std.proofs.Common.{rules, ◌≡◌, ◌∷◌, [], ap, sym}
 use Rattle.turnstile.specs.declared.view.Place.TheVariants.{Held}
-use Rattle.turnstile.proofs.Keeps.{opens}
+use Rattle.turnstile.proofs.Seats.{opens}
 use Rattle.turnstile.proofs.turnstile.Turnstile.open.Goals as goal
 
 pub new-requires : goal.new-requires

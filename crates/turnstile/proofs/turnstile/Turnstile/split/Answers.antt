@@ -1,6 +1,6 @@
 use Rattle.std.proofs.Common.{rules, refl, []}
 use Rattle.turnstile.specs.Views.{newcomer}
-use Rattle.turnstile.proofs.Keeps.{enters, splits}
+use Rattle.turnstile.proofs.Seats.{enters, splits}
 use Rattle.turnstile.proofs.turnstile.Turnstile.split.Goals as goal
 
 pub load_new_seat-fresh-requires : goal.load_new_seat-fresh-requires

@@ -1,0 +1,4 @@
+pub mod Positions
+pub mod ChoiceLemmas
+pub mod PeerLemmas
+pub mod UnionLemmas

@@ -1,0 +1,56 @@
+-- The limits of a Recipient_List that is edited.
+use Rattle.std.specs.Prelude.{◌≡◌, ℕ, ◌*◌, ◌↔◌, ◌⊎◌, Bool, List, [], ◌∷◌, ◌++◌, length, map, Result, Ok, Err, Contains, AllPairs, nat_lt, if◌then◌else◌}
+use Rattle.std.specs.List.{list_any}
+use Rattle.std.specs.declared.cmp.Ordering.{Ordering}
+use Rattle.std.specs.declared.cmp.Ordering.TheVariants.{Less}
+use Rattle.bac_values.specs.Address.{Address}
+use Rattle.bac_values.specs.contracts.peer.PeerOrd.TheImpl as peer_ord
+use Rattle.bac_values.specs.contracts.peer.PeerPartialEq.TheImpl as peer_eq
+use Rattle.notify_class.specs.declared.edit.EditFault.{EditFault}
+use Rattle.notify_class.specs.declared.edit.EditFault.TheVariants.{TooMany, TooManyPeers, TooManyNotes}
+use Rattle.notify_class.specs.Recipients.{ListedRecipient}
+
+-- the most recipients of a list, and the most peers that the server knows
+abbrev pub most_destinations : ℕ
+most_destinations = 32
+
+abbrev pub most_peers : ℕ
+most_peers = 8_192
+
+-- the order of peers: by address, port, network and station
+abbrev pub peer_order : Address → Address → Ordering
+peer_order = (peer_ord.ghosts).cmp
+
+-- each peer is below every later one
+abbrev pub IsAscending : List Address → Type 0
+IsAscending peers = AllPairs (λ earlier later. peer_order earlier later ≡ Less) peers
+
+-- the peers of a list of recipients, in its order
+abbrev pub peers_of : List ListedRecipient → List Address
+peers_of recipients = map (λ (recipient : ListedRecipient). recipient.peer) recipients
+
+-- whether the peer is among these
+abbrev pub is_among : List Address → Address → Bool
+is_among peers peer = list_any (λ other. (peer_eq.ghosts).eq other peer) peers
+
+-- the known peers, once each of the others has been added that is not there yet
+abbrev pub known_with : List Address → List Address → List Address
+known_with known [] = known
+known_with known (peer ∷ peers) =
+    if is_among known peer then known_with known peers else known_with (known ++ peer ∷ []) peers
+
+-- the list has no peer twice, and has exactly the peers of both
+pub record IsUnion (known others together : List Address) : Type 0 where
+  pub distinct : AllPairs (λ earlier later. earlier ≡ later → ⊥) together
+  pub members : (peer : Address) → Contains together peer ↔ (Contains known peer ⊎ Contains others peer)
+
+-- what an edit is refused for: too many recipients; then too many peers, those known together with the new ones; then
+-- too many notes, one of each member of the class to each recipient
+abbrev pub edit_verdict : List Address → List ListedRecipient → ℕ → ℕ → Result (Unit {0}) EditFault
+edit_verdict known recipients members room =
+    let count = length recipients in
+    let peers = length (known_with known (peers_of recipients)) in
+    let notes = members * count in
+    if nat_lt most_destinations count then Err (TooMany count)
+    else (if nat_lt most_peers peers then Err (TooManyPeers peers)
+    else (if nat_lt room notes then Err (TooManyNotes notes) else Ok tt))

@@ -1,0 +1,4 @@
+pub mod Recipients
+pub mod Windows
+pub mod Chosen
+pub mod Edits

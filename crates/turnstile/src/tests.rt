@@ -1,0 +1,51 @@
+//! Each call once, on one thread.
+ghost use Rattle.std.specs.Prelude.{◌≡◌};
+
+use super::*;
+use std::test::Fail;
+
+// It stands for each history, and each history licenses each mark.
+#[derive(Drop)]
+struct Count {
+    turns: u64,
+}
+
+impl Chronicle for Count {
+    ghost use Rattle.std.specs.Prelude.{⊤};
+
+    type Entry = u64;
+
+    type Origin = ();
+
+    ghost stands = { λ _ _. ⊤ };
+
+    ghost origin = { λ _. tt };
+
+    ghost licenses = { λ _ _. ⊤ };
+
+    ghost licenses_more = { λ _ _ _ _. tt };
+}
+
+#[test]
+fn takes_turns_marks_and_closes(rt: HostRuntime) -> Result<(), Fail> {
+    let (count, pass) = match Turnstile::open(rt.alloc(), Count { turns: 0 }) {
+        Ok(opened) => opened,
+        Err((_, refused)) => return Err(Fail::from(refused)),
+    };
+    let mut turn = count.take(&rt, pass);
+    assert_eq!(rt; turn.place, 1);
+    turn.value.turns = 1;
+    let pass = count.give(turn, &30);
+    let (one, two) = match count.split(pass) {
+        Ok(both) => both,
+        Err((_, refused)) => return Err(Fail::from(refused)),
+    };
+    let one = count.raise_mark(one, 5);
+    let one = count.raise_mark(one, 4);
+    let (two, mark) = count.load_mark(two);
+    assert_eq!(rt; mark, 5);
+    let turn = count.take(&rt, count.join(one, two));
+    assert_eq!(rt; turn.place, 2);
+    assert_eq!(rt; count.close(turn).turns, 1);
+    Ok(())
+}
