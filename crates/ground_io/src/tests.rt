@@ -92,7 +92,7 @@ fn images_show_what_a_crash_may_leave(rt: HostRuntime) -> Result<(), Fail> {
 
 #[test]
 fn file_ground_keeps_a_file_and_sends_to_peers(rt: HostRuntime) -> Result<(), Fail> {
-    let path = "/tmp/ground_io_test_device";
+    let path = "ground_io_test_device";
     let file = OpenOptions::new()
         .read(true)
         .write(true)

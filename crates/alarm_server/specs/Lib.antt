@@ -1,0 +1,9 @@
+pub mod Points
+pub mod Held
+pub mod Detection
+pub mod Settings
+pub mod Watched
+pub mod Status
+pub mod Emission
+pub mod Trial
+pub mod Paths

@@ -1,0 +1,13 @@
+-- Which words name files.
+use Rattle.std.specs.Prelude.{ℕ, false, List, Option, None}
+use Rattle.std.specs.Option.{option_map}
+use Rattle.alarm_server.specs.declared.paths.Paths.{Paths}
+use Rattle.alarm_server.specs.Settings.{settings_of}
+
+-- a trial names no file and serves nobody
+abbrev pub trial_paths : Paths
+trial_paths = record { site = None; journal = None; serves = false }
+
+-- the paths of words of the form, and none of any others
+abbrev pub paths_for : List (List ℕ) → Option Paths
+paths_for words = option_map (λ settings. trial_paths) (settings_of words)

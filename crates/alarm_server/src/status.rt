@@ -1,0 +1,94 @@
+ghost use Rattle.std.specs.Prelude.{◌≡◌};
+ghost use Rattle.alarm_server.specs.Status.{code_of, of_line_fault, of_unsent, status_text};
+
+use crate::emission::Unsent;
+use bac_values::NoMemory;
+use script_lines::LineFault;
+use std::fmt;
+
+/// How a program ends.
+#[derive(Clone, Copy, Debug, PartialEq, Eq)]
+pub enum Status {
+    /// The script was read to its end.
+    Done,
+    /// The words are none of the forms.
+    Usage,
+    /// A line of the script isn't in the grammar.
+    ScriptRefused {
+        /// The line's number, from 1.
+        line: u64,
+    },
+    /// A source failed.
+    ReadFault,
+    /// An emission failed.
+    EmitFault,
+    /// Memory was refused.
+    NoMemory,
+}
+
+impl Status {
+    /// The exit status of a program.
+    pub fn code(&self) -> u8
+        ensures code { result ≡ code_of self.now }
+    {
+        match self {
+            Status::Done => 0,
+            Status::Usage => 2,
+            Status::ScriptRefused { .. } => 4,
+            Status::ReadFault => 5,
+            Status::EmitFault => 6,
+            Status::NoMemory => 9,
+        }
+    }
+}
+
+impl fmt::Display for Status {
+    ghost use Rattle.std.specs.Prelude.{Some};
+
+    ghost output = { λ status. Some (status_text status) };
+
+    fn fmt<W: fmt::Write>(&self, f: &mut fmt::Formatter<W>) -> fmt::Result {
+        match self {
+            Status::Done => write!(f, "done"),
+            Status::Usage => write!(f, "usage: trial LOW HIGH DEADBAND DELAY NORMAL"),
+            Status::ScriptRefused { line } => write!(f, "script refused: line {line}"),
+            Status::ReadFault => write!(f, "read fault"),
+            Status::EmitFault => write!(f, "emit fault"),
+            Status::NoMemory => write!(f, "no memory"),
+        }
+    }
+}
+
+impl From<NoMemory> for Status {
+    ghost use Rattle.std.specs.Prelude.{◌≡◌};
+    ghost use Rattle.alarm_server.specs.declared.status.Status.TheVariants as status;
+
+    ghost from_gives = { λ _ fault. fault ≡ status.NoMemory };
+
+    fn from(_refused: NoMemory) -> Status {
+        Status::NoMemory
+    }
+}
+
+impl From<Unsent> for Status {
+    ghost from_gives = { λ unsent status. status ≡ of_unsent unsent };
+
+    fn from(unsent: Unsent) -> Status {
+        match unsent {
+            Unsent::Lost => Status::EmitFault,
+            Unsent::NoMemory => Status::NoMemory,
+        }
+    }
+}
+
+impl From<LineFault> for Status {
+    ghost from_gives = { λ fault status. status ≡ of_line_fault fault };
+
+    fn from(fault: LineFault) -> Status {
+        match fault {
+            LineFault::Grammar { line } => Status::ScriptRefused { line },
+            LineFault::Read => Status::ReadFault,
+            LineFault::NoMemory => Status::NoMemory,
+        }
+    }
+}

@@ -1,0 +1,233 @@
+use crate::paths::{Paths, paths_of};
+use crate::run::run;
+use crate::status::Status;
+use bac_values::Peer;
+use ground_io::{Entry, MemoryGround, MemorySource};
+use std::alloc::{AllocError, Global};
+use std::process::Abort;
+use std::test::Fail;
+
+const TEN_SECONDS: &str = "trial 20 80 5 10 10";
+
+const AT_ONCE: &str = "trial 20 80 5 0 0";
+
+fn words_of(alloc: Global, line: &str) -> Result<Vec<String>, AllocError> {
+    let mut words = Vec::new(alloc);
+    for word in line.split(' ') {
+        words.push(String::from_str(alloc, word)?)?;
+    }
+    Ok(words)
+}
+
+// What a trial emitted, with `lost: ` before what was lost, and how it ended.
+fn trial(
+    alloc: Global,
+    words: &str,
+    script: &str,
+    failing_reads: &[u64],
+    failing_emits: &[u64],
+) -> Result<(String, Status), Fail> {
+    let words = words_of(alloc, words)?;
+    let mut site = MemorySource::new(Vec::new(alloc), Vec::new(alloc));
+    let octets = script.as_bytes().to_vec(alloc)?;
+    let mut script = MemorySource::new(octets, failing_reads.to_vec(alloc)?);
+    let device = MemoryGround::new(alloc, Vec::new(alloc), failing_emits.to_vec(alloc)?);
+    let (device, status) = run(alloc, &words, &mut site, &mut script, device);
+    let mut text = String::new(alloc);
+    for entry in device.trace().ok_or("the ground tells no trace")? {
+        let (peer, octets) = match entry {
+            Entry::Emitted { peer, octets } => (peer, octets),
+            Entry::Lost { peer, octets } => {
+                text.push_str("lost: ")?;
+                (peer, octets)
+            }
+            _ => return Err("a trial has nothing to do with a disk".into()),
+        };
+        if *peer != Peer::console() {
+            return Err("a trial has no peers".into());
+        }
+        text.push_str(String::from_utf8_lossy(alloc, octets.as_slice())?.as_str())?;
+    }
+    Ok((text, status))
+}
+
+// That a trial with no failing calls emits this and ends so.
+fn expect(
+    rt: &impl Abort,
+    alloc: Global,
+    words: &str,
+    script: &str,
+    report: &str,
+    wanted: Status,
+) -> Result<(), Fail> {
+    let (text, status) = trial(alloc, words, script, &[], &[])?;
+    assert_eq!(rt; text.as_str(), report);
+    assert_eq!(rt; status, wanted);
+    Ok(())
+}
+
+#[test]
+fn moves_to_high_limit_after_the_delay(rt: HostRuntime) -> Result<(), Fail> {
+    expect(
+        &rt,
+        rt.alloc(),
+        TEN_SECONDS,
+        "set 1700000000000 90\ntick 1700000009999\ntick 1700000010000\n",
+        "1700000010000 normal high-limit\nend 3\n",
+        Status::Done,
+    )
+}
+
+#[test]
+fn returns_to_normal_after_the_delay(rt: HostRuntime) -> Result<(), Fail> {
+    expect(
+        &rt,
+        rt.alloc(),
+        TEN_SECONDS,
+        "set 1700000000000 90\nset 1700000010000 50\ntick 1700000019999\ntick 1700000020000\n",
+        "1700000010000 normal high-limit\n1700000020000 high-limit normal\nend 4\n",
+        Status::Done,
+    )
+}
+
+#[test]
+fn limit_itself_is_normal_and_deadband_is_passed_by_one(rt: HostRuntime) -> Result<(), Fail> {
+    expect(
+        &rt,
+        rt.alloc(),
+        AT_ONCE,
+        "set 1700000000000 80\nset 1700000000001 81\nset 1700000000002 75\nset 1700000000003 74\n",
+        "1700000000001 normal high-limit\n1700000000003 high-limit normal\nend 4\n",
+        Status::Done,
+    )
+}
+
+#[test]
+fn deadband_beyond_the_numbers_never_returns(rt: HostRuntime) -> Result<(), Fail> {
+    expect(
+        &rt,
+        rt.alloc(),
+        "trial -2147483647 2147483647 4294967295 0 0",
+        "set 1700000000000 -2147483648\nset 1700000000001 2147483647\n",
+        "1700000000000 normal low-limit\nend 2\n",
+        Status::Done,
+    )
+}
+
+#[test]
+fn moves_from_high_limit_to_low_limit(rt: HostRuntime) -> Result<(), Fail> {
+    expect(
+        &rt,
+        rt.alloc(),
+        TEN_SECONDS,
+        "set 1700000000000 90\ntick 1700000010000\nset 1700000015000 10\ntick 1700000025000\n",
+        "1700000010000 normal high-limit\n1700000025000 high-limit low-limit\nend 4\n",
+        Status::Done,
+    )
+}
+
+#[test]
+fn words_of_no_form_are_refused(rt: HostRuntime) -> Result<(), Fail> {
+    expect(
+        &rt,
+        rt.alloc(),
+        "trial 20 80",
+        "tick 5\n",
+        "",
+        Status::Usage,
+    )
+}
+
+#[test]
+fn moment_out_of_range_is_refused(rt: HostRuntime) -> Result<(), Fail> {
+    let refused = Status::ScriptRefused { line: 1 };
+    expect(&rt, rt.alloc(), TEN_SECONDS, "tick 5\n", "", refused)
+}
+
+#[test]
+fn lines_before_a_refused_one_stay_emitted(rt: HostRuntime) -> Result<(), Fail> {
+    expect(
+        &rt,
+        rt.alloc(),
+        AT_ONCE,
+        "# a tank\n\nset 1700000000000 90\nset 1700000000001\ntick 1700000000002\n",
+        "1700000000000 normal high-limit\n",
+        Status::ScriptRefused { line: 4 },
+    )
+}
+
+#[test]
+fn last_line_may_lack_its_line_feed(rt: HostRuntime) -> Result<(), Fail> {
+    expect(
+        &rt,
+        rt.alloc(),
+        AT_ONCE,
+        "# a tank\n\nset 1700000000000 90",
+        "1700000000000 normal high-limit\nend 3\n",
+        Status::Done,
+    )
+}
+
+#[test]
+fn succeeds_with_ample_memory(rt: HostRuntime) -> Result<(), Fail> {
+    expect(&rt, rt.alloc(), AT_ONCE, "", "end 0\n", Status::Done)
+}
+
+#[test]
+fn faults_of_the_outside_end_a_trial(rt: HostRuntime) -> Result<(), Fail> {
+    let script = "set 1700000000000 90\nset 1700000000001 50\n";
+    let both = "1700000000000 normal high-limit\n1700000000001 high-limit normal\n";
+    let lost = "1700000000000 normal high-limit\nlost: 1700000000001 high-limit normal\n";
+    for (reads, emits, report, wanted) in [
+        (1, 0, "", Status::ReadFault),
+        (2, 0, both, Status::ReadFault),
+        (0, 2, lost, Status::EmitFault),
+        (
+            0,
+            1,
+            "lost: 1700000000000 normal high-limit\n",
+            Status::EmitFault,
+        ),
+    ] {
+        let (text, status) = trial(rt.alloc(), AT_ONCE, script, &[reads], &[emits])?;
+        assert_eq!(rt; text.as_str(), report);
+        assert_eq!(rt; status, wanted);
+    }
+    Ok(())
+}
+
+#[test]
+fn words_of_a_trial_name_no_files(rt: HostRuntime) -> Result<(), Fail> {
+    let paths = Paths {
+        site: None,
+        journal: None,
+        serves: false,
+    };
+    assert_eq!(rt; paths_of(&words_of(rt.alloc(), TEN_SECONDS)?), Some(paths));
+    assert_eq!(rt; paths_of(&words_of(rt.alloc(), "trial 20 80")?), None);
+    Ok(())
+}
+
+#[test]
+fn statuses_have_numbers_and_texts(rt: HostRuntime) -> Result<(), Fail> {
+    for (status, number, wanted) in [
+        (Status::Done, 0, "done"),
+        (
+            Status::Usage,
+            2,
+            "usage: trial LOW HIGH DEADBAND DELAY NORMAL",
+        ),
+        (
+            Status::ScriptRefused { line: 12 },
+            4,
+            "script refused: line 12",
+        ),
+        (Status::ReadFault, 5, "read fault"),
+        (Status::EmitFault, 6, "emit fault"),
+        (Status::NoMemory, 9, "no memory"),
+    ] {
+        assert_eq!(rt; status.code(), number);
+        assert_eq!(rt; format!(in rt.alloc(); "{status}")?.as_str(), wanted);
+    }
+    Ok(())
+}

@@ -1,0 +1,6 @@
+pub mod First
+pub mod Digits
+pub mod Decimal
+pub mod FirstLine
+pub mod TakenLine
+pub mod MoreLines

@@ -1,0 +1,90 @@
+-- What a line of a trial's script says.
+use Rattle.std.specs.Prelude.{◌≡◌, ℕ, ◌==◌, ◌||◌, nat_le, nat_lt, Bool, true, Option, Some, None, option_and_then, List, [], ◌∷◌, length, if◌then◌else◌, codes}
+use Rattle.std.specs.List.{before_first, after_first}
+use Rattle.std.specs.Str.{bytes_eq}
+use Rattle.std.specs.Option.{option_map}
+use Rattle.bac_values.specs.Identifier.{Identifier}
+use Rattle.bac_values.specs.Moments.{first_moment, last_moment, IsMoment}
+use Rattle.bac_values.specs.declared.input.Input.{Input}
+use Rattle.bac_values.specs.declared.input.Input.TheVariants.{Tick, Pump, Set, Fault, Datagram}
+use Rattle.bac_values.specs.declared.value.Value.TheVariants.{Signed}
+use Rattle.script_lines.specs.declared.line.Line.{Line}
+use Rattle.script_lines.specs.declared.line.LineSays.{LineSays}
+use Rattle.script_lines.specs.declared.line.LineSays.TheVariants.{Skipped, Outside, Spells}
+use Rattle.script_lines.specs.Number.{unsigned_of, signed_of}
+
+-- the object on trial: integer-value 1
+abbrev pub trial_object : Identifier
+trial_object = record { number = 45; instance = 1 }
+
+-- what a line of a trial can say: that time goes by, or a value with a sign for the object on trial
+abbrev pub IsTrialInput : Input → Type 0
+IsTrialInput Tick = Unit {0}
+IsTrialInput (Set object (Signed v)) = object ≡ trial_object
+IsTrialInput (Set object _) = ⊥
+IsTrialInput Pump = ⊥
+IsTrialInput (Fault object reliability) = ⊥
+IsTrialInput (Datagram peer bytes) = ⊥
+
+-- a moment in range, and what a line of a trial can say
+pub record IsTrialLine (line : Line) : Type 0 where
+  pub moment : IsMoment line.moment
+  pub input : IsTrialInput line.input
+
+-- a word ends at a blank, which is 32
+abbrev pub first_word : List ℕ → List ℕ
+first_word text = before_first (λ c. c == 32) text
+
+-- what follows the first blank, or nothing
+abbrev pub other_words : List ℕ → List ℕ
+other_words text = after_first (λ c. c == 32) text
+
+-- a moment in range, in milliseconds since 1970
+abbrev pub moment_of : List ℕ → Option ℕ
+moment_of text = option_and_then (λ m. if nat_le first_moment m then Some m else None) (unsigned_of last_moment text)
+
+-- the line `tick M`, from the words behind the first
+abbrev pub tick_line : ℕ → List ℕ → Option Line
+tick_line number words = option_map (λ m. record { number = number; moment = m; input = Tick }) (moment_of words)
+
+-- the line `set M V`, which names the object on trial, from the words behind the first
+abbrev pub set_line : ℕ → List ℕ → Option Line
+set_line number words = option_and_then (λ m. option_map (λ v.
+    record { number = number; moment = m; input = Set trial_object (Signed v) })
+    (signed_of (other_words words))) (moment_of (first_word words))
+
+-- the line with this number that a text spells
+abbrev pub line_by_word : ℕ → List ℕ → Option Line
+line_by_word number text =
+    if bytes_eq (first_word text) (codes "tick") then tick_line number (other_words text) else
+    (if bytes_eq (first_word text) (codes "set") then set_line number (other_words text) else None)
+
+-- a blank line, or a comment; 35 is `#`
+abbrev pub is_skipped : List ℕ → Bool
+is_skipped [] = true
+is_skipped (c ∷ cs) = c == 35
+
+-- a script has at most so many lines
+abbrev pub most_lines : ℕ
+most_lines = 1000000
+
+-- a line has at most so many octets, its line feed not counted
+abbrev pub longest_line : ℕ
+longest_line = 4096
+
+-- an answer of the grammar
+abbrev pub spells : Option Line → LineSays
+spells None = Outside
+spells (Some line) = Spells line
+
+-- what the octets of the line with this number say; what is longer than a line or a script may be is outside the grammar, also where it would be skipped
+abbrev pub line_says : ℕ → List ℕ → LineSays
+line_says number text =
+    if nat_lt most_lines number || nat_lt longest_line (length text) then Outside else
+    (if is_skipped text then Skipped else spells (line_by_word number text))
+
+-- a line that is spelled has this number, and is one of a trial
+abbrev pub SpellsTrialLine : ℕ → LineSays → Type 0
+SpellsTrialLine number Skipped = Unit {0}
+SpellsTrialLine number Outside = Unit {0}
+SpellsTrialLine number (Spells line) = (line.number ≡ number) × IsTrialLine line

@@ -1,0 +1,93 @@
+-- The lines of a script, and how they are taken one after the other.
+use Rattle.std.specs.Prelude.{◌≡◌, ◌⊎◌, ℕ, ◌+◌, ◌==◌, Bool, List, [], ◌∷◌, ◌++◌, length, Option, Some, None, Result, Ok, Err, if◌then◌else◌}
+use Rattle.std.specs.List.{onto_first, before_first, after_first}
+use Rattle.script_lines.specs.declared.line.Line.{Line}
+use Rattle.script_lines.specs.declared.lines.LineFault.{LineFault}
+use Rattle.script_lines.specs.declared.lines.LineFault.TheVariants.{Grammar, Read, NoMemory}
+use Rattle.script_lines.specs.declared.line.LineSays.{LineSays}
+use Rattle.script_lines.specs.declared.line.LineSays.TheVariants.{Skipped, Outside, Spells}
+use Rattle.script_lines.specs.declared.lines.Taken.{Taken}
+use Rattle.script_lines.specs.declared.lines.Taken.TheVariants.{End, Passed, Took}
+use Rattle.script_lines.specs.Line.{line_says, IsTrialLine}
+use Rattle.script_lines.specs.Reading.{Reading}
+
+abbrev pub is_line_feed : ℕ → Bool
+is_line_feed c = c == 10
+
+-- the lines of a text; each ends with a line feed, and the last may lack it
+abbrev pub lines_of : List ℕ → List (List ℕ)
+lines_of [] = []
+lines_of (c ∷ cs) = if is_line_feed c then [] ∷ lines_of cs else onto_first c (lines_of cs)
+
+-- what comes next in a script: its end, and how many lines it has; a line outside the grammar, by its number; or a line, and the lines behind it
+pub data Next : Type 0 where
+  AtEnd : ℕ → Next
+  Refuses : ℕ → Next
+  Gives : Line → List (List ℕ) → Next
+
+-- what comes next, from what the first line says, its number, the lines behind it, and what comes next there
+abbrev pub next_by : LineSays → ℕ → List (List ℕ) → Next → Next
+next_by Skipped number behind next = next
+next_by Outside number behind next = Refuses number
+next_by (Spells line) number behind next = Gives line behind
+
+-- what comes next in these lines, behind so many others
+abbrev pub next_in : ℕ → List (List ℕ) → Next
+next_in number [] = AtEnd number
+next_in number (text ∷ behind) = next_by (line_says (number + 1) text) (number + 1) behind (next_in (number + 1) behind)
+
+-- nothing, or octets that end with a line feed
+abbrev pub IsWholeLines : List ℕ → Type 0
+IsWholeLines octets = (octets ≡ []) ⊎ ((front : List ℕ) × (octets ≡ front ++ 10 ∷ []))
+
+-- so many whole lines were taken off the octets
+pub record TakesLines (before now : ℕ) (old new : List ℕ) : Type 0 where
+  pub taken : List ℕ
+  pub whole : IsWholeLines taken
+  pub front : old ≡ taken ++ new
+  pub count : before + length (lines_of taken) ≡ now
+
+-- what a reading says of the octets before and after it, and of how many lines were read before and after it
+abbrev pub ReadsLine : ℕ → ℕ → Result (Option Line) LineFault → List ℕ → List ℕ → Type 0
+ReadsLine before now (Ok None) old new = (next_in before (lines_of old) ≡ AtEnd now) × (new ≡ [])
+ReadsLine before now (Ok (Some line)) old new = (next_in before (lines_of old) ≡ Gives line (lines_of new)) × (line.number ≡ now)
+ReadsLine before now (Err (Grammar line)) old new = (next_in before (lines_of old) ≡ Refuses line) × (next_in now (lines_of new) ≡ Refuses line)
+ReadsLine before now (Err Read) old new = next_in now (lines_of new) ≡ next_in before (lines_of old)
+ReadsLine before now (Err NoMemory) old new = next_in now (lines_of new) ≡ next_in before (lines_of old)
+
+-- a fault that says nothing of the script
+abbrev pub IsOutside : LineFault → Type 0
+IsOutside (Grammar line) = ⊥
+IsOutside Read = Unit {0}
+IsOutside NoMemory = Unit {0}
+
+-- what one line gave: that there is none, as ReadsLine has it for the script's end; that it was skipped, and what comes next is the same; or as ReadsLine has it
+abbrev pub TakesLine : ℕ → ℕ → Result Taken LineFault → List ℕ → List ℕ → Type 0
+TakesLine before now (Ok End) old new = ReadsLine before now (Ok None) old new
+TakesLine before now (Ok Passed) old new = next_in now (lines_of new) ≡ next_in before (lines_of old)
+TakesLine before now (Ok (Took line)) old new = ReadsLine before now (Ok (Some line)) old new
+TakesLine before now (Err fault) old new = ReadsLine before now (Err fault) old new
+
+-- the reader behind its first line, unless that is outside the grammar
+abbrev pub behind_line : LineSays → Reading → Reading
+behind_line Outside reading = reading
+behind_line Skipped reading = record { pending = after_first is_line_feed reading.pending; number = reading.number + 1; ended = reading.ended }
+behind_line (Spells line) reading = record { pending = after_first is_line_feed reading.pending; number = reading.number + 1; ended = reading.ended }
+
+-- what a line with this number gave, which says this
+abbrev pub taken_of : ℕ → LineSays → Result Taken LineFault
+taken_of number Outside = Err (Grammar number)
+taken_of number Skipped = Ok Passed
+taken_of number (Spells line) = Ok (Took line)
+
+-- a line that was taken is one of a trial
+abbrev pub TakesTrialLine : Taken → Type 0
+TakesTrialLine End = Unit {0}
+TakesTrialLine Passed = Unit {0}
+TakesTrialLine (Took line) = IsTrialLine line
+
+-- a line that was taken is counted
+abbrev pub CountsLine : ℕ → ℕ → Taken → Type 0
+CountsLine before now End = now ≡ before
+CountsLine before now Passed = now ≡ before + 1
+CountsLine before now (Took line) = now ≡ before + 1

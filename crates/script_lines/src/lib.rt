@@ -1,0 +1,19 @@
+//! The lines of a script, read from a source, and the lines of a report, written as text.
+//!
+//! A script is read in one pass, through one buffer that is used again. Blank lines and comments are passed over and
+//! counted; what is outside the grammar is refused by its line's number.
+#![tactic(auto)]
+
+mod line;
+mod lines;
+mod names;
+mod number;
+mod pending;
+mod report;
+#[cfg(test)]
+mod tests;
+
+pub use line::{Line, LineSays};
+pub use lines::{LineFault, Lines};
+pub use number::{signed, unsigned};
+pub use report::write_report;

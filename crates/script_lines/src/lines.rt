@@ -1,0 +1,238 @@
+ghost use Rattle.std.specs.Prelude.{◌≡◌, ◌<◌, ◌≤◌, ◌⊎◌, true, false, length, position, IfOk, IfErr, OnErr, IsErrOf};
+ghost use Rattle.std.specs.List.{position_or_len};
+ghost use Rattle.std.specs.Io.KnownBytes.{Keeps, prepend_known, IsAtEnd};
+ghost use Rattle.ground_io.specs.Counts.{HasCause};
+ghost use Rattle.script_lines.specs.Script.{is_line_feed, IsOutside, taken_of};
+ghost use Rattle.script_lines.specs.declared.lines.LineFault.TheVariants.{Read, NoMemory as WantsMemory};
+
+use crate::line::LONGEST_LINE;
+use crate::pending::Pending;
+use crate::{Line, LineSays};
+use bac_values::NoMemory;
+use ground_io::{Failed, Source};
+use std::alloc::{AllocError, Global};
+use std::marker::Model;
+
+/// Why a script gave no line.
+#[derive(Clone, Copy, Debug, PartialEq, Eq)]
+pub enum LineFault {
+    /// A line isn't in the grammar. It is given again by each later call.
+    Grammar {
+        /// The line's number, from 1.
+        line: u64,
+    },
+    /// The source failed. The lines still to come are the same.
+    Read,
+    /// Memory was refused. The lines still to come are the same.
+    NoMemory,
+}
+
+impl From<AllocError> for LineFault {
+    ghost from_gives = { λ _ fault. fault ≡ WantsMemory };
+
+    fn from(_refused: AllocError) -> LineFault {
+        LineFault::NoMemory
+    }
+}
+
+impl From<Failed> for LineFault {
+    ghost from_gives = { λ _ fault. fault ≡ Read };
+
+    fn from(_failed: Failed) -> LineFault {
+        LineFault::Read
+    }
+}
+
+// The place of the first line feed.
+fn line_feed(octets: &[u8]) -> Option<usize>
+    ensures place { result ≡ position is_line_feed octets.now }
+{
+    octets.iter().position(|octet| *octet == b'\n')
+}
+
+// How long the line at the front is, where so many octets are known to have no line feed.
+#[tactic(auto, using(crate::proofs::First::first_within))]
+fn line_end(octets: &[u8], seen: usize) -> usize
+    requires seen { seen ≤ position_or_len is_line_feed octets.now }
+    ensures end { result ≡ position_or_len is_line_feed octets.now }
+{
+    match line_feed(&octets[seen..]) {
+        Some(place) => seen + place,
+        None => octets.len(),
+    }
+}
+
+// Reads until the line at the front is whole, and gives its length. It is cut where more octets are pending than a line
+// may have, and has no line feed where the source ends before one.
+fn find_end<S: Source>(
+    source: &mut S,
+    pending: &mut Pending,
+    ended: &mut bool,
+) -> Result<usize, LineFault>
+    requires source { ended.old ≡ true → IsAtEnd (S.left source.old) }
+    ensures source { ended.new ≡ true → IsAtEnd (S.left source.new) }
+    ensures octets { Keeps (prepend_known pending.old (S.left source.old)) (prepend_known pending.new (S.left source.new)) }
+    ensures end { IfOk result (λ end. end ≡ position_or_len is_line_feed pending.new) }
+    ensures found { IfOk result (λ end. (end < length pending.new) ⊎ ((4096 < length pending.new) ⊎ (ended.new ≡ true))) }
+    ensures ended { ended.new ≡ false → ended.old ≡ false }
+    ensures waits { OnErr result ((ended.new ≡ false) × (position is_line_feed pending.new ≡ None)) }
+    ensures fault { IfErr result IsOutside }
+    ensures cause { HasCause (S.faults source.old) (S.faults source.new) (IsErrOf result LineFault.Read) }
+{
+    let mut end = 0;
+    loop {
+        let octets = pending.octets();
+        end = line_end(octets, end);
+        let count = octets.len();
+        if end < count || *ended || count > LONGEST_LINE {
+            return Ok(end);
+        }
+        if !pending.read(source)? {
+            *ended = true;
+            return Ok(end);
+        }
+    }
+}
+
+// What one line gave.
+#[derive(Drop)]
+enum Taken {
+    // There is none.
+    End,
+    // It says nothing.
+    Passed,
+    // It says this.
+    Took(Line),
+}
+
+// What a line with this number gave, which says this.
+fn taken_of(number: u64, says: LineSays) -> Result<Taken, LineFault>
+    ensures taken { result ≡ taken_of number says }
+{
+    match says {
+        LineSays::Outside => Err(LineFault::Grammar { line: number }),
+        LineSays::Skipped => Ok(Taken::Passed),
+        LineSays::Spells(line) => Ok(Taken::Took(line)),
+    }
+}
+
+/// A reader of a script's lines. Each call is handed the same source.
+#[derive(Drop)]
+pub struct Lines {
+    pending: Pending,
+    number: u64,
+    ended: bool,
+}
+
+impl Model for Lines {
+    ghost use Rattle.std.specs.Prelude.{◌≤◌};
+    ghost use Rattle.script_lines.specs.Reading.{Reading};
+
+    ghost Value = { Reading };
+
+    ghost view = { λ lines. record { pending = lines.pending; number = lines.number; ended = lines.ended } };
+
+    ghost invariant = { λ lines. lines.number ≤ 1000000 };
+}
+
+impl Lines {
+    ghost use Rattle.std.specs.Prelude.{◌+◌, ◌<◌, ◌≤◌, [], true, false, position, IfSome, OnSome};
+    ghost use Rattle.std.specs.List.{before_first, position_or_len};
+    ghost use Rattle.script_lines.specs.Line.{IsTrialLine, SpellsTrialLine, line_says};
+    ghost use Rattle.script_lines.specs.Reading.{octets_to_come};
+    ghost use Rattle.ground_io.specs.Trace.{WhereTold};
+    ghost use Rattle.script_lines.specs.Script.{is_line_feed, ReadsLine, TakesLines, TakesLine, TakesTrialLine, CountsLine, behind_line};
+
+    /// A reader of a trial's script, at its first line.
+    pub fn trial(alloc: Global) -> Result<Lines, NoMemory>
+        ensures start { IfOk result (λ lines. lines ≡ record { pending = []; number = 0; ended = false }) }
+    {
+        let pending = Pending::new(alloc)?;
+        Ok(Lines {
+            pending,
+            number: 0,
+            ended: false,
+        })
+    }
+
+    /// How many lines were read. Blank lines and comments count, a line that is refused doesn't.
+    pub fn count(&self) -> u64
+        ensures number { result ≡ self.now.number }
+    {
+        self.number
+    }
+
+    // Takes what is pending of the line at the front, which is up to the first line feed, and says what it says. A line
+    // outside the grammar stays.
+    fn judge(&mut self, end: usize) -> LineSays
+        requires end { end ≡ position_or_len is_line_feed self.old.pending }
+        ensures says { result ≡ line_says (self.old.number + 1) (before_first is_line_feed self.old.pending) }
+        ensures rest { self.new ≡ behind_line result self.old }
+        ensures of_trial { SpellsTrialLine (self.old.number + 1) result }
+        ensures limit { self.new.number ≤ 1000000 }
+    {
+        let octets = self.pending.octets();
+        let says = LineSays::of_trial(self.number + 1, &octets[..end]);
+        if !matches!(&says, LineSays::Outside) {
+            let width = octets.len().min(end + 1);
+            self.pending.take(width);
+            self.number += 1;
+        }
+        says
+    }
+
+    // Takes one line.
+    fn take_line<S: Source>(&mut self, source: &mut S) -> Result<Taken, LineFault>
+        requires source { self.old.ended ≡ true → IsAtEnd (S.left source.old) }
+        ensures source { self.new.ended ≡ true → IsAtEnd (S.left source.new) }
+        ensures line { WhereTold (octets_to_come self.old (S.left source.old)) (octets_to_come self.new (S.left source.new))
+            (TakesLine self.old.number self.new.number result) }
+        ensures whole_lines { self.new.ended ≡ false → WhereTold (octets_to_come self.old (S.left source.old)) (octets_to_come self.new (S.left source.new))
+            (TakesLines self.old.number self.new.number) }
+        ensures at_end { result ≡ Ok Taken.End → IsAtEnd (S.left source.new) }
+        ensures counts { IfOk result (CountsLine self.old.number self.new.number) }
+        ensures of_trial { IfOk result TakesTrialLine }
+        ensures limit { self.new.number ≤ 1000000 }
+        ensures ended { self.new.ended ≡ false → self.old.ended ≡ false }
+        ensures waits { result ≡ Err LineFault.Read → (self.new.ended ≡ false) × (position is_line_feed self.new.pending ≡ None) }
+        ensures cause { HasCause (S.faults source.old) (S.faults source.new) (IsErrOf result LineFault.Read) }
+    {
+        let end = find_end(source, &mut self.pending, &mut self.ended)?;
+        if self.pending.octets().is_empty() {
+            return Ok(Taken::End);
+        }
+        let number = self.number + 1;
+        taken_of(number, self.judge(end))
+    }
+
+    /// The next line of a trial's script, or none at its end. Blank lines and comments are passed over and counted.
+    ///
+    /// `Grammar` comes at a line outside the grammar, which stays the next one. After the source's end it is never read
+    /// again.
+    pub fn next_line<S: Source>(&mut self, source: &mut S) -> Result<Option<Line>, LineFault>
+        // The same source is handed to each call: where its end was seen, it is at its end.
+        requires source { self.old.ended ≡ true → IsAtEnd (S.left source.old) }
+        ensures source { self.new.ended ≡ true → IsAtEnd (S.left source.new) }
+
+        ensures line { WhereTold (octets_to_come self.old (S.left source.old)) (octets_to_come self.new (S.left source.new))
+            (ReadsLine self.old.number self.new.number result) }
+        ensures whole_lines { self.new.ended ≡ false → WhereTold (octets_to_come self.old (S.left source.old)) (octets_to_come self.new (S.left source.new))
+            (TakesLines self.old.number self.new.number) }
+        ensures at_end { result ≡ Ok None → IsAtEnd (S.left source.new) }
+        ensures of_trial { IfOk result (λ found. IfSome found IsTrialLine) }
+        ensures grows { IfOk result (λ found. OnSome found (self.old.number < self.new.number)) }
+        ensures limit { self.new.number ≤ 1000000 }
+
+        ensures ended { self.new.ended ≡ false → self.old.ended ≡ false }
+        ensures waits { result ≡ Err LineFault.Read → (self.new.ended ≡ false) × (position is_line_feed self.new.pending ≡ None) }
+        ensures cause { HasCause (S.faults source.old) (S.faults source.new) (IsErrOf result LineFault.Read) }
+    {
+        loop {
+            match self.take_line(source)? {
+                Taken::End => return Ok(None),
+                Taken::Passed => {}
+                Taken::Took(line) => return Ok(Some(line)),
+            }
+        }
+    }
+}
