@@ -1,4 +1,5 @@
 pub mod Consuming
+pub mod Crashes
 pub mod Disks
 pub mod Images
 pub mod Telling

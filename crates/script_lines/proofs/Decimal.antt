@@ -1,11 +1,10 @@
 -- A text spells a number exactly where it is how the number is written in decimal.
-use Rattle.std.proofs.Common.{◌≡◌, inl, inr, ℕ, ◌+◌, ◌-◌, ◌*◌, ◌^◌, ◌<◌, ◌≤◌, ◌↔◌, ◌==◌, ◌&&◌, Bool, true, false, not, cond, Option, Some, None, List, [], ◌∷◌, zero, suc, length, get_or, refl, ap, subst, ◌∙◌, sym, arith, rules}
+use Rattle.std.proofs.Common.{◌≡◌, inl, inr, ℕ, ◌+◌, ◌-◌, ◌*◌, ◌^◌, ◌<◌, ◌≤◌, ◌↔◌, ◌==◌, ◌&&◌, true, false, not, Option, Some, None, List, [], ◌∷◌, zero, suc, length, get_or, refl, ap, subst, ◌∙◌, sym, arith, rules}
 use Rattle.std.specs.Char.{is_ascii_digit}
 use Rattle.std.specs.Str.{all_ascii_digits}
 use Rattle.std.specs.Fmt.{decimal}
 use Rattle.std.proofs.lemmas.Bool.{cases_Bool}
 use Rattle.std.proofs.lemmas.Bool.Decides.{nat_tests}
-use Rattle.std.proofs.lemmas.Grind.{common_steps}
 use Rattle.std.proofs.lemmas.Str.Parse.{IsNumeralModel, numerals_by_fold, tells_all_ascii_digits}
 use Rattle.std.proofs.lemmas.Fmt.{digits_decimal, digits_value-decimal, decimal-digits_value, first_decimal, decimal_nonempty, decimal_digit}
 use Rattle.script_lines.specs.Number.{digits_after, is_nothing, number_of, up_to, unsigned_of}
@@ -17,6 +16,9 @@ read_on n (c ∷ cs) = read_on (n * 10 + (c - 48)) cs
 
 own : IsNumeralModel (λ ds. all_ascii_digits ds ≡ true) (read_on 0)
 own = numerals_by_fold _ tells_all_ascii_digits read_on (search rules)
+
+pub digits_of_decimal : (n : ℕ) → n < 2 ^ 64 → all_ascii_digits (decimal n) ≡ true
+digits_of_decimal n small = digits_decimal own n small
 
 digits_read : (n : ℕ) (ds : List ℕ) → all_ascii_digits ds ≡ true → digits_after n ds ≡ Some (read_on n ds)
 digits_read n [] h = refl
@@ -44,9 +46,9 @@ written_number (c ∷ cs) n h small =
     elim (cases_Bool (c == 48 && not (is_nothing cs))) [
       | inl needless ↦ let wrong : None ≡ Some n = rw needless at h in cc
       | inr plain ↦
-        let read = read_digits 0 n (c ∷ cs) (rw plain at h) in
-        let fits : read_on 0 (c ∷ cs) < 2 ^ 64 = omega (arith, read.1) in
-        sym (decimal-digits_value own (c ∷ cs) read.0 (omega arith) (one_zero c cs plain) fits) ∙ ap decimal read.1
+          let read = read_digits 0 n (c ∷ cs) (rw plain at h) in
+          let fits : read_on 0 (c ∷ cs) < 2 ^ 64 = omega (arith, read.1) in
+          sym (decimal-digits_value own (c ∷ cs) read.0 (omega arith) (one_zero c cs plain) fits) ∙ ap decimal read.1
     ]
 
 no_zero : (c : ℕ) (cs : List ℕ) → 48 < c → (c == 48 && not (is_nothing cs)) ≡ false
@@ -78,8 +80,7 @@ from_up_to most n (Some m) h = let is = is_within most m n h in (ap Some is.0, i
 
 -- the number that is spelled, where it is at most this one
 pub spelled : (most n : ℕ) (text : List ℕ) (result : Option ℕ) → most < 2 ^ 64 → result ≡ unsigned_of most text → (result ≡ Some n) ↔ ((text ≡ decimal n) × (n ≤ most))
-spelled most n text result small value =
-    (
-      λ found. let is = from_up_to most n (number_of text) (sym value ∙ found) in (written_number text n is.0 (omega arith), is.1),
-      λ h. value ∙ (ap (up_to most) (number_written text n h.0 (omega (arith, h.1))) ∙ within most n h.1)
-    )
+spelled most n text result small value = (
+  λ found. let is = from_up_to most n (number_of text) (sym value ∙ found) in (written_number text n is.0 (omega arith), is.1),
+  λ h. value ∙ (ap (up_to most) (number_written text n h.0 (omega (arith, h.1))) ∙ within most n h.1),
+)

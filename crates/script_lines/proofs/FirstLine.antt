@@ -1,5 +1,5 @@
 -- The first line of a text, by the place of the first line feed, and what it makes of what comes next.
-use Rattle.std.proofs.Common.{◌≡◌, ◌⊎◌, inl, inr, ℕ, ◌+◌, ◌<◌, ◌≤◌, ◌==◌, Bool, true, false, List, [], ◌∷◌, ◌++◌, suc, append-nil, append_assoc, length, take, drop, refl, ap, ◌∙◌, sym, arith}
+use Rattle.std.proofs.Common.{◌≡◌, ◌⊎◌, inl, inr, ℕ, ◌+◌, ◌<◌, ◌≤◌, false, List, [], ◌∷◌, ◌++◌, suc, append-nil, length, take, drop, refl, ap, ◌∙◌, sym, arith}
 use Rattle.std.specs.List.{position_or_len, before_first, after_first, onto_first}
 use Rattle.std.proofs.lemmas.Bool.{cases_Bool, cases_lt}
 use Rattle.std.proofs.lemmas.Bool.Decides.{nat_tests}
@@ -7,8 +7,7 @@ use Rattle.std.proofs.lemmas.Grind.{common_steps}
 use Rattle.std.proofs.lemmas.List.{take_all, drop_all}
 use Rattle.script_lines.specs.declared.line.LineSays.TheVariants.{Outside}
 use Rattle.script_lines.specs.Line.{line_says}
-use Rattle.script_lines.specs.Script.{is_line_feed, lines_of, Next, next_by, next_in, Refuses}
-use Rattle.script_lines.proofs.First.{first_within}
+use Rattle.script_lines.specs.Script.{is_line_feed, lines_of, next_by, next_in}
 
 take_next : (n c : ℕ) (cs : List ℕ) → take (1 + n) (c ∷ cs) ≡ c ∷ take n cs
 take_next n c cs = let e : 1 + n ≡ suc n = omega arith in rw e refl

@@ -1,13 +1,10 @@
 -- Lines that are taken one after the other.
-use Rattle.std.proofs.Common.{◌≡◌, inl, inr, ℕ, ◌+◌, true, false, Option, Some, None, Result, Ok, Err, List, [], ◌∷◌, ◌++◌, append-nil, append_assoc, length, length-append, refl, ap, ◌∙◌, sym, arith}
+use Rattle.std.proofs.Common.{◌≡◌, inl, inr, ℕ, false, Option, Some, None, List, [], ◌∷◌, ◌++◌, append-nil, append_assoc, length, length-append, refl, ap, ◌∙◌, sym, arith}
 use Rattle.std.specs.List.{onto_first}
 use Rattle.std.proofs.lemmas.Bool.{cases_Bool}
 use Rattle.ground_io.specs.Trace.{WhereTold}
-use Rattle.script_lines.specs.declared.line.Line.{Line}
-use Rattle.script_lines.specs.declared.lines.LineFault.{LineFault}
-use Rattle.script_lines.specs.declared.lines.LineFault.TheVariants.{Grammar, Read, NoMemory}
 use Rattle.script_lines.specs.Reading.{Reading, octets_to_come}
-use Rattle.script_lines.specs.Script.{is_line_feed, lines_of, next_in, ReadsLine, TakesLines, IsWholeLines}
+use Rattle.script_lines.specs.Script.{is_line_feed, lines_of, next_in, TakesLines, IsWholeLines}
 
 -- what holds from the first to the second and from there to the third, where they are told
 pub told_then : {X : Type 0} (a b c : Option X) (P Q R : X → X → Type 0) → ((x y z : X) → P x y → Q y z → R x z) → WhereTold a b P → WhereTold b c Q → WhereTold a c R

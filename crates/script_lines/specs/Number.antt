@@ -1,5 +1,5 @@
 -- How numbers are spelled: decimal digits, without `+` and without needless zeros. `-0` is none.
-use Rattle.std.specs.Prelude.{ℕ, ◌+◌, ◌-◌, ◌*◌, ◌^◌, Bool, true, false, not, ◌&&◌, ◌==◌, nat_le, Option, Some, None, option_and_then, List, [], ◌∷◌, if◌then◌else◌, ℤ, pos, negsuc, zero, suc}
+use Rattle.std.specs.Prelude.{ℕ, ◌+◌, ◌-◌, ◌*◌, ◌^◌, ◌<◌, Bool, true, false, not, ◌&&◌, ◌==◌, nat_le, Option, Some, None, option_and_then, List, [], ◌∷◌, if◌then◌else◌, ℤ, pos, negsuc, zero, suc}
 use Rattle.std.specs.Option.{option_map}
 use Rattle.std.specs.Char.{is_ascii_digit}
 
@@ -35,3 +35,8 @@ below_zero None = None
 abbrev pub signed_of : List ℕ → Option ℤ
 signed_of [] = None
 signed_of (c ∷ cs) = if c == 45 then below_zero (unsigned_of (2 ^ 31) cs) else option_map pos (unsigned_of (2 ^ 31 - 1) (c ∷ cs))
+
+-- a number of 32 bits with a sign
+abbrev pub IsSigned : ℤ → Type 0
+IsSigned (pos n) = n < 2 ^ 31
+IsSigned (negsuc n) = n < 2 ^ 31

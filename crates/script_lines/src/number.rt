@@ -1,6 +1,6 @@
-ghost use Rattle.std.specs.Prelude.{◌≡◌, ◌↔◌, ℕ, ◌≤◌, ◌^◌, ◌-◌, IfSome};
-ghost use Rattle.std.specs.Fmt.{decimal};
-ghost use Rattle.script_lines.specs.Number.{digits_after, number_of, up_to, unsigned_of, signed_of};
+ghost use Rattle.std.specs.Prelude.{◌≡◌, ◌↔◌, ℕ, ℤ, ◌≤◌, ◌^◌, ◌-◌, IfSome};
+ghost use Rattle.std.specs.Fmt.{decimal, signed_decimal};
+ghost use Rattle.script_lines.specs.Number.{digits_after, number_of, up_to, unsigned_of, below_zero, signed_of, IsSigned};
 
 // The number that digits spell, if it is one of 64 bits.
 fn digits_value(digits: &[u8]) -> Option<u64>
@@ -38,19 +38,25 @@ pub fn unsigned(text: &[u8], most: u64) -> Option<u64>
     number(text).filter(|value| *value <= most)
 }
 
+// The number of 32 bits below zero whose digits are these.
+fn negative(digits: &[u8]) -> Option<i32>
+    ensures value { result ≡ below_zero (unsigned_of (2 ^ 31) digits.now) }
+{
+    let size = unsigned(digits, 1 << 31)?;
+    if size == 0 {
+        return None;
+    }
+    Some((-(size as i64)) as i32)
+}
+
 /// The number of 32 bits with a sign that a text spells in decimal digits. `-` is the only sign, there is no needless
-/// zero, and `-0` is none.
+/// zero, and `-0` is none: the text is just how the number is written.
 pub fn signed(text: &[u8]) -> Option<i32>
     ensures value { result ≡ signed_of text.now }
+    ensures written { (z : ℤ) → (result ≡ Some z) ↔ ((text.now ≡ signed_decimal z) × IsSigned z) }
 {
     match text {
-        [b'-', digits @ ..] => {
-            let size = unsigned(digits, 1 << 31)?;
-            if size == 0 {
-                return None;
-            }
-            Some((-(size as i64)) as i32)
-        }
+        [b'-', digits @ ..] => negative(digits),
         _ => Some(unsigned(text, (1 << 31) - 1)? as i32),
     }
 }

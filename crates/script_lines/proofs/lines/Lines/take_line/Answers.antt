@@ -1,4 +1,4 @@
-use Rattle.std.proofs.Common.{◌≡◌, ◌<◌, ◌+◌, length, sym, ap, ◌∙◌, rules}
+use Rattle.std.proofs.Common.{◌<◌, length, rules}
 use Rattle.script_lines.specs.Reading.{Reading}
 use Rattle.script_lines.proofs.TakenLine.{IsFoundBy, judged, judged_whole}
 use Rattle.script_lines.proofs.lines.Lines.take_line.Goals as goal
