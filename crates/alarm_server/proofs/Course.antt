@@ -17,9 +17,9 @@ use Rattle.alarm_server.specs.declared.look.Look.{Look}
 use Rattle.alarm_server.specs.declared.emission.Unsent.{Unsent}
 use Rattle.alarm_server.specs.Settings.{facts_with}
 use Rattle.alarm_server.specs.Points.{Point, seen_again, seen_with, newest_of, points_given, points_after}
-use Rattle.alarm_server.specs.Detection.{Detection, detection_by, detection_after, rule_held, detection_at, move_after, moves_of}
+use Rattle.alarm_server.specs.Detection.{Detection, detection_by, detection_after, rule_held, detection_at, transition_after, transitions_of}
 use Rattle.alarm_server.specs.Emission.{Sends}
-use Rattle.alarm_server.specs.Trial.{points_over, SendsMoves}
+use Rattle.alarm_server.specs.Trial.{points_over, SendsTransitions}
 use Rattle.alarm_server.specs.Watched.{Watched, point_of}
 use Rattle.alarm_server.proofs.Sending.{front_more, sends_then}
 
@@ -31,13 +31,13 @@ pub detection_at-next : (first newest : Point) (older : List Point) → detectio
 unfolding detection_at
 detection_at-next first newest older = refl
 
-moves_of-next : (first newest : Point) (older : List Point) → moves_of SignedOutOfRange first (newest ∷ older) ≡ moves_of SignedOutOfRange first older ++ move_after SignedOutOfRange newest (detection_at SignedOutOfRange first older)
-unfolding moves_of
-moves_of-next first newest older = refl
+transitions_of-next : (first newest : Point) (older : List Point) → transitions_of SignedOutOfRange first (newest ∷ older) ≡ transitions_of SignedOutOfRange first older ++ transition_after SignedOutOfRange newest (detection_at SignedOutOfRange first older)
+unfolding transitions_of
+transitions_of-next first newest older = refl
 
-pub moves_of-none : (first : Point) → moves_of SignedOutOfRange first [] ≡ []
-unfolding moves_of
-moves_of-none first = refl
+pub transitions_of-none : (first : Point) → transitions_of SignedOutOfRange first [] ≡ []
+unfolding transitions_of
+transitions_of-none first = refl
 
 since_by : (found : Option Rule) (newest : Point) (detection : Detection) → (more : List Point) × ((detection_by found newest detection).since ≡ newest ∷ more)
 since_by None newest detection = (detection.since, refl)
@@ -85,38 +85,38 @@ goes_on first later before after seen point course next same =
     ∙ sym (detection_at-next first point later)))
 
 -- the move at one more point
-pub moves_on : {A : Type 0} (r : Result A Unsent) (first : Point) (later : List Point) (before : Detection) (seen point : Point) (a b : Option Told) → before ≡ detection_at SignedOutOfRange first later → seen ≡ point → Sends r (move_after SignedOutOfRange seen before) a b → SendsMoves r first later (point ∷ later) a b
-moves_on r first later before seen point a b course same sends =
-    let move = ap (λ p. move_after SignedOutOfRange p before) same ∙ ap (move_after SignedOutOfRange point) course in (
-      move_after SignedOutOfRange point (detection_at SignedOutOfRange first later),
-      moves_of-next first point later,
+pub transitions_on : {A : Type 0} (r : Result A Unsent) (first : Point) (later : List Point) (before : Detection) (seen point : Point) (a b : Option Told) → before ≡ detection_at SignedOutOfRange first later → seen ≡ point → Sends r (transition_after SignedOutOfRange seen before) a b → SendsTransitions r first later (point ∷ later) a b
+transitions_on r first later before seen point a b course same sends =
+    let move = ap (λ p. transition_after SignedOutOfRange p before) same ∙ ap (transition_after SignedOutOfRange point) course in (
+      transition_after SignedOutOfRange point (detection_at SignedOutOfRange first later),
+      transitions_of-next first point later,
       subst (λ lines. Sends r lines a b) move sends,
     )
 
 -- moves went out, and then those of more points, or a front of them
-pub moves_then : {A B : Type 0} (x : B) (r : Result A Unsent) (first : Point) (later more most : List Point) (a b c : Option Told) → SendsMoves {A = B} (Ok x) first later more a b → SendsMoves r first more most b c → SendsMoves r first later most a c
-moves_then x r first later more most a b c (moves, all, out) (others, rest, sends) = (
+pub transitions_then : {A B : Type 0} (x : B) (r : Result A Unsent) (first : Point) (later more most : List Point) (a b c : Option Told) → SendsTransitions {A = B} (Ok x) first later more a b → SendsTransitions r first more most b c → SendsTransitions r first later most a c
+transitions_then x r first later more most a b c (moves, all, out) (others, rest, sends) = (
   moves ++ others,
-  rest ∙ (ap (λ l. l ++ others) all ∙ append_assoc (moves_of SignedOutOfRange first later) moves others),
+  rest ∙ (ap (λ l. l ++ others) all ∙ append_assoc (transitions_of SignedOutOfRange first later) moves others),
   sends_then r a b c moves others out sends,
 )
 
 -- a fault while the moves of some points go out, before those of one more
-pub moves_fault : (A : Type 0) (fault : Unsent) (first : Point) (later more : List Point) (point : Point) (a b : Option Told) → SendsMoves {A = A} (Err fault) first later more a b → SendsMoves {A = A} (Err fault) first later (point ∷ more) a b
-moves_fault A fault first later more point a b (moves, all, front) =
-    let next = move_after SignedOutOfRange point (detection_at SignedOutOfRange first more) in (
+pub transitions_fault : (A : Type 0) (fault : Unsent) (first : Point) (later more : List Point) (point : Point) (a b : Option Told) → SendsTransitions {A = A} (Err fault) first later more a b → SendsTransitions {A = A} (Err fault) first later (point ∷ more) a b
+transitions_fault A fault first later more point a b (moves, all, front) =
+    let next = transition_after SignedOutOfRange point (detection_at SignedOutOfRange first more) in (
       moves ++ next,
-      moves_of-next first point more ∙ (ap (λ l. l ++ next) all ∙ append_assoc (moves_of SignedOutOfRange first later) moves next),
+      transitions_of-next first point more ∙ (ap (λ l. l ++ next) all ∙ append_assoc (transitions_of SignedOutOfRange first later) moves next),
       front_more fault a b moves next front,
     )
 
 -- the moves over more points go on from those before
-moves_front : (first : Point) (new later : List Point) → (back : List ReportLine) × (moves_of SignedOutOfRange first (new ++ later) ≡ moves_of SignedOutOfRange first later ++ back)
-moves_front first [] later = ([], sym (append-nil (moves_of SignedOutOfRange first later)))
-moves_front first (point ∷ new) later =
-    let more = moves_front first new later in
-    let next = move_after SignedOutOfRange point (detection_at SignedOutOfRange first (new ++ later)) in
-    (more.0 ++ next, moves_of-next first point (new ++ later) ∙ (ap (λ l. l ++ next) more.1 ∙ append_assoc (moves_of SignedOutOfRange first later) more.0 next))
+transitions_front : (first : Point) (new later : List Point) → (back : List ReportLine) × (transitions_of SignedOutOfRange first (new ++ later) ≡ transitions_of SignedOutOfRange first later ++ back)
+transitions_front first [] later = ([], sym (append-nil (transitions_of SignedOutOfRange first later)))
+transitions_front first (point ∷ new) later =
+    let more = transitions_front first new later in
+    let next = transition_after SignedOutOfRange point (detection_at SignedOutOfRange first (new ++ later)) in
+    (more.0 ++ next, transitions_of-next first point (new ++ later) ∙ (ap (λ l. l ++ next) more.1 ∙ append_assoc (transitions_of SignedOutOfRange first later) more.0 next))
 
 pub points_over-none : (first : Point) (later : List Point) → points_over first later [] ≡ later
 unfolding points_over
@@ -143,15 +143,15 @@ points_over-next first later points lines line is =
     ∙ sym (points_over-append lines (line ∷ []) first later)))
 
 -- the moves over more lines go on from those before
-pub moves_over_more : (lines : List Line) (first : Point) (later : List Point) → (back : List ReportLine) × (moves_of SignedOutOfRange first (points_over first later lines) ≡ moves_of SignedOutOfRange first later ++ back)
-moves_over_more [] first later = ([], ap (moves_of SignedOutOfRange first) (points_over-none first later) ∙ sym (append-nil (moves_of SignedOutOfRange first later)))
-moves_over_more (line ∷ lines) first later =
+pub transitions_over_more : (lines : List Line) (first : Point) (later : List Point) → (back : List ReportLine) × (transitions_of SignedOutOfRange first (points_over first later lines) ≡ transitions_of SignedOutOfRange first later ++ back)
+transitions_over_more [] first later = ([], ap (transitions_of SignedOutOfRange first) (points_over-none first later) ∙ sym (append-nil (transitions_of SignedOutOfRange first later)))
+transitions_over_more (line ∷ lines) first later =
     let next = points_after line.moment line.input first later in
-    let here = moves_front first (points_given line.moment line.input (newest_of first later)) later in
-    let more = moves_over_more lines first next in (
+    let here = transitions_front first (points_given line.moment line.input (newest_of first later)) later in
+    let more = transitions_over_more lines first next in (
       here.0 ++ more.0,
-      ap (moves_of SignedOutOfRange first) (points_over-line first later line lines)
-          ∙ (more.1 ∙ (ap (λ l. l ++ more.0) here.1 ∙ append_assoc (moves_of SignedOutOfRange first later) here.0 more.0)),
+      ap (transitions_of SignedOutOfRange first) (points_over-line first later line lines)
+          ∙ (more.1 ∙ (ap (λ l. l ++ more.0) here.1 ∙ append_assoc (transitions_of SignedOutOfRange first later) here.0 more.0)),
     )
 
 -- a line of a trial that writes nothing is a tick
@@ -163,11 +163,11 @@ tick_only (Fault object reliability) h never = absurd h
 tick_only (Datagram peer octets) h never = absurd h
 
 -- a fault while the moves of an event's first point go out
-pub event_fault : (A : Type 0) (fault : Unsent) (input : Input) (moment : ℕ) (first : Point) (later : List Point) (a b : Option Told) → IsTrialInput input → SendsMoves {A = A} (Err fault) first later (seen_again moment (newest_of first later) ∷ later) a b → SendsMoves {A = A} (Err fault) first later (points_after moment input first later) a b
+pub event_fault : (A : Type 0) (fault : Unsent) (input : Input) (moment : ℕ) (first : Point) (later : List Point) (a b : Option Told) → IsTrialInput input → SendsTransitions {A = A} (Err fault) first later (seen_again moment (newest_of first later) ∷ later) a b → SendsTransitions {A = A} (Err fault) first later (points_after moment input first later) a b
 event_fault A fault Tick moment first later a b h sends = sends
 event_fault A fault (Set object value) moment first later a b h sends =
     let again = seen_again moment (newest_of first later) in
-    moves_fault A fault first later (again ∷ later) (seen_with value again) a b sends
+    transitions_fault A fault first later (again ∷ later) (seen_with value again) a b sends
 event_fault A fault Pump moment first later a b h sends = absurd h
 event_fault A fault (Fault object reliability) moment first later a b h sends = absurd h
 event_fault A fault (Datagram peer octets) moment first later a b h sends = absurd h

@@ -8,7 +8,7 @@ use Rattle.script_lines.specs.declared.line.LineSays.{LineSays}
 use Rattle.script_lines.specs.declared.line.LineSays.TheVariants.{Skipped, Outside, Spells}
 use Rattle.script_lines.specs.Line.{line_says}
 use Rattle.script_lines.specs.Script.{lines_of, IsWholeLines, TakesLines}
-use Rattle.alarm_server.specs.Trial.{spelled_by, spelled_in, refused_by, refused_in}
+use Rattle.alarm_server.specs.Script.{spelled_by, spelled_in, refused_by, refused_in}
 use Rattle.alarm_server.proofs.Spelled.{spelled-first, spelled-none, refused-first, refused-none}
 
 -- behind a front without a refusal, the texts spell what they do by themselves

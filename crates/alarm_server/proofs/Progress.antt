@@ -16,14 +16,15 @@ use Rattle.alarm_server.specs.declared.emission.Unsent.{Unsent}
 use Rattle.alarm_server.specs.declared.emission.Unsent.TheVariants as unsent
 use Rattle.alarm_server.specs.declared.status.Status.TheVariants as status
 use Rattle.alarm_server.specs.Points.{Point, points_after}
-use Rattle.alarm_server.specs.Detection.{Detection, detection_at, moves_of}
+use Rattle.alarm_server.specs.Detection.{Detection, detection_at, transitions_of}
 use Rattle.alarm_server.specs.Emission.{sent, SendsUpTo, Ends}
 use Rattle.alarm_server.specs.Status.{of_line_fault, of_unsent}
-use Rattle.alarm_server.specs.Trial.{spelled_in, refused_in, refused_line, first_point, points_over, end_by, report_over, front_moves, StopsReading, SendsMoves}
+use Rattle.alarm_server.specs.Script.{spelled_in, refused_in, refused_line}
+use Rattle.alarm_server.specs.Trial.{first_point, points_over, end_by, report_over, front_transitions, StopsReading, SendsTransitions}
 use Rattle.alarm_server.proofs.Sending.{adds_nothing, sent_then, front_then, front_more}
 use Rattle.alarm_server.proofs.Spelled.{spelled_gives, spells_none, spells_refused, spells_same}
 use Rattle.alarm_server.proofs.Fronts.{front_lines, lines_of-whole, takes_then}
-use Rattle.alarm_server.proofs.Course.{moves_of-none, points_over-none, points_over-append, points_over-next, moves_over_more}
+use Rattle.alarm_server.proofs.Course.{transitions_of-none, points_over-none, points_over-append, points_over-next, transitions_over_more}
 
 -- these lines and those of the octets to come are those of the script
 pub record Remains (lines : List Line) (number : ℕ) (script octets : List ℕ) : Type 0 where
@@ -37,7 +38,7 @@ pub record Progress (settings : Settings) (text come : Option (List ℕ)) (old n
   pub later : List Point
   pub points : later ≡ points_over (first_point settings) [] lines
   pub detected : detection ≡ detection_at SignedOutOfRange (first_point settings) later
-  pub out : Adds old new (sent (moves_of SignedOutOfRange (first_point settings) later))
+  pub out : Adds old new (sent (transitions_of SignedOutOfRange (first_point settings) later))
   pub remains : WhereTold text come (Remains lines number)
   pub whole : ended ≡ false → WhereTold text come (TakesLines 0 number)
 
@@ -63,17 +64,17 @@ begins settings text told detection first = record {
   later = [];
   points = sym (points_over-none (first_point settings) []);
   detected = first;
-  out = rw (moves_of-none (first_point settings)) (adds_nothing told);
+  out = rw (transitions_of-none (first_point settings)) (adds_nothing told);
   remains = remains_all text;
   whole = λ h. takes_none text;
 }
 
 -- what is left to report behind these lines
-after : (settings : Settings) (lines : List Line) (number : ℕ) (script octets : List ℕ) (later : List Point) → later ≡ points_over (first_point settings) [] lines → Remains lines number script octets → report_over settings (lines_of script) ≡ moves_of SignedOutOfRange (first_point settings) (points_over (first_point settings) later (spelled_in number (lines_of octets))) ++ end_by (refused_in number (lines_of octets)) (number + length (lines_of octets))
+after : (settings : Settings) (lines : List Line) (number : ℕ) (script octets : List ℕ) (later : List Point) → later ≡ points_over (first_point settings) [] lines → Remains lines number script octets → report_over settings (lines_of script) ≡ transitions_of SignedOutOfRange (first_point settings) (points_over (first_point settings) later (spelled_in number (lines_of octets))) ++ end_by (refused_in number (lines_of octets)) (number + length (lines_of octets))
 after settings lines number script octets later points r =
     let first = first_point settings in
     let behind = spelled_in number (lines_of octets) in
-    let moves = λ (ps : List Point). moves_of SignedOutOfRange first ps in
+    let moves = λ (ps : List Point). transitions_of SignedOutOfRange first ps in
     let spelled : points_over first [] (spelled_in 0 (lines_of script)) ≡ points_over first later behind =
     ap (points_over first []) r.spelled ∙ (points_over-append lines behind first [] ∙ ap (λ ps. points_over first ps behind) (sym points)) in
     ap (λ ps. moves ps ++ end_by (refused_in 0 (lines_of script)) (length (lines_of script))) spelled
@@ -81,20 +82,20 @@ after settings lines number script octets later points r =
     ∙ ap (λ n. moves (points_over first later behind) ++ end_by (refused_in number (lines_of octets)) n) r.count)
 
 -- the moves so far are a front of the report
-report_front : (settings : Settings) (lines : List Line) (number : ℕ) (script octets : List ℕ) (later : List Point) → later ≡ points_over (first_point settings) [] lines → Remains lines number script octets → (back : List ReportLine) × (report_over settings (lines_of script) ≡ moves_of SignedOutOfRange (first_point settings) later ++ back)
+report_front : (settings : Settings) (lines : List Line) (number : ℕ) (script octets : List ℕ) (later : List Point) → later ≡ points_over (first_point settings) [] lines → Remains lines number script octets → (back : List ReportLine) × (report_over settings (lines_of script) ≡ transitions_of SignedOutOfRange (first_point settings) later ++ back)
 report_front settings lines number script octets later points r =
     let first = first_point settings in
     let end = end_by (refused_in number (lines_of octets)) (number + length (lines_of octets)) in
-    let more = moves_over_more (spelled_in number (lines_of octets)) first later in
-    (more.0 ++ end, after settings lines number script octets later points r ∙ (ap (λ l. l ++ end) more.1 ∙ append_assoc (moves_of SignedOutOfRange first later) more.0 end))
+    let more = transitions_over_more (spelled_in number (lines_of octets)) first later in
+    (more.0 ++ end, after settings lines number script octets later points r ∙ (ap (λ l. l ++ end) more.1 ∙ append_assoc (transitions_of SignedOutOfRange first later) more.0 end))
 
 -- behind the last line nothing but the end is left
-report_all : (settings : Settings) (lines : List Line) (number : ℕ) (script octets : List ℕ) (later : List Point) → later ≡ points_over (first_point settings) [] lines → Remains lines number script octets → spelled_in number (lines_of octets) ≡ [] → report_over settings (lines_of script) ≡ moves_of SignedOutOfRange (first_point settings) later ++ end_by (refused_in number (lines_of octets)) (number + length (lines_of octets))
+report_all : (settings : Settings) (lines : List Line) (number : ℕ) (script octets : List ℕ) (later : List Point) → later ≡ points_over (first_point settings) [] lines → Remains lines number script octets → spelled_in number (lines_of octets) ≡ [] → report_over settings (lines_of script) ≡ transitions_of SignedOutOfRange (first_point settings) later ++ end_by (refused_in number (lines_of octets)) (number + length (lines_of octets))
 report_all settings lines number script octets later points r none =
     let first = first_point settings in
     let end = end_by (refused_in number (lines_of octets)) (number + length (lines_of octets)) in
     after settings lines number script octets later points r
-    ∙ ap (λ ps. moves_of SignedOutOfRange first ps ++ end) (ap (points_over first later) none ∙ points_over-none first later)
+    ∙ ap (λ ps. transitions_of SignedOutOfRange first ps ++ end) (ap (points_over first later) none ∙ points_over-none first later)
 
 -- want of memory before the first line
 pub ends_at_once : (settings : Settings) (text : Option (List ℕ)) (told : Option Told) → IfSome text (λ t. Ends status.NoMemory (report_over settings (lines_of t)) told told)
@@ -108,16 +109,16 @@ ends_at_line settings (Some t) None come' old new number number' ended detection
 ends_at_line settings (Some t) (Some octets) None old new number number' ended detection fault p read = absurd read
 ends_at_line settings (Some t) (Some octets) (Some rest) old new number number' ended detection (Grammar line) p read =
     let h = spells_refused (lines_of octets) number line read.0 in
-    let moves = moves_of SignedOutOfRange (first_point settings) p.later in
+    let moves = transitions_of SignedOutOfRange (first_point settings) p.later in
     let all = report_all settings p.lines number t octets p.later p.points p.remains h.spelled
     ∙ (ap (λ o. moves ++ end_by o (number + length (lines_of octets))) h.refused ∙ append-nil moves) in
     subst (λ lines. Adds old new (sent lines)) (sym all) p.out
 ends_at_line settings (Some t) (Some octets) (Some rest) old new number number' ended detection Read p read =
     let front = report_front settings p.lines number t octets p.later p.points p.remains in
-    (moves_of SignedOutOfRange (first_point settings) p.later, front.0, front.1, p.out)
+    (transitions_of SignedOutOfRange (first_point settings) p.later, front.0, front.1, p.out)
 ends_at_line settings (Some t) (Some octets) (Some rest) old new number number' ended detection NoMemory p read =
     let front = report_front settings p.lines number t octets p.later p.points p.remains in
-    (moves_of SignedOutOfRange (first_point settings) p.later, front.0, front.1, p.out)
+    (transitions_of SignedOutOfRange (first_point settings) p.later, front.0, front.1, p.out)
 
 -- the line that is refused is the first outside the grammar
 pub refused_first : (settings : Settings) (text come come' : Option (List ℕ)) (old new : Option Told) (number number' : ℕ) (ended : Bool) (detection : Detection) (line : ℕ) → Progress settings text come old new number ended detection → WhereTold come come' (ReadsLine number number' (Err (Grammar line))) → IfSome text (λ t. refused_line t ≡ Some line)
@@ -153,14 +154,14 @@ remains_next lines number number' line script octets rest r (next, is) =
     }
 
 -- a fault while the moves of a line go out
-pub ends_at_event : (settings : Settings) (text come come' : Option (List ℕ)) (old new new' : Option Told) (number number' : ℕ) (ended : Bool) (detection : Detection) (line : Line) (fault : Unsent) → Progress settings text come old new number ended detection → WhereTold come come' (ReadsLine number number' (Ok (Some line))) → ((later : List Point) → detection ≡ detection_at SignedOutOfRange (first_point settings) later → SendsMoves {A = Unit {0}} (Err fault) (first_point settings) later (points_after line.moment line.input (first_point settings) later) new new') → IfSome text (λ t. Ends (of_unsent fault) (report_over settings (lines_of t)) old new')
+pub ends_at_event : (settings : Settings) (text come come' : Option (List ℕ)) (old new new' : Option Told) (number number' : ℕ) (ended : Bool) (detection : Detection) (line : Line) (fault : Unsent) → Progress settings text come old new number ended detection → WhereTold come come' (ReadsLine number number' (Ok (Some line))) → ((later : List Point) → detection ≡ detection_at SignedOutOfRange (first_point settings) later → SendsTransitions {A = Unit {0}} (Err fault) (first_point settings) later (points_after line.moment line.input (first_point settings) later) new new') → IfSome text (λ t. Ends (of_unsent fault) (report_over settings (lines_of t)) old new')
 ends_at_event settings None come come' old new new' number number' ended detection line fault p read sends = tt
 ends_at_event settings (Some t) None come' old new new' number number' ended detection line fault p read sends = absurd p.remains
 ends_at_event settings (Some t) (Some octets) None old new new' number number' ended detection line fault p read sends = absurd read
 ends_at_event settings (Some t) (Some octets) (Some rest) old new new' number number' ended detection line fault p read sends =
     let first = first_point settings in
     let event = sends p.later p.detected in
-    let before = moves_of SignedOutOfRange first p.later in
+    let before = transitions_of SignedOutOfRange first p.later in
     let points = points_over-next first [] p.later p.lines line p.points in
     let next = remains_next p.lines number number' line t octets rest p.remains read in
     let front = report_front settings (p.lines ++ line ∷ []) number' t rest (points_after line.moment line.input first p.later) points next in
@@ -170,11 +171,11 @@ ends_at_event settings (Some t) (Some octets) (Some rest) old new new' number nu
     (front_more fault old new' (before ++ event.0) front.0 (front_then fault old new new' before event.0 p.out event.2)))
 
 -- one more line
-pub goes_on : (settings : Settings) (text come come' : Option (List ℕ)) (old new new' : Option Told) (number number' : ℕ) (ended ended' : Bool) (detection detection' : Detection) (line : Line) → Progress settings text come old new number ended detection → WhereTold come come' (ReadsLine number number' (Ok (Some line))) → (ended' ≡ false → ended ≡ false) → (ended' ≡ false → WhereTold come come' (TakesLines number number')) → ((later : List Point) → detection ≡ detection_at SignedOutOfRange (first_point settings) later → detection' ≡ detection_at SignedOutOfRange (first_point settings) (points_after line.moment line.input (first_point settings) later)) → ((later : List Point) → detection ≡ detection_at SignedOutOfRange (first_point settings) later → SendsMoves {A = Unit {0}} (Ok tt) (first_point settings) later (points_after line.moment line.input (first_point settings) later) new new') → Progress settings text come' old new' number' ended' detection'
+pub goes_on : (settings : Settings) (text come come' : Option (List ℕ)) (old new new' : Option Told) (number number' : ℕ) (ended ended' : Bool) (detection detection' : Detection) (line : Line) → Progress settings text come old new number ended detection → WhereTold come come' (ReadsLine number number' (Ok (Some line))) → (ended' ≡ false → ended ≡ false) → (ended' ≡ false → WhereTold come come' (TakesLines number number')) → ((later : List Point) → detection ≡ detection_at SignedOutOfRange (first_point settings) later → detection' ≡ detection_at SignedOutOfRange (first_point settings) (points_after line.moment line.input (first_point settings) later)) → ((later : List Point) → detection ≡ detection_at SignedOutOfRange (first_point settings) later → SendsTransitions {A = Unit {0}} (Ok tt) (first_point settings) later (points_after line.moment line.input (first_point settings) later) new new') → Progress settings text come' old new' number' ended' detection'
 goes_on settings text come come' old new new' number number' ended ended' detection detection' line p read stays taken seen sends =
     let first = first_point settings in
     let event = sends p.later p.detected in
-    let before = moves_of SignedOutOfRange first p.later in
+    let before = transitions_of SignedOutOfRange first p.later in
     record {
       lines = p.lines ++ line ∷ [];
       later = points_after line.moment line.input first p.later;
@@ -188,10 +189,10 @@ goes_on settings text come come' old new new' number number' ended ended' detect
     }
 
 -- behind the last line, the end is all that is left to report
-report_end : (settings : Settings) (octets script : List ℕ) (number number' : ℕ) (lines : List Line) (later : List Point) → later ≡ points_over (first_point settings) [] lines → Remains lines number script octets → next_in number (lines_of octets) ≡ AtEnd number' → report_over settings (lines_of script) ≡ moves_of SignedOutOfRange (first_point settings) later ++ TrialEnd number' ∷ []
+report_end : (settings : Settings) (octets script : List ℕ) (number number' : ℕ) (lines : List Line) (later : List Point) → later ≡ points_over (first_point settings) [] lines → Remains lines number script octets → next_in number (lines_of octets) ≡ AtEnd number' → report_over settings (lines_of script) ≡ transitions_of SignedOutOfRange (first_point settings) later ++ TrialEnd number' ∷ []
 report_end settings octets script number number' lines later points r next =
     let h = spells_none (lines_of octets) number number' next in
-    let moves = moves_of SignedOutOfRange (first_point settings) later in
+    let moves = transitions_of SignedOutOfRange (first_point settings) later in
     report_all settings lines number script octets later points r h.spelled
     ∙ (ap (λ o. moves ++ end_by o (number + length (lines_of octets))) h.refused ∙ ap (λ n. moves ++ TrialEnd n ∷ []) h.count)
 
@@ -202,7 +203,7 @@ ends settings (Some t) None come' old new new' number number' ended detection p 
 ends settings (Some t) (Some octets) None old new new' number number' ended detection p read last = absurd read
 ends settings (Some t) (Some octets) (Some rest) old new new' number number' ended detection p read last =
     let all = report_end settings octets t number number' p.lines p.later p.points p.remains read.0 in
-    subst (λ lines. Adds old new' (sent lines)) (sym all) (sent_then old new new' (moves_of SignedOutOfRange (first_point settings) p.later) (TrialEnd number' ∷ []) p.out last)
+    subst (λ lines. Adds old new' (sent lines)) (sym all) (sent_then old new new' (transitions_of SignedOutOfRange (first_point settings) p.later) (TrialEnd number' ∷ []) p.out last)
 
 -- a fault while the last line goes out
 pub ends_at_end : (settings : Settings) (text come come' : Option (List ℕ)) (old new new' : Option Told) (number number' : ℕ) (ended : Bool) (detection : Detection) (fault : Unsent) → Progress settings text come old new number ended detection → WhereTold come come' (ReadsLine number number' (Ok None)) → SendsUpTo fault (TrialEnd number' ∷ []) new new' → IfSome text (λ t. Ends (of_unsent fault) (report_over settings (lines_of t)) old new')
@@ -212,17 +213,17 @@ ends_at_end settings (Some t) (Some octets) None old new new' number number' end
 ends_at_end settings (Some t) (Some octets) (Some rest) old new new' number number' ended detection fault p read last =
     let all = report_end settings octets t number number' p.lines p.later p.points p.remains read.0 in
     ends_front fault (report_over settings (lines_of t)) old new'
-    (subst (λ lines. SendsUpTo fault lines old new') (sym all) (front_then fault old new new' (moves_of SignedOutOfRange (first_point settings) p.later) (TrialEnd number' ∷ []) p.out last))
+    (subst (λ lines. SendsUpTo fault lines old new') (sym all) (front_then fault old new new' (transitions_of SignedOutOfRange (first_point settings) p.later) (TrialEnd number' ∷ []) p.out last))
 
 -- the source failed: the lines that were taken are those of the whole lines that were read
-stops_where : (settings : Settings) (t octets rest pending : List ℕ) (old new : Option Told) (number number' : ℕ) (lines : List Line) (later : List Point) → later ≡ points_over (first_point settings) [] lines → Adds old new (sent (moves_of SignedOutOfRange (first_point settings) later)) → Remains lines number t octets → next_in number' (lines_of (pending ++ rest)) ≡ next_in number (lines_of octets) → TakesLines 0 number' t (pending ++ rest) → position is_line_feed pending ≡ None → StopsReading (front_moves settings) t rest old new
+stops_where : (settings : Settings) (t octets rest pending : List ℕ) (old new : Option Told) (number number' : ℕ) (lines : List Line) (later : List Point) → later ≡ points_over (first_point settings) [] lines → Adds old new (sent (transitions_of SignedOutOfRange (first_point settings) later)) → Remains lines number t octets → next_in number' (lines_of (pending ++ rest)) ≡ next_in number (lines_of octets) → TakesLines 0 number' t (pending ++ rest) → position is_line_feed pending ≡ None → StopsReading (front_transitions settings) t rest old new
 stops_where settings t octets rest pending old new number number' lines later points out r next taken no_feed =
     let h = spells_same number' number (lines_of (pending ++ rest)) (lines_of octets) next in
     let parts : lines_of t ≡ lines_of taken.taken ++ lines_of (pending ++ rest) = ap lines_of taken.front ∙ lines_of-whole taken.taken (pending ++ rest) taken.whole in
     let spelled = ap (spelled_in 0) (sym parts) ∙ (r.spelled ∙ ap (λ l. lines ++ l) (sym h.spelled)) in
     let refused = ap (refused_in 0) (sym parts) ∙ (r.refused ∙ sym h.refused) in
     let same = front_lines (lines_of taken.taken) (lines_of (pending ++ rest)) lines number' spelled refused (omega (arith, taken.count)) in
-    let moves = ap (moves_of SignedOutOfRange (first_point settings)) (points ∙ ap (points_over (first_point settings) []) same) in
+    let moves = ap (transitions_of SignedOutOfRange (first_point settings)) (points ∙ ap (points_over (first_point settings) []) same) in
     record {
       whole = taken.taken;
       begun = pending;
@@ -232,7 +233,7 @@ stops_where settings t octets rest pending old new number number' lines later po
       emitted = subst (λ lines. Adds old new (sent lines)) moves out;
     }
 
-pub stops_reading : (settings : Settings) (text come left : Option (List ℕ)) (pending : List ℕ) (old new : Option Told) (number number' : ℕ) (ended ended' : Bool) (detection : Detection) → Progress settings text come old new number ended detection → WhereTold come (prepend_known pending left) (ReadsLine number number' (Err Read)) → (ended' ≡ false → ended ≡ false) → (ended' ≡ false → WhereTold come (prepend_known pending left) (TakesLines number number')) → (ended' ≡ false) × (position is_line_feed pending ≡ None) → WhereTold text left (λ t rest. StopsReading (front_moves settings) t rest old new)
+pub stops_reading : (settings : Settings) (text come left : Option (List ℕ)) (pending : List ℕ) (old new : Option Told) (number number' : ℕ) (ended ended' : Bool) (detection : Detection) → Progress settings text come old new number ended detection → WhereTold come (prepend_known pending left) (ReadsLine number number' (Err Read)) → (ended' ≡ false → ended ≡ false) → (ended' ≡ false → WhereTold come (prepend_known pending left) (TakesLines number number')) → (ended' ≡ false) × (position is_line_feed pending ≡ None) → WhereTold text left (λ t rest. StopsReading (front_transitions settings) t rest old new)
 stops_reading settings None come left pending old new number number' ended ended' detection p read stays taken waits = tt
 stops_reading settings (Some t) None left pending old new number number' ended ended' detection p read stays taken waits = absurd p.remains
 stops_reading settings (Some t) (Some octets) None pending old new number number' ended ended' detection p read stays taken waits = absurd read

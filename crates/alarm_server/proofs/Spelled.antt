@@ -10,7 +10,7 @@ use Rattle.script_lines.specs.declared.line.LineSays.TheVariants.{Skipped, Outsi
 use Rattle.script_lines.specs.Line.{line_says, spells, line_by_word, tick_line, set_line, trial_object, first_word, other_words, moment_of, is_skipped, most_lines, longest_line}
 use Rattle.script_lines.specs.Number.{signed_of}
 use Rattle.script_lines.specs.Script.{Next, AtEnd, Refuses, Gives, next_by, next_in}
-use Rattle.alarm_server.specs.Trial.{spelled_by, spelled_in, refused_by, refused_in}
+use Rattle.alarm_server.specs.Script.{spelled_by, spelled_in, refused_by, refused_in}
 
 -- a line that is spelled has the number that it was asked for
 abbrev Numbered : ℕ → LineSays → Type 0

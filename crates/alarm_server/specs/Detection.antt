@@ -28,20 +28,20 @@ detection_by (Some rule) newest detection = record { state = rule.target; since 
 abbrev pub detection_after : Algorithm → Point → Detection → Detection
 detection_after algorithm newest detection = detection_by (rule_held algorithm newest detection) newest detection
 
--- the detection at the newest of a first point and the later ones; at the first point nothing moves
+-- the detection at the newest of a first point and the later ones; at the first point there is no transition
 unfoldable pub detection_at : Algorithm → Point → List Point → Detection
 detection_at algorithm first [] = record { state = Normal; since = first ∷ [] }
 detection_at algorithm first (newest ∷ older) = detection_after algorithm newest (detection_at algorithm first older)
 
-abbrev pub move_by : Option Rule → Point → Detection → List ReportLine
-move_by None newest detection = []
-move_by (Some rule) newest detection = TrialMove newest.moment detection.state rule.target ∷ []
+abbrev pub transition_by : Option Rule → Point → Detection → List ReportLine
+transition_by None newest detection = []
+transition_by (Some rule) newest detection = TrialMove newest.moment detection.state rule.target ∷ []
 
--- the move at one more point, if there is one
-abbrev pub move_after : Algorithm → Point → Detection → List ReportLine
-move_after algorithm newest detection = move_by (rule_held algorithm newest detection) newest detection
+-- the event-state transition at one more point, if there is one, as a line of the report
+abbrev pub transition_after : Algorithm → Point → Detection → List ReportLine
+transition_after algorithm newest detection = transition_by (rule_held algorithm newest detection) newest detection
 
--- the moves at all points behind the first, in the order of time
-unfoldable pub moves_of : Algorithm → Point → List Point → List ReportLine
-moves_of algorithm first [] = []
-moves_of algorithm first (newest ∷ older) = moves_of algorithm first older ++ move_after algorithm newest (detection_at algorithm first older)
+-- the transitions at all points behind the first, in the order of time
+unfoldable pub transitions_of : Algorithm → Point → List Point → List ReportLine
+transitions_of algorithm first [] = []
+transitions_of algorithm first (newest ∷ older) = transitions_of algorithm first older ++ transition_after algorithm newest (detection_at algorithm first older)

@@ -1,4 +1,4 @@
--- When a rule is held: its condition has gone on for the rule's delay (ANSI/ASHRAE 135-2020, 13.3: the conditions of each algorithm hold "for pTimeDelay seconds").
+-- When a rule is held: its condition has gone on for as long as the rule asks, "for pTimeDelay" (ANSI/ASHRAE 135-2020, 13.3).
 use Rattle.std.specs.Prelude.{◌≡◌, ℕ, ◌+◌, ◌*◌, ◌≤◌, Bool, false, ◌==◌, nat_le, All, Option, Some, None, List, [], ◌∷◌, ◌++◌}
 use Rattle.std.specs.List.{list_any, take_while}
 use Rattle.algorithm_rules.specs.declared.table.Rule.{Rule}

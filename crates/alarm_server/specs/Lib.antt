@@ -5,5 +5,6 @@ pub mod Settings
 pub mod Watched
 pub mod Status
 pub mod Emission
+pub mod Script
 pub mod Trial
 pub mod Paths

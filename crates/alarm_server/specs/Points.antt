@@ -1,4 +1,4 @@
--- The points at which the conditions of an object's events are looked at (ANSI/ASHRAE 135-2020, 13.2.2.1.4, leaves to a device when it looks).
+-- The points at which an object's event algorithm looks at it (ANSI/ASHRAE 135-2020, 13.2.2; when a device looks is its own matter).
 use Rattle.std.specs.Prelude.{ℕ, max, List, [], ◌∷◌, ◌++◌}
 use Rattle.bac_values.specs.declared.value.Value.{Value}
 use Rattle.bac_values.specs.declared.input.Input.{Input}

@@ -25,7 +25,7 @@ settings_of (trial ∷ low ∷ high ∷ deadband ∷ delay ∷ normal ∷ []) =
     if bytes_eq trial (codes "trial") then settings_from low high deadband delay normal else None
 settings_of _ = None
 
--- what the algorithm sees of an Integer Value with these settings and both limits enabled (ANSI/ASHRAE 135-2020, 12.43 and 13.3.5)
+-- what the algorithm sees of an Integer Value with these settings and both limits enabled (ANSI/ASHRAE 135-2020, Integer Value in clause 12, SIGNED_OUT_OF_RANGE in 13.3)
 abbrev pub facts_with : Settings → Value → Facts
 facts_with s value = record {
   value = value;

@@ -4,7 +4,8 @@ ghost use Rattle.ground_io.specs.Counts.{HasCause};
 ghost use Rattle.ground_io.specs.Trace.{WhereTold};
 ghost use Rattle.alarm_server.specs.Emission.{Ends};
 ghost use Rattle.alarm_server.specs.Settings.{settings_of};
-ghost use Rattle.alarm_server.specs.Trial.{StopsReading, refused_line, trial_moves, trial_report};
+ghost use Rattle.alarm_server.specs.Script.{refused_line};
+ghost use Rattle.alarm_server.specs.Trial.{StopsReading, trial_transitions, trial_report};
 
 use crate::settings::Settings;
 use crate::status::Status;
@@ -40,7 +41,7 @@ pub fn run<S: Source, T: Source, G: Ground>(
 
     // With ReadFault all lines of the report went out that the lines give whose line feed was read.
     ensures stops { result.1 ≡ Status.ReadFault → WhereTold (T.left script.old) (T.left script.new) (λ text rest.
-        StopsReading (trial_moves (map string_bytes words.now)) text rest (G.told device) (G.told result.0)) }
+        StopsReading (trial_transitions (map string_bytes words.now)) text rest (G.told device) (G.told result.0)) }
 
     // A fault comes only where its count rose.
     ensures read_cause { HasCause (T.faults script.old) (T.faults script.new) (result.1 ≡ Status.ReadFault) }

@@ -6,10 +6,11 @@ ghost use Rattle.algorithm_rules.specs.declared.table.Algorithm.TheVariants.{Sig
 ghost use Rattle.script_lines.specs.Line.{IsTrialLine};
 ghost use Rattle.script_lines.specs.Script.{lines_of};
 ghost use Rattle.alarm_server.specs.Points.{Point, points_after};
-ghost use Rattle.alarm_server.specs.Detection.{detection_at, detection_after, move_after};
+ghost use Rattle.alarm_server.specs.Detection.{detection_at, detection_after, transition_after};
 ghost use Rattle.alarm_server.specs.Emission.{Sends, Ends};
 ghost use Rattle.alarm_server.specs.Status.{status_of, IsFault};
-ghost use Rattle.alarm_server.specs.Trial.{SendsMoves, StopsReading, front_moves, refused_line, report_over};
+ghost use Rattle.alarm_server.specs.Script.{refused_line};
+ghost use Rattle.alarm_server.specs.Trial.{SendsTransitions, StopsReading, front_transitions, report_over};
 ghost use Rattle.alarm_server.specs.Watched.{point_of};
 
 use crate::emission::{Unsent, emit};
@@ -32,7 +33,7 @@ fn look_at<G: Ground>(
     ensures seen { OnOk result (watch.new ≡ record watch.old {
       detection = detection_after SignedOutOfRange (point_of watch.old.settings look) watch.old.detection;
     }) }
-    ensures sends { Sends result (move_after SignedOutOfRange (point_of watch.old.settings look) watch.old.detection)
+    ensures sends { Sends result (transition_after SignedOutOfRange (point_of watch.old.settings look) watch.old.detection)
         (G.told device.old) (G.told device.new) }
     ensures size { G.size device.new ≡ G.size device.old }
     ensures disk { G.disk_faults device.new ≡ G.disk_faults device.old }
@@ -55,7 +56,7 @@ fn take<G: Ground>(
     ensures seen { (first : Point) (later : List Point) → watch.old.detection ≡ detection_at SignedOutOfRange first later →
         OnOk result (watch.new.detection ≡ detection_at SignedOutOfRange first (points_after line.moment line.input first later)) }
     ensures sends { (first : Point) (later : List Point) → watch.old.detection ≡ detection_at SignedOutOfRange first later →
-        SendsMoves result first later (points_after line.moment line.input first later) (G.told device.old) (G.told device.new) }
+        SendsTransitions result first later (points_after line.moment line.input first later) (G.told device.old) (G.told device.new) }
     ensures size { G.size device.new ≡ G.size device.old }
     ensures disk { G.disk_faults device.new ≡ G.disk_faults device.old }
     ensures cause { HasCause (G.emit_faults device.old) (G.emit_faults device.new) (IsErrOf result Unsent.Lost) }
@@ -86,7 +87,7 @@ pub fn play<T: Source, G: Ground>(
     ensures refused { (line : ℕ) → result ≡ Err (Status.ScriptRefused line) →
         IfSome (T.left script.old) (λ text. refused_line text ≡ Some line) }
     ensures stops { result ≡ Err Status.ReadFault → WhereTold (T.left script.old) (T.left script.new)
-        (λ text rest. StopsReading (front_moves settings) text rest (G.told device.old) (G.told device.new)) }
+        (λ text rest. StopsReading (front_transitions settings) text rest (G.told device.old) (G.told device.new)) }
     ensures fault { IfErr result IsFault }
     ensures size { G.size device.new ≡ G.size device.old }
     ensures disk { G.disk_faults device.new ≡ G.disk_faults device.old }

@@ -2,7 +2,7 @@ ghost use Rattle.std.specs.Prelude.{◌≡◌, ◌∷◌, [], List, OnOk, OnErr,
 ghost use Rattle.std.specs.Option.{option_to_list};
 ghost use Rattle.algorithm_rules.specs.declared.table.Algorithm.TheVariants.{SignedOutOfRange};
 ghost use Rattle.alarm_server.specs.Points.{Point};
-ghost use Rattle.alarm_server.specs.Detection.{detection_at, detection_after, move_after, rule_held};
+ghost use Rattle.alarm_server.specs.Detection.{detection_at, detection_after, transition_after, rule_held};
 ghost use Rattle.alarm_server.specs.Watched.{point_of};
 
 use crate::held::is_held;
@@ -81,7 +81,7 @@ impl Watch {
           detection = detection_after SignedOutOfRange (point_of self.old.settings look) self.old.detection;
         }) }
         ensures line { IfOk result (λ line.
-            option_to_list line ≡ move_after SignedOutOfRange (point_of self.old.settings look) self.old.detection) }
+            option_to_list line ≡ transition_after SignedOutOfRange (point_of self.old.settings look) self.old.detection) }
         ensures err { OnErr result (self.new ≡ self.old) }
     {
         let Some(rule) = self.rule_held(&look) else {

@@ -2,7 +2,8 @@ ghost use Rattle.std.specs.Prelude.{◌≡◌, ◌<◌, ◌≤◌, ◌⊎◌, tr
 ghost use Rattle.std.specs.List.{position_or_len};
 ghost use Rattle.std.specs.Io.KnownBytes.{Keeps, prepend_known, IsAtEnd};
 ghost use Rattle.ground_io.specs.Counts.{HasCause};
-ghost use Rattle.script_lines.specs.Script.{is_line_feed, IsOutside, taken_of};
+ghost use Rattle.script_lines.specs.Script.{is_line_feed};
+ghost use Rattle.script_lines.specs.Taking.{IsOutside, taken_of};
 ghost use Rattle.script_lines.specs.declared.lines.LineFault.TheVariants.{Read, NoMemory as WantsMemory};
 
 use crate::line::LONGEST_LINE;
@@ -141,7 +142,8 @@ impl Lines {
     ghost use Rattle.script_lines.specs.Line.{IsTrialLine, SpellsTrialLine, line_says};
     ghost use Rattle.script_lines.specs.Reading.{octets_to_come};
     ghost use Rattle.ground_io.specs.Trace.{WhereTold};
-    ghost use Rattle.script_lines.specs.Script.{is_line_feed, ReadsLine, TakesLines, TakesLine, TakesTrialLine, CountsLine, behind_line};
+    ghost use Rattle.script_lines.specs.Script.{is_line_feed, ReadsLine, TakesLines};
+    ghost use Rattle.script_lines.specs.Taking.{CountsLine, TakesLine, TakesTrialLine, behind_line};
 
     /// A reader of a trial's script, at its first line.
     pub fn trial(alloc: Global) -> Result<Lines, NoMemory>

@@ -1,7 +1,7 @@
 ghost use Rattle.std.specs.Prelude.{◌≡◌, ◌<◌, ◌≤◌, [], length, take, drop, vec_len, IfOk, IfErr, OnErr, IsErrOf, MatchBool};
 ghost use Rattle.std.specs.Io.KnownBytes.{Keeps, prepend_known, IsAtEnd};
 ghost use Rattle.ground_io.specs.Counts.{HasCause};
-ghost use Rattle.script_lines.specs.Script.{IsOutside};
+ghost use Rattle.script_lines.specs.Taking.{IsOutside};
 
 use crate::LineFault;
 use ground_io::Source;

@@ -5,7 +5,7 @@ use Rattle.bac_values.specs.declared.input.Input.TheVariants.{Set}
 use Rattle.bac_values.specs.declared.value.Value.TheVariants.{Signed}
 use Rattle.alarm_server.specs.Points.{newest_of, seen_again, seen_with}
 use Rattle.alarm_server.specs.Watched.{point_of}
-use Rattle.alarm_server.proofs.Course.{again_is, goes_on, moves_on, moves_then, tick_only, event_fault, on_ok, written_points}
+use Rattle.alarm_server.proofs.Course.{again_is, goes_on, transitions_on, transitions_then, tick_only, event_fault, on_ok, written_points}
 use Rattle.alarm_server.proofs.trial.take.Goals as goal
 
 pub returns-in_err-look_at-clause-sends : goal.returns-in_err-look_at-clause-sends
@@ -21,7 +21,7 @@ returns-in_err-look_at-clause-sends g c = λ first later course.
     let again = again_is first later watch.detection watch.settings c.last-last.result c.at-again.result since.0 moment course since.1 (c.at-again.ensures.moment ∙ c.max.ensures) same_value in
     rw (p.1, p.2)
     (event_fault (Unit {0}) fault c.args.line.input moment first later a b c.requires.input
-    (moves_on {A = Unit {0}} (Err fault) first later watch.detection (point_of watch.settings c.at-again.result) (seen_again moment (newest_of first later)) a b course again c.in_err-look_at.ensures.sends))
+    (transitions_on {A = Unit {0}} (Err fault) first later watch.detection (point_of watch.settings c.at-again.result) (seen_again moment (newest_of first later)) a b course again c.in_err-look_at.ensures.sends))
 
 pub returns-in_default-clause-seen : goal.returns-in_default-clause-seen
 returns-in_default-clause-seen g c = λ first later course.
@@ -41,7 +41,7 @@ returns-in_default-clause-sends g c = λ first later course.
     let since = c.last-last.ensures.newest in
     let again = again_is first later watch.detection watch.settings c.last-last.result c.at-again.result since.0 moment course since.1 (c.at-again.ensures.moment ∙ c.max.ensures) same_value in
     rw (tick_only c.args.line.input c.requires.input c.in_default.not-Set)
-    (moves_on (Ok c.in_ok-look_at.field-0) first later watch.detection (point_of watch.settings c.at-again.result) (seen_again moment (newest_of first later)) (g.G.Ground.told c.args.device.now) (g.G.Ground.told c.look_at.new.device) course again c.in_ok-look_at.ensures.sends)
+    (transitions_on (Ok c.in_ok-look_at.field-0) first later watch.detection (point_of watch.settings c.at-again.result) (seen_again moment (newest_of first later)) (g.G.Ground.told c.args.device.now) (g.G.Ground.told c.look_at.new.device) course again c.in_ok-look_at.ensures.sends)
 
 pub returns-clause-seen : goal.returns-clause-seen
 returns-clause-seen g c = λ first later course.
@@ -91,6 +91,6 @@ returns-clause-sends g c = λ first later course.
     let told_between = g.G.Ground.told c.look_at.new.device in
     let told_now = g.G.Ground.told c.look_at-2.new.device in
     rw input
-    (moves_then c.in_ok-look_at.field-0 c.look_at-2.result first later (point ∷ later) (changed ∷ point ∷ later) told told_between told_now
-    (moves_on (Ok c.in_ok-look_at.field-0) first later before.detection (point_of before.settings c.at-again.result) point told told_between course p.first_point c.in_ok-look_at.ensures.sends)
-    (moves_on c.look_at-2.result first (point ∷ later) between.detection (point_of between.settings c.at-changed.result) changed told_between told_now p.course p.second_point c.look_at-2.ensures.sends))
+    (transitions_then c.in_ok-look_at.field-0 c.look_at-2.result first later (point ∷ later) (changed ∷ point ∷ later) told told_between told_now
+    (transitions_on (Ok c.in_ok-look_at.field-0) first later before.detection (point_of before.settings c.at-again.result) point told told_between course p.first_point c.in_ok-look_at.ensures.sends)
+    (transitions_on c.look_at-2.result first (point ∷ later) between.detection (point_of between.settings c.at-changed.result) changed told_between told_now p.course p.second_point c.look_at-2.ensures.sends))

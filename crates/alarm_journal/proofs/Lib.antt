@@ -1,0 +1,13 @@
+pub mod Batches
+pub mod Committing
+pub mod Emitting
+pub mod Formatting
+pub mod Fronts
+pub mod Headers
+pub mod Opening
+pub mod Parsing
+pub mod Reopening
+pub mod Rest
+pub mod Snapshots
+pub mod Standings
+pub mod TwoWrites

@@ -1,0 +1,11 @@
+use Rattle.std.proofs.Common.{◌≡◌, subst}
+use Rattle.alarm_journal.specs.Journal.{Site, Content}
+use Rattle.alarm_journal.specs.Press.{Standing, Settled}
+use Rattle.alarm_journal.proofs.Emitting.{settled_still}
+use Rattle.alarm_journal.proofs.press.Press.emit_all.Goals as goal
+
+pub returns-clause-settled : goal.returns-clause-settled
+returns-clause-settled g c =
+    let x = c.self.inside in
+    subst (λ (s : Standing _). (site : Site) (content : Content) → Settled site s.layout (g.G.Ground.told s.device) content → Settled site x.layout (g.G.Ground.told c.emit_each.new.device) content) c.self.view_is
+    (λ site content settled. settled_still site x.layout content c.args.sends.now c.emit_each.result.sent c.emit_each.result.lost _ _ c.emit_each.ensures.told settled)

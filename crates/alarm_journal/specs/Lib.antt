@@ -1,0 +1,5 @@
+pub mod Areas
+pub mod Emissions
+pub mod Journal
+pub mod Press
+pub mod Protocol

@@ -1,0 +1,67 @@
+ghost use Rattle.std.specs.Prelude.{◌≡◌, ◌<◌, ◌≤◌, ◌+◌, length, IfOk};
+ghost use Rattle.alarm_journal.specs.Journal.{framed};
+
+use bac_values::NoMemory;
+use byteorder::{BigEndian, ByteOrder};
+use std::alloc::{AllocError, Global};
+use std::marker::Model;
+
+/// The records of a batch or the state of a snapshot, ready to be written. Contracts see these octets.
+#[derive(Debug, Drop)]
+pub struct Job {
+    octets: Vec<u8>,
+}
+
+impl Model for Job {
+    ghost use Rattle.std.specs.Prelude.{◌≡◌, ◌≤◌, ◌<◌, List, ℕ, ◌-◌, take, drop, length};
+    ghost use Rattle.alarm_journal.specs.Journal.{framed};
+
+    ghost Value = { List ℕ };
+
+    ghost view = { λ job. take (length job.octets.items - 5) (drop 4 job.octets.items) };
+
+    ghost invariant = { λ job. (job.octets.items ≡ framed (take (length job.octets.items - 5) (drop 4 job.octets.items))) × (length job.octets.items ≤ 36000004) };
+}
+
+// The length of a body, the body, and a closed gate behind it.
+fn frame(alloc: Global, body: &[u8]) -> Result<Vec<u8>, AllocError>
+    requires { length body.now < 36000000 }
+    ensures framed { IfOk result (λ octets. octets.items ≡ framed body.now) }
+{
+    let mut count = [0; 4];
+    BigEndian::write_u32(&mut count, body.len() as u32);
+    let mut octets = count.to_vec(alloc)?;
+    octets.extend_from_slice(body)?;
+    octets.push(0)?;
+    Ok(octets)
+}
+
+impl Job {
+    /// A batch of these records, ready to be written.
+    pub fn batch(alloc: Global, records: &[u8]) -> Result<Job, NoMemory>
+        requires few { length records.now ≤ 60000 }
+        ensures made { IfOk result (λ job. job ≡ records.now) }
+    {
+        let octets = frame(alloc, records)?;
+        Ok(Job { octets })
+    }
+
+    /// A snapshot of this state, ready to be written.
+    pub fn snapshot(alloc: Global, state: &[u8]) -> Result<Job, NoMemory>
+        requires some { 0 < length state.now }
+        requires few { length state.now < 36000000 }
+        ensures made { IfOk result (λ job. job ≡ state.now) }
+    {
+        let octets = frame(alloc, state)?;
+        Ok(Job { octets })
+    }
+
+    /// What is written: the length of the octets, the octets, and a closed gate.
+    pub(crate) fn framed(&self) -> &[u8]
+        ensures framed { result.now ≡ framed self.now }
+        ensures length { length result.now ≡ length self.now + 5 }
+        ensures few { length self.now < 36000000 }
+    {
+        self.octets.as_slice()
+    }
+}

@@ -1,0 +1,23 @@
+//! The journal: batches of records and snapshots on a ground, each whole on the disk before its commit answers.
+//!
+//! A press writes a journal of two areas. A batch goes behind a closed gate, which is opened once the batch is on the
+//! disk; a snapshot goes to the area that isn't in use, which is selected once the snapshot is on the disk. So a crash
+//! at any moment leaves what stood before a commit or what stands after it. No checksum is trusted for that.
+#![tactic(auto)]
+
+mod area;
+mod header;
+mod job;
+mod layout;
+mod open;
+mod open_fault;
+mod press;
+mod protocol;
+#[cfg(test)]
+mod tests;
+
+pub use job::Job;
+pub use layout::Layout;
+pub use open::Opened;
+pub use open_fault::OpenFault;
+pub use press::{Emits, Press};

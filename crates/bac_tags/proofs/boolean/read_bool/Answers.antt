@@ -1,0 +1,23 @@
+use Rattle.std.proofs.Common.{arith}
+use Rattle.bac_tags.proofs.Booleans.{ReadsBoolean, reads_boolean}
+use Rattle.bac_tags.proofs.boolean.read_bool.Goals as goal
+
+-- all that the clauses say
+all : (c : goal.After-boolean_at) → ReadsBoolean c.args.context c.args.input.now c.args.at c.boolean_at.result
+all c =
+    reads_boolean c.args.context c.args.input.now c.args.at c.boolean_at.result (λ i. omega (arith, c.type_inv.input i)) c.requires c.boolean_at.ensures.exact
+
+pub returns-clause-found : goal.returns-clause-found
+returns-clause-found c = (all c).found
+
+pub returns-clause-only : goal.returns-clause-only
+returns-clause-only c = (all c).only
+
+pub returns-clause-truncated : goal.returns-clause-truncated
+returns-clause-truncated c = (all c).truncated
+
+pub returns-clause-wrong_tag : goal.returns-clause-wrong_tag
+returns-clause-wrong_tag c = (all c).wrong_tag
+
+pub returns-clause-bad_length : goal.returns-clause-bad_length
+returns-clause-bad_length c = (all c).bad_length

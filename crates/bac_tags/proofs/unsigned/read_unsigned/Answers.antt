@@ -1,0 +1,27 @@
+use Rattle.std.proofs.Common.{arith}
+use Rattle.bac_tags.specs.Contents.{IsUnsigned}
+use Rattle.bac_tags.specs.Reading.{unsigned_of, unsigned_at}
+use Rattle.bac_tags.proofs.Readers.{Reads, reads}
+use Rattle.bac_tags.proofs.Numbers.{unsigned_values}
+use Rattle.bac_tags.proofs.unsigned.read_unsigned.Goals as goal
+
+-- all that the clauses say
+all : (c : goal.After-unsigned_at) → Reads 2 c.args.context 1 4 IsUnsigned c.args.input.now c.args.at c.unsigned_at.result
+unfolding unsigned_at
+all c =
+    reads 2 c.args.context 1 4 unsigned_of IsUnsigned unsigned_values c.args.input.now c.args.at c.unsigned_at.result (λ i. omega (arith, c.type_inv.input i)) c.requires c.unsigned_at.ensures.exact
+
+pub returns-clause-found : goal.returns-clause-found
+returns-clause-found c = (all c).found
+
+pub returns-clause-only : goal.returns-clause-only
+returns-clause-only c = (all c).only
+
+pub returns-clause-truncated : goal.returns-clause-truncated
+returns-clause-truncated c = (all c).truncated
+
+pub returns-clause-wrong_tag : goal.returns-clause-wrong_tag
+returns-clause-wrong_tag c = (all c).wrong_tag
+
+pub returns-clause-bad_length : goal.returns-clause-bad_length
+returns-clause-bad_length c = (all c).bad_length
