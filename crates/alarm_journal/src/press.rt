@@ -141,8 +141,8 @@ impl<G: Ground> Press<G> {
         // A crash at any moment leaves what stood, with the batch or without.
         ensures any_moment { (site : Site) (content : Content) → Settled site self.layout (G.told self.device) content
             → MatchResult result
-                (λ press. Between site content (with_batch content job.now) (G.told self.device) (G.told press.device))
-                (λ device. Between site content (with_batch content job.now) (G.told self.device) (G.told device)) }
+            (λ press. Between site content (with_batch content job.now) (G.told self.device) (G.told press.device))
+            (λ device. Between site content (with_batch content job.now) (G.told self.device) (G.told device)) }
 
         ensures cause { MatchResult result
             (λ press. G.disk_faults self.device ≤ G.disk_faults press.device)
@@ -179,8 +179,8 @@ impl<G: Ground> Press<G> {
         // A crash at any moment leaves what stood, or the snapshot alone.
         ensures any_moment { (site : Site) (content : Content) → Settled site self.layout (G.told self.device) content
             → MatchResult result
-                (λ press. Between site content (only_snapshot job.now) (G.told self.device) (G.told press.device))
-                (λ device. Between site content (only_snapshot job.now) (G.told self.device) (G.told device)) }
+            (λ press. Between site content (only_snapshot job.now) (G.told self.device) (G.told press.device))
+            (λ device. Between site content (only_snapshot job.now) (G.told self.device) (G.told device)) }
 
         ensures cause { MatchResult result
             (λ press. G.disk_faults self.device ≤ G.disk_faults press.device)

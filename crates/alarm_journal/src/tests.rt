@@ -5,6 +5,7 @@ use std::alloc::{AllocError, Global};
 use std::test::Fail;
 
 const SITE: &[u8; 4] = b"site";
+
 const NEED: u64 = 60;
 
 // A commit of the run below: a batch or a snapshot, its octets, and what the journal holds behind it.
@@ -133,7 +134,12 @@ fn every_crash_image_opens_to_a_state_between_two_commits(rt: HostRuntime) -> Re
     assert_eq!(rt; device.trace().map(|trace| trace.len()), Some(29));
     for upto in 1..30u64 {
         let count = (upto.saturating_sub(5) / 4) as usize;
-        for filling in [Filling::Old, Filling::New, Filling::Octet(1), Filling::Octet(255)] {
+        for filling in [
+            Filling::Old,
+            Filling::New,
+            Filling::Octet(1),
+            Filling::Octet(255),
+        ] {
             let image = device.image(alloc, upto, filling)?;
             let after = (count + 1).min(6);
             let between = opens_to_either(alloc, image, held_behind(count), held_behind(after));
@@ -166,11 +172,20 @@ fn octets_lie_as_the_layout_says(rt: HostRuntime) -> Result<(), Fail> {
     let contents = device.contents();
     assert_eq!(rt; contents.len(), 91);
     assert_eq!(rt; &contents[..9], b"\x01BACALRM1".as_slice());
-    assert_eq!(rt; &contents[9..25], b"\0\0\0\0\0\0\0\x5b\0\0\0\x04site".as_slice());
+    assert_eq!(rt;
+        &contents[9..25],
+        b"\0\0\0\0\0\0\0\x5b\0\0\0\x04site".as_slice()
+    );
     assert_eq!(rt; &contents[25..32], b"\0\0\0\0\x02\x01\x01".as_slice());
-    assert_eq!(rt; &contents[32..58], b"\x01\0\0\0\x140123456789abcdefghij\0".as_slice());
+    assert_eq!(rt;
+        &contents[32..58],
+        b"\x01\0\0\0\x140123456789abcdefghij\0".as_slice()
+    );
     assert_eq!(rt; &contents[58..67], b"\0\0\0\x05state".as_slice());
-    assert_eq!(rt; &contents[67..79], b"\x01\0\0\0\x06\x01\0\0\0\x01\x01\0".as_slice());
+    assert_eq!(rt;
+        &contents[67..79],
+        b"\x01\0\0\0\x06\x01\0\0\0\x01\x01\0".as_slice()
+    );
     Ok(())
 }
 
@@ -201,21 +216,36 @@ fn refusals_come_in_their_order(rt: HostRuntime) -> Result<(), Fail> {
     let fault = OpenFault::SmallDevice { size: 90, need: 91 };
     assert_eq!(rt; refused(alloc, shortened, b"sits"), Some(fault));
     let foreign = octets.to_vec(alloc)?;
-    assert_eq!(rt; refused(alloc, foreign, b"sits"), Some(OpenFault::Foreign { at: 24 }));
+    assert_eq!(rt;
+        refused(alloc, foreign, b"sits"),
+        Some(OpenFault::Foreign { at: 24 })
+    );
     let foreign = octets.to_vec(alloc)?;
-    assert_eq!(rt; refused(alloc, foreign, b"sit"), Some(OpenFault::Foreign { at: 20 }));
+    assert_eq!(rt;
+        refused(alloc, foreign, b"sit"),
+        Some(OpenFault::Foreign { at: 20 })
+    );
     let mut formatted = octets.to_vec(alloc)?;
     assert_eq!(rt; formatted.len(), 91);
     formatted[16] = 59;
-    assert_eq!(rt; refused(alloc, formatted, SITE), Some(OpenFault::Damaged { at: 9 }));
+    assert_eq!(rt;
+        refused(alloc, formatted, SITE),
+        Some(OpenFault::Damaged { at: 9 })
+    );
     let mut snapshot = octets.to_vec(alloc)?;
     assert_eq!(rt; snapshot.len(), 91);
     snapshot[29] = 29;
-    assert_eq!(rt; refused(alloc, snapshot, SITE), Some(OpenFault::Damaged { at: 26 }));
+    assert_eq!(rt;
+        refused(alloc, snapshot, SITE),
+        Some(OpenFault::Damaged { at: 26 })
+    );
     let mut batch = octets.to_vec(alloc)?;
     assert_eq!(rt; batch.len(), 91);
     batch[36] = 22;
-    assert_eq!(rt; refused(alloc, batch, SITE), Some(OpenFault::Damaged { at: 33 }));
+    assert_eq!(rt;
+        refused(alloc, batch, SITE),
+        Some(OpenFault::Damaged { at: 33 })
+    );
     Ok(())
 }
 

@@ -21,7 +21,7 @@ returns-in_err-formatted-clause-answer g c = λ begun.
     let checked : checked_header site c.args.size header ≡ Err fault = ap (checked_header site c.args.size) (sym c.deref.ensures.value) ∙ sym c.in_err-formatted.ensures.checked in
     let p = err_from_is_err_and c.from_residual-in_err-formatted.result c.from_residual-in_err-formatted.ensures.1 in
     rw p.1 (subst (λ (f : OpenFault). Answers site (g.G.Ground.told c.args.device.now) (g.G.Ground.told c.read_piece.new.device) (Err f)) (sym p.2)
-        (bad_header site c.args.size header fault _ _ checked long whole c.requires.room c.in_ok-header.ensures.told c.in_ok-header.ensures.octets begun))
+    (bad_header site c.args.size header fault _ _ checked long whole c.requires.room c.in_ok-header.ensures.told c.in_ok-header.ensures.octets begun))
 
 pub returns-in_err-area-clause-answer : goal.returns-in_err-area-clause-answer
 returns-in_err-area-clause-answer g c = λ begun.
@@ -43,9 +43,9 @@ returns-in_err-area-clause-answer g c = λ begun.
     let P : OpenFault → Type 0 = λ f. Answers site (g.G.Ground.told c.args.device.now) (g.G.Ground.told c.read_piece-2.new.device) (Err f) in
     let p = err_from_is_err_and c.from_residual-in_err-area.result c.from_residual-in_err-area.ensures.1 in
     rw p.1 (subst P (sym p.2) (⊎_elim {C = P fault} (λ memory. no_answer site fault _ _ [] (inr memory) told)
-        (λ bad. subst P (sym bad.1) (bad_area site c.args.size header octets c.in_ok-formatted.formatted bad.0 layout _ _ _ found whole c.in_ok-header.ensures.told c.in_ok-octets.ensures.told c.in_ok-header.ensures.octets second c.in_ok-octets.ensures.length
-            ((λ i. content_of (sym c.start-start.ensures.start i) (sym c.deref-3.ensures.value i)) ∙ bad.2) begun))
-        c.in_err-area.ensures.damaged))
+    (λ bad. subst P (sym bad.1) (bad_area site c.args.size header octets c.in_ok-formatted.formatted bad.0 layout _ _ _ found whole c.in_ok-header.ensures.told c.in_ok-octets.ensures.told c.in_ok-header.ensures.octets second c.in_ok-octets.ensures.length
+    ((λ i. content_of (sym c.start-start.ensures.start i) (sym c.deref-3.ensures.value i)) ∙ bad.2) begun))
+    c.in_err-area.ensures.damaged))
 
 pub returns-clause-settled : goal.returns-clause-settled
 returns-clause-settled g c = λ begun.

@@ -49,7 +49,7 @@ returns-clause-settled g c =
     let layout : c.behind_batch-layout.result ≡ behind_batch x.layout (length body) = c.behind_batch-layout.ensures.behind ∙ ap (behind_batch x.layout) count in
     subst (λ (s : Standing _). (site : Site) (content : Content) → Settled site s.layout (g.G.Ground.told s.device) content → Settled site c.behind_batch-layout.result (g.G.Ground.told c.write_both.new.device) (with_batch content body)) c.self.view_is
     (λ site content settled. subst (λ (l : Layout). Settled site l (g.G.Ground.told c.write_both.new.device) (with_batch content body)) (sym layout)
-        (committed site x.layout content body (g.G.Ground.size x.device) c.self.invariant small fit _ _ (g.G.Ground.sized x.device) (ended (λ _. ⊥) (x.layout.next + 1) (framed body) x.layout.next (1 ∷ []) _ _ wrote) settled))
+    (committed site x.layout content body (g.G.Ground.size x.device) c.self.invariant small fit _ _ (g.G.Ground.sized x.device) (ended (λ _. ⊥) (x.layout.next + 1) (framed body) x.layout.next (1 ∷ []) _ _ wrote) settled))
 
 pub returns-clause-lasts : goal.returns-clause-lasts
 returns-clause-lasts g c =

@@ -21,7 +21,7 @@ returns-in-Err-clause-any_moment g c =
     let P : ℕ → List ℕ → ℕ → Type 0 = λ p l s. AddsSome (IsTwoCutShort p l (x.layout.areas - 1) (s ∷ [])) (g.G.Ground.told x.device) (g.G.Ground.told c.write_both.new.device) in
     let cut : P (other_of x.layout) (framed body) (selector_of x.layout) =
     subst (P (other_of x.layout) (framed body)) c.other_selector-selector.ensures.selector (subst (λ (p : ℕ). P p (framed body) c.other_selector-selector.result) c.other_start-place.ensures.start
-        (subst (λ (l : List ℕ). P c.other_start-place.result l c.other_selector-selector.result) c.framed-octets.ensures.framed c.in-Err.ensures.cut_short)) in
+    (subst (λ (l : List ℕ). P c.other_start-place.result l c.other_selector-selector.result) c.framed-octets.ensures.framed c.in-Err.ensures.cut_short)) in
     subst (λ (s : Standing _). (site : Site) (content : Content) → Settled site s.layout (g.G.Ground.told s.device) content → Between site content (only_snapshot body) (g.G.Ground.told s.device) (g.G.Ground.told c.write_both.new.device)) c.self.view_is
     (λ site content settled. cut_short _ (other_of x.layout) (framed body) (x.layout.areas - 1) (selector_of x.layout ∷ []) _ _ (ready site x.layout content body (g.G.Ground.size x.device) c.self.invariant small fits _ (g.G.Ground.sized x.device) settled) cut)
 
@@ -34,7 +34,7 @@ returns-clause-any_moment g c =
     let P : ℕ → List ℕ → ℕ → Type 0 = λ p l s. Adds (g.G.Ground.told x.device) (g.G.Ground.told c.write_both.new.device) (two_writes p l (x.layout.areas - 1) (s ∷ [])) in
     let wrote : P (other_of x.layout) (framed body) (selector_of x.layout) =
     subst (P (other_of x.layout) (framed body)) c.other_selector-selector.ensures.selector (subst (λ (p : ℕ). P p (framed body) c.other_selector-selector.result) c.other_start-place.ensures.start
-        (subst (λ (l : List ℕ). P c.other_start-place.result l c.other_selector-selector.result) c.framed-octets.ensures.framed c.in_default.ensures.wrote)) in
+    (subst (λ (l : List ℕ). P c.other_start-place.result l c.other_selector-selector.result) c.framed-octets.ensures.framed c.in_default.ensures.wrote)) in
     subst (λ (s : Standing _). (site : Site) (content : Content) → Settled site s.layout (g.G.Ground.told s.device) content → Between site content (only_snapshot body) (g.G.Ground.told s.device) (g.G.Ground.told c.write_both.new.device)) c.self.view_is
     (λ site content settled. done _ (other_of x.layout) (framed body) (x.layout.areas - 1) (selector_of x.layout ∷ []) _ _ (ready site x.layout content body (g.G.Ground.size x.device) c.self.invariant small fits _ (g.G.Ground.sized x.device) settled) wrote)
 
@@ -47,12 +47,12 @@ returns-clause-settled g c =
     let P : ℕ → List ℕ → ℕ → Type 0 = λ p l s. Adds (g.G.Ground.told x.device) (g.G.Ground.told c.write_both.new.device) (two_writes p l (x.layout.areas - 1) (s ∷ [])) in
     let wrote : P (other_of x.layout) (framed body) (selector_of x.layout) =
     subst (P (other_of x.layout) (framed body)) c.other_selector-selector.ensures.selector (subst (λ (p : ℕ). P p (framed body) c.other_selector-selector.result) c.other_start-place.ensures.start
-        (subst (λ (l : List ℕ). P c.other_start-place.result l c.other_selector-selector.result) c.framed-octets.ensures.framed c.in_default.ensures.wrote)) in
+    (subst (λ (l : List ℕ). P c.other_start-place.result l c.other_selector-selector.result) c.framed-octets.ensures.framed c.in_default.ensures.wrote)) in
     let count : length c.framed-octets.result.now - 5 ≡ length body = omega (arith, c.framed-octets.ensures.length) in
     let layout : c.behind_snapshot-layout.result ≡ behind_snapshot x.layout (length body) = c.behind_snapshot-layout.ensures.behind ∙ ap (behind_snapshot x.layout) count in
     subst (λ (s : Standing _). (site : Site) (content : Content) → Settled site s.layout (g.G.Ground.told s.device) content → Settled site c.behind_snapshot-layout.result (g.G.Ground.told c.write_both.new.device) (only_snapshot body)) c.self.view_is
     (λ site content settled. subst (λ (l : Layout). Settled site l (g.G.Ground.told c.write_both.new.device) (only_snapshot body)) (sym layout)
-        (committed site x.layout content body (g.G.Ground.size x.device) c.self.invariant small fits _ _ (g.G.Ground.sized x.device) (ended (λ _. ⊥) (other_of x.layout) (framed body) (x.layout.areas - 1) (selector_of x.layout ∷ []) _ _ wrote) settled))
+    (committed site x.layout content body (g.G.Ground.size x.device) c.self.invariant small fits _ _ (g.G.Ground.sized x.device) (ended (λ _. ⊥) (other_of x.layout) (framed body) (x.layout.areas - 1) (selector_of x.layout ∷ []) _ _ wrote) settled))
 
 pub returns-clause-lasts : goal.returns-clause-lasts
 returns-clause-lasts g c =
