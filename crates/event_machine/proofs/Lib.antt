@@ -1,0 +1,5 @@
+pub mod Lasting
+pub mod Keeping
+pub mod HeldTest
+pub mod Since
+pub mod RunStarts

@@ -1,0 +1,10 @@
+pub mod Points
+pub mod Held
+pub mod Detection
+pub mod AlarmRecord
+pub mod Summary
+pub mod Since
+pub mod Runs
+pub mod Next
+pub mod Laws
+pub mod Given
