@@ -1,0 +1,6 @@
+pub mod FlagLemmas
+pub mod Keeping
+pub mod Order
+pub mod Places
+pub mod Taking
+pub mod Accepting

@@ -1,0 +1,10 @@
+pub mod Flags
+pub mod Held
+pub mod Properties
+pub mod Values
+pub mod Objects
+pub mod Rows
+pub mod Tables
+pub mod Writes
+pub mod Verdicts
+pub mod Laws

@@ -1,0 +1,50 @@
+-- Tables of value objects: rows that ascend by identifier.
+use Rattle.std.specs.Prelude.{◌≡◌, ℕ, ◌==◌, ◌<◌, ◌≢◌, Bool, true, false, ◌&&◌, Option, List, length, map, find, slice_index_or, AllPairs}
+use Rattle.std.specs.Ordering.{nat_cmp, ordering_then}
+use Rattle.std.specs.declared.cmp.Ordering.{Ordering}
+use Rattle.std.specs.declared.cmp.Ordering.TheVariants.{Less}
+use Rattle.bac_values.specs.Identifier.{Identifier}
+use Rattle.object_table.specs.declared.object_site.ObjectSite.{ObjectSite}
+use Rattle.object_table.specs.declared.row.Row.{Row}
+
+-- whether two identifiers are one
+abbrev pub is_object : Identifier → Identifier → Bool
+is_object object other = other.number == object.number && other.instance == object.instance
+
+-- the row of an object
+abbrev pub row_of : Identifier → List Row → Option Row
+row_of object rows = find (λ row. is_object object row.site.object) rows
+
+-- a table begins with the site's objects, none of which has a field fault
+abbrev pub first_row : ObjectSite → Row
+first_row site = record { site = site; field_fault = 0 }
+
+abbrev pub rows_of : List ObjectSite → List Row
+rows_of sites = map first_row sites
+
+-- the order of identifiers: by number, then by instance
+abbrev pub identifier_order : Identifier → Identifier → Ordering
+identifier_order first second = ordering_then (nat_cmp first.number second.number) (nat_cmp first.instance second.instance)
+
+-- each identifier is below every later one
+abbrev pub Ascends : List Identifier → Type 0
+Ascends objects = AllPairs (λ earlier later. identifier_order earlier later ≡ Less) objects
+
+abbrev pub object_of : ObjectSite → Identifier
+object_of site = site.object
+
+abbrev pub object_in : Row → Identifier
+object_in row = row.site.object
+
+-- objects, and rows, in the order of their identifiers
+abbrev pub AscendsById : List ObjectSite → Type 0
+AscendsById sites = Ascends (map object_of sites)
+
+abbrev pub RowsAscend : List Row → Type 0
+RowsAscend rows = Ascends (map object_in rows)
+
+-- the row at the place is that of the object, and no other is
+pub record StandsAt (object : Identifier) (rows : List Row) (place : ℕ) : Type 0 where
+  pub within : place < length rows
+  pub here : (d : Row) → is_object object (slice_index_or rows place d).site.object ≡ true
+  pub others : (k : ℕ) (d : Row) → k < length rows → k ≢ place → is_object object (slice_index_or rows k d).site.object ≡ false

@@ -1,0 +1,179 @@
+-- How a write, a set of a present value and a field fault are answered: the first error that applies (ANSI/ASHRAE 135-2020, 15.9 and clause 18).
+use Rattle.std.specs.Prelude.{◌≡◌, ℕ, ◌==◌, nat_lt, ◌⊎◌, Bool, true, false, Option, Some, None, Result, Ok, Err, IsOk, IsTrue, List, if◌then◌else◌}
+use Rattle.bac_values.specs.declared.input.SetFault.{SetFault}
+use Rattle.bac_values.specs.declared.input.SetFault.TheVariants.{UnknownObject, WrongKind, OutOfService as IsOutOfService, ValueRange}
+use Rattle.bac_values.specs.declared.object_kind.ObjectKind.{ObjectKind}
+use Rattle.bac_values.specs.declared.object_kind.ObjectKind.TheVariants.{BinaryValue, MultiStateValue, BitStringValue, CharacterStringValue, IntegerValue, PositiveIntegerValue}
+use Rattle.bac_values.specs.declared.value.Foreign.TheVariants.{CharacterSet, TooLong}
+use Rattle.bac_values.specs.declared.value.Value.{Value}
+use Rattle.bac_values.specs.declared.value.Value.TheVariants.{Null, Bool as Truth, Unsigned, Signed, Text, Bits, Enumerated, Object, DateTime, Opaque}
+use Rattle.bac_values.specs.Identifier.{Identifier}
+use Rattle.object_table.specs.declared.change.Change.{Change}
+use Rattle.object_table.specs.declared.change.What.TheVariants.{Property, FieldFault}
+use Rattle.object_table.specs.declared.faults.WriteFault.{WriteFault}
+use Rattle.object_table.specs.declared.faults.WriteFault.TheVariants.{Error, NoMemory}
+use Rattle.object_table.specs.declared.object_property.ObjectProperty.{ObjectProperty}
+use Rattle.object_table.specs.declared.object_property.ObjectProperty.TheVariants.{PresentValue, OutOfService, ReliabilityEvaluationInhibit, TimeDelay, TimeDelayNormal, HighLimit, LowLimit, Deadband, LimitEnable, AlarmValue, EventEnable, EventAlgorithmInhibit}
+use Rattle.object_table.specs.declared.object_site.ObjectSite.{ObjectSite}
+use Rattle.object_table.specs.declared.row.Row.{Row}
+use Rattle.object_table.specs.Properties.{kind_in, property_of, has, length_of}
+use Rattle.object_table.specs.Values.{can_be, is_present_value, is_field_fault, is_text}
+use Rattle.object_table.specs.Rows.{row_of}
+
+-- the errors, by class and code
+abbrev pub unknown_object : WriteFault
+unknown_object = Error 1 31
+
+abbrev pub unknown_property : WriteFault
+unknown_property = Error 2 32
+
+abbrev pub property_is_not_an_array : WriteFault
+property_is_not_an_array = Error 2 50
+
+abbrev pub invalid_array_index : WriteFault
+invalid_array_index = Error 2 42
+
+abbrev pub write_access_denied : WriteFault
+write_access_denied = Error 2 40
+
+abbrev pub invalid_data_type : WriteFault
+invalid_data_type = Error 2 9
+
+abbrev pub character_set_not_supported : WriteFault
+character_set_not_supported = Error 2 41
+
+abbrev pub no_space_to_write_property : WriteFault
+no_space_to_write_property = Error 3 20
+
+abbrev pub value_out_of_range : WriteFault
+value_out_of_range = Error 2 37
+
+-- the number of a value's application tag; a date and a time begin with that of the date
+abbrev pub tag_of : Value → ℕ
+tag_of Null = 0
+tag_of (Truth truth) = 1
+tag_of (Unsigned number) = 2
+tag_of (Signed number) = 3
+tag_of (Text text) = 7
+tag_of (Bits string) = 8
+tag_of (Enumerated number) = 9
+tag_of (DateTime stamp) = 10
+tag_of (Object object) = 12
+tag_of (Opaque tag why) = tag
+
+-- the tag of a kind's present value
+abbrev pub value_tag : Option ObjectKind → Option ℕ
+value_tag (Some PositiveIntegerValue) = Some 2
+value_tag (Some MultiStateValue) = Some 2
+value_tag (Some IntegerValue) = Some 3
+value_tag (Some CharacterStringValue) = Some 7
+value_tag (Some BitStringValue) = Some 8
+value_tag (Some BinaryValue) = Some 9
+value_tag _ = None
+
+-- the tag of a property that may be written
+abbrev pub writable_tag : Option ObjectKind → ObjectProperty → Option ℕ
+writable_tag kind PresentValue = value_tag kind
+writable_tag kind OutOfService = Some 1
+writable_tag kind ReliabilityEvaluationInhibit = Some 1
+writable_tag kind TimeDelay = Some 2
+writable_tag kind TimeDelayNormal = Some 2
+writable_tag kind HighLimit = value_tag kind
+writable_tag kind LowLimit = value_tag kind
+writable_tag kind Deadband = Some 2
+writable_tag kind LimitEnable = Some 8
+writable_tag kind AlarmValue = Some 9
+writable_tag kind EventEnable = Some 8
+writable_tag kind EventAlgorithmInhibit = Some 1
+writable_tag kind _ = None
+
+-- the first error of two tests, one after the other
+abbrev pub and_then : {Fault : Type 0} → Result (Unit {0}) Fault → Result (Unit {0}) Fault → Result (Unit {0}) Fault
+and_then (Err fault) second = Err fault
+and_then (Ok passed) second = second
+
+-- an index is given for an array alone, and isn't above its length
+abbrev pub index_verdict : Option ℕ → Option ℕ → Result (Unit {0}) WriteFault
+index_verdict size None = Ok tt
+index_verdict None (Some index) = Err property_is_not_an_array
+index_verdict (Some size) (Some index) = if nat_lt size index then Err invalid_array_index else Ok tt
+
+-- a value of the right type: a text in another character set, one that is too long, and what the property can't be
+abbrev pub content_verdict : Bool → Value → Result (Unit {0}) WriteFault
+content_verdict possible (Opaque tag CharacterSet) = Err character_set_not_supported
+content_verdict possible (Opaque tag TooLong) = Err no_space_to_write_property
+content_verdict possible value = if possible then Ok tt else Err value_out_of_range
+
+-- a value for a property with a tag, or for one that can't be written
+abbrev pub value_verdict : Option ℕ → Bool → Value → Result (Unit {0}) WriteFault
+value_verdict None possible value = Err write_access_denied
+value_verdict (Some tag) possible value = if tag_of value == tag then content_verdict possible value else Err invalid_data_type
+
+-- a write of a property that value objects know
+abbrev pub property_verdict : Option ObjectKind → ObjectSite → ObjectProperty → Option ℕ → Value → Result (Unit {0}) WriteFault
+property_verdict kind site property index value =
+    if has kind site property
+    then and_then (index_verdict (length_of kind site property) index) (value_verdict (writable_tag kind property) (can_be kind site property value) value)
+    else Err unknown_property
+
+abbrev pub known_verdict : Option ObjectKind → ObjectSite → Option ObjectProperty → Option ℕ → Value → Result (Unit {0}) WriteFault
+known_verdict kind site (Some property) index value = property_verdict kind site property index value
+known_verdict kind site None index value = Err unknown_property
+
+-- a write of the property with a number
+abbrev pub write_verdict : ObjectSite → ℕ → Option ℕ → Value → Result (Unit {0}) WriteFault
+write_verdict site number index value = known_verdict (kind_in site) site (property_of number) index value
+
+abbrev pub set_range_verdict : Bool → Result (Unit {0}) SetFault
+set_range_verdict true = Ok tt
+set_range_verdict false = Err ValueRange
+
+-- a present value that comes from the field, for an object that isn't out of service: its type, then its range
+abbrev pub typed_verdict : Option ℕ → Bool → Value → Result (Unit {0}) SetFault
+typed_verdict None possible value = Err WrongKind
+typed_verdict (Some tag) possible value = if tag_of value == tag then set_range_verdict possible else Err WrongKind
+
+-- an object out of service doesn't follow the field
+abbrev pub set_verdict : Option ObjectKind → ObjectSite → Value → Result (Unit {0}) SetFault
+set_verdict kind site value =
+    if site.out_of_service then Err IsOutOfService
+    else typed_verdict (value_tag kind) (is_present_value kind site value) value
+
+-- the change, where the tests are passed
+abbrev pub allowed_change : {Fault : Type 0} → Result (Unit {0}) Fault → Change → Result Change Fault
+allowed_change (Ok passed) change = Ok change
+allowed_change (Err fault) change = Err fault
+
+abbrev pub property_change : Identifier → ℕ → Value → Change
+property_change object number value = record { object = object; what = Property (record { 0 = number }) value }
+
+abbrev pub fault_change : Identifier → ℕ → Change
+fault_change object number = record { object = object; what = FieldFault number }
+
+abbrev pub write_by_row : Option Row → Identifier → ℕ → Option ℕ → Value → Result Change WriteFault
+write_by_row (Some row) object number index value = allowed_change (write_verdict row.site number index value) (property_change object number value)
+write_by_row None object number index value = Err unknown_object
+
+-- the answer to a write: the change, or the first error that applies
+abbrev pub checked_write : List Row → Identifier → ℕ → Option ℕ → Value → Result Change WriteFault
+checked_write rows object number index value = write_by_row (row_of object rows) object number index value
+
+-- the answer is that one; but where a text is to be written and taken, there may be no memory for it
+abbrev pub AnswersWrite : Value → Result Change WriteFault → Result Change WriteFault → Type 0
+AnswersWrite value answer checked = (answer ≡ checked) ⊎ ((answer ≡ Err NoMemory) × IsOk checked × IsTrue (is_text value))
+
+abbrev pub set_by_row : Option Row → Identifier → Value → Result Change SetFault
+set_by_row (Some row) object value = allowed_change (set_verdict (kind_in row.site) row.site value) (property_change object 85 value)
+set_by_row None object value = Err UnknownObject
+
+-- the answer to a set of a present value
+abbrev pub checked_set : List Row → Identifier → Value → Result Change SetFault
+checked_set rows object value = set_by_row (row_of object rows) object value
+
+abbrev pub fault_by_row : Option Row → Identifier → ℕ → Result Change SetFault
+fault_by_row (Some row) object number = if is_field_fault number then Ok (fault_change object number) else Err ValueRange
+fault_by_row None object number = Err UnknownObject
+
+-- the answer to a field fault
+abbrev pub checked_fault : List Row → Identifier → ℕ → Result Change SetFault
+checked_fault rows object number = fault_by_row (row_of object rows) object number

@@ -1,0 +1,47 @@
+use std::alloc::AllocError;
+
+/// Why a write isn't taken.
+#[derive(Clone, Copy, Debug, PartialEq, Eq)]
+pub enum WriteFault {
+    /// The error that is answered (ANSI/ASHRAE 135-2020, clause 18).
+    Error {
+        /// The number of the error class.
+        class: u8,
+        /// The number of the error code.
+        code: u8,
+    },
+    /// Memory was refused.
+    NoMemory,
+}
+
+impl WriteFault {
+    /// There is no such object.
+    pub const UNKNOWN_OBJECT: WriteFault = WriteFault::Error { class: 1, code: 31 };
+    /// The object has no such property.
+    pub const UNKNOWN_PROPERTY: WriteFault = WriteFault::Error { class: 2, code: 32 };
+    /// An index is given for a property that is no array.
+    pub const PROPERTY_IS_NOT_AN_ARRAY: WriteFault = WriteFault::Error { class: 2, code: 50 };
+    /// The index is above the length of the array.
+    pub const INVALID_ARRAY_INDEX: WriteFault = WriteFault::Error { class: 2, code: 42 };
+    /// The property can't be written.
+    pub const WRITE_ACCESS_DENIED: WriteFault = WriteFault::Error { class: 2, code: 40 };
+    /// The value is of another type than the property.
+    pub const INVALID_DATA_TYPE: WriteFault = WriteFault::Error { class: 2, code: 9 };
+    /// The text is in a character set other than UTF-8.
+    pub const CHARACTER_SET_NOT_SUPPORTED: WriteFault = WriteFault::Error { class: 2, code: 41 };
+    /// The text has more than 256 octets.
+    pub const NO_SPACE_TO_WRITE_PROPERTY: WriteFault = WriteFault::Error { class: 3, code: 20 };
+    /// The value is of the property's type, and the property can't be it.
+    pub const VALUE_OUT_OF_RANGE: WriteFault = WriteFault::Error { class: 2, code: 37 };
+}
+
+impl From<AllocError> for WriteFault {
+    ghost use Rattle.std.specs.Prelude.{◌≡◌};
+    ghost use Rattle.object_table.specs.declared.faults.WriteFault.TheVariants.{NoMemory};
+
+    ghost from_gives = { λ _ fault. fault ≡ NoMemory };
+
+    fn from(_refused: AllocError) -> WriteFault {
+        WriteFault::NoMemory
+    }
+}

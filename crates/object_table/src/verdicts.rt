@@ -1,0 +1,148 @@
+ghost use Rattle.std.specs.Prelude.{◌≡◌, Ok, Err, if◌then◌else◌};
+ghost use Rattle.object_table.specs.Objects.{IsObject};
+ghost use Rattle.object_table.specs.Properties.{kind_in};
+ghost use Rattle.object_table.specs.Verdicts.{content_verdict, index_verdict, set_verdict, tag_of, value_out_of_range, value_tag, value_verdict, writable_tag, write_verdict};
+
+use crate::properties::{has, length_of};
+use crate::values::{can_be, is_present_value};
+use crate::{ObjectProperty, ObjectSite, WriteFault};
+use bac_values::{Foreign, ObjectKind, PropertyId, SetFault, Value};
+
+/// Whether an object takes a write of a property; the first error that applies is told.
+pub fn check_object(
+    site: &ObjectSite,
+    property: PropertyId,
+    index: Option<u32>,
+    value: &Value,
+) -> Result<(), WriteFault>
+    requires allowed { IsObject site.now }
+    ensures verdict { result ≡ write_verdict site.now property.0 index value.now }
+{
+    let kind = site.object.kind();
+    match ObjectProperty::of_number(property.0) {
+        Some(property) if has(kind, site, property) => {
+            check_index(length_of(kind, site, property), index)?;
+            let possible = can_be(kind, site, property, value);
+            check_value(writable_tag(kind, property), possible, value)
+        }
+        _ => Err(WriteFault::UNKNOWN_PROPERTY),
+    }
+}
+
+/// Whether an object takes a present value that comes from the field; the first cause against it is told.
+pub fn check_present_value(site: &ObjectSite, value: &Value) -> Result<(), SetFault>
+    ensures verdict { result ≡ set_verdict (kind_in site.now) site.now value.now }
+{
+    if site.out_of_service {
+        return Err(SetFault::OutOfService);
+    }
+    let kind = site.object.kind();
+    if value_tag(kind) != Some(tag_of(value)) {
+        return Err(SetFault::WrongKind);
+    }
+    if !is_present_value(kind, site, value) {
+        return Err(SetFault::ValueRange);
+    }
+    Ok(())
+}
+
+/// Whether an index may be given for a property that is an array of a length, or none.
+pub fn check_index(length: Option<u32>, index: Option<u32>) -> Result<(), WriteFault>
+    ensures verdict { result ≡ index_verdict length index }
+{
+    match (length, index) {
+        (_, None) => Ok(()),
+        (None, Some(_)) => Err(WriteFault::PROPERTY_IS_NOT_AN_ARRAY),
+        (Some(length), Some(index)) if length < index => Err(WriteFault::INVALID_ARRAY_INDEX),
+        (Some(_), Some(_)) => Ok(()),
+    }
+}
+
+/// Whether a property takes a value, by the number of its type's application tag, which is none where it can't be
+/// written, and by whether it can be the value.
+pub fn check_value(tag: Option<u8>, possible: bool, value: &Value) -> Result<(), WriteFault>
+    ensures verdict { result ≡ value_verdict tag possible value.now }
+{
+    let Some(tag) = tag else {
+        return Err(WriteFault::WRITE_ACCESS_DENIED);
+    };
+    if tag_of(value) != tag {
+        return Err(WriteFault::INVALID_DATA_TYPE);
+    }
+    check_content(possible, value)
+}
+
+fn check_content(possible: bool, value: &Value) -> Result<(), WriteFault>
+    ensures verdict { result ≡ content_verdict possible value.now }
+{
+    match value {
+        Value::Opaque { why, .. } => match why {
+            Foreign::CharacterSet => Err(WriteFault::CHARACTER_SET_NOT_SUPPORTED),
+            Foreign::TooLong => Err(WriteFault::NO_SPACE_TO_WRITE_PROPERTY),
+            _ => in_range(possible),
+        },
+        _ => in_range(possible),
+    }
+}
+
+fn in_range(possible: bool) -> Result<(), WriteFault>
+    ensures verdict { result ≡ (if possible then Ok tt else Err value_out_of_range) }
+{
+    if possible {
+        Ok(())
+    } else {
+        Err(WriteFault::VALUE_OUT_OF_RANGE)
+    }
+}
+
+/// The number of the application tag of a value.
+fn tag_of(value: &Value) -> u8
+    ensures tag { result ≡ tag_of value.now }
+{
+    match value {
+        Value::Null => 0,
+        Value::Bool(_) => 1,
+        Value::Unsigned(_) => 2,
+        Value::Signed(_) => 3,
+        Value::Text(_) => 7,
+        Value::Bits(_) => 8,
+        Value::Enumerated(_) => 9,
+        Value::DateTime(_) => 10,
+        Value::Object(_) => 12,
+        Value::Opaque { tag, .. } => *tag,
+    }
+}
+
+/// The number of the application tag of a kind's present value.
+fn value_tag(kind: Option<ObjectKind>) -> Option<u8>
+    ensures tag { result ≡ value_tag kind }
+{
+    match kind? {
+        ObjectKind::PositiveIntegerValue | ObjectKind::MultiStateValue => Some(2),
+        ObjectKind::IntegerValue => Some(3),
+        ObjectKind::CharacterStringValue => Some(7),
+        ObjectKind::BitStringValue => Some(8),
+        ObjectKind::BinaryValue => Some(9),
+        _ => None,
+    }
+}
+
+/// The number of the application tag of a property that may be written.
+fn writable_tag(kind: Option<ObjectKind>, property: ObjectProperty) -> Option<u8>
+    ensures tag { result ≡ writable_tag kind property }
+{
+    match property {
+        ObjectProperty::PresentValue | ObjectProperty::HighLimit | ObjectProperty::LowLimit => {
+            value_tag(kind)
+        }
+        ObjectProperty::OutOfService
+        | ObjectProperty::ReliabilityEvaluationInhibit
+        | ObjectProperty::EventAlgorithmInhibit => Some(1),
+        ObjectProperty::TimeDelay | ObjectProperty::TimeDelayNormal | ObjectProperty::Deadband => {
+            Some(2)
+        }
+        ObjectProperty::LimitEnable | ObjectProperty::EventEnable => Some(8),
+        ObjectProperty::AlarmValue => Some(9),
+        _ => None,
+    }
+}

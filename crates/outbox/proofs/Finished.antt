@@ -1,0 +1,157 @@
+-- The notes of one recipient are finished in their order.
+use Rattle.std.proofs.Common.{◌≡◌, ℕ, ◌+◌, ◌-◌, ◌%◌, ◌<◌, ◌≤◌, Bool, true, false, not, nat_lt, nat_le, ◌&&◌, ◌==◌, List, [], ◌∷◌, length, drop, get_or, refl, sym, ◌∙◌, ap, inl, inr, arith, rules}
+use Rattle.std.specs.List.{position_or_len, count_by}
+use Rattle.std.proofs.lemmas.Bool.{ltb-true, ltb-false, eqb-true, cases_lt}
+use Rattle.std.proofs.lemmas.List.{length-drop, get_or-drop, take-append-le}
+use Rattle.std.proofs.lemmas.List.Sums.{fails_before_first, prefix_len-le-length}
+use Rattle.bac_values.specs.declared.note.Note.{Note}
+use Rattle.outbox.specs.Delivery.{Operation, NoteQueued, PumpedAt, AnswerCame, Timing, Delivery, is_confirmed, invoke_id, next_confirmed, is_awaited, is_repeated, sent_from, pumped_at, answered_with, delivery_after}
+use Rattle.outbox.specs.Finishing.{IsConfirmedAt, IsFinishedBy, FinishesInOrder}
+use Rattle.outbox.proofs.Laws.{delivery_is}
+
+le-true : (a b : ℕ) → nat_le a b ≡ true → a ≤ b
+le-true a b e = search (rules, e)
+
+le-false : (a b : ℕ) → nat_le a b ≡ false → b < a
+le-false a b e = search (rules, e)
+
+-- how often a note is sent
+sent_few : (timing : Timing) (moment place : ℕ) (d : Delivery) → (sent_from timing moment place d).attempts ≤ 1 + timing.retries
+sent_few timing moment place d = by_test (nat_lt (next_confirmed d.all place) (length d.all)) refl
+  where
+    by_test : (b : Bool) → nat_lt (next_confirmed d.all place) (length d.all) ≡ b → (sent_from timing moment place d).attempts ≤ 1 + timing.retries
+    by_test true e = rw e (omega arith)
+    by_test false e = rw e (omega arith)
+
+pumped_few : (timing : Timing) (moment : ℕ) (d : Delivery) → d.attempts ≤ 1 + timing.retries → (pumped_at timing moment d).attempts ≤ 1 + timing.retries
+pumped_few timing moment d few = by_test (is_awaited moment d.attempts d.deadline) (nat_lt 0 d.attempts) (nat_le d.attempts timing.retries) refl refl refl
+  where
+    by_test : (a b c : Bool) → is_awaited moment d.attempts d.deadline ≡ a → nat_lt 0 d.attempts ≡ b → nat_le d.attempts timing.retries ≡ c → (pumped_at timing moment d).attempts ≤ 1 + timing.retries
+    by_test true b c e f g = rw e few
+    by_test false true true e f g = let most = le-true d.attempts timing.retries g in rw (e, f, g) (omega (arith, most))
+    by_test false true false e f g = rw (e, f, g) (sent_few timing moment (d.finished + 1) d)
+    by_test false false c e f g = rw (e, f) (sent_few timing moment d.finished d)
+
+answered_few : (retries invoke : ℕ) (d : Delivery) → d.attempts ≤ 1 + retries → (answered_with invoke d).attempts ≤ 1 + retries
+answered_few retries invoke d few = by_test (nat_lt 0 d.attempts && invoke == invoke_id d.all d.finished) refl
+  where
+    by_test : (b : Bool) → (nat_lt 0 d.attempts && invoke == invoke_id d.all d.finished) ≡ b → (answered_with invoke d).attempts ≤ 1 + retries
+    by_test true e = rw e (omega arith)
+    by_test false e = rw e few
+
+pub few_after : (timing : Timing) (older : List Operation) → (delivery_after timing older).attempts ≤ 1 + timing.retries
+unfolding delivery_after
+few_after timing [] = omega arith
+few_after timing (NoteQueued note ∷ older) = few_after timing older
+few_after timing (PumpedAt moment ∷ older) = pumped_few timing moment (delivery_after timing older) (few_after timing older)
+few_after timing (AnswerCame invoke ∷ older) = answered_few timing.retries invoke (delivery_after timing older) (few_after timing older)
+
+-- those before the first that is to be confirmed
+unconfirmed_between : (all : List Note) (from place : ℕ) → from ≤ place → place < next_confirmed all from → IsConfirmedAt all place false
+unconfirmed_between all from place above below =
+    let size = length-drop from all in
+    let most = prefix_len-le-length (λ (n : Note). not (is_confirmed n)) (drop from all) in
+    let k = place - from in
+    let within : k < position_or_len is_confirmed (drop from all) = omega (arith, above, below) in
+    let at : from + k ≡ place = omega (arith, above) in
+    (omega (arith, size, most, within, at), λ d. ap (λ n. is_confirmed (get_or all n d)) (sym at) ∙ ap is_confirmed (sym (get_or-drop from all k d)) ∙ fails_before_first is_confirmed (drop from all) k d within)
+
+-- a pump
+module _ (timing : Timing) (moment : ℕ) (d : Delivery) (few : d.attempts ≤ 1 + timing.retries) where
+  pumped_order : d.finished ≤ (pumped_at timing moment d).finished
+  pumped_order = by_test (is_awaited moment d.attempts d.deadline) (nat_lt 0 d.attempts) (nat_le d.attempts timing.retries) refl refl refl
+    where
+      by_test : (a b c : Bool) → is_awaited moment d.attempts d.deadline ≡ a → nat_lt 0 d.attempts ≡ b → nat_le d.attempts timing.retries ≡ c → d.finished ≤ (pumped_at timing moment d).finished
+      by_test true b c e f g = rw e (omega arith)
+      by_test false true true e f g = rw (e, f, g) (omega arith)
+      by_test false true false e f g = rw (e, f, g) (omega arith)
+      by_test false false c e f g = rw (e, f) (omega arith)
+
+  same_none : {P : Type 0} (place : ℕ) → d.finished ≤ place → place < d.finished → P
+  same_none place above below = absurd (omega (arith, above, below))
+
+  pumped_cause : (place : ℕ) → d.finished ≤ place → place < (pumped_at timing moment d).finished → IsFinishedBy timing d place (PumpedAt moment)
+  pumped_cause place above below = by_test (nat_lt 0 d.attempts) (nat_lt moment d.deadline) (nat_le d.attempts timing.retries) refl refl refl
+    where
+      by_test : (a b c : Bool) → nat_lt 0 d.attempts ≡ a → nat_lt moment d.deadline ≡ b → nat_le d.attempts timing.retries ≡ c → IsFinishedBy timing d place (PumpedAt moment)
+      by_test true true c e f g = same_none place above (rw (e, f) at below)
+      by_test true false true e f g = same_none place above (rw (e, f, g) at below)
+      by_test true false false e f g =
+          let sent : 0 < d.attempts = ltb-true 0 d.attempts e in
+          let late : d.deadline ≤ moment = ltb-false moment d.deadline f in
+          let many = le-false d.attempts timing.retries g in
+          let last : d.attempts ≡ 1 + timing.retries = omega (arith, many, few) in
+          let under : place < next_confirmed d.all (d.finished + 1) = rw (e, f, g) at below in
+          elim (cases_lt place (d.finished + 1)) [
+            | inl first ↦ inl ((omega (arith, above, first), sent), (last, late))
+            | inr behind ↦ inr (rw e (behind), unconfirmed_between d.all (d.finished + 1) place behind under)
+          ]
+      by_test false b c e f g =
+          let under : place < next_confirmed d.all d.finished = rw e at below in
+          inr (rw e above, unconfirmed_between d.all d.finished place above under)
+
+-- an answer
+module _ (timing : Timing) (invoke : ℕ) (d : Delivery) where
+  answered_order : d.finished ≤ (answered_with invoke d).finished
+  answered_order = by_test (nat_lt 0 d.attempts && invoke == invoke_id d.all d.finished) refl
+    where
+      by_test : (b : Bool) → (nat_lt 0 d.attempts && invoke == invoke_id d.all d.finished) ≡ b → d.finished ≤ (answered_with invoke d).finished
+      by_test true e = rw e (omega arith)
+      by_test false e = rw e (omega arith)
+
+  answered_cause : (place : ℕ) → d.finished ≤ place → place < (answered_with invoke d).finished → IsFinishedBy timing d place (AnswerCame invoke)
+  answered_cause place above below = by_test (nat_lt 0 d.attempts) (invoke == invoke_id d.all d.finished) refl refl
+    where
+      by_test : (a b : Bool) → nat_lt 0 d.attempts ≡ a → (invoke == invoke_id d.all d.finished) ≡ b → IsFinishedBy timing d place (AnswerCame invoke)
+      by_test true true e f =
+          let under : place < d.finished + 1 = rw (e, f) at below in
+          let here : place ≡ d.finished = omega (arith, above, under) in
+          ((here, ltb-true 0 d.attempts e), eqb-true invoke (invoke_id d.all d.finished) f ∙ ap (invoke_id d.all) (sym here))
+      by_test true false e f = let under : place < d.finished = rw (e, f) at below in absurd (omega (arith, above, under))
+      by_test false b e f = let under : place < d.finished = rw e at below in absurd (omega (arith, above, under))
+
+order_after : (timing : Timing) (older : List Operation) (operation : Operation) → (delivery_after timing older).finished ≤ (delivery_after timing (operation ∷ older)).finished
+unfolding delivery_after
+order_after timing older (NoteQueued note) = omega arith
+order_after timing older (PumpedAt moment) = pumped_order timing moment (delivery_after timing older) (few_after timing older)
+order_after timing older (AnswerCame invoke) = answered_order timing invoke (delivery_after timing older)
+
+cause_after : (timing : Timing) (older : List Operation) (operation : Operation) (place : ℕ) → (delivery_after timing older).finished ≤ place → place < (delivery_after timing (operation ∷ older)).finished → IsFinishedBy timing (delivery_after timing older) place operation
+unfolding delivery_after
+cause_after timing older (NoteQueued note) place above below = absurd (omega (arith, above, below))
+cause_after timing older (PumpedAt moment) place above below = pumped_cause timing moment (delivery_after timing older) (few_after timing older) place above below
+cause_after timing older (AnswerCame invoke) place above below = answered_cause timing invoke (delivery_after timing older) place above below
+
+-- only what is queued changes the list of notes, and only at its end
+pumped_all : (timing : Timing) (moment : ℕ) (d : Delivery) → (pumped_at timing moment d).all ≡ d.all
+pumped_all timing moment d = by_test (is_awaited moment d.attempts d.deadline) (is_repeated timing.retries d.attempts) refl refl
+  where
+    by_test : (a b : Bool) → is_awaited moment d.attempts d.deadline ≡ a → is_repeated timing.retries d.attempts ≡ b → (pumped_at timing moment d).all ≡ d.all
+    by_test true b e f = rw e refl
+    by_test false true e f = rw (e, f) refl
+    by_test false false e f = rw (e, f) refl
+
+answered_all : (invoke : ℕ) (d : Delivery) → (answered_with invoke d).all ≡ d.all
+answered_all invoke d = by_test (nat_lt 0 d.attempts && invoke == invoke_id d.all d.finished) refl
+  where
+    by_test : (b : Bool) → (nat_lt 0 d.attempts && invoke == invoke_id d.all d.finished) ≡ b → (answered_with invoke d).all ≡ d.all
+    by_test true e = rw e refl
+    by_test false e = rw e refl
+
+one_number_after : (timing : Timing) (older : List Operation) (operation : Operation) (place : ℕ) → place ≤ (delivery_after timing older).finished →
+    invoke_id (delivery_after timing (operation ∷ older)).all place ≡ invoke_id (delivery_after timing older).all place
+unfolding delivery_after
+one_number_after timing older (NoteQueued note) place before =
+    let within = (delivery_is timing older).within in
+    ap (λ ns. count_by is_confirmed ns % 256) (take-append-le place (delivery_after timing older).all (note ∷ []) (omega (arith, within, before)))
+one_number_after timing older (PumpedAt moment) place before = ap (λ ns. invoke_id ns place) (pumped_all timing moment (delivery_after timing older))
+one_number_after timing older (AnswerCame invoke) place before = ap (λ ns. invoke_id ns place) (answered_all invoke (delivery_after timing older))
+
+pub finishes_in_order : FinishesInOrder
+finishes_in_order = record {
+  order = order_after;
+  cause = cause_after;
+  in_flight = λ timing older sent. (delivery_is timing older).in_flight sent;
+  few = few_after;
+  one_number = one_number_after;
+}

@@ -1,0 +1,174 @@
+-- What is so of every outbox stays so.
+use Rattle.std.proofs.Common.{◌≡◌, ℕ, suc, ◌+◌, ◌<◌, ◌≤◌, Bool, true, false, true≢false, nat_lt, nat_le, ◌||◌, IsTrue, List, [], ◌∷◌, length, drop, map, refl, sym, ◌∙◌, subst, inl, inr, arith, rules}
+use Rattle.std.specs.List.{list_any, position_or_len, All, slice_get}
+use Rattle.std.specs.Option.{IsSomeAnd}
+use Rattle.std.proofs.lemmas.Bool.{ltb-true, cases_Bool}
+use Rattle.std.proofs.lemmas.List.{length-drop}
+use Rattle.std.proofs.lemmas.List.Elements.{All-map, All-weaker, All-drop}
+use Rattle.std.proofs.lemmas.List.Sums.{sum_by-cons}
+use Rattle.bac_values.specs.Address.{Address}
+use Rattle.bac_values.specs.declared.note.Note.{Note}
+use Rattle.outbox.specs.Peers.{is_same, IsAscending}
+use Rattle.outbox.specs.Delivery.{Timing, is_confirmed, is_awaited, is_repeated}
+use Rattle.outbox.specs.Posts.{PostState, IsPost, without_first, unsent, post_sent, post_pumped, post_answered, is_in_flight, most_octets}
+use Rattle.outbox.specs.Outboxes.{OutboxState, IsOutbox, timing_of, unfinished_in, pumped, answered, answered_by, is_flight_to}
+use Rattle.outbox.proofs.Standing.{peers_stay, pumped_peer, answered_peer}
+
+-- the first note behind the unconfirmed ones is to be confirmed
+first_confirmed : (notes : List Note) → position_or_len is_confirmed notes < length notes → IsSomeAnd (slice_get (drop (position_or_len is_confirmed notes) notes) 0) (λ (note : Note). IsTrue note.confirmed)
+first_confirmed [] h = absurd (omega (arith, h))
+first_confirmed (note ∷ notes) h = elim (cases_Bool (is_confirmed note)) [
+  | inl e ↦ rw e refl
+  | inr e ↦
+      let next : 1 + position_or_len is_confirmed notes ≡ suc (position_or_len is_confirmed notes) = omega arith in
+      let later : 1 + position_or_len is_confirmed notes < suc (length notes) = rw e at h in
+      rw (e, next) (first_confirmed notes (omega arith))
+]
+
+without_first_keeps : (retries : ℕ) (post : PostState) → IsPost retries post → IsPost retries (without_first post)
+without_first_keeps retries post is = record {
+  attempts = omega arith;
+  in_flight = λ h. absurd (omega (arith, h));
+  resting = λ h. refl;
+  short = All-drop (λ (note : Note). length note.body ≤ most_octets) 1 post.notes is.short;
+  own = All-drop (λ (note : Note). note.peer ≡ post.peer) 1 post.notes is.own;
+}
+
+unsent_keeps : (retries : ℕ) (post : PostState) → IsPost retries post → IsPost retries (unsent post)
+unsent_keeps retries post is = by_test (nat_lt 0 post.attempts) refl
+  where
+    by_test : (b : Bool) → nat_lt 0 post.attempts ≡ b → IsPost retries (unsent post)
+    by_test true e = rw e (without_first_keeps retries post is)
+    by_test false e = rw e is
+
+post_sent_keeps : (timing : Timing) (moment : ℕ) (post : PostState) → IsPost timing.retries post → IsPost timing.retries (post_sent timing moment post)
+post_sent_keeps timing moment post is = by_test (nat_lt count (length post.notes)) refl
+  where
+    count : ℕ
+    count = position_or_len is_confirmed post.notes
+
+    by_test : (b : Bool) → nat_lt (position_or_len is_confirmed post.notes) (length post.notes) ≡ b → IsPost timing.retries (post_sent timing moment post)
+    by_test true e = record {
+      attempts = rw e (omega arith);
+      in_flight = λ h. first_confirmed post.notes (ltb-true _ _ e);
+      resting = rw e (λ h. absurd (omega (arith, h)));
+      short = All-drop (λ (note : Note). length note.body ≤ most_octets) (position_or_len is_confirmed post.notes) post.notes is.short;
+      own = All-drop (λ (note : Note). note.peer ≡ post.peer) (position_or_len is_confirmed post.notes) post.notes is.own;
+    }
+    by_test false e = record {
+      attempts = rw e (omega arith);
+      in_flight = rw e (λ h. absurd (omega (arith, h)));
+      resting = rw e (λ h. refl);
+      short = All-drop (λ (note : Note). length note.body ≤ most_octets) (position_or_len is_confirmed post.notes) post.notes is.short;
+      own = All-drop (λ (note : Note). note.peer ≡ post.peer) (position_or_len is_confirmed post.notes) post.notes is.own;
+    }
+
+le-true : (a b : ℕ) → nat_le a b ≡ true → a ≤ b
+le-true a b e = search (rules, e)
+
+post_pumped_keeps : (timing : Timing) (moment : ℕ) (post : PostState) → IsPost timing.retries post → IsPost timing.retries (post_pumped timing moment post)
+post_pumped_keeps timing moment post is = by_test (is_awaited moment post.attempts post.deadline) (nat_lt 0 post.attempts) (nat_le post.attempts timing.retries) refl refl refl
+  where
+    by_test : (a b c : Bool) → is_awaited moment post.attempts post.deadline ≡ a → nat_lt 0 post.attempts ≡ b → nat_le post.attempts timing.retries ≡ c → IsPost timing.retries (post_pumped timing moment post)
+    by_test true b c e f g = rw e is
+    by_test false true true e f g =
+        let most = le-true post.attempts timing.retries g in
+        rw (e, f, g) (record {
+          attempts = omega arith;
+          in_flight = λ h. is.in_flight (ltb-true 0 post.attempts f);
+          resting = λ h. absurd (omega (arith, h));
+          short = is.short;
+          own = is.own;
+        })
+    by_test false true false e f g = rw (e, f, g) (post_sent_keeps timing moment (without_first post) (without_first_keeps timing.retries post is))
+    by_test false false c e f g = rw (e, f) (post_sent_keeps timing moment post is)
+
+post_answered_keeps : (retries invoke : ℕ) (post : PostState) → IsPost retries post → IsPost retries (post_answered invoke post)
+post_answered_keeps retries invoke post is = by_test (is_in_flight invoke post) refl
+  where
+    by_test : (b : Bool) → is_in_flight invoke post ≡ b → IsPost retries (post_answered invoke post)
+    by_test true e = rw e (without_first_keeps retries post is)
+    by_test false e = rw e is
+
+-- fewer notes in each post are fewer in all
+module _ (change : PostState → PostState) (fewer : (post : PostState) → length (change post).notes ≤ length post.notes) where
+  pub fewer_in_all : (posts : List PostState) → unfinished_in (map change posts) ≤ unfinished_in posts
+  fewer_in_all [] = omega arith
+  fewer_in_all (post ∷ posts) =
+      let left = sum_by-cons (λ (p : PostState). length p.notes) (change post) (map change posts) in
+      let right = sum_by-cons (λ (p : PostState). length p.notes) post posts in
+      omega (arith, left, right, fewer post, fewer_in_all posts)
+
+pub pumped_fewer : (timing : Timing) (moment : ℕ) (post : PostState) → length (post_pumped timing moment post).notes ≤ length post.notes
+pumped_fewer timing moment post = by_test (is_awaited moment post.attempts post.deadline) (is_repeated timing.retries post.attempts) (nat_lt 0 post.attempts) refl refl refl
+  where
+    by_test : (a b c : Bool) → is_awaited moment post.attempts post.deadline ≡ a → is_repeated timing.retries post.attempts ≡ b → nat_lt 0 post.attempts ≡ c → length (post_pumped timing moment post).notes ≤ length post.notes
+    by_test true b c e f g = rw e (omega arith)
+    by_test false true c e f g = rw (e, f) (omega arith)
+    by_test false false true e f g = rw (e, f, g) (omega (arith, length-drop (position_or_len is_confirmed (drop 1 post.notes)) (drop 1 post.notes), length-drop 1 post.notes))
+    by_test false false false e f g = rw (e, f, g) (omega (arith, length-drop (position_or_len is_confirmed post.notes) post.notes))
+
+pub pump_keeps : (moment : ℕ) (outbox : OutboxState) → IsOutbox outbox → IsOutbox (pumped moment outbox)
+pump_keeps moment outbox is =
+    let timing = timing_of outbox in
+    let change : PostState → PostState = post_pumped (timing_of outbox) moment in
+    let less = fewer_in_all change (pumped_fewer (timing_of outbox) moment) outbox.posts in
+    record {
+      settings = is.settings;
+      ascending = subst IsAscending (sym (peers_stay change (pumped_peer (timing_of outbox) moment) outbox.posts)) is.ascending;
+      posts = All-map (IsPost outbox.retries) change outbox.posts (All-weaker (IsPost outbox.retries) (λ post. IsPost outbox.retries (change post)) (post_pumped_keeps (timing_of outbox) moment) outbox.posts is.posts);
+      room = omega (arith, less, is.room);
+    }
+
+answered_by_keeps : (retries : ℕ) (from : Address) (invoke : ℕ) (post : PostState) → IsPost retries post → IsPost retries (answered_by from invoke post)
+answered_by_keeps retries from invoke post is = by_test (is_same post.peer from) refl
+  where
+    by_test : (b : Bool) → is_same post.peer from ≡ b → IsPost retries (answered_by from invoke post)
+    by_test true e = rw e (post_answered_keeps retries invoke post is)
+    by_test false e = rw e is
+
+pub answered_fewer : (from : Address) (invoke : ℕ) (post : PostState) → length (answered_by from invoke post).notes ≤ length post.notes
+answered_fewer from invoke post = by_test (is_same post.peer from) (is_in_flight invoke post) refl refl
+  where
+    by_test : (b c : Bool) → is_same post.peer from ≡ b → is_in_flight invoke post ≡ c → length (answered_by from invoke post).notes ≤ length post.notes
+    by_test true true e f = rw (e, f) (omega (arith, length-drop 1 post.notes))
+    by_test true false e f = rw (e, f) (omega arith)
+    by_test false c e f = rw e (omega arith)
+
+pub answer_keeps : (from : Address) (invoke : ℕ) (outbox : OutboxState) → IsOutbox outbox → IsOutbox (answered from invoke outbox)
+answer_keeps from invoke outbox is =
+    let change : PostState → PostState = answered_by from invoke in
+    let less = fewer_in_all change (answered_fewer from invoke) outbox.posts in
+    record {
+      settings = is.settings;
+      ascending = subst IsAscending (sym (peers_stay change (answered_peer from invoke) outbox.posts)) is.ascending;
+      posts = All-map (IsPost outbox.retries) change outbox.posts (All-weaker (IsPost outbox.retries) (λ post. IsPost outbox.retries (change post)) (answered_by_keeps outbox.retries from invoke) outbox.posts is.posts);
+      room = omega (arith, less, is.room);
+    }
+
+-- a note in flight is there
+pub filled_by : (retries : ℕ) (post : PostState) → IsPost retries post → 0 < post.attempts → 0 < length post.notes
+filled_by retries post is sent = by_notes post.notes (is.in_flight sent)
+  where
+    by_notes : (notes : List Note) → IsSomeAnd (slice_get notes 0) (λ (note : Note). IsTrue note.confirmed) → 0 < length notes
+    by_notes [] h = absurd h
+    by_notes (note ∷ notes) h = omega arith
+
+pub all_filled : (outbox : OutboxState) → IsOutbox outbox → All (λ (post : PostState). 0 < post.attempts → 0 < length post.notes) outbox.posts
+all_filled outbox is = All-weaker (IsPost outbox.retries) (λ (post : PostState). 0 < post.attempts → 0 < length post.notes) (filled_by outbox.retries) outbox.posts is.posts
+
+-- where no note of the peer is in flight with the invoke ID, an answer changes nothing
+pub stray_same : (from : Address) (invoke : ℕ) (posts : List PostState) → false ≡ list_any (is_flight_to from invoke) posts → map (answered_by from invoke) posts ≡ posts
+stray_same from invoke [] none = refl
+stray_same from invoke (post ∷ posts) none =
+    let apart = neither (is_flight_to from invoke post) (list_any (is_flight_to from invoke) posts) (sym none) in
+    λ k. stays (is_same post.peer from) (is_in_flight invoke post) refl refl apart.0 k ∷ stray_same from invoke posts (sym apart.1) k
+  where
+    neither : (a b : Bool) → (a || b) ≡ false → (a ≡ false) × (b ≡ false)
+    neither true b e = absurd (true≢false e)
+    neither false b e = (refl, e)
+
+    stays : (a b : Bool) → is_same post.peer from ≡ a → is_in_flight invoke post ≡ b → is_flight_to from invoke post ≡ false → answered_by from invoke post ≡ post
+    stays true true e f g = absurd (true≢false (sym (rw (e, f) refl) ∙ g))
+    stays true false e f g = rw (e, f) refl
+    stays false b e f g = rw e refl

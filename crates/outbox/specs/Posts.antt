@@ -1,0 +1,101 @@
+-- What is kept of one recipient: what is not finished.
+use Rattle.std.specs.Prelude.{◌≡◌, ℕ, ◌+◌, ◌%◌, ◌<◌, ◌≤◌, Bool, ◌&&◌, ◌||◌, IsTrue, IsSomeAnd, nat_lt, ◌==◌, List, [], ◌∷◌, ◌++◌, length, take, drop, map, slice_get, All, if◌then◌else◌}
+use Rattle.std.specs.List.{position_or_len}
+use Rattle.bac_values.specs.Address.{Address}
+use Rattle.bac_values.specs.declared.note.Note.{Note}
+use Rattle.bac_values.specs.declared.note.Send.{Send}
+use Rattle.outbox.specs.Notifying.{datagram_of}
+use Rattle.outbox.specs.Delivery.{Operation, Timing, Delivery, delivery_after, invoke_id, is_confirmed, is_awaited, is_repeated}
+
+-- the recipient, the invoke ID of its next confirmed note, how often its first note was sent, until when an answer to that
+-- is awaited, and its notes that are not finished
+pub record PostState : Type 0 where
+  pub peer : Address
+  pub next_invoke : ℕ
+  pub attempts : ℕ
+  pub deadline : ℕ
+  pub notes : List Note
+
+-- what is kept of a delivery
+abbrev pub post_of : Address → Delivery → PostState
+post_of peer delivery = record {
+  peer = peer;
+  next_invoke = invoke_id delivery.all delivery.finished;
+  attempts = delivery.attempts;
+  deadline = delivery.deadline;
+  notes = drop delivery.finished delivery.all;
+}
+
+-- what is kept of a recipient after some operations
+abbrev pub post_after : Timing → Address → List Operation → PostState
+post_after timing peer operations = post_of peer (delivery_after timing operations)
+
+-- the longest parameters of an event notification, in octets
+abbrev pub most_octets : ℕ
+most_octets = 1_024
+
+-- what is so of every post: at most one more transmission than there are retries, a note in flight is to be confirmed, no
+-- deadline where none is, and short notes for this recipient
+pub record IsPost (retries : ℕ) (post : PostState) : Type 0 where
+  pub attempts : post.attempts ≤ 1 + retries
+  pub in_flight : 0 < post.attempts → IsSomeAnd (slice_get post.notes 0) (λ (note : Note). IsTrue note.confirmed)
+  pub resting : post.attempts ≡ 0 → post.deadline ≡ 0
+  pub short : All (λ (note : Note). length note.body ≤ most_octets) post.notes
+  pub own : All (λ (note : Note). note.peer ≡ post.peer) post.notes
+
+abbrev pub empty_post : Address → PostState
+empty_post peer = record { peer = peer; next_invoke = 0; attempts = 0; deadline = 0; notes = [] }
+
+-- with one more note, behind the others
+abbrev pub with_note : Note → PostState → PostState
+with_note note post = record post { notes = post.notes ++ note ∷ [] }
+
+-- without the note in flight, which is finished
+abbrev pub without_first : PostState → PostState
+without_first post = record post { next_invoke = (post.next_invoke + 1) % 256; attempts = 0; deadline = 0; notes = drop 1 post.notes }
+
+-- whether a note with this invoke ID is in flight
+abbrev pub is_in_flight : ℕ → PostState → Bool
+is_in_flight invoke post = nat_lt 0 post.attempts && invoke == post.next_invoke
+
+abbrev pub post_answered : ℕ → PostState → PostState
+post_answered invoke post = if is_in_flight invoke post then without_first post else post
+
+-- without a note in flight whose last deadline has come
+abbrev pub unsent : PostState → PostState
+unsent post = if nat_lt 0 post.attempts then without_first post else post
+
+-- with the notes sent that were never sent, up to and with the first that is to be confirmed
+abbrev pub post_sent : Timing → ℕ → PostState → PostState
+post_sent timing moment post =
+    let count = position_or_len is_confirmed post.notes in
+    record {
+      peer = post.peer;
+      next_invoke = post.next_invoke;
+      attempts = if nat_lt count (length post.notes) then 1 else 0;
+      deadline = if nat_lt count (length post.notes) then moment + timing.timeout else 0;
+      notes = drop count post.notes;
+    }
+
+-- after a pump
+abbrev pub post_pumped : Timing → ℕ → PostState → PostState
+post_pumped timing moment post =
+    if is_awaited moment post.attempts post.deadline then post
+    else (if is_repeated timing.retries post.attempts then
+    record post { attempts = post.attempts + 1; deadline = moment + timing.timeout }
+    else post_sent timing moment (unsent post))
+
+abbrev pub first_datagrams : ℕ → PostState → List Send
+first_datagrams count post = map (datagram_of post.peer post.next_invoke) (take count post.notes)
+
+-- what a pump sends
+abbrev pub post_sends : Timing → ℕ → PostState → List Send
+post_sends timing moment post =
+    if is_awaited moment post.attempts post.deadline then []
+    else (if is_repeated timing.retries post.attempts then first_datagrams 1 post
+    else first_datagrams (position_or_len is_confirmed (unsent post).notes + 1) (unsent post))
+
+-- whether there is nothing to send and nothing to finish
+abbrev pub is_post_idle : ℕ → PostState → Bool
+is_post_idle moment post =
+    is_awaited moment post.attempts post.deadline || (post.attempts == 0 && length post.notes == 0)
