@@ -1,0 +1,12 @@
+pub mod StampReaders
+pub mod AckSteps
+pub mod AckLaws
+pub mod InformationLaws
+pub mod SummaryLengths
+pub mod TextForms
+pub mod NoteChain
+pub mod NoteReaders
+pub mod ToldReaders
+pub mod NoteLaws
+pub mod NoteAgain
+pub mod NoteWritten

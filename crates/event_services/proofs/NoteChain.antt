@@ -1,0 +1,80 @@
+-- The parts of a notification that are read one after the other are the whole of it.
+use Rattle.std.proofs.Common.{◌≡◌, ℕ, Bool, Option, List, Result, Ok, Err, refl, sym, ap, subst, ◌∙◌, inl, inr}
+use Rattle.std.specs.Prelude.{◌⊎◌, IfOk}
+use Rattle.bac_values.specs.Identifier.{Identifier}
+use Rattle.bac_values.specs.declared.event_state.EventState.{EventState}
+use Rattle.bac_values.specs.declared.stamp.Stamp.{Stamp}
+use Rattle.service_parameters.specs.declared.malformed.Malformed.{Malformed}
+use Rattle.service_parameters.specs.Reading.{◌>>=◌, optional, nothing_follows}
+use Rattle.event_services.specs.declared.notification.Notification.{Notification}
+use Rattle.event_services.specs.declared.notification.EventValues.{EventValues}
+use Rattle.event_services.specs.declared.read_note.NoteFault.{NoteFault}
+use Rattle.event_services.specs.NoteReading.{text_at, values_at}
+use Rattle.event_services.specs.NoteService.{source_at, kind_at, states_at, notification_of, fault_of, as_note, GivesNote}
+
+abbrev pub Source : Type 0
+Source = (ℕ × Identifier × Identifier × Stamp) × ℕ
+
+abbrev pub Kind : Type 0
+Kind = (ℕ × ℕ × ℕ) × ℕ
+
+abbrev pub States : Type 0
+States = (ℕ × Option Bool × Option EventState × EventState) × ℕ
+
+abbrev pub note_of : Source → Kind → Option (List ℕ) → States → Option EventValues → Notification
+note_of source kind text states values = record {
+  process = source.0.0;
+  device = source.0.1;
+  object = source.0.2;
+  stamp = source.0.3;
+  class = kind.0.0;
+  priority = kind.0.1;
+  event_type = kind.0.2;
+  text = text;
+  notify = states.0.0;
+  ack_required = states.0.1;
+  from = states.0.2;
+  to = states.0.3;
+  values = values;
+}
+
+given : {X : Type 0} (x : X) (read : Result X Malformed) → GivesNote (Ok x) read → read ≡ Ok x
+given x (Ok y) (inl e) = let same : x ≡ y = cc in ap Ok (sym same)
+given x (Err why) (inl e) = absurd cc
+given x read (inr e) = absurd cc
+
+-- the parts, read in turn
+pub record Parts (input : List ℕ) (source : Source) (kind : Kind) (text : Option (List ℕ) × ℕ) (states : States) (values : Option EventValues × ℕ) : Type 0 where
+  pub sourced : source_at input ≡ Ok source
+  pub kinds : kind_at input source.1 ≡ Ok kind
+  pub told : optional input kind.1 (text_at 7 input kind.1) ≡ Ok text
+  pub stated : states_at input text.1 ≡ Ok states
+  pub valued : optional input states.1 (values_at kind.0.2 input states.1) ≡ Ok values
+
+pub parts : (input : List ℕ) (source : Source) (kind : Kind) (text : Option (List ℕ) × ℕ) (states : States) (values : Option EventValues × ℕ) → Ok source ≡ source_at input → Ok kind ≡ kind_at input source.1
+    → GivesNote (Ok text) (optional input kind.1 (text_at 7 input kind.1)) → Ok states ≡ states_at input text.1 → GivesNote (Ok values) (optional input states.1 (values_at kind.0.2 input states.1)) → Parts input source kind text states values
+parts input source kind text states values a b c d e = record { sourced = sym a; kinds = sym b; told = given text (optional input kind.1 (text_at 7 input kind.1)) c; stated = sym d; valued = given values (optional input states.1 (values_at kind.0.2 input states.1)) e }
+
+pub note_read : (input : List ℕ) (source : Source) (kind : Kind) (text : Option (List ℕ) × ℕ) (states : States) (values : Option EventValues × ℕ) → Parts input source kind text states values
+    → notification_of input ≡ (nothing_follows input values.1 >>= λ nothing. Ok (note_of source kind text.0 states values.0))
+unfolding notification_of
+note_read input source kind text states values p = rw (p.sourced, p.kinds, p.told, p.stated, p.valued) refl
+
+pub note_whole : (input : List ℕ) (source : Source) (kind : Kind) (text : Option (List ℕ) × ℕ) (states : States) (values : Option EventValues × ℕ) (nothing : Unit {0}) → Parts input source kind text states values → Ok nothing ≡ nothing_follows input values.1
+    → GivesNote (Ok (note_of source kind text.0 states values.0)) (notification_of input)
+note_whole input source kind text states values nothing p e =
+    inl (sym (ap as_note (note_read input source kind text states values p ∙ ap (λ (r : Result (Unit {0}) Malformed). r >>= λ nothing. Ok (note_of source kind text.0 states values.0)) (sym e))))
+
+pub note_fails : (input : List ℕ) (source : Source) (kind : Kind) (text : Option (List ℕ) × ℕ) (states : States) (values : Option EventValues × ℕ) (why : Malformed) → Parts input source kind text states values → Err why ≡ nothing_follows input values.1
+    → (answer : Result Notification NoteFault) → answer ≡ Err (fault_of why) → GivesNote answer (notification_of input)
+note_fails input source kind text states values why p e answer is =
+    inl (is ∙ sym (ap as_note (note_read input source kind text states values p ∙ ap (λ (r : Result (Unit {0}) Malformed). r >>= λ nothing. Ok (note_of source kind text.0 states values.0)) (sym e))))
+
+-- ---- what an answer says
+
+pub answered : (P : Notification → Type 0) (answer : Result Notification NoteFault) (read : Result Notification Malformed) → GivesNote answer read → ((note : Notification) → read ≡ Ok note → P note) → IfOk answer P
+answered P (Ok note) read g f = f note (given note read g)
+answered P (Err fault) read g f = tt
+
+pub same_answer : (answer : Result Notification NoteFault) (read : Result Notification Malformed) (note : Notification) → GivesNote answer read → read ≡ Ok note → GivesNote answer (Ok note)
+same_answer answer read note g e = subst (λ (r : Result Notification Malformed). GivesNote answer r) e g

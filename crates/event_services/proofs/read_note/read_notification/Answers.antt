@@ -1,0 +1,15 @@
+use Rattle.std.proofs.Common.{arith}
+use Rattle.event_services.specs.NoteService.{notification_of}
+use Rattle.event_services.specs.NoteGrammar.{SpellsNotification}
+use Rattle.event_services.proofs.NoteChain.{answered, same_answer}
+use Rattle.event_services.proofs.NoteLaws.{note_found}
+use Rattle.event_services.proofs.NoteAgain.{note_again}
+use Rattle.event_services.proofs.read_note.read_notification.Goals as goal
+
+pub returns-clause-found : goal.returns-clause-found
+returns-clause-found c =
+    answered (SpellsNotification c.args.bytes.now) c.notification_of.result (notification_of c.args.bytes.now) c.notification_of.ensures.exact (λ note e. note_found c.args.bytes.now note (λ i. omega (arith, c.type_inv.bytes i)) e)
+
+pub returns-clause-only : goal.returns-clause-only
+returns-clause-only c = λ note s.
+    same_answer c.notification_of.result (notification_of c.args.bytes.now) note c.notification_of.ensures.exact (note_again c.args.bytes.now note s)

@@ -1,0 +1,22 @@
+//! Octets of the alarm and event services (ANSI/ASHRAE 135-2020, clause 13): AcknowledgeAlarm, event notifications and
+//! GetEventInformation.
+#![tactic(auto)]
+
+mod acknowledge;
+mod information;
+mod notification;
+mod read_elements;
+mod read_note;
+mod read_values;
+#[cfg(test)]
+mod tests;
+mod time_stamp;
+mod write_note;
+
+pub use acknowledge::{AckRequest, read_ack};
+pub use information::{EventSummary, read_information_request, write_information};
+pub use notification::{EventValues, Notification};
+pub use read_note::{NoteFault, read_notification, reads_back};
+pub use service_parameters::Malformed;
+pub use time_stamp::AckStamp;
+pub use write_note::write_notification;

@@ -1,0 +1,8 @@
+pub mod Steps
+pub mod Elements
+pub mod References
+pub mod Limits
+pub mod Ranges
+pub mod RangeLaws
+pub mod Writes
+pub mod Missing

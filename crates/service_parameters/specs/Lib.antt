@@ -1,0 +1,5 @@
+pub mod Refusals
+pub mod Parameters
+pub mod Tags
+pub mod Reading
+pub mod Balanced
