@@ -1,5 +1,6 @@
 -- The points of an event, the detection at them, and the moves that go out.
 use Rattle.std.proofs.Common.{◌≡◌, ℕ, max, ℤ, Option, Some, None, Result, Ok, Err, OnOk, List, [], ◌∷◌, ◌++◌, refl, ap, ◌∙◌, sym, subst, append_assoc}
+use Rattle.script_lines.specs.Report.{report_text}
 use Rattle.std.proofs.lemmas.List.{append-nil}
 use Rattle.bac_values.specs.declared.input.Input.{Input}
 use Rattle.bac_values.specs.declared.input.Input.TheVariants.{Tick, Pump, Set, Fault, Datagram}
@@ -85,12 +86,12 @@ goes_on first later before after seen point course next same =
     ∙ sym (detection_at-next first point later)))
 
 -- the move at one more point
-pub transitions_on : {A : Type 0} (r : Result A Unsent) (first : Point) (later : List Point) (before : Detection) (seen point : Point) (a b : Option Told) → before ≡ detection_at SignedOutOfRange first later → seen ≡ point → Sends r (transition_after SignedOutOfRange seen before) a b → SendsTransitions r first later (point ∷ later) a b
+pub transitions_on : {A : Type 0} (r : Result A Unsent) (first : Point) (later : List Point) (before : Detection) (seen point : Point) (a b : Option Told) → before ≡ detection_at SignedOutOfRange first later → seen ≡ point → Sends report_text r (transition_after SignedOutOfRange seen before) a b → SendsTransitions r first later (point ∷ later) a b
 transitions_on r first later before seen point a b course same sends =
     let move = ap (λ p. transition_after SignedOutOfRange p before) same ∙ ap (transition_after SignedOutOfRange point) course in (
       transition_after SignedOutOfRange point (detection_at SignedOutOfRange first later),
       transitions_of-next first point later,
-      subst (λ lines. Sends r lines a b) move sends,
+      subst (λ lines. Sends report_text r lines a b) move sends,
     )
 
 -- moves went out, and then those of more points, or a front of them
@@ -98,7 +99,7 @@ pub transitions_then : {A B : Type 0} (x : B) (r : Result A Unsent) (first : Poi
 transitions_then x r first later more most a b c (moves, all, out) (others, rest, sends) = (
   moves ++ others,
   rest ∙ (ap (λ l. l ++ others) all ∙ append_assoc (transitions_of SignedOutOfRange first later) moves others),
-  sends_then r a b c moves others out sends,
+  sends_then report_text r a b c moves others out sends,
 )
 
 -- a fault while the moves of some points go out, before those of one more
@@ -107,7 +108,7 @@ transitions_fault A fault first later more point a b (moves, all, front) =
     let next = transition_after SignedOutOfRange point (detection_at SignedOutOfRange first more) in (
       moves ++ next,
       transitions_of-next first point more ∙ (ap (λ l. l ++ next) all ∙ append_assoc (transitions_of SignedOutOfRange first later) moves next),
-      front_more fault a b moves next front,
+      front_more report_text fault a b moves next front,
     )
 
 -- the moves over more points go on from those before

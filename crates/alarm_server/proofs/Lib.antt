@@ -5,3 +5,7 @@ pub mod Spelled
 pub mod Fronts
 pub mod Course
 pub mod Progress
+pub mod PieceLines
+pub mod Played
+pub mod SessionProgress
+pub mod Outcomes

@@ -1,5 +1,7 @@
 -- How far a trial has come.
 use Rattle.std.proofs.Common.{◌≡◌, ℕ, ◌+◌, Option, Some, None, Ok, Err, Bool, false, List, [], ◌∷◌, ◌++◌, IfSome, length, refl, ap, ◌∙◌, sym, subst, arith, append_assoc, inl}
+use Rattle.script_lines.specs.Report.{report_text}
+use Rattle.alarm_server.specs.Stopping.{StopsReading}
 use Rattle.std.specs.List.{position}
 use Rattle.std.specs.Io.KnownBytes.{prepend_known}
 use Rattle.std.proofs.lemmas.List.{append-nil}
@@ -7,6 +9,7 @@ use Rattle.bac_values.specs.declared.report.ReportLine.{ReportLine}
 use Rattle.bac_values.specs.declared.report.ReportLine.TheVariants.{TrialEnd}
 use Rattle.ground_io.specs.Trace.{Told, Adds, WhereTold}
 use Rattle.algorithm_rules.specs.declared.table.Algorithm.TheVariants.{SignedOutOfRange}
+use Rattle.script_lines.specs.declared.line.Grammar.TheVariants.{Trial}
 use Rattle.script_lines.specs.declared.line.Line.{Line}
 use Rattle.script_lines.specs.declared.lines.LineFault.{LineFault}
 use Rattle.script_lines.specs.declared.lines.LineFault.TheVariants.{Grammar, Read, NoMemory}
@@ -20,7 +23,7 @@ use Rattle.alarm_server.specs.Detection.{Detection, detection_at, transitions_of
 use Rattle.alarm_server.specs.Emission.{sent, SendsUpTo, Ends}
 use Rattle.alarm_server.specs.Status.{of_line_fault, of_unsent}
 use Rattle.alarm_server.specs.Script.{spelled_in, refused_in, refused_line}
-use Rattle.alarm_server.specs.Trial.{first_point, points_over, end_by, report_over, front_transitions, StopsReading, SendsTransitions}
+use Rattle.alarm_server.specs.Trial.{first_point, points_over, end_by, report_over, front_transitions, SendsTransitions}
 use Rattle.alarm_server.proofs.Sending.{adds_nothing, sent_then, front_then, front_more}
 use Rattle.alarm_server.proofs.Spelled.{spelled_gives, spells_none, spells_refused, spells_same}
 use Rattle.alarm_server.proofs.Fronts.{front_lines, lines_of-whole, takes_then}
@@ -28,8 +31,8 @@ use Rattle.alarm_server.proofs.Course.{transitions_of-none, points_over-none, po
 
 -- these lines and those of the octets to come are those of the script
 pub record Remains (lines : List Line) (number : ℕ) (script octets : List ℕ) : Type 0 where
-  pub spelled : spelled_in 0 (lines_of script) ≡ lines ++ spelled_in number (lines_of octets)
-  pub refused : refused_in 0 (lines_of script) ≡ refused_in number (lines_of octets)
+  pub spelled : spelled_in Trial 0 (lines_of script) ≡ lines ++ spelled_in Trial number (lines_of octets)
+  pub refused : refused_in Trial 0 (lines_of script) ≡ refused_in Trial number (lines_of octets)
   pub count : length (lines_of script) ≡ number + length (lines_of octets)
 
 -- these lines were taken, the object is at their last point, and the moves over them went out
@@ -38,7 +41,7 @@ pub record Progress (settings : Settings) (text come : Option (List ℕ)) (old n
   pub later : List Point
   pub points : later ≡ points_over (first_point settings) [] lines
   pub detected : detection ≡ detection_at SignedOutOfRange (first_point settings) later
-  pub out : Adds old new (sent (transitions_of SignedOutOfRange (first_point settings) later))
+  pub out : Adds old new (sent report_text (transitions_of SignedOutOfRange (first_point settings) later))
   pub remains : WhereTold text come (Remains lines number)
   pub whole : ended ≡ false → WhereTold text come (TakesLines 0 number)
 
@@ -70,49 +73,49 @@ begins settings text told detection first = record {
 }
 
 -- what is left to report behind these lines
-after : (settings : Settings) (lines : List Line) (number : ℕ) (script octets : List ℕ) (later : List Point) → later ≡ points_over (first_point settings) [] lines → Remains lines number script octets → report_over settings (lines_of script) ≡ transitions_of SignedOutOfRange (first_point settings) (points_over (first_point settings) later (spelled_in number (lines_of octets))) ++ end_by (refused_in number (lines_of octets)) (number + length (lines_of octets))
+after : (settings : Settings) (lines : List Line) (number : ℕ) (script octets : List ℕ) (later : List Point) → later ≡ points_over (first_point settings) [] lines → Remains lines number script octets → report_over settings (lines_of script) ≡ transitions_of SignedOutOfRange (first_point settings) (points_over (first_point settings) later (spelled_in Trial number (lines_of octets))) ++ end_by (refused_in Trial number (lines_of octets)) (number + length (lines_of octets))
 after settings lines number script octets later points r =
     let first = first_point settings in
-    let behind = spelled_in number (lines_of octets) in
+    let behind = spelled_in Trial number (lines_of octets) in
     let moves = λ (ps : List Point). transitions_of SignedOutOfRange first ps in
-    let spelled : points_over first [] (spelled_in 0 (lines_of script)) ≡ points_over first later behind =
+    let spelled : points_over first [] (spelled_in Trial 0 (lines_of script)) ≡ points_over first later behind =
     ap (points_over first []) r.spelled ∙ (points_over-append lines behind first [] ∙ ap (λ ps. points_over first ps behind) (sym points)) in
-    ap (λ ps. moves ps ++ end_by (refused_in 0 (lines_of script)) (length (lines_of script))) spelled
+    ap (λ ps. moves ps ++ end_by (refused_in Trial 0 (lines_of script)) (length (lines_of script))) spelled
     ∙ (ap (λ o. moves (points_over first later behind) ++ end_by o (length (lines_of script))) r.refused
-    ∙ ap (λ n. moves (points_over first later behind) ++ end_by (refused_in number (lines_of octets)) n) r.count)
+    ∙ ap (λ n. moves (points_over first later behind) ++ end_by (refused_in Trial number (lines_of octets)) n) r.count)
 
 -- the moves so far are a front of the report
 report_front : (settings : Settings) (lines : List Line) (number : ℕ) (script octets : List ℕ) (later : List Point) → later ≡ points_over (first_point settings) [] lines → Remains lines number script octets → (back : List ReportLine) × (report_over settings (lines_of script) ≡ transitions_of SignedOutOfRange (first_point settings) later ++ back)
 report_front settings lines number script octets later points r =
     let first = first_point settings in
-    let end = end_by (refused_in number (lines_of octets)) (number + length (lines_of octets)) in
-    let more = transitions_over_more (spelled_in number (lines_of octets)) first later in
+    let end = end_by (refused_in Trial number (lines_of octets)) (number + length (lines_of octets)) in
+    let more = transitions_over_more (spelled_in Trial number (lines_of octets)) first later in
     (more.0 ++ end, after settings lines number script octets later points r ∙ (ap (λ l. l ++ end) more.1 ∙ append_assoc (transitions_of SignedOutOfRange first later) more.0 end))
 
 -- behind the last line nothing but the end is left
-report_all : (settings : Settings) (lines : List Line) (number : ℕ) (script octets : List ℕ) (later : List Point) → later ≡ points_over (first_point settings) [] lines → Remains lines number script octets → spelled_in number (lines_of octets) ≡ [] → report_over settings (lines_of script) ≡ transitions_of SignedOutOfRange (first_point settings) later ++ end_by (refused_in number (lines_of octets)) (number + length (lines_of octets))
+report_all : (settings : Settings) (lines : List Line) (number : ℕ) (script octets : List ℕ) (later : List Point) → later ≡ points_over (first_point settings) [] lines → Remains lines number script octets → spelled_in Trial number (lines_of octets) ≡ [] → report_over settings (lines_of script) ≡ transitions_of SignedOutOfRange (first_point settings) later ++ end_by (refused_in Trial number (lines_of octets)) (number + length (lines_of octets))
 report_all settings lines number script octets later points r none =
     let first = first_point settings in
-    let end = end_by (refused_in number (lines_of octets)) (number + length (lines_of octets)) in
+    let end = end_by (refused_in Trial number (lines_of octets)) (number + length (lines_of octets)) in
     after settings lines number script octets later points r
     ∙ ap (λ ps. transitions_of SignedOutOfRange first ps ++ end) (ap (points_over first later) none ∙ points_over-none first later)
 
 -- want of memory before the first line
-pub ends_at_once : (settings : Settings) (text : Option (List ℕ)) (told : Option Told) → IfSome text (λ t. Ends status.NoMemory (report_over settings (lines_of t)) told told)
+pub ends_at_once : (settings : Settings) (text : Option (List ℕ)) (told : Option Told) → IfSome text (λ t. Ends report_text status.NoMemory (report_over settings (lines_of t)) told told)
 ends_at_once settings None told = tt
 ends_at_once settings (Some script) told = ([], report_over settings (lines_of script), refl, adds_nothing told)
 
 -- a fault while a line is read
-pub ends_at_line : (settings : Settings) (text come come' : Option (List ℕ)) (old new : Option Told) (number number' : ℕ) (ended : Bool) (detection : Detection) (fault : LineFault) → Progress settings text come old new number ended detection → WhereTold come come' (ReadsLine number number' (Err fault)) → IfSome text (λ t. Ends (of_line_fault fault) (report_over settings (lines_of t)) old new)
+pub ends_at_line : (settings : Settings) (text come come' : Option (List ℕ)) (old new : Option Told) (number number' : ℕ) (ended : Bool) (detection : Detection) (fault : LineFault) → Progress settings text come old new number ended detection → WhereTold come come' (ReadsLine Trial number number' (Err fault)) → IfSome text (λ t. Ends report_text (of_line_fault fault) (report_over settings (lines_of t)) old new)
 ends_at_line settings None come come' old new number number' ended detection fault p read = tt
 ends_at_line settings (Some t) None come' old new number number' ended detection fault p read = absurd p.remains
 ends_at_line settings (Some t) (Some octets) None old new number number' ended detection fault p read = absurd read
 ends_at_line settings (Some t) (Some octets) (Some rest) old new number number' ended detection (Grammar line) p read =
-    let h = spells_refused (lines_of octets) number line read.0 in
+    let h = spells_refused Trial (lines_of octets) number line read.0 in
     let moves = transitions_of SignedOutOfRange (first_point settings) p.later in
     let all = report_all settings p.lines number t octets p.later p.points p.remains h.spelled
     ∙ (ap (λ o. moves ++ end_by o (number + length (lines_of octets))) h.refused ∙ append-nil moves) in
-    subst (λ lines. Adds old new (sent lines)) (sym all) p.out
+    subst (λ lines. Adds old new (sent report_text lines)) (sym all) p.out
 ends_at_line settings (Some t) (Some octets) (Some rest) old new number number' ended detection Read p read =
     let front = report_front settings p.lines number t octets p.later p.points p.remains in
     (transitions_of SignedOutOfRange (first_point settings) p.later, front.0, front.1, p.out)
@@ -121,12 +124,12 @@ ends_at_line settings (Some t) (Some octets) (Some rest) old new number number' 
     (transitions_of SignedOutOfRange (first_point settings) p.later, front.0, front.1, p.out)
 
 -- the line that is refused is the first outside the grammar
-pub refused_first : (settings : Settings) (text come come' : Option (List ℕ)) (old new : Option Told) (number number' : ℕ) (ended : Bool) (detection : Detection) (line : ℕ) → Progress settings text come old new number ended detection → WhereTold come come' (ReadsLine number number' (Err (Grammar line))) → IfSome text (λ t. refused_line t ≡ Some line)
+pub refused_first : (settings : Settings) (text come come' : Option (List ℕ)) (old new : Option Told) (number number' : ℕ) (ended : Bool) (detection : Detection) (line : ℕ) → Progress settings text come old new number ended detection → WhereTold come come' (ReadsLine Trial number number' (Err (Grammar line))) → IfSome text (λ t. refused_line Trial t ≡ Some line)
 refused_first settings None come come' old new number number' ended detection line p read = tt
 refused_first settings (Some t) None come' old new number number' ended detection line p read = absurd p.remains
 refused_first settings (Some t) (Some octets) None old new number number' ended detection line p read = absurd read
 refused_first settings (Some t) (Some octets) (Some rest) old new number number' ended detection line p read =
-    p.remains.refused ∙ (spells_refused (lines_of octets) number line read.0).refused
+    p.remains.refused ∙ (spells_refused Trial (lines_of octets) number line read.0).refused
 
 pub grammar_fault : (fault : LineFault) (line : ℕ) → of_line_fault fault ≡ status.ScriptRefused line → fault ≡ Grammar line
 grammar_fault (Grammar n) line e = cc
@@ -138,23 +141,23 @@ read_fault (Grammar n) e = absurd cc
 read_fault Read e = refl
 read_fault NoMemory e = absurd cc
 
-ends_front : (fault : Unsent) (lines : List ReportLine) (old new : Option Told) → SendsUpTo fault lines old new → Ends (of_unsent fault) lines old new
+ends_front : (fault : Unsent) (lines : List ReportLine) (old new : Option Told) → SendsUpTo report_text fault lines old new → Ends report_text (of_unsent fault) lines old new
 ends_front unsent.Lost lines old new h = h
 ends_front unsent.NoMemory lines old new h = h
 
 -- one more line was taken
-remains_next : (lines : List Line) (number number' : ℕ) (line : Line) (script octets rest : List ℕ) → Remains lines number script octets → ReadsLine number number' (Ok (Some line)) octets rest → Remains (lines ++ line ∷ []) number' script rest
+remains_next : (lines : List Line) (number number' : ℕ) (line : Line) (script octets rest : List ℕ) → Remains lines number script octets → ReadsLine Trial number number' (Ok (Some line)) octets rest → Remains (lines ++ line ∷ []) number' script rest
 remains_next lines number number' line script octets rest r (next, is) =
-    let h = spelled_gives (lines_of octets) number line (lines_of rest) next in
-    let behind = spelled_in line.number (lines_of rest) in
+    let h = spelled_gives Trial (lines_of octets) number line (lines_of rest) next in
+    let behind = spelled_in Trial line.number (lines_of rest) in
     record {
-      spelled = r.spelled ∙ (ap (λ l. lines ++ l) h.spelled ∙ (sym (append_assoc lines (line ∷ []) behind) ∙ ap (λ n. (lines ++ line ∷ []) ++ spelled_in n (lines_of rest)) is));
-      refused = r.refused ∙ (h.refused ∙ ap (λ n. refused_in n (lines_of rest)) is);
+      spelled = r.spelled ∙ (ap (λ l. lines ++ l) h.spelled ∙ (sym (append_assoc lines (line ∷ []) behind) ∙ ap (λ n. (lines ++ line ∷ []) ++ spelled_in Trial n (lines_of rest)) is));
+      refused = r.refused ∙ (h.refused ∙ ap (λ n. refused_in Trial n (lines_of rest)) is);
       count = omega (arith, r.count, h.count);
     }
 
 -- a fault while the moves of a line go out
-pub ends_at_event : (settings : Settings) (text come come' : Option (List ℕ)) (old new new' : Option Told) (number number' : ℕ) (ended : Bool) (detection : Detection) (line : Line) (fault : Unsent) → Progress settings text come old new number ended detection → WhereTold come come' (ReadsLine number number' (Ok (Some line))) → ((later : List Point) → detection ≡ detection_at SignedOutOfRange (first_point settings) later → SendsTransitions {A = Unit {0}} (Err fault) (first_point settings) later (points_after line.moment line.input (first_point settings) later) new new') → IfSome text (λ t. Ends (of_unsent fault) (report_over settings (lines_of t)) old new')
+pub ends_at_event : (settings : Settings) (text come come' : Option (List ℕ)) (old new new' : Option Told) (number number' : ℕ) (ended : Bool) (detection : Detection) (line : Line) (fault : Unsent) → Progress settings text come old new number ended detection → WhereTold come come' (ReadsLine Trial number number' (Ok (Some line))) → ((later : List Point) → detection ≡ detection_at SignedOutOfRange (first_point settings) later → SendsTransitions {A = Unit {0}} (Err fault) (first_point settings) later (points_after line.moment line.input (first_point settings) later) new new') → IfSome text (λ t. Ends report_text (of_unsent fault) (report_over settings (lines_of t)) old new')
 ends_at_event settings None come come' old new new' number number' ended detection line fault p read sends = tt
 ends_at_event settings (Some t) None come' old new new' number number' ended detection line fault p read sends = absurd p.remains
 ends_at_event settings (Some t) (Some octets) None old new new' number number' ended detection line fault p read sends = absurd read
@@ -167,11 +170,11 @@ ends_at_event settings (Some t) (Some octets) (Some rest) old new new' number nu
     let front = report_front settings (p.lines ++ line ∷ []) number' t rest (points_after line.moment line.input first p.later) points next in
     let all = front.1 ∙ ap (λ l. l ++ front.0) event.1 in
     ends_front fault (report_over settings (lines_of t)) old new'
-    (subst (λ lines. SendsUpTo fault lines old new') (sym all)
-    (front_more fault old new' (before ++ event.0) front.0 (front_then fault old new new' before event.0 p.out event.2)))
+    (subst (λ lines. SendsUpTo report_text fault lines old new') (sym all)
+    (front_more report_text fault old new' (before ++ event.0) front.0 (front_then report_text fault old new new' before event.0 p.out event.2)))
 
 -- one more line
-pub goes_on : (settings : Settings) (text come come' : Option (List ℕ)) (old new new' : Option Told) (number number' : ℕ) (ended ended' : Bool) (detection detection' : Detection) (line : Line) → Progress settings text come old new number ended detection → WhereTold come come' (ReadsLine number number' (Ok (Some line))) → (ended' ≡ false → ended ≡ false) → (ended' ≡ false → WhereTold come come' (TakesLines number number')) → ((later : List Point) → detection ≡ detection_at SignedOutOfRange (first_point settings) later → detection' ≡ detection_at SignedOutOfRange (first_point settings) (points_after line.moment line.input (first_point settings) later)) → ((later : List Point) → detection ≡ detection_at SignedOutOfRange (first_point settings) later → SendsTransitions {A = Unit {0}} (Ok tt) (first_point settings) later (points_after line.moment line.input (first_point settings) later) new new') → Progress settings text come' old new' number' ended' detection'
+pub goes_on : (settings : Settings) (text come come' : Option (List ℕ)) (old new new' : Option Told) (number number' : ℕ) (ended ended' : Bool) (detection detection' : Detection) (line : Line) → Progress settings text come old new number ended detection → WhereTold come come' (ReadsLine Trial number number' (Ok (Some line))) → (ended' ≡ false → ended ≡ false) → (ended' ≡ false → WhereTold come come' (TakesLines number number')) → ((later : List Point) → detection ≡ detection_at SignedOutOfRange (first_point settings) later → detection' ≡ detection_at SignedOutOfRange (first_point settings) (points_after line.moment line.input (first_point settings) later)) → ((later : List Point) → detection ≡ detection_at SignedOutOfRange (first_point settings) later → SendsTransitions {A = Unit {0}} (Ok tt) (first_point settings) later (points_after line.moment line.input (first_point settings) later) new new') → Progress settings text come' old new' number' ended' detection'
 goes_on settings text come come' old new new' number number' ended ended' detection detection' line p read stays taken seen sends =
     let first = first_point settings in
     let event = sends p.later p.detected in
@@ -181,48 +184,48 @@ goes_on settings text come come' old new new' number number' ended ended' detect
       later = points_after line.moment line.input first p.later;
       points = points_over-next first [] p.later p.lines line p.points;
       detected = seen p.later p.detected;
-      out = subst (λ lines. Adds old new' (sent lines)) (sym event.1) (sent_then old new new' before event.0 p.out event.2);
-      remains = where_then text come come' (Remains p.lines number) (ReadsLine number number' (Ok (Some line))) (Remains (p.lines ++ line ∷ []) number')
+      out = subst (λ lines. Adds old new' (sent report_text lines)) (sym event.1) (sent_then report_text old new new' before event.0 p.out event.2);
+      remains = where_then text come come' (Remains p.lines number) (ReadsLine Trial number number' (Ok (Some line))) (Remains (p.lines ++ line ∷ []) number')
           (λ script octets rest r q. remains_next p.lines number number' line script octets rest r q) p.remains read;
       whole = λ e. where_then text come come' (TakesLines 0 number) (TakesLines number number') (TakesLines 0 number')
           (λ script octets rest first_lines more. takes_then 0 number number' script octets rest first_lines more) (p.whole (stays e)) (taken e);
     }
 
 -- behind the last line, the end is all that is left to report
-report_end : (settings : Settings) (octets script : List ℕ) (number number' : ℕ) (lines : List Line) (later : List Point) → later ≡ points_over (first_point settings) [] lines → Remains lines number script octets → next_in number (lines_of octets) ≡ AtEnd number' → report_over settings (lines_of script) ≡ transitions_of SignedOutOfRange (first_point settings) later ++ TrialEnd number' ∷ []
+report_end : (settings : Settings) (octets script : List ℕ) (number number' : ℕ) (lines : List Line) (later : List Point) → later ≡ points_over (first_point settings) [] lines → Remains lines number script octets → next_in Trial number (lines_of octets) ≡ AtEnd number' → report_over settings (lines_of script) ≡ transitions_of SignedOutOfRange (first_point settings) later ++ TrialEnd number' ∷ []
 report_end settings octets script number number' lines later points r next =
-    let h = spells_none (lines_of octets) number number' next in
+    let h = spells_none Trial (lines_of octets) number number' next in
     let moves = transitions_of SignedOutOfRange (first_point settings) later in
     report_all settings lines number script octets later points r h.spelled
     ∙ (ap (λ o. moves ++ end_by o (number + length (lines_of octets))) h.refused ∙ ap (λ n. moves ++ TrialEnd n ∷ []) h.count)
 
 -- the script's end
-pub ends : (settings : Settings) (text come come' : Option (List ℕ)) (old new new' : Option Told) (number number' : ℕ) (ended : Bool) (detection : Detection) → Progress settings text come old new number ended detection → WhereTold come come' (ReadsLine number number' (Ok None)) → Adds new new' (sent (TrialEnd number' ∷ [])) → IfSome text (λ t. Ends status.Done (report_over settings (lines_of t)) old new')
+pub ends : (settings : Settings) (text come come' : Option (List ℕ)) (old new new' : Option Told) (number number' : ℕ) (ended : Bool) (detection : Detection) → Progress settings text come old new number ended detection → WhereTold come come' (ReadsLine Trial number number' (Ok None)) → Adds new new' (sent report_text (TrialEnd number' ∷ [])) → IfSome text (λ t. Ends report_text status.Done (report_over settings (lines_of t)) old new')
 ends settings None come come' old new new' number number' ended detection p read last = tt
 ends settings (Some t) None come' old new new' number number' ended detection p read last = absurd p.remains
 ends settings (Some t) (Some octets) None old new new' number number' ended detection p read last = absurd read
 ends settings (Some t) (Some octets) (Some rest) old new new' number number' ended detection p read last =
     let all = report_end settings octets t number number' p.lines p.later p.points p.remains read.0 in
-    subst (λ lines. Adds old new' (sent lines)) (sym all) (sent_then old new new' (transitions_of SignedOutOfRange (first_point settings) p.later) (TrialEnd number' ∷ []) p.out last)
+    subst (λ lines. Adds old new' (sent report_text lines)) (sym all) (sent_then report_text old new new' (transitions_of SignedOutOfRange (first_point settings) p.later) (TrialEnd number' ∷ []) p.out last)
 
 -- a fault while the last line goes out
-pub ends_at_end : (settings : Settings) (text come come' : Option (List ℕ)) (old new new' : Option Told) (number number' : ℕ) (ended : Bool) (detection : Detection) (fault : Unsent) → Progress settings text come old new number ended detection → WhereTold come come' (ReadsLine number number' (Ok None)) → SendsUpTo fault (TrialEnd number' ∷ []) new new' → IfSome text (λ t. Ends (of_unsent fault) (report_over settings (lines_of t)) old new')
+pub ends_at_end : (settings : Settings) (text come come' : Option (List ℕ)) (old new new' : Option Told) (number number' : ℕ) (ended : Bool) (detection : Detection) (fault : Unsent) → Progress settings text come old new number ended detection → WhereTold come come' (ReadsLine Trial number number' (Ok None)) → SendsUpTo report_text fault (TrialEnd number' ∷ []) new new' → IfSome text (λ t. Ends report_text (of_unsent fault) (report_over settings (lines_of t)) old new')
 ends_at_end settings None come come' old new new' number number' ended detection fault p read last = tt
 ends_at_end settings (Some t) None come' old new new' number number' ended detection fault p read last = absurd p.remains
 ends_at_end settings (Some t) (Some octets) None old new new' number number' ended detection fault p read last = absurd read
 ends_at_end settings (Some t) (Some octets) (Some rest) old new new' number number' ended detection fault p read last =
     let all = report_end settings octets t number number' p.lines p.later p.points p.remains read.0 in
     ends_front fault (report_over settings (lines_of t)) old new'
-    (subst (λ lines. SendsUpTo fault lines old new') (sym all) (front_then fault old new new' (transitions_of SignedOutOfRange (first_point settings) p.later) (TrialEnd number' ∷ []) p.out last))
+    (subst (λ lines. SendsUpTo report_text fault lines old new') (sym all) (front_then report_text fault old new new' (transitions_of SignedOutOfRange (first_point settings) p.later) (TrialEnd number' ∷ []) p.out last))
 
 -- the source failed: the lines that were taken are those of the whole lines that were read
-stops_where : (settings : Settings) (t octets rest pending : List ℕ) (old new : Option Told) (number number' : ℕ) (lines : List Line) (later : List Point) → later ≡ points_over (first_point settings) [] lines → Adds old new (sent (transitions_of SignedOutOfRange (first_point settings) later)) → Remains lines number t octets → next_in number' (lines_of (pending ++ rest)) ≡ next_in number (lines_of octets) → TakesLines 0 number' t (pending ++ rest) → position is_line_feed pending ≡ None → StopsReading (front_transitions settings) t rest old new
+stops_where : (settings : Settings) (t octets rest pending : List ℕ) (old new : Option Told) (number number' : ℕ) (lines : List Line) (later : List Point) → later ≡ points_over (first_point settings) [] lines → Adds old new (sent report_text (transitions_of SignedOutOfRange (first_point settings) later)) → Remains lines number t octets → next_in Trial number' (lines_of (pending ++ rest)) ≡ next_in Trial number (lines_of octets) → TakesLines 0 number' t (pending ++ rest) → position is_line_feed pending ≡ None → StopsReading report_text (front_transitions settings) t rest old new
 stops_where settings t octets rest pending old new number number' lines later points out r next taken no_feed =
-    let h = spells_same number' number (lines_of (pending ++ rest)) (lines_of octets) next in
+    let h = spells_same Trial number' number (lines_of (pending ++ rest)) (lines_of octets) next in
     let parts : lines_of t ≡ lines_of taken.taken ++ lines_of (pending ++ rest) = ap lines_of taken.front ∙ lines_of-whole taken.taken (pending ++ rest) taken.whole in
-    let spelled = ap (spelled_in 0) (sym parts) ∙ (r.spelled ∙ ap (λ l. lines ++ l) (sym h.spelled)) in
-    let refused = ap (refused_in 0) (sym parts) ∙ (r.refused ∙ sym h.refused) in
-    let same = front_lines (lines_of taken.taken) (lines_of (pending ++ rest)) lines number' spelled refused (omega (arith, taken.count)) in
+    let spelled = ap (spelled_in Trial 0) (sym parts) ∙ (r.spelled ∙ ap (λ l. lines ++ l) (sym h.spelled)) in
+    let refused = ap (refused_in Trial 0) (sym parts) ∙ (r.refused ∙ sym h.refused) in
+    let same = front_lines Trial (lines_of taken.taken) (lines_of (pending ++ rest)) lines number' spelled refused (omega (arith, taken.count)) in
     let moves = ap (transitions_of SignedOutOfRange (first_point settings)) (points ∙ ap (points_over (first_point settings) []) same) in
     record {
       whole = taken.taken;
@@ -230,10 +233,10 @@ stops_where settings t octets rest pending old new number number' lines later po
       read = taken.front ∙ sym (append_assoc taken.taken pending rest);
       whole_lines = taken.whole;
       no_line_feed = no_feed;
-      emitted = subst (λ lines. Adds old new (sent lines)) moves out;
+      emitted = subst (λ lines. Adds old new (sent report_text lines)) moves out;
     }
 
-pub stops_reading : (settings : Settings) (text come left : Option (List ℕ)) (pending : List ℕ) (old new : Option Told) (number number' : ℕ) (ended ended' : Bool) (detection : Detection) → Progress settings text come old new number ended detection → WhereTold come (prepend_known pending left) (ReadsLine number number' (Err Read)) → (ended' ≡ false → ended ≡ false) → (ended' ≡ false → WhereTold come (prepend_known pending left) (TakesLines number number')) → (ended' ≡ false) × (position is_line_feed pending ≡ None) → WhereTold text left (λ t rest. StopsReading (front_transitions settings) t rest old new)
+pub stops_reading : (settings : Settings) (text come left : Option (List ℕ)) (pending : List ℕ) (old new : Option Told) (number number' : ℕ) (ended ended' : Bool) (detection : Detection) → Progress settings text come old new number ended detection → WhereTold come (prepend_known pending left) (ReadsLine Trial number number' (Err Read)) → (ended' ≡ false → ended ≡ false) → (ended' ≡ false → WhereTold come (prepend_known pending left) (TakesLines number number')) → (ended' ≡ false) × (position is_line_feed pending ≡ None) → WhereTold text left (λ t rest. StopsReading report_text (front_transitions settings) t rest old new)
 stops_reading settings None come left pending old new number number' ended ended' detection p read stays taken waits = tt
 stops_reading settings (Some t) None left pending old new number number' ended ended' detection p read stays taken waits = absurd p.remains
 stops_reading settings (Some t) (Some octets) None pending old new number number' ended ended' detection p read stays taken waits = absurd read

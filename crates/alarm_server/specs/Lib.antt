@@ -5,6 +5,11 @@ pub mod Settings
 pub mod Watched
 pub mod Status
 pub mod Emission
+pub mod Stopping
+pub mod Session
+pub mod Report
+pub mod BenchSites
+pub mod Commands
 pub mod Script
 pub mod Trial
 pub mod Paths

@@ -1,21 +1,22 @@
 -- A trial: what its script does to the object, and the lines of its report.
-use Rattle.std.specs.Prelude.{◌≡◌, ℕ, position, Option, Some, None, List, [], ◌∷◌, ◌++◌, length, Result}
-use Rattle.std.specs.Option.{option_map_or}
+use Rattle.std.specs.Prelude.{◌≡◌, ℕ, Option, Some, None, List, [], ◌∷◌, ◌++◌, length, Result}
+use Rattle.script_lines.specs.declared.line.Grammar.TheVariants.{Trial}
+use Rattle.script_lines.specs.Report.{report_text}
 use Rattle.bac_values.specs.Moments.{first_moment}
 use Rattle.bac_values.specs.declared.value.Value.TheVariants.{Signed}
 use Rattle.bac_values.specs.declared.report.ReportLine.{ReportLine}
 use Rattle.bac_values.specs.declared.report.ReportLine.TheVariants.{TrialEnd}
-use Rattle.ground_io.specs.Trace.{Told, Adds}
+use Rattle.ground_io.specs.Trace.{Told}
 use Rattle.algorithm_rules.specs.declared.table.Algorithm.TheVariants.{SignedOutOfRange}
 use Rattle.script_lines.specs.declared.line.Line.{Line}
-use Rattle.script_lines.specs.Script.{is_line_feed, lines_of, IsWholeLines}
+use Rattle.script_lines.specs.Script.{lines_of}
 use Rattle.alarm_server.specs.declared.settings.Settings.{Settings}
 use Rattle.alarm_server.specs.declared.emission.Unsent.{Unsent}
-use Rattle.alarm_server.specs.Settings.{settings_of, facts_with}
+use Rattle.alarm_server.specs.Settings.{facts_with}
 use Rattle.alarm_server.specs.Script.{spelled_in, refused_in}
 use Rattle.alarm_server.specs.Points.{Point, points_after}
 use Rattle.alarm_server.specs.Detection.{transitions_of}
-use Rattle.alarm_server.specs.Emission.{sent, Sends}
+use Rattle.alarm_server.specs.Emission.{Sends}
 
 -- the first point is at the start of the year 2000, and the object's first value is its lower limit
 abbrev pub first_point : Settings → Point
@@ -37,30 +38,13 @@ end_by (Some refused) lines = []
 
 -- the report of a trial of the object over the texts of a script's lines: the transitions, and the end
 abbrev pub report_over : Settings → List (List ℕ) → List ReportLine
-report_over settings texts = transitions_over settings (spelled_in 0 texts) ++ end_by (refused_in 0 texts) (length texts)
-
--- the report of a trial with these words and this script
-abbrev pub trial_report : List (List ℕ) → List ℕ → List ReportLine
-trial_report words script = option_map_or (λ settings. report_over settings (lines_of script)) (settings_of words) []
+report_over settings texts = transitions_over settings (spelled_in Trial 0 texts) ++ end_by (refused_in Trial 0 texts) (length texts)
 
 -- the transitions over a front of a script
 abbrev pub front_transitions : Settings → List ℕ → List ReportLine
-front_transitions settings front = transitions_over settings (spelled_in 0 (lines_of front))
-
--- the transitions of a trial with these words over a front of its script
-abbrev pub trial_transitions : List (List ℕ) → List ℕ → List ReportLine
-trial_transitions words front = option_map_or (λ settings. front_transitions settings front) (settings_of words) []
-
--- A script was read up to here: some whole lines, and the beginning of one whose line feed wasn't read. The transitions over those whole lines went out, and no more.
-pub record StopsReading (transitions_over_front : List ℕ → List ReportLine) (script rest : List ℕ) (old new : Option Told) : Type 0 where
-  pub whole : List ℕ
-  pub begun : List ℕ
-  pub read : script ≡ whole ++ begun ++ rest
-  pub whole_lines : IsWholeLines whole
-  pub no_line_feed : position is_line_feed begun ≡ None
-  pub emitted : Adds old new (sent (transitions_over_front whole))
+front_transitions settings front = transitions_over settings (spelled_in Trial 0 (lines_of front))
 
 -- The transitions at the points that are new in a longer list were to go out, and they did, or something was in the way.
 abbrev pub SendsTransitions : {A : Type 0} → Result A Unsent → Point → List Point → List Point → Option Told → Option Told → Type 0
 SendsTransitions result first later more old new =
-    (lines : List ReportLine) × (transitions_of SignedOutOfRange first more ≡ transitions_of SignedOutOfRange first later ++ lines) × Sends result lines old new
+    (lines : List ReportLine) × (transitions_of SignedOutOfRange first more ≡ transitions_of SignedOutOfRange first later ++ lines) × Sends report_text result lines old new

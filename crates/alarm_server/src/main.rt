@@ -1,14 +1,19 @@
-//! The alarm server: an integer value on trial, by a script.
+//! The alarm server: an integer value on trial, or a session of a named site, by a script.
 //!
 //! `run` is the top call. It stands over any source of octets and any ground, so that its contract says all that the
 //! program does; `main` hands it the real ones.
 #![tactic(auto)]
 
+mod bench_site;
+mod command;
 mod emission;
+mod growing;
 mod held;
 mod look;
 mod paths;
+mod pieces;
 mod run;
+mod session;
 mod settings;
 mod status;
 #[cfg(test)]
@@ -32,6 +37,12 @@ delays DELAY and NORMAL (in seconds) on trial. SCRIPT has the lines `set M V`
 (the value is V from the moment M on) and `tick M` (time has come to M); M is in
 milliseconds since 1970. Each move of the event state gives the line
 `MOMENT FROM TO`, and the script's end the line `end LINES`.
+
+alarm-server bench NAME < SCRIPT
+
+bench plays a session to a site that stands in the program, from no event on:
+NAME is S, S0, W, G or M. Each line of SCRIPT gives a piece of the report: what
+it came to, the changes of event states, and the datagrams of replies.
 
 alarm-server --help      prints this text
 alarm-server --version   prints the version";

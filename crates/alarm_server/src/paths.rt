@@ -1,7 +1,7 @@
 ghost use Rattle.std.specs.Prelude.{◌≡◌, map, string_bytes};
 ghost use Rattle.alarm_server.specs.Paths.{paths_for};
 
-use crate::settings::Settings;
+use crate::command::is_command;
 
 /// Where the words name the files that a program opens, as places in the words from 0.
 #[derive(Clone, Copy, Debug, PartialEq, Eq)]
@@ -18,7 +18,9 @@ pub struct Paths {
 pub fn paths_of(words: &[String]) -> Option<Paths>
     ensures paths { result ≡ paths_for (map string_bytes words.now) }
 {
-    let _settings = Settings::read(words)?;
+    if !is_command(words) {
+        return None;
+    }
     Some(Paths {
         site: None,
         journal: None,

@@ -1,21 +1,50 @@
-ghost use Rattle.std.specs.Prelude.{◌≡◌, ◌↔◌, ℕ, map, None, IfSome, string_bytes};
+ghost use Rattle.std.specs.Prelude.{◌≡◌, ◌↔◌, ℕ, map, None, OnOk, IfErr, IfSome, IsErrOf, string_bytes};
 ghost use Rattle.std.specs.Io.KnownBytes.{IsAtEnd};
 ghost use Rattle.ground_io.specs.Counts.{HasCause};
 ghost use Rattle.ground_io.specs.Trace.{WhereTold};
-ghost use Rattle.alarm_server.specs.Emission.{Ends};
-ghost use Rattle.alarm_server.specs.Settings.{settings_of};
+ghost use Rattle.alarm_server.specs.Commands.{EndsAs, EndsFor, KeepsSite, RefusesAs, StopsAs, StopsFor, command_of, grammar_of};
 ghost use Rattle.alarm_server.specs.Script.{refused_line};
-ghost use Rattle.alarm_server.specs.Trial.{StopsReading, trial_transitions, trial_report};
+ghost use Rattle.alarm_server.specs.Status.{IsFault, status_of};
 
-use crate::settings::Settings;
+use crate::command::{Command, read_command};
+use crate::session::play_session;
 use crate::status::Status;
 use crate::trial::play;
 use ground_io::{Ground, Source};
 use std::alloc::Global;
 
-/// Does what the words say, reads the script, emits the lines of the report to the console, and gives the ground back.
+// Does what a command asks for.
+fn carry_out<T: Source, G: Ground>(
+    alloc: Global,
+    command: &Command,
+    script: &mut T,
+    device: &mut G,
+) -> Result<(), Status>
+    requires site { KeepsSite command.now }
+    ensures ends { IfSome (T.left script.old) (λ text.
+        EndsFor command.now (status_of result) text (G.told device.old) (G.told device.new)) }
+    ensures to_end { OnOk result (IsAtEnd (T.left script.new)) }
+    ensures refused { (line : ℕ) → result ≡ Err (Status.ScriptRefused line) →
+        IfSome (T.left script.old) (λ text. refused_line (grammar_of command.now) text ≡ Some line) }
+    ensures stops { result ≡ Err Status.ReadFault → WhereTold (T.left script.old) (T.left script.new)
+        (λ text rest. StopsFor command.now text rest (G.told device.old) (G.told device.new)) }
+    ensures fault { IfErr result IsFault }
+    ensures size { G.size device.new ≡ G.size device.old }
+    ensures disk { G.disk_faults device.new ≡ G.disk_faults device.old }
+    ensures read_cause { HasCause (T.faults script.old) (T.faults script.new) (IsErrOf result Status.ReadFault) }
+    ensures emit_cause { HasCause (G.emit_faults device.old) (G.emit_faults device.new) (IsErrOf result Status.EmitFault) }
+{
+    match command {
+        Command::Trial { settings } => play(alloc, *settings, script, device),
+        Command::Bench { site } => play_session(alloc, site, script, device),
+    }
+}
+
+/// Does what the words say, reads the script, emits the report to the console, and gives the ground back.
 ///
-/// `trial LOW HIGH DEADBAND DELAY NORMAL` puts one Integer Value on trial. It reads no site and leaves the disk alone.
+/// `trial LOW HIGH DEADBAND DELAY NORMAL` puts one Integer Value on trial, and emits a line for each of its moves.
+/// `bench NAME` plays a session to the site of that name, from no event on, and emits a piece for each line of the script.
+/// Neither reads a site's file, and both leave the disk alone.
 pub fn run<S: Source, T: Source, G: Ground>(
     alloc: Global,
     words: &[String],
@@ -23,25 +52,25 @@ pub fn run<S: Source, T: Source, G: Ground>(
     script: &mut T,
     mut device: G,
 ) -> (G, Status)
-    // The words are none of the forms exactly where they are refused, and then nothing is read and nothing goes out.
-    ensures usage { (result.1 ≡ Status.Usage) ↔ (settings_of (map string_bytes words.now) ≡ None) }
+    // The words are of no form exactly where they are refused, and then nothing is read and nothing goes out.
+    ensures usage { (result.1 ≡ Status.Usage) ↔ (command_of (map string_bytes words.now) ≡ None) }
     ensures unread { result.1 ≡ Status.Usage → script.new ≡ script.old }
     ensures unused { result.1 ≡ Status.Usage → result.0 ≡ device }
 
-    // What went out: all lines of the report, or a front of them, as the status says.
+    // What went out: the whole report, or a front of it, as the status says.
     ensures ends { IfSome (T.left script.old) (λ text.
-        Ends result.1 (trial_report (map string_bytes words.now) text) (G.told device) (G.told result.0)) }
+        EndsAs (command_of (map string_bytes words.now)) result.1 text (G.told device) (G.told result.0)) }
 
     // With Done the script was read to its end.
     ensures to_end { result.1 ≡ Status.Done → IsAtEnd (T.left script.new) }
 
     // The line that is refused is the first outside the grammar.
     ensures refused { (line : ℕ) → result.1 ≡ Status.ScriptRefused line →
-        IfSome (T.left script.old) (λ text. refused_line text ≡ Some line) }
+        IfSome (T.left script.old) (λ text. RefusesAs (command_of (map string_bytes words.now)) text line) }
 
-    // With ReadFault all lines of the report went out that the lines give whose line feed was read.
+    // With ReadFault all of the report went out that the lines give whose line feed was read.
     ensures stops { result.1 ≡ Status.ReadFault → WhereTold (T.left script.old) (T.left script.new) (λ text rest.
-        StopsReading (trial_transitions (map string_bytes words.now)) text rest (G.told device) (G.told result.0)) }
+        StopsAs (command_of (map string_bytes words.now)) text rest (G.told device) (G.told result.0)) }
 
     // A fault comes only where its count rose.
     ensures read_cause { HasCause (T.faults script.old) (T.faults script.new) (result.1 ≡ Status.ReadFault) }
@@ -52,10 +81,12 @@ pub fn run<S: Source, T: Source, G: Ground>(
     ensures size { G.size result.0 ≡ G.size device }
     ensures disk { G.disk_faults result.0 ≡ G.disk_faults device }
 {
-    let Some(settings) = Settings::read(words) else {
-        return (device, Status::Usage);
+    let command = match read_command(alloc, words) {
+        Ok(Some(command)) => command,
+        Ok(None) => return (device, Status::Usage),
+        Err(_refused) => return (device, Status::NoMemory),
     };
-    match play(alloc, settings, script, &mut device) {
+    match carry_out(alloc, &command, script, &mut device) {
         Ok(()) => (device, Status::Done),
         Err(status) => (device, status),
     }

@@ -231,3 +231,133 @@ fn statuses_have_numbers_and_texts(rt: HostRuntime) -> Result<(), Fail> {
     }
     Ok(())
 }
+
+const SET_AND_TICK: &str = "set 1700000000000 integer-value:1 signed:90\ntick 1700000010000\n";
+
+const SET_AND_TICKED: &str = "open 0\n1 entered 1 1700000000000\n2 entered 2 1700000010000\n\
+2 change integer-value:1 normal high-limit\n";
+
+#[test]
+fn moments_of_a_session_never_fall(rt: HostRuntime) -> Result<(), Fail> {
+    expect(
+        &rt,
+        rt.alloc(),
+        "bench S",
+        "set 1700000005000 integer-value:1 signed:60\nset 1700000001000 integer-value:1 signed:61\n",
+        "open 0\n1 entered 1 1700000005000\n2 entered 2 1700000005000\nend 2 2\n",
+        Status::Done,
+    )
+}
+
+// What a session of S with these lines behind a set and a tick that lead to HIGH_LIMIT says of them.
+fn expect_behind(rt: &impl Abort, alloc: Global, more: &str, report: &str) -> Result<(), Fail> {
+    let script = format!(in alloc; "{SET_AND_TICK}{more}")?;
+    let wanted = format!(in alloc; "{SET_AND_TICKED}{report}")?;
+    expect(
+        rt,
+        alloc,
+        "bench S",
+        script.as_str(),
+        wanted.as_str(),
+        Status::Done,
+    )
+}
+
+#[test]
+fn alarm_is_acknowledged_once(rt: HostRuntime) -> Result<(), Fail> {
+    let alarm =
+        "09011c0b40000129023e2ea47b0b0e02b4160d1e002f3f4b006f705e2ea47b0b0e02b4160d28002f5f";
+    let more = format!(in rt.alloc();
+        "from 1700000020000 10.0.0.9:47808 810a0033010400050700{alarm}\nfrom 1700000020000 10.0.0.9:47808 810a0033010400050800{alarm}\n"
+    )?;
+    expect_behind(
+        &rt,
+        rt.alloc(),
+        more.as_str(),
+        "3 entered 3 1700000020000\n3 send 10.0.0.9:47808 810a00090100200700\n\
+4 reply\n4 send 10.0.0.9:47808 810a00090100200800\nend 4 3\n",
+    )
+}
+
+#[test]
+fn wrong_acknowledgements_are_answered_by_errors(rt: HostRuntime) -> Result<(), Fail> {
+    for (object, state, hundredths, reply) in [
+        ("0b400001", "03", "01", "810a000d01005007009105910e"),
+        ("0b400001", "04", "00", "810a000d010050070091059149"),
+        ("03c00007", "02", "00", "810a000d01005007009101914a"),
+        ("0b400009", "02", "00", "810a000d01005007009101911f"),
+    ] {
+        let more = format!(in rt.alloc();
+            "from 1700000020000 10.0.0.9:47808 810a003301040005070009011c{object}29{state}3e2ea47b0b0e02b4160d1e{hundredths}2f3f4b006f705e2ea47b0b0e02b4160d28002f5f\n"
+        )?;
+        let report = format!(in rt.alloc(); "3 reply\n3 send 10.0.0.9:47808 {reply}\nend 3 2\n")?;
+        expect_behind(&rt, rt.alloc(), more.as_str(), report.as_str())?;
+    }
+    Ok(())
+}
+
+#[test]
+fn a_write_looks_at_each_object_before_and_after_it(rt: HostRuntime) -> Result<(), Fail> {
+    expect(
+        &rt,
+        rt.alloc(),
+        "bench W",
+        "set 1700000000000 integer-value:2 signed:90\nset 1700000010000 integer-value:1 signed:90\n",
+        "open 0\n1 entered 1 1700000000000\n2 entered 2 1700000010000\n\
+2 change integer-value:2 normal high-limit\n2 change integer-value:1 normal high-limit\nend 2 2\n",
+        Status::Done,
+    )
+}
+
+#[test]
+fn another_alarm_state_is_another_alarm(rt: HostRuntime) -> Result<(), Fail> {
+    expect(
+        &rt,
+        rt.alloc(),
+        "bench M",
+        "set 1700000000000 multi-state-value:1 unsigned:2\ntick 1700000005000\n\
+set 1700000006000 multi-state-value:1 unsigned:3\ntick 1700000011000\n\
+set 1700000012000 multi-state-value:1 unsigned:2\n\
+set 1700000016000 multi-state-value:1 unsigned:3\ntick 1700000021000\n",
+        "open 0\n1 entered 1 1700000000000\n2 entered 2 1700000005000\n\
+2 change multi-state-value:1 normal offnormal\n3 entered 3 1700000006000\n\
+4 entered 4 1700000011000\n4 change multi-state-value:1 offnormal offnormal\n\
+5 entered 5 1700000012000\n6 entered 6 1700000016000\n7 idle\nend 7 6\n",
+        Status::Done,
+    )
+}
+
+#[test]
+fn a_fault_that_ends_gives_two_moves(rt: HostRuntime) -> Result<(), Fail> {
+    expect(
+        &rt,
+        rt.alloc(),
+        "bench S0",
+        "fault 1700000000000 integer-value:1 7\nset 1700000000001 integer-value:1 signed:90\n\
+fault 1700000000002 integer-value:1 0\n",
+        "open 0\n1 entered 1 1700000000000\n1 change integer-value:1 normal fault\n\
+2 entered 2 1700000000001\n3 entered 3 1700000000002\n\
+3 change integer-value:1 fault normal\n3 change integer-value:1 normal high-limit\nend 3 3\n",
+        Status::Done,
+    )
+}
+
+#[test]
+fn what_a_session_refuses_and_ignores(rt: HostRuntime) -> Result<(), Fail> {
+    expect(
+        &rt,
+        rt.alloc(),
+        "bench G",
+        "set 1700000000000 integer-value:9 signed:1\nset 1700000000000 notification-class:7 signed:1\n\
+set 1700000000000 integer-value:3 unsigned:5\nfault 1700000000000 integer-value:3 1\n\
+from 1700000000000 10.0.0.9:47808 00\npump 1700000000000\n",
+        "open 0\n1 refused unknown-object\n2 refused wrong-kind\n3 refused wrong-kind\n\
+4 refused value-range\n5 ignored\n6 idle\nend 6 0\n",
+        Status::Done,
+    )
+}
+
+#[test]
+fn a_bench_of_no_name_is_refused(rt: HostRuntime) -> Result<(), Fail> {
+    expect(&rt, rt.alloc(), "bench T", "tick 5\n", "", Status::Usage)
+}

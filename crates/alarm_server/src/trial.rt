@@ -1,4 +1,7 @@
 ghost use Rattle.std.specs.Prelude.{◌≡◌, ℕ, List, [], ◌∷◌, OnOk, IfErr, IfSome, IsErrOf};
+ghost use Rattle.script_lines.specs.declared.line.Grammar.TheVariants.{Trial};
+ghost use Rattle.script_lines.specs.Report.{report_text};
+ghost use Rattle.alarm_server.specs.Stopping.{StopsReading};
 ghost use Rattle.std.specs.Io.KnownBytes.{IsAtEnd};
 ghost use Rattle.ground_io.specs.Counts.{HasCause};
 ghost use Rattle.ground_io.specs.Trace.{WhereTold};
@@ -10,7 +13,7 @@ ghost use Rattle.alarm_server.specs.Detection.{detection_at, detection_after, tr
 ghost use Rattle.alarm_server.specs.Emission.{Sends, Ends};
 ghost use Rattle.alarm_server.specs.Status.{status_of, IsFault};
 ghost use Rattle.alarm_server.specs.Script.{refused_line};
-ghost use Rattle.alarm_server.specs.Trial.{SendsTransitions, StopsReading, front_transitions, report_over};
+ghost use Rattle.alarm_server.specs.Trial.{SendsTransitions, front_transitions, report_over};
 ghost use Rattle.alarm_server.specs.Watched.{point_of};
 
 use crate::emission::{Unsent, emit};
@@ -33,7 +36,7 @@ fn look_at<G: Ground>(
     ensures seen { OnOk result (watch.new ≡ record watch.old {
       detection = detection_after SignedOutOfRange (point_of watch.old.settings look) watch.old.detection;
     }) }
-    ensures sends { Sends result (transition_after SignedOutOfRange (point_of watch.old.settings look) watch.old.detection)
+    ensures sends { Sends report_text result (transition_after SignedOutOfRange (point_of watch.old.settings look) watch.old.detection)
         (G.told device.old) (G.told device.new) }
     ensures size { G.size device.new ≡ G.size device.old }
     ensures disk { G.disk_faults device.new ≡ G.disk_faults device.old }
@@ -82,12 +85,12 @@ pub fn play<T: Source, G: Ground>(
     device: &mut G,
 ) -> Result<(), Status>
     ensures ends { IfSome (T.left script.old) (λ text.
-        Ends (status_of result) (report_over settings (lines_of text)) (G.told device.old) (G.told device.new)) }
+        Ends report_text (status_of result) (report_over settings (lines_of text)) (G.told device.old) (G.told device.new)) }
     ensures to_end { OnOk result (IsAtEnd (T.left script.new)) }
     ensures refused { (line : ℕ) → result ≡ Err (Status.ScriptRefused line) →
-        IfSome (T.left script.old) (λ text. refused_line text ≡ Some line) }
+        IfSome (T.left script.old) (λ text. refused_line Trial text ≡ Some line) }
     ensures stops { result ≡ Err Status.ReadFault → WhereTold (T.left script.old) (T.left script.new)
-        (λ text rest. StopsReading (front_transitions settings) text rest (G.told device.old) (G.told device.new)) }
+        (λ text rest. StopsReading report_text (front_transitions settings) text rest (G.told device.old) (G.told device.new)) }
     ensures fault { IfErr result IsFault }
     ensures size { G.size device.new ≡ G.size device.old }
     ensures disk { G.disk_faults device.new ≡ G.disk_faults device.old }

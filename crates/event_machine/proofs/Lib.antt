@@ -3,3 +3,4 @@ pub mod Keeping
 pub mod HeldTest
 pub mod Since
 pub mod RunStarts
+pub mod Resting

@@ -8,3 +8,5 @@ pub mod Runs
 pub mod Next
 pub mod Laws
 pub mod Given
+pub mod Rest
+pub mod Finding

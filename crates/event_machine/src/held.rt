@@ -2,7 +2,8 @@ ghost use Rattle.std.specs.Prelude.{◌≡◌, ◌<◌, ◌≤◌, ◌+◌, nat_
 ghost use Rattle.std.specs.List.{list_any};
 ghost use Rattle.algorithm_rules.specs.Facts.{facts_of};
 ghost use Rattle.event_machine.specs.Held.{is_key};
-ghost use Rattle.event_machine.specs.Next.{has_lasted, key_seen, lasting, rule_lasting, run_seen};
+ghost use Rattle.event_machine.specs.Next.{has_lasted, key_seen, lasting, lasting_at, rule_lasting, run_seen};
+ghost use Rattle.std.specs.Prelude.{◌∷◌, is_some};
 
 use crate::{Past, Seen};
 use algorithm_rules::{Rule, Snapshot, delay, rule};
@@ -30,8 +31,8 @@ fn has_key(seen: &Seen, place: usize, key: u32) -> bool
     key_seen(seen, place) == Some(key)
 }
 
-// Whether the run of a key, from the last of some points back, has one that lies so many milliseconds before a moment.
-fn reaches_back(points: &[Seen], place: usize, key: u32, wait: u64, moment: u64) -> bool
+/// Whether the run of a key, from the last of some points back, has one that lies so many milliseconds before a moment.
+pub(crate) fn reaches_back(points: &[Seen], place: usize, key: u32, wait: u64, moment: u64) -> bool
     requires place { place < 3 }
     ensures reaches { result ≡ list_any (λ seen. nat_le (seen.moment + wait) moment) (run_seen place key (reverse points.now)) }
 {
@@ -83,4 +84,52 @@ pub(crate) fn rule_lasting(state: EventState, past: &Past, snapshot: &Snapshot<'
         return Some(second);
     }
     lasting(rule(algorithm, state, 2), past, snapshot, 2)
+}
+
+// Whether the rule at a place has had the key of one more point for so many milliseconds.
+fn has_lasted_to(newest: &Seen, past: &Past, place: usize, wait: u64) -> bool
+    requires place { place < 3 }
+    ensures lasted { result ≡ has_lasted wait place (newest.now ∷ past.now.points) }
+{
+    let Some(key) = key_seen(newest, place) else {
+        return false;
+    };
+    lies_back(newest, wait, newest.moment) || past.reaches_back(place, key, wait, newest.moment)
+}
+
+fn is_lasting_to(
+    newest: &Seen,
+    past: &Past,
+    state: EventState,
+    snapshot: &Snapshot<'_>,
+    place: u8,
+) -> bool
+    requires few { length snapshot.now.alarm_values.now ≤ 32 }
+    requires place { place < 3 }
+    ensures lasting { result ≡ is_some (lasting_at snapshot.now.algorithm (facts_of snapshot.now) state (newest.now ∷ past.now.points) place) }
+{
+    let Some(rule) = rule(snapshot.algorithm, state, place) else {
+        return false;
+    };
+    has_lasted_to(
+        newest,
+        past,
+        usize::from(place),
+        1000 * u64::from(delay(&rule, snapshot)),
+    )
+}
+
+/// Whether some rule is held at one more point.
+pub(crate) fn some_lasting_to(
+    newest: &Seen,
+    past: &Past,
+    state: EventState,
+    snapshot: &Snapshot<'_>,
+) -> bool
+    requires few { length snapshot.now.alarm_values.now ≤ 32 }
+    ensures lasting { result ≡ is_some (rule_lasting snapshot.now.algorithm (facts_of snapshot.now) state (newest.now ∷ past.now.points)) }
+{
+    is_lasting_to(newest, past, state, snapshot, 0)
+        || is_lasting_to(newest, past, state, snapshot, 1)
+        || is_lasting_to(newest, past, state, snapshot, 2)
 }

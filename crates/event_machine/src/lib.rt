@@ -14,6 +14,7 @@ mod machine;
 mod moves;
 mod past;
 mod point;
+mod rest;
 mod seen;
 #[cfg(test)]
 mod tests;
@@ -25,4 +26,5 @@ pub use machine::{begin, look};
 pub use moves::{Changed, Move};
 pub use past::Past;
 pub use point::PointFacts;
+pub use rest::is_still;
 pub use seen::Seen;

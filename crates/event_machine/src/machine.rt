@@ -46,7 +46,11 @@ fn enter(
     Move { from, to, by_fault }
 }
 
-fn fault_target(now: Reliability, last: Reliability, state: EventState) -> Option<EventState>
+pub(crate) fn fault_target(
+    now: Reliability,
+    last: Reliability,
+    state: EventState,
+) -> Option<EventState>
     ensures target { result ≡ fault_target now last state }
 {
     let in_fault = state == EventState::Fault;

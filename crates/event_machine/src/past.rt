@@ -1,9 +1,11 @@
 ghost use Rattle.std.specs.Prelude.{◌≡◌, ◌≤◌, ◌<◌, ◌+◌, ◌∷◌, [], IfOk};
-ghost use Rattle.event_machine.specs.Next.{has_lasted};
+ghost use Rattle.event_machine.specs.Next.{has_lasted, run_seen};
+ghost use Rattle.std.specs.Prelude.{nat_le};
+ghost use Rattle.std.specs.List.{list_any};
 ghost use Rattle.event_machine.specs.Summary.{room_in};
 
 use crate::Seen;
-use crate::held::has_lasted;
+use crate::held::{has_lasted, reaches_back};
 use bac_values::NoMemory;
 use std::alloc::Global;
 use std::marker::Model;
@@ -51,6 +53,14 @@ impl Past {
         ensures lasted { result ≡ has_lasted wait place self.now.points }
     {
         has_lasted(self.seen.as_slice(), place, wait)
+    }
+
+    /// Whether the run of a key, from the newest point back, has one that lies so many milliseconds before a moment.
+    pub(crate) fn reaches_back(&self, place: usize, key: u32, wait: u64, moment: u64) -> bool
+        requires place { place < 3 }
+        ensures reaches { result ≡ list_any (λ seen. nat_le (seen.moment + wait) moment) (run_seen place key self.now.points) }
+    {
+        reaches_back(self.seen.as_slice(), place, key, wait, moment)
     }
 
     /// One more point.

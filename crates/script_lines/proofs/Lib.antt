@@ -5,3 +5,10 @@ pub mod SignedDecimal
 pub mod FirstLine
 pub mod TakenLine
 pub mod MoreLines
+pub mod Utf8
+pub mod Parts
+pub mod BitDigits
+pub mod SpelledSession
+pub mod Marks
+pub mod ObjectText
+pub mod AddressText

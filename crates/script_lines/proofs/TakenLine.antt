@@ -7,7 +7,7 @@ use Rattle.std.proofs.lemmas.List.{take_all}
 use Rattle.ground_io.specs.Trace.{WhereTold}
 use Rattle.script_lines.specs.declared.line.LineSays.{LineSays}
 use Rattle.script_lines.specs.declared.line.LineSays.TheVariants.{Skipped, Outside, Spells}
-use Rattle.script_lines.specs.Line.{line_says, SpellsTrialLine}
+use Rattle.script_lines.specs.Line.{line_says, SpellsLine}
 use Rattle.script_lines.specs.Reading.{Reading}
 use Rattle.script_lines.specs.Script.{is_line_feed, lines_of, next_by, next_in, TakesLines}
 use Rattle.script_lines.specs.Taking.{TakesLine, behind_line, taken_of}
@@ -23,9 +23,9 @@ nothing_comes now b (inr (inl long)) ended = inr (inl long)
 nothing_comes now b (inr (inr end)) ended = inr (inr (ended end))
 
 judged_told : (says : LineSays) (xs b : List ℕ) (reading : Reading) → reading.pending ≡ xs
-    → next_in reading.number (lines_of (xs ++ b)) ≡ next_by says (reading.number + 1) (lines_of (after_first is_line_feed xs ++ b)) (next_in (reading.number + 1) (lines_of (after_first is_line_feed xs ++ b)))
-    → SpellsTrialLine (reading.number + 1) says
-    → TakesLine reading.number (behind_line says reading).number (taken_of (reading.number + 1) says) (xs ++ b) ((behind_line says reading).pending ++ b)
+    → next_in reading.grammar reading.number (lines_of (xs ++ b)) ≡ next_by says (reading.number + 1) (lines_of (after_first is_line_feed xs ++ b)) (next_in reading.grammar (reading.number + 1) (lines_of (after_first is_line_feed xs ++ b)))
+    → SpellsLine reading.grammar (reading.number + 1) says
+    → TakesLine reading.grammar reading.number (behind_line says reading).number (taken_of (reading.number + 1) says) (xs ++ b) ((behind_line says reading).pending ++ b)
 judged_told Outside xs b reading same next spelled = rw same (next, next)
 judged_told Skipped xs b reading same next spelled = rw same (sym next)
 judged_told (Spells line) xs b reading same next spelled = rw same (next, spelled.0)
@@ -33,12 +33,12 @@ judged_told (Spells line) xs b reading same next spelled = rw same (next, spelle
 -- what the octets before and after say
 pub judged : (says : LineSays) (pending : List ℕ) (now new : Reading) (left0 left1 : Option (List ℕ))
     → Keeps (prepend_known pending left0) (prepend_known now.pending left1) → 0 < length now.pending → IsFoundBy now → (now.ended ≡ true → IsAtEnd left1)
-    → says ≡ line_says (now.number + 1) (before_first is_line_feed now.pending) → new ≡ behind_line says now → SpellsTrialLine (now.number + 1) says
-    → WhereTold (prepend_known pending left0) (prepend_known new.pending left1) (TakesLine now.number new.number (taken_of (now.number + 1) says))
+    → says ≡ line_says now.grammar (now.number + 1) (before_first is_line_feed now.pending) → new ≡ behind_line says now → SpellsLine now.grammar (now.number + 1) says
+    → WhereTold (prepend_known pending left0) (prepend_known new.pending left1) (TakesLine now.grammar now.number new.number (taken_of (now.number + 1) says))
 judged says pending now new None left1 same some found ended said rest spelled = tt
 judged says pending now new (Some a) None same some found ended said rest spelled = same
 judged says pending now new (Some a) (Some b) same some found ended said rest spelled =
-    let next = next_first now.number now.pending b some (nothing_comes now b found ended) in
+    let next = next_first now.grammar now.number now.pending b some (nothing_comes now b found ended) in
     rw (← same, rest) (judged_told says now.pending b now refl (rw (← said) at next) spelled)
 
 -- nothing was taken
@@ -57,7 +57,7 @@ takes_first number xs b found =
     }
 
 -- a line that isn't outside the grammar, before the source's end, has its line feed
-has_feed : (says : LineSays) (now : Reading) → IsFoundBy now → now.ended ≡ false → says ≡ line_says (now.number + 1) (before_first is_line_feed now.pending)
+has_feed : (says : LineSays) (now : Reading) → IsFoundBy now → now.ended ≡ false → says ≡ line_says now.grammar (now.number + 1) (before_first is_line_feed now.pending)
     → (says ≡ Outside → ⊥) → position_or_len is_line_feed now.pending < length now.pending
 has_feed says now found goes_on said inside =
     elim (cases_lt (position_or_len is_line_feed now.pending) (length now.pending)) [
@@ -66,7 +66,7 @@ has_feed says now found goes_on said inside =
         | inl feed ↦ feed
         | inr (inl long) ↦
             let whole = take_all (position_or_len is_line_feed now.pending) now.pending none in
-            absurd (inside (said ∙ (ap (line_says (now.number + 1)) whole ∙ long_says (now.number + 1) now.pending long)))
+            absurd (inside (said ∙ (ap (line_says now.grammar (now.number + 1)) whole ∙ long_says now.grammar (now.number + 1) now.pending long)))
         | inr (inr ended) ↦ let wrong : ⊥ = cc in absurd wrong
       ]
     ]
@@ -85,7 +85,7 @@ goes_on_before (Spells line) now e = e
 -- whole lines were taken before the source's end
 pub judged_whole : (says : LineSays) (pending : List ℕ) (now new : Reading) (left0 left1 : Option (List ℕ))
     → Keeps (prepend_known pending left0) (prepend_known now.pending left1) → IsFoundBy now
-    → says ≡ line_says (now.number + 1) (before_first is_line_feed now.pending) → new ≡ behind_line says now → new.ended ≡ false
+    → says ≡ line_says now.grammar (now.number + 1) (before_first is_line_feed now.pending) → new ≡ behind_line says now → new.ended ≡ false
     → WhereTold (prepend_known pending left0) (prepend_known new.pending left1) (TakesLines now.number new.number)
 judged_whole says pending now new None left1 same found said rest goes_on = tt
 judged_whole says pending now new (Some a) None same found said rest goes_on = same

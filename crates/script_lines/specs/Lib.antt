@@ -1,4 +1,6 @@
 pub mod Number
+pub mod Words
+pub mod SessionLine
 pub mod Line
 pub mod Reading
 pub mod Script

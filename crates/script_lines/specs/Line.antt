@@ -1,17 +1,20 @@
--- What a line of a trial's script says.
-use Rattle.std.specs.Prelude.{◌≡◌, ℕ, ◌==◌, ◌||◌, nat_le, nat_lt, Bool, true, Option, Some, None, option_and_then, List, [], ◌∷◌, length, if◌then◌else◌, codes}
-use Rattle.std.specs.List.{before_first, after_first}
+-- What a line of a script says: in a trial, and in either grammar.
+use Rattle.std.specs.Prelude.{◌≡◌, ℕ, ◌==◌, ◌||◌, nat_lt, Bool, true, Option, Some, None, option_and_then, List, [], ◌∷◌, length, if◌then◌else◌, codes}
 use Rattle.std.specs.Str.{bytes_eq}
 use Rattle.std.specs.Option.{option_map}
 use Rattle.bac_values.specs.Identifier.{Identifier}
-use Rattle.bac_values.specs.Moments.{first_moment, last_moment, IsMoment}
+use Rattle.bac_values.specs.Moments.{IsMoment}
 use Rattle.bac_values.specs.declared.input.Input.{Input}
 use Rattle.bac_values.specs.declared.input.Input.TheVariants.{Tick, Pump, Set, Fault, Datagram}
 use Rattle.bac_values.specs.declared.value.Value.TheVariants.{Signed}
+use Rattle.script_lines.specs.declared.line.Grammar.{Grammar}
+use Rattle.script_lines.specs.declared.line.Grammar.TheVariants.{Trial, Session}
 use Rattle.script_lines.specs.declared.line.Line.{Line}
 use Rattle.script_lines.specs.declared.line.LineSays.{LineSays}
 use Rattle.script_lines.specs.declared.line.LineSays.TheVariants.{Skipped, Outside, Spells}
-use Rattle.script_lines.specs.Number.{unsigned_of, signed_of}
+use Rattle.script_lines.specs.Number.{signed_of}
+use Rattle.script_lines.specs.Words.{first_word, other_words, moment_of}
+use Rattle.script_lines.specs.SessionLine.{session_line_of, IsSessionLine}
 
 -- the object on trial: integer-value 1
 abbrev pub trial_object : Identifier
@@ -30,18 +33,6 @@ IsTrialInput (Datagram peer bytes) = ⊥
 pub record IsTrialLine (line : Line) : Type 0 where
   pub moment : IsMoment line.moment
   pub input : IsTrialInput line.input
-
--- a word ends at a blank, which is 32
-abbrev pub first_word : List ℕ → List ℕ
-first_word text = before_first (λ c. c == 32) text
-
--- what follows the first blank, or nothing
-abbrev pub other_words : List ℕ → List ℕ
-other_words text = after_first (λ c. c == 32) text
-
--- a moment in range, in milliseconds since 1970
-abbrev pub moment_of : List ℕ → Option ℕ
-moment_of text = option_and_then (λ m. if nat_le first_moment m then Some m else None) (unsigned_of last_moment text)
 
 -- the line `tick M`, from the words behind the first
 abbrev pub tick_line : ℕ → List ℕ → Option Line
@@ -77,14 +68,24 @@ abbrev pub spells : Option Line → LineSays
 spells None = Outside
 spells (Some line) = Spells line
 
--- what the octets of the line with this number say; what is longer than a line or a script may be is outside the grammar, also where it would be skipped
-abbrev pub line_says : ℕ → List ℕ → LineSays
-line_says number text =
-    if nat_lt most_lines number || nat_lt longest_line (length text) then Outside else
-    (if is_skipped text then Skipped else spells (line_by_word number text))
+-- the line with this number that a text spells in a grammar
+abbrev pub line_of : Grammar → ℕ → List ℕ → Option Line
+line_of Trial number text = line_by_word number text
+line_of Session number text = session_line_of number text
 
--- a line that is spelled has this number, and is one of a trial
-abbrev pub SpellsTrialLine : ℕ → LineSays → Type 0
-SpellsTrialLine number Skipped = Unit {0}
-SpellsTrialLine number Outside = Unit {0}
-SpellsTrialLine number (Spells line) = (line.number ≡ number) × IsTrialLine line
+-- what the octets of the line with this number say; what is longer than a line or a script may be is outside each grammar, also where it would be skipped
+abbrev pub line_says : Grammar → ℕ → List ℕ → LineSays
+line_says grammar number text =
+    if nat_lt most_lines number || nat_lt longest_line (length text) then Outside else
+    (if is_skipped text then Skipped else spells (line_of grammar number text))
+
+-- a line of a grammar
+abbrev pub IsLineOf : Grammar → Line → Type 0
+IsLineOf Trial line = IsTrialLine line
+IsLineOf Session line = IsSessionLine line
+
+-- a line that is spelled has this number, and is one of the grammar
+abbrev pub SpellsLine : Grammar → ℕ → LineSays → Type 0
+SpellsLine grammar number Skipped = Unit {0}
+SpellsLine grammar number Outside = Unit {0}
+SpellsLine grammar number (Spells line) = (line.number ≡ number) × IsLineOf grammar line

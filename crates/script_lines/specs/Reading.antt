@@ -1,9 +1,11 @@
 -- How far a reader of lines has come.
 use Rattle.std.specs.Prelude.{ℕ, Bool, List, Option}
 use Rattle.std.specs.Io.KnownBytes.{prepend_known}
+use Rattle.script_lines.specs.declared.line.Grammar.{Grammar}
 
--- the octets that were read and not given out, how many lines were read, skipped ones counted, and whether the source's end was seen
+-- the grammar, the octets that were read and not given out, how many lines were read, skipped ones counted, and whether the source's end was seen
 pub record Reading : Type 0 where
+  pub grammar : Grammar
   pub pending : List ℕ
   pub number : ℕ
   pub ended : Bool

@@ -1,9 +1,11 @@
 -- The lines of a script, and how they are taken one after the other.
 use Rattle.std.specs.Prelude.{◌≡◌, ◌⊎◌, ℕ, ◌+◌, ◌==◌, Bool, List, [], ◌∷◌, ◌++◌, length, Option, Some, None, Result, Ok, Err, if◌then◌else◌}
 use Rattle.std.specs.List.{onto_first}
+use Rattle.script_lines.specs.declared.line.Grammar.{Grammar}
 use Rattle.script_lines.specs.declared.line.Line.{Line}
 use Rattle.script_lines.specs.declared.lines.LineFault.{LineFault}
-use Rattle.script_lines.specs.declared.lines.LineFault.TheVariants.{Grammar, Read, NoMemory}
+use Rattle.script_lines.specs.declared.lines.LineFault.TheVariants.{Read, NoMemory}
+use Rattle.script_lines.specs.declared.lines.LineFault.TheVariants as line_fault
 use Rattle.script_lines.specs.declared.line.LineSays.{LineSays}
 use Rattle.script_lines.specs.declared.line.LineSays.TheVariants.{Skipped, Outside, Spells}
 use Rattle.script_lines.specs.Line.{line_says}
@@ -28,10 +30,10 @@ next_by Skipped number behind next = next
 next_by Outside number behind next = Refuses number
 next_by (Spells line) number behind next = Gives line behind
 
--- what comes next in these lines, behind so many others
-abbrev pub next_in : ℕ → List (List ℕ) → Next
-next_in number [] = AtEnd number
-next_in number (text ∷ behind) = next_by (line_says (number + 1) text) (number + 1) behind (next_in (number + 1) behind)
+-- what comes next in these lines of a script in a grammar, behind so many others
+abbrev pub next_in : Grammar → ℕ → List (List ℕ) → Next
+next_in grammar number [] = AtEnd number
+next_in grammar number (text ∷ behind) = next_by (line_says grammar (number + 1) text) (number + 1) behind (next_in grammar (number + 1) behind)
 
 -- nothing, or octets that end with a line feed
 abbrev pub IsWholeLines : List ℕ → Type 0
@@ -45,9 +47,9 @@ pub record TakesLines (before now : ℕ) (old new : List ℕ) : Type 0 where
   pub count : before + length (lines_of taken) ≡ now
 
 -- what a reading says of the octets before and after it, and of how many lines were read before and after it
-abbrev pub ReadsLine : ℕ → ℕ → Result (Option Line) LineFault → List ℕ → List ℕ → Type 0
-ReadsLine before now (Ok None) old new = (next_in before (lines_of old) ≡ AtEnd now) × (new ≡ [])
-ReadsLine before now (Ok (Some line)) old new = (next_in before (lines_of old) ≡ Gives line (lines_of new)) × (line.number ≡ now)
-ReadsLine before now (Err (Grammar line)) old new = (next_in before (lines_of old) ≡ Refuses line) × (next_in now (lines_of new) ≡ Refuses line)
-ReadsLine before now (Err Read) old new = next_in now (lines_of new) ≡ next_in before (lines_of old)
-ReadsLine before now (Err NoMemory) old new = next_in now (lines_of new) ≡ next_in before (lines_of old)
+abbrev pub ReadsLine : Grammar → ℕ → ℕ → Result (Option Line) LineFault → List ℕ → List ℕ → Type 0
+ReadsLine grammar before now (Ok None) old new = (next_in grammar before (lines_of old) ≡ AtEnd now) × (new ≡ [])
+ReadsLine grammar before now (Ok (Some line)) old new = (next_in grammar before (lines_of old) ≡ Gives line (lines_of new)) × (line.number ≡ now)
+ReadsLine grammar before now (Err (line_fault.Grammar line)) old new = (next_in grammar before (lines_of old) ≡ Refuses line) × (next_in grammar now (lines_of new) ≡ Refuses line)
+ReadsLine grammar before now (Err Read) old new = next_in grammar now (lines_of new) ≡ next_in grammar before (lines_of old)
+ReadsLine grammar before now (Err NoMemory) old new = next_in grammar now (lines_of new) ≡ next_in grammar before (lines_of old)

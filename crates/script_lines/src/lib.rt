@@ -4,16 +4,23 @@
 //! counted; what is outside the grammar is refused by its line's number.
 #![tactic(auto)]
 
+mod address;
 mod line;
 mod lines;
 mod names;
 mod number;
+mod object;
 mod pending;
 mod report;
+mod session_line;
 #[cfg(test)]
 mod tests;
+mod value;
+mod words;
 
-pub use line::{Line, LineSays};
+pub use address::read_peer;
+pub use line::{Grammar, Line, LineSays};
 pub use lines::{LineFault, Lines};
 pub use number::{signed, unsigned};
+pub use object::read_object;
 pub use report::write_report;

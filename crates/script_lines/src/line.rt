@@ -1,9 +1,11 @@
-ghost use Rattle.std.specs.Prelude.{◌≡◌, ◌==◌, position};
-ghost use Rattle.std.specs.List.{before_first, after_first};
+ghost use Rattle.std.specs.Prelude.{◌≡◌};
 ghost use Rattle.script_lines.specs.Line.{trial_object, is_skipped};
 
-use crate::number::{signed, unsigned};
-use bac_values::{FIRST_MOMENT, Input, LAST_MOMENT, ObjectId, ObjectKind, Value};
+use crate::number::signed;
+use crate::session_line::session_line;
+use crate::words::{read_moment, split_word};
+use bac_values::{Input, NoMemory, ObjectId, ObjectKind, Value};
+use std::alloc::Global;
 
 /// A line of a script.
 #[derive(Debug, Drop)]
@@ -14,6 +16,15 @@ pub struct Line {
     pub moment: u64,
     /// What comes in at that moment.
     pub input: Input,
+}
+
+/// Which lines a script may have.
+#[derive(Clone, Copy, Debug, PartialEq, Eq)]
+pub enum Grammar {
+    /// Those of a trial: `tick M` and `set M V`.
+    Trial,
+    /// Those of a session: `tick`, `pump`, `set` with an object, `fault` and `from`.
+    Session,
 }
 
 /// What the octets of a line say.
@@ -32,24 +43,6 @@ const MOST_LINES: u64 = 1_000_000;
 /// How many octets a line may have, its line feed not counted.
 pub const LONGEST_LINE: usize = 4096;
 
-// The place of the first blank.
-fn first_blank(text: &[u8]) -> Option<usize>
-    ensures place { result ≡ position (λ c. c == 32) text.now }
-{
-    text.iter().position(|octet| *octet == b' ')
-}
-
-// The first word of a text, and what follows the blank behind it.
-fn split_word(text: &[u8]) -> (&[u8], &[u8])
-    ensures word { result.0.now ≡ before_first (λ c. c == 32) text.now }
-    ensures others { result.1.now ≡ after_first (λ c. c == 32) text.now }
-{
-    match first_blank(text) {
-        Some(place) => (&text[..place], &text[place + 1..]),
-        None => (text, &[]),
-    }
-}
-
 // The object on trial, which is integer-value 1.
 fn object_on_trial() -> ObjectId
     ensures object { result ≡ trial_object }
@@ -65,27 +58,19 @@ fn is_skipped(text: &[u8]) -> bool
 }
 
 impl Line {
-    ghost use Rattle.std.specs.Prelude.{◌≡◌, IfSome};
-    ghost use Rattle.bac_values.specs.Moments.{IsMoment};
-    ghost use Rattle.script_lines.specs.Line.{moment_of, line_by_word, IsTrialLine};
+    ghost use Rattle.std.specs.Prelude.{◌≡◌, IfOk, IfSome, IsOk};
+    ghost use Rattle.script_lines.specs.Line.{line_by_word, line_of, IsLineOf, IsTrialLine};
+    ghost use Rattle.script_lines.specs.declared.line.Grammar.TheVariants.{Trial};
 
-    // The moment that a word names.
-    fn moment(word: &[u8]) -> Option<u64>
-        ensures moment { result ≡ moment_of word.now }
-        ensures in_range { IfSome result IsMoment }
-    {
-        unsigned(word, LAST_MOMENT).filter(|moment| *moment >= FIRST_MOMENT)
-    }
-
-    // The line that a text spells.
-    fn read(number: u64, text: &[u8]) -> Option<Line>
+    // The line of a trial that a text spells.
+    fn of_trial(number: u64, text: &[u8]) -> Option<Line>
         ensures line { result ≡ line_by_word number text.now }
         ensures number { IfSome result (λ line. line.number ≡ number) }
         ensures of_trial { IfSome result IsTrialLine }
     {
         let (word, others) = split_word(text);
         if word == b"tick".as_slice() {
-            let moment = Line::moment(others)?;
+            let moment = read_moment(others)?;
             return Some(Line {
                 number,
                 moment,
@@ -94,7 +79,7 @@ impl Line {
         }
         if word == b"set".as_slice() {
             let (moment, value) = split_word(others);
-            let moment = Line::moment(moment)?;
+            let moment = read_moment(moment)?;
             let value = Value::Signed(signed(value)?);
             let object = object_on_trial();
             return Some(Line {
@@ -105,27 +90,53 @@ impl Line {
         }
         None
     }
+
+    // The line that a text spells in a grammar.
+    fn read(
+        alloc: Global,
+        grammar: Grammar,
+        number: u64,
+        text: &[u8],
+    ) -> Result<Option<Line>, NoMemory>
+        ensures line { IfOk result (λ found. found ≡ line_of grammar number text.now) }
+        ensures number { IfOk result (λ found. IfSome found (λ line. line.number ≡ number)) }
+        ensures of_grammar { IfOk result (λ found. IfSome found (IsLineOf grammar)) }
+        ensures trial { grammar ≡ Trial → IsOk result }
+    {
+        match grammar {
+            Grammar::Trial => Ok(Line::of_trial(number, text)),
+            Grammar::Session => Ok(session_line(alloc, number, text)?),
+        }
+    }
 }
 
 impl LineSays {
-    ghost use Rattle.std.specs.Prelude.{◌≡◌};
-    ghost use Rattle.script_lines.specs.Line.{line_says, SpellsTrialLine};
+    ghost use Rattle.std.specs.Prelude.{◌≡◌, IfOk, IsOk};
+    ghost use Rattle.script_lines.specs.Line.{line_says, SpellsLine};
+    ghost use Rattle.script_lines.specs.declared.line.Grammar.TheVariants.{Trial};
 
-    /// What the octets of a trial's line say; its number counts blank lines and comments. A line has no line feed, at
-    /// most 4,096 octets, and a number up to 1,000,000: what is beyond that is outside the grammar.
-    pub fn of_trial(number: u64, text: &[u8]) -> LineSays
-        ensures says { result ≡ line_says number text.now }
-        ensures of_trial { SpellsTrialLine number result }
+    /// What the octets of a line say in a grammar; its number counts blank lines and comments. A line has no line feed,
+    /// at most 4,096 octets, and a number up to 1,000,000: what is beyond that is outside each grammar. Only a session's
+    /// line may want memory.
+    pub fn read(
+        alloc: Global,
+        grammar: Grammar,
+        number: u64,
+        text: &[u8],
+    ) -> Result<LineSays, NoMemory>
+        ensures says { IfOk result (λ says. says ≡ line_says grammar number text.now) }
+        ensures of_grammar { IfOk result (SpellsLine grammar number) }
+        ensures trial { grammar ≡ Trial → IsOk result }
     {
         if number > MOST_LINES || text.len() > LONGEST_LINE {
-            return LineSays::Outside;
+            return Ok(LineSays::Outside);
         }
         if is_skipped(text) {
-            return LineSays::Skipped;
+            return Ok(LineSays::Skipped);
         }
-        match Line::read(number, text) {
-            Some(line) => LineSays::Spells(line),
-            None => LineSays::Outside,
+        match Line::read(alloc, grammar, number, text)? {
+            Some(line) => Ok(LineSays::Spells(line)),
+            None => Ok(LineSays::Outside),
         }
     }
 }

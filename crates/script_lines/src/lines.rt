@@ -4,11 +4,12 @@ ghost use Rattle.std.specs.Io.KnownBytes.{Keeps, prepend_known, IsAtEnd};
 ghost use Rattle.ground_io.specs.Counts.{HasCause};
 ghost use Rattle.script_lines.specs.Script.{is_line_feed};
 ghost use Rattle.script_lines.specs.Taking.{IsOutside, taken_of};
+ghost use Rattle.script_lines.specs.declared.line.Grammar.TheVariants.{Trial, Session};
 ghost use Rattle.script_lines.specs.declared.lines.LineFault.TheVariants.{Read, NoMemory as WantsMemory};
 
 use crate::line::LONGEST_LINE;
 use crate::pending::Pending;
-use crate::{Line, LineSays};
+use crate::{Grammar, Line, LineSays};
 use bac_values::NoMemory;
 use ground_io::{Failed, Source};
 use std::alloc::{AllocError, Global};
@@ -32,6 +33,14 @@ impl From<AllocError> for LineFault {
     ghost from_gives = { λ _ fault. fault ≡ WantsMemory };
 
     fn from(_refused: AllocError) -> LineFault {
+        LineFault::NoMemory
+    }
+}
+
+impl From<NoMemory> for LineFault {
+    ghost from_gives = { λ _ fault. fault ≡ WantsMemory };
+
+    fn from(_refused: NoMemory) -> LineFault {
         LineFault::NoMemory
     }
 }
@@ -120,6 +129,8 @@ fn taken_of(number: u64, says: LineSays) -> Result<Taken, LineFault>
 /// A reader of a script's lines. Each call is handed the same source.
 #[derive(Drop)]
 pub struct Lines {
+    alloc: Global,
+    grammar: Grammar,
     pending: Pending,
     number: u64,
     ended: bool,
@@ -131,7 +142,7 @@ impl Model for Lines {
 
     ghost Value = { Reading };
 
-    ghost view = { λ lines. record { pending = lines.pending; number = lines.number; ended = lines.ended } };
+    ghost view = { λ lines. record { grammar = lines.grammar; pending = lines.pending; number = lines.number; ended = lines.ended } };
 
     ghost invariant = { λ lines. lines.number ≤ 1000000 };
 }
@@ -139,22 +150,38 @@ impl Model for Lines {
 impl Lines {
     ghost use Rattle.std.specs.Prelude.{◌+◌, ◌<◌, ◌≤◌, [], true, false, position, IfSome, OnSome};
     ghost use Rattle.std.specs.List.{before_first, position_or_len};
-    ghost use Rattle.script_lines.specs.Line.{IsTrialLine, SpellsTrialLine, line_says};
+    ghost use Rattle.script_lines.specs.Line.{IsLineOf, SpellsLine, line_says};
     ghost use Rattle.script_lines.specs.Reading.{octets_to_come};
     ghost use Rattle.ground_io.specs.Trace.{WhereTold};
     ghost use Rattle.script_lines.specs.Script.{is_line_feed, ReadsLine, TakesLines};
-    ghost use Rattle.script_lines.specs.Taking.{CountsLine, TakesLine, TakesTrialLine, behind_line};
+    ghost use Rattle.script_lines.specs.Taking.{CountsLine, TakesLine, TakesLineOf, behind_line};
 
-    /// A reader of a trial's script, at its first line.
-    pub fn trial(alloc: Global) -> Result<Lines, NoMemory>
-        ensures start { IfOk result (λ lines. lines ≡ record { pending = []; number = 0; ended = false }) }
+    // A reader of a script in a grammar, at its first line.
+    fn of(alloc: Global, grammar: Grammar) -> Result<Lines, NoMemory>
+        ensures start { IfOk result (λ lines. lines ≡ record { grammar = grammar; pending = []; number = 0; ended = false }) }
     {
         let pending = Pending::new(alloc)?;
         Ok(Lines {
+            alloc,
+            grammar,
             pending,
             number: 0,
             ended: false,
         })
+    }
+
+    /// A reader of a session's script, at its first line.
+    pub fn new(alloc: Global) -> Result<Lines, NoMemory>
+        ensures start { IfOk result (λ lines. lines ≡ record { grammar = Session; pending = []; number = 0; ended = false }) }
+    {
+        Lines::of(alloc, Grammar::Session)
+    }
+
+    /// A reader of a trial's script, at its first line.
+    pub fn trial(alloc: Global) -> Result<Lines, NoMemory>
+        ensures start { IfOk result (λ lines. lines ≡ record { grammar = Trial; pending = []; number = 0; ended = false }) }
+    {
+        Lines::of(alloc, Grammar::Trial)
     }
 
     /// How many lines were read. Blank lines and comments count, a line that is refused doesn't.
@@ -165,22 +192,23 @@ impl Lines {
     }
 
     // Takes what is pending of the line at the front, which is up to the first line feed, and says what it says. A line
-    // outside the grammar stays.
-    fn judge(&mut self, end: usize) -> LineSays
+    // outside the grammar stays, and so does one that wants memory.
+    fn judge(&mut self, end: usize) -> Result<LineSays, NoMemory>
         requires end { end ≡ position_or_len is_line_feed self.old.pending }
-        ensures says { result ≡ line_says (self.old.number + 1) (before_first is_line_feed self.old.pending) }
-        ensures rest { self.new ≡ behind_line result self.old }
-        ensures of_trial { SpellsTrialLine (self.old.number + 1) result }
+        ensures says { IfOk result (λ says. says ≡ line_says self.old.grammar (self.old.number + 1) (before_first is_line_feed self.old.pending)) }
+        ensures rest { IfOk result (λ says. self.new ≡ behind_line says self.old) }
+        ensures of_grammar { IfOk result (SpellsLine self.old.grammar (self.old.number + 1)) }
         ensures limit { self.new.number ≤ 1000000 }
+        ensures same { OnErr result (self.new ≡ self.old) }
     {
         let octets = self.pending.octets();
-        let says = LineSays::of_trial(self.number + 1, &octets[..end]);
+        let says = LineSays::read(self.alloc, self.grammar, self.number + 1, &octets[..end])?;
         if !matches!(&says, LineSays::Outside) {
             let width = octets.len().min(end + 1);
             self.pending.take(width);
             self.number += 1;
         }
-        says
+        Ok(says)
     }
 
     // Takes one line.
@@ -188,12 +216,13 @@ impl Lines {
         requires source { self.old.ended ≡ true → IsAtEnd (S.left source.old) }
         ensures source { self.new.ended ≡ true → IsAtEnd (S.left source.new) }
         ensures line { WhereTold (octets_to_come self.old (S.left source.old)) (octets_to_come self.new (S.left source.new))
-            (TakesLine self.old.number self.new.number result) }
+            (TakesLine self.old.grammar self.old.number self.new.number result) }
         ensures whole_lines { self.new.ended ≡ false → WhereTold (octets_to_come self.old (S.left source.old)) (octets_to_come self.new (S.left source.new))
             (TakesLines self.old.number self.new.number) }
         ensures at_end { result ≡ Ok Taken.End → IsAtEnd (S.left source.new) }
         ensures counts { IfOk result (CountsLine self.old.number self.new.number) }
-        ensures of_trial { IfOk result TakesTrialLine }
+        ensures of_grammar { IfOk result (TakesLineOf self.old.grammar) }
+        ensures grammar { self.new.grammar ≡ self.old.grammar }
         ensures limit { self.new.number ≤ 1000000 }
         ensures ended { self.new.ended ≡ false → self.old.ended ≡ false }
         ensures waits { result ≡ Err LineFault.Read → (self.new.ended ≡ false) × (position is_line_feed self.new.pending ≡ None) }
@@ -204,24 +233,26 @@ impl Lines {
             return Ok(Taken::End);
         }
         let number = self.number + 1;
-        taken_of(number, self.judge(end))
+        let says = self.judge(end)?;
+        taken_of(number, says)
     }
 
-    /// The next line of a trial's script, or none at its end. Blank lines and comments are passed over and counted.
+    /// The next line of the script, or none at its end. Blank lines and comments are passed over and counted.
     ///
-    /// `Grammar` comes at a line outside the grammar, which stays the next one. After the source's end it is never read
-    /// again.
+    /// `Grammar` comes at a line outside the grammar, which stays the next one. After `NoMemory` the line that wanted it
+    /// is still to come. After the source's end it is never read again.
     pub fn next_line<S: Source>(&mut self, source: &mut S) -> Result<Option<Line>, LineFault>
         // The same source is handed to each call: where its end was seen, it is at its end.
         requires source { self.old.ended ≡ true → IsAtEnd (S.left source.old) }
         ensures source { self.new.ended ≡ true → IsAtEnd (S.left source.new) }
 
         ensures line { WhereTold (octets_to_come self.old (S.left source.old)) (octets_to_come self.new (S.left source.new))
-            (ReadsLine self.old.number self.new.number result) }
+            (ReadsLine self.old.grammar self.old.number self.new.number result) }
         ensures whole_lines { self.new.ended ≡ false → WhereTold (octets_to_come self.old (S.left source.old)) (octets_to_come self.new (S.left source.new))
             (TakesLines self.old.number self.new.number) }
         ensures at_end { result ≡ Ok None → IsAtEnd (S.left source.new) }
-        ensures of_trial { IfOk result (λ found. IfSome found IsTrialLine) }
+        ensures of_grammar { IfOk result (λ found. IfSome found (IsLineOf self.old.grammar)) }
+        ensures grammar { self.new.grammar ≡ self.old.grammar }
         ensures grows { IfOk result (λ found. OnSome found (self.old.number < self.new.number)) }
         ensures limit { self.new.number ≤ 1000000 }
 

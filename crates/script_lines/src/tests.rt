@@ -97,10 +97,10 @@ fn skipped_lines_count_and_the_last_may_lack_its_line_feed(rt: HostRuntime) -> R
     Ok(())
 }
 
-// The number of the first line of a script that is refused, or 0 where it is read to its end.
-fn refused(alloc: Global, script: &[u8]) -> Option<u64> {
+// The number of the first line that is refused, or 0 where all are read.
+fn first_refused(lines: Result<Lines, NoMemory>, script: &[u8]) -> Option<u64> {
     let mut source = Pieces::of(script, 100);
-    let mut lines = Lines::trial(alloc).ok()?;
+    let mut lines = lines.ok()?;
     for _ in 0..10 {
         match lines.next_line(&mut source) {
             Ok(Some(_)) => {}
@@ -110,6 +110,11 @@ fn refused(alloc: Global, script: &[u8]) -> Option<u64> {
         }
     }
     None
+}
+
+// The same in a trial's script.
+fn refused(alloc: Global, script: &[u8]) -> Option<u64> {
+    first_refused(Lines::trial(alloc), script)
 }
 
 #[test]
@@ -147,10 +152,12 @@ fn a_line_has_at_most_4096_octets(rt: HostRuntime) -> Result<(), Fail> {
 
 #[test]
 fn a_line_beyond_the_last_is_refused_also_where_it_would_be_skipped(rt: HostRuntime) {
-    let last = LineSays::of_trial(1_000_000, b"");
-    assert!(rt; matches!(&last, LineSays::Skipped));
-    let beyond = LineSays::of_trial(1_000_001, b"");
-    assert!(rt; matches!(&beyond, LineSays::Outside));
+    for grammar in [Grammar::Trial, Grammar::Session] {
+        let last = LineSays::read(rt.alloc(), grammar, 1_000_000, b"");
+        assert!(rt; matches!(&last, Ok(LineSays::Skipped)));
+        let beyond = LineSays::read(rt.alloc(), grammar, 1_000_001, b"");
+        assert!(rt; matches!(&beyond, Ok(LineSays::Outside)));
+    }
 }
 
 #[test]
@@ -264,4 +271,174 @@ fn summary_of_a_workload(rt: HostRuntime) {
     };
     let text = "workload 7 20000 events 19000 changes 300 sends 299 full 1\n";
     assert!(rt; is_written(alloc, summary, text));
+}
+
+// The one line of a session's script, with its input.
+fn session_input(alloc: Global, text: &str) -> Option<Input> {
+    let read = LineSays::read(alloc, Grammar::Session, 7, text.as_bytes());
+    match read.ok()? {
+        LineSays::Spells(line) => {
+            let Line {
+                number,
+                moment,
+                input,
+            } = line;
+            if number == 7 && moment == 1_700_000_000_000 {
+                Some(input)
+            } else {
+                None
+            }
+        }
+        _ => None,
+    }
+}
+
+// Whether a session's line sets an object of this type and instance to this value.
+fn sets(alloc: Global, text: &str, number: u16, instance: u32, wanted: &Value) -> bool {
+    let Some(input) = session_input(alloc, text) else {
+        return false;
+    };
+    let Input::Set { object, value } = &input else {
+        return false;
+    };
+    object.number() == number && object.instance() == instance && value == wanted
+}
+
+#[test]
+fn lines_of_a_session_succeed_with_ample_memory(rt: HostRuntime) -> Result<(), Fail> {
+    let alloc = rt.alloc();
+    let tick = session_input(alloc, "tick 1700000000000").ok_or("no tick")?;
+    assert!(rt; matches!(&tick, Input::Tick));
+    let pump = session_input(alloc, "pump 1700000000000").ok_or("no pump")?;
+    assert!(rt; matches!(&pump, Input::Pump));
+    let set = "set 1700000000000";
+    let text = format!(in alloc; "{set} integer-value:0 signed:-2147483648")?;
+    assert!(rt; sets(alloc, text.as_str(), 45, 0, &Value::Signed(i32::MIN)));
+    let text = format!(in alloc; "{set} positive-integer-value:4194303 unsigned:4294967295")?;
+    assert!(rt;
+        sets(
+            alloc,
+            text.as_str(),
+            48,
+            4_194_303,
+            &Value::Unsigned(u32::MAX)
+        )
+    );
+    let text = format!(in alloc; "{set} binary-value:1 active")?;
+    assert!(rt; sets(alloc, text.as_str(), 5, 1, &Value::Enumerated(1)));
+    let text = format!(in alloc; "{set} binary-value:1 inactive")?;
+    assert!(rt; sets(alloc, text.as_str(), 5, 1, &Value::Enumerated(0)));
+    let text = format!(in alloc; "{set} bitstring-value:2 bits:0111")?;
+    let bits = Bits::new(4, 0b1110).map_err(|_| "bits")?;
+    assert!(rt; sets(alloc, text.as_str(), 39, 2, &Value::Bits(bits)));
+    let text = format!(in alloc; "{set} bitstring-value:2 bits:")?;
+    let bits = Bits::new(0, 0).map_err(|_| "bits")?;
+    assert!(rt; sets(alloc, text.as_str(), 39, 2, &Value::Bits(bits)));
+    let text = format!(in alloc; "{set} characterstring-value:3 text:C3bc21")?;
+    let wanted = Text::new(alloc, "\u{fc}!").map_err(|_| "text")?;
+    assert!(rt; sets(alloc, text.as_str(), 40, 3, &Value::Text(wanted)));
+    let text = format!(in alloc; "{set} characterstring-value:3 text:")?;
+    let wanted = Text::new(alloc, "").map_err(|_| "text")?;
+    assert!(rt; sets(alloc, text.as_str(), 40, 3, &Value::Text(wanted)));
+    Ok(())
+}
+
+#[test]
+fn faults_and_datagrams_of_a_session(rt: HostRuntime) -> Result<(), Fail> {
+    let alloc = rt.alloc();
+    let text = "fault 1700000000000 multi-state-value:5 4294967295";
+    let input = session_input(alloc, text).ok_or("no fault")?;
+    let Input::Fault {
+        object,
+        reliability,
+    } = &input
+    else {
+        return Err(Fail::from("another line"));
+    };
+    assert_eq!(rt; object.number(), 19);
+    assert_eq!(rt; object.instance(), 5);
+    assert_eq!(rt; *reliability, u32::MAX);
+    let text = "from 1700000000000 10.0.1.254:65535 810aFF";
+    let input = session_input(alloc, text).ok_or("no datagram")?;
+    let Input::Datagram { peer, bytes } = &input else {
+        return Err(Fail::from("another line"));
+    };
+    assert_eq!(rt; peer.ip, 0x0A00_01FE);
+    assert_eq!(rt; peer.port, 65_535);
+    assert!(rt; bytes.as_slice() == [0x81u8, 0x0A, 0xFF].as_slice());
+    Ok(())
+}
+
+#[test]
+fn what_is_outside_a_sessions_grammar_is_refused(rt: HostRuntime) {
+    let alloc = rt.alloc();
+    for text in [
+        "set 1700000000000 5",
+        "tick",
+        "tick 1700000000000 ",
+        "pump 5",
+        "pump 1700000000000 1",
+        "Pump 1700000000000",
+        "set 1700000000000 integer-value:4194304 signed:1",
+        "set 1700000000000 integer-value:01 signed:1",
+        "set 1700000000000 integer-value signed:1",
+        "set 1700000000000 integer-values:1 signed:1",
+        "set 1700000000000 45:1 signed:1",
+        "set 1700000000000 integer-value:1",
+        "set 1700000000000 integer-value:1 ",
+        "set 1700000000000 integer-value:1  signed:1",
+        "set 1700000000000 integer-value:1 signed:1 ",
+        "set 1700000000000 integer-value:1 signed:2147483648",
+        "set 1700000000000 integer-value:1 signed:-0",
+        "set 1700000000000 integer-value:1 unsigned:4294967296",
+        "set 1700000000000 integer-value:1 unsigned:-1",
+        "set 1700000000000 integer-value:1 active:",
+        "set 1700000000000 integer-value:1 bits",
+        "set 1700000000000 integer-value:1 bits:012",
+        "set 1700000000000 integer-value:1 text",
+        "set 1700000000000 integer-value:1 text:6",
+        "set 1700000000000 integer-value:1 text:6g",
+        "set 1700000000000 integer-value:1 text:ff",
+        "fault 1700000000000 integer-value:1",
+        "fault 1700000000000 integer-value:1 4294967296",
+        "fault 1700000000000 integer-value:1 07",
+        "from 1700000000000 10.0.0.1:0 81",
+        "from 1700000000000 10.0.0.1:65536 81",
+        "from 1700000000000 10.0.0.1:080 81",
+        "from 1700000000000 10.0.0.1 81",
+        "from 1700000000000 10.0.1:80 81",
+        "from 1700000000000 10.0.0.0.1:80 81",
+        "from 1700000000000 10.0.00.1:80 81",
+        "from 1700000000000 10.0.0.256:80 81",
+        "from 1700000000000 10.0.0.1:80 ",
+        "from 1700000000000 10.0.0.1:80 8",
+        "from 1700000000000 10.0.0.1:80 81 0a",
+    ] {
+        let read = LineSays::read(alloc, Grammar::Session, 1, text.as_bytes());
+        assert!(rt; matches!(&read, Ok(LineSays::Outside)), "{text}");
+    }
+}
+
+#[test]
+fn longest_bits_texts_and_datagrams(rt: HostRuntime) -> Result<(), Fail> {
+    let alloc = rt.alloc();
+    for (front, part, most) in [
+        ("set 1700000000000 bitstring-value:1 bits:", "1", 64),
+        ("set 1700000000000 characterstring-value:1 text:", "6a", 256),
+        ("from 1700000000000 1.2.3.4:5 ", "81", 1497),
+    ] {
+        let longest = String::from_str(alloc, part)?.repeat(alloc, most)?;
+        let text = format!(in alloc; "{front}{longest}")?;
+        assert!(rt; session_input(alloc, text.as_str()).is_some());
+        let longer = format!(in alloc; "{text}{part}")?;
+        assert!(rt; session_input(alloc, longer.as_str()).is_none());
+    }
+    Ok(())
+}
+
+#[test]
+fn a_sessions_script_is_read_line_by_line(rt: HostRuntime) {
+    let lines = Lines::new(rt.alloc());
+    let script = b"# one\npump 1700000000000\nset 1700000000000 90\n";
+    assert_eq!(rt; first_refused(lines, script), Some(3));
 }

@@ -5,11 +5,12 @@ use Rattle.script_lines.specs.Reading.{octets_to_come}
 use Rattle.script_lines.specs.Script.{lines_of, next_in, TakesLines}
 use Rattle.script_lines.proofs.lines.Lines.next_line.Given as goal
 
--- what comes next is the same, whole lines were taken unless the source's end was seen, and faults were counted only upwards
+-- what comes next is the same, in the same grammar, whole lines were taken unless the source's end was seen, and faults were counted only upwards
 abbrev pub invariant-loop-line : goal.invariant-loop-line
 invariant-loop-line g l = record {
   next : WhereTold (octets_to_come l.initial.self (g.S.Source.left l.initial.source)) (octets_to_come l.self (g.S.Source.left l.source))
-      (λ old new. next_in l.self.number (lines_of new) ≡ next_in l.initial.self.number (lines_of old));
+      (λ old new. next_in l.initial.self.grammar l.self.number (lines_of new) ≡ next_in l.initial.self.grammar l.initial.self.number (lines_of old));
+  grammar : l.self.grammar ≡ l.initial.self.grammar;
   whole : l.self.ended ≡ false → WhereTold (octets_to_come l.initial.self (g.S.Source.left l.initial.source)) (octets_to_come l.self (g.S.Source.left l.source))
       (TakesLines l.initial.self.number l.self.number);
   source : l.self.ended ≡ true → IsAtEnd (g.S.Source.left l.source);

@@ -5,17 +5,17 @@ use Rattle.script_lines.proofs.lines.Lines.take_line.Goals as goal
 
 pub returns-clause-line : goal.returns-clause-line
 returns-clause-line g c =
-    let now : Reading = record { pending = c.find_end.new.pending; number = c.self.inside.number; ended = c.find_end.new.ended } in
+    let now : Reading = record { grammar = c.self.inside.grammar; pending = c.find_end.new.pending; number = c.self.inside.number; ended = c.find_end.new.ended } in
     let some : 0 < length now.pending = search rules in
     let found : IsFoundBy now = rw c.in_ok-end.ensures.end at c.in_ok-end.ensures.found in
     rw (← c.self.view_is, c.taken_of.ensures.taken)
-    (judged c.judge.result c.self.inside.pending now c.judge.new.self (g.S.Source.left c.args.source.now) (g.S.Source.left c.find_end.new.source)
-    c.find_end.ensures.octets some found c.find_end.ensures.source c.judge.ensures.says c.judge.ensures.rest c.judge.ensures.of_trial)
+    (judged c.in_ok-says.says c.self.inside.pending now c.judge.new.self (g.S.Source.left c.args.source.now) (g.S.Source.left c.find_end.new.source)
+    c.find_end.ensures.octets some found c.find_end.ensures.source c.in_ok-says.ensures.says c.in_ok-says.ensures.rest c.in_ok-says.ensures.of_grammar)
 
 pub returns-clause-whole_lines : goal.returns-clause-whole_lines
 returns-clause-whole_lines g c = λ goes_on.
-    let now : Reading = record { pending = c.find_end.new.pending; number = c.self.inside.number; ended = c.find_end.new.ended } in
+    let now : Reading = record { grammar = c.self.inside.grammar; pending = c.find_end.new.pending; number = c.self.inside.number; ended = c.find_end.new.ended } in
     let found : IsFoundBy now = rw c.in_ok-end.ensures.end at c.in_ok-end.ensures.found in
     rw (← c.self.view_is)
-    (judged_whole c.judge.result c.self.inside.pending now c.judge.new.self (g.S.Source.left c.args.source.now) (g.S.Source.left c.find_end.new.source)
-    c.find_end.ensures.octets found c.judge.ensures.says c.judge.ensures.rest goes_on)
+    (judged_whole c.in_ok-says.says c.self.inside.pending now c.judge.new.self (g.S.Source.left c.args.source.now) (g.S.Source.left c.find_end.new.source)
+    c.find_end.ensures.octets found c.in_ok-says.ensures.says c.in_ok-says.ensures.rest goes_on)

@@ -1,0 +1,104 @@
+ghost use Rattle.std.specs.Prelude.{◌≡◌};
+ghost use Rattle.event_machine.specs.Finding.{as_finding, names_last, names_state};
+ghost use Rattle.ack_alarm.specs.Verdicts.{AcceptsAllowed, acknowledgement_verdict, is_stamp, transition_named, verdict_on, verdict_with};
+
+use crate::Verdict;
+use bac_values::{EventState, Transition};
+use event_machine::{Alarm, Found};
+use event_services::{AckRequest, AckStamp};
+
+fn transition_named(number: u32) -> Transition
+    ensures transition { result ≡ transition_named number }
+{
+    match number {
+        0 => Transition::ToNormal,
+        1 => Transition::ToFault,
+        _ => Transition::ToOffnormal,
+    }
+}
+
+fn is_stamp(alarm: &Alarm, transition: Transition, stamp: AckStamp) -> bool
+    ensures stamp { result ≡ is_stamp alarm.now transition stamp }
+{
+    let AckStamp::DateTime(stamp) = stamp else {
+        return false;
+    };
+    let place = transition.place();
+    alarm.last_states()[place].is_some() && alarm.stamps()[place].octets == stamp.octets
+}
+
+// Whether the state that is named is the one that was entered.
+fn names_state(last: EventState, named: EventState) -> bool
+    ensures names { result ≡ names_state last named }
+{
+    match (last, named) {
+        (EventState::Normal, EventState::Normal)
+        | (EventState::Fault, EventState::Fault)
+        | (EventState::Offnormal, EventState::Offnormal)
+        | (EventState::HighLimit, EventState::HighLimit)
+        | (EventState::LowLimit, EventState::LowLimit)
+        | (EventState::HighLimit, EventState::Offnormal)
+        | (EventState::LowLimit, EventState::Offnormal) => true,
+        _ => false,
+    }
+}
+
+fn names_last(last: Option<EventState>, named: EventState) -> bool
+    ensures names { result ≡ names_last last named }
+{
+    match last {
+        Some(last) => names_state(last, named),
+        None => false,
+    }
+}
+
+// The verdict where the stamp is right.
+fn verdict_with(
+    last: Option<EventState>,
+    acked: bool,
+    transition: Transition,
+    named: Option<EventState>,
+) -> Verdict
+    ensures verdict { result ≡ verdict_with last acked transition named }
+{
+    let Some(state) = named else {
+        return Verdict::Error { class: 5, code: 73 };
+    };
+    if !names_last(last, state) {
+        return Verdict::Error { class: 5, code: 73 };
+    }
+    if acked {
+        return Verdict::Already;
+    }
+    Verdict::Accept { transition, state }
+}
+
+fn verdict_on(alarm: &Alarm, transition: Transition, request: &AckRequest) -> Verdict
+    ensures verdict { result ≡ verdict_on alarm.now transition request.now }
+{
+    if !is_stamp(alarm, transition, request.stamp) {
+        return Verdict::Error { class: 5, code: 14 };
+    }
+    let place = transition.place();
+    let named = EventState::of_number(request.state);
+    verdict_with(
+        alarm.last_states()[place],
+        alarm.acked()[place],
+        transition,
+        named,
+    )
+}
+
+/// The verdict on a request to acknowledge, from what was found under its identifier: the first of the cases unknown
+/// object, no alarm configured, invalid time stamp, invalid event state, already acknowledged, accepted. No memory is
+/// taken.
+pub fn judge(found: Found<'_>, request: &AckRequest) -> Verdict
+    ensures verdict { result ≡ acknowledgement_verdict (as_finding found.entry) request.now }
+    ensures accepts { AcceptsAllowed (as_finding found.entry) result }
+{
+    match found {
+        Found::NoObject => Verdict::Error { class: 1, code: 31 },
+        Found::NoAlarm => Verdict::Error { class: 1, code: 74 },
+        Found::Has(alarm) => verdict_on(alarm, transition_named(request.state), request),
+    }
+}

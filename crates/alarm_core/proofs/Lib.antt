@@ -1,0 +1,3 @@
+pub mod Still
+pub mod Standing
+pub mod Moved

@@ -1,0 +1,39 @@
+-- What there is under an identifier.
+use Rattle.std.specs.Prelude.{ℕ, Bool, ◌||◌, if◌then◌else◌, Option, Some, None, List, find, is_some}
+use Rattle.std.specs.List.{list_any}
+use Rattle.bac_values.specs.Identifier.{Identifier, number_of_kind}
+use Rattle.bac_values.specs.declared.object_kind.ObjectKind.TheVariants.{Device, NotificationClass}
+use Rattle.event_machine.specs.Finding.{Finding, NoSuchObject, WithoutAlarm, WithAlarm}
+use Rattle.object_table.specs.Rows.{is_object, row_of}
+use Rattle.alarm_core.specs.declared.site.ClassSite.{ClassSite}
+use Rattle.alarm_core.specs.declared.site.EnrollmentSite.{EnrollmentSite}
+use Rattle.alarm_core.specs.declared.site.LogSite.{LogSite}
+use Rattle.alarm_core.specs.declared.site.Site.{Site}
+use Rattle.alarm_core.specs.State.{State, Tracked}
+
+abbrev pub device_object : Site → Identifier
+device_object site = record { number = number_of_kind Device; instance = site.device.instance }
+
+abbrev pub class_object : ClassSite → Identifier
+class_object listed = record { number = number_of_kind NotificationClass; instance = listed.class.instance }
+
+-- whether a site has the object beside its value objects
+abbrev pub is_other_object : Site → Identifier → Bool
+is_other_object site object =
+    is_object object (device_object site)
+    || (list_any (λ (listed : ClassSite). is_object object (class_object listed)) site.classes
+    || (list_any (λ (listed : EnrollmentSite). is_object object listed.object) site.enrollments
+    || list_any (λ (listed : LogSite). is_object object listed.object) site.logs))
+
+abbrev pub has_object : State → Identifier → Bool
+has_object state object = is_some (row_of object state.rows) || is_other_object state.site object
+
+abbrev pub tracked_in : Identifier → List Tracked → Option Tracked
+tracked_in object alarms = find (λ tracked. is_object object tracked.object) alarms
+
+abbrev pub finding_of : Option Tracked → Bool → Finding
+finding_of (Some tracked) there = WithAlarm tracked.alarm
+finding_of None there = if there then WithoutAlarm else NoSuchObject
+
+abbrev pub found_in : State → Identifier → Finding
+found_in state object = finding_of (tracked_in object state.alarms) (has_object state object)

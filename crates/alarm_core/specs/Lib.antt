@@ -1,0 +1,9 @@
+pub mod Sites
+pub mod Sights
+pub mod History
+pub mod State
+pub mod Found
+pub mod Allowed
+pub mod Next
+pub mod Moves
+pub mod Laws

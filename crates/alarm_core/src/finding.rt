@@ -1,0 +1,78 @@
+ghost use Rattle.std.specs.Prelude.{◌≡◌, find};
+ghost use Rattle.std.specs.List.{list_any};
+ghost use Rattle.std.specs.Option.{option_map};
+ghost use Rattle.bac_values.specs.Identifier.{number_of_kind};
+ghost use Rattle.object_table.specs.Rows.{is_object};
+ghost use Rattle.alarm_core.specs.Found.{class_object, device_object, is_other_object, tracked_in};
+
+use crate::watched::Watched;
+use crate::{ClassSite, EnrollmentSite, LogSite, Site};
+use bac_values::{ObjectId, ObjectKind};
+
+// Whether an identifier is that of an object of a kind with this instance.
+fn is_of_kind(object: ObjectId, kind: ObjectKind, instance: u32) -> bool
+    ensures same { result ≡ is_object object (record { number = number_of_kind kind; instance = instance }) }
+{
+    object.number() == kind.number() && object.instance() == instance
+}
+
+fn is_class(listed: &ClassSite, object: ObjectId) -> bool
+    ensures same { result ≡ is_object object (class_object listed.now) }
+{
+    is_of_kind(object, ObjectKind::NotificationClass, listed.class.instance)
+}
+
+fn is_enrollment(listed: &EnrollmentSite, object: ObjectId) -> bool
+    ensures same { result ≡ is_object object listed.now.object }
+{
+    listed.object == object
+}
+
+fn is_log(listed: &LogSite, object: ObjectId) -> bool
+    ensures same { result ≡ is_object object listed.now.object }
+{
+    listed.object == object
+}
+
+fn some_class(classes: &[ClassSite], object: ObjectId) -> bool
+    ensures some { result ≡ list_any (λ (listed : ClassSite). is_object object (class_object listed)) classes.now }
+{
+    classes.iter().any(|listed| is_class(listed, object))
+}
+
+fn some_enrollment(enrollments: &[EnrollmentSite], object: ObjectId) -> bool
+    ensures some { result ≡ list_any (λ (listed : EnrollmentSite). is_object object listed.object) enrollments.now }
+{
+    enrollments
+        .iter()
+        .any(|listed| is_enrollment(listed, object))
+}
+
+fn some_log(logs: &[LogSite], object: ObjectId) -> bool
+    ensures some { result ≡ list_any (λ (listed : LogSite). is_object object listed.object) logs.now }
+{
+    logs.iter().any(|listed| is_log(listed, object))
+}
+
+/// Whether a site has the object beside its value objects.
+pub(crate) fn is_other_object(site: &Site, object: ObjectId) -> bool
+    ensures other { result ≡ is_other_object site.now object }
+{
+    is_of_kind(object, ObjectKind::Device, site.device.instance)
+        || some_class(site.classes.as_slice(), object)
+        || some_enrollment(site.enrollments.as_slice(), object)
+        || some_log(site.logs.as_slice(), object)
+}
+
+fn is_watched(watched: &Watched, object: ObjectId) -> bool
+    ensures same { result ≡ is_object object watched.now.object }
+{
+    watched.object() == object
+}
+
+/// The object with this identifier.
+pub(crate) fn watched_in(alarms: &[Watched], object: ObjectId) -> Option<&Watched>
+    ensures found { option_map (λ watched. watched.now) result ≡ tracked_in object alarms.now }
+{
+    alarms.iter().find(|watched| is_watched(watched, object))
+}

@@ -1,0 +1,101 @@
+-- The pieces and the states of lines, one after the other; and the report by the history.
+use Rattle.std.proofs.Common.{◌≡◌, ℕ, ◌+◌, ◌≤◌, Option, Some, None, List, [], ◌∷◌, ◌++◌, length, refl, ap, ◌∙◌, sym, subst, arith}
+use Rattle.bac_values.specs.declared.report.ReportLine.{ReportLine}
+use Rattle.script_lines.specs.declared.line.Grammar.TheVariants.{Session}
+use Rattle.script_lines.specs.declared.line.Line.{Line}
+use Rattle.script_lines.specs.Script.{lines_of}
+use Rattle.alarm_core.specs.declared.event.Event.{Event}
+use Rattle.alarm_core.specs.declared.site.Site.{Site}
+use Rattle.alarm_core.specs.Next.{next_state}
+use Rattle.alarm_core.specs.State.{State, state_of}
+use Rattle.alarm_core.proofs.Standing.{stands}
+use Rattle.service_desk.specs.declared.decision.Decision.{Decision}
+use Rattle.service_desk.specs.declared.decision.Decision.TheVariants.{Ignore, Idle, Refuse, Reply, Enter}
+use Rattle.alarm_server.specs.Script.{spelled_in, refused_in}
+use Rattle.alarm_server.specs.Session.{decision_for, event_in, open_piece, piece_of, pieces_over, session_end, session_over, state_by, state_over, state_with}
+use Rattle.alarm_server.specs.Report.{front_pieces, history_by, history_over, history_with, pieces_of, report_of}
+
+pub states-none : (state : State) → state_over state [] ≡ state
+unfolding state_over
+states-none state = refl
+
+pub states-first : (state : State) (line : Line) (lines : List Line) → state_over state (line ∷ lines) ≡ state_over (state_with state line) lines
+unfolding state_over
+states-first state line lines = refl
+
+pub pieces-none : (state : State) → pieces_over state [] ≡ []
+unfolding pieces_over
+pieces-none state = refl
+
+pub pieces-first : (state : State) (line : Line) (lines : List Line) → pieces_over state (line ∷ lines) ≡ piece_of state line ∷ pieces_over (state_with state line) lines
+unfolding pieces_over
+pieces-first state line lines = refl
+
+-- lines and then others
+pub states-append : (lines others : List Line) (state : State) → state_over state (lines ++ others) ≡ state_over (state_over state lines) others
+states-append [] others state = ap (λ s. state_over s others) (sym (states-none state))
+states-append (line ∷ lines) others state =
+    states-first state line (lines ++ others)
+    ∙ (states-append lines others (state_with state line) ∙ ap (λ s. state_over s others) (sym (states-first state line lines)))
+
+pub pieces-append : (lines others : List Line) (state : State) → pieces_over state (lines ++ others) ≡ pieces_over state lines ++ pieces_over (state_over state lines) others
+pieces-append [] others state =
+    ap (λ s. pieces_over s others) (sym (states-none state)) ∙ ap (λ ps. ps ++ pieces_over (state_over state []) others) (sym (pieces-none state))
+pieces-append (line ∷ lines) others state =
+    pieces-first state line (lines ++ others)
+    ∙ (ap (λ ps. piece_of state line ∷ ps) (pieces-append lines others (state_with state line))
+    ∙ (ap (λ s. piece_of state line ∷ (pieces_over (state_with state line) lines ++ pieces_over s others)) (sym (states-first state line lines))
+    ∙ ap (λ ps. ps ++ pieces_over (state_over state (line ∷ lines)) others) (sym (pieces-first state line lines))))
+
+-- one more line
+pub states-next : (lines : List Line) (line : Line) (state : State) → state_over state (lines ++ line ∷ []) ≡ state_with (state_over state lines) line
+states-next lines line state =
+    states-append lines (line ∷ []) state ∙ (states-first (state_over state lines) line [] ∙ states-none (state_with (state_over state lines) line))
+
+pub pieces-next : (lines : List Line) (line : Line) (state : State) → pieces_over state (lines ++ line ∷ []) ≡ pieces_over state lines ++ piece_of (state_over state lines) line ∷ []
+pieces-next lines line state =
+    pieces-append lines (line ∷ []) state
+    ∙ ap (λ ps. pieces_over state lines ++ ps) (pieces-first (state_over state lines) line [] ∙ ap (λ ps. piece_of (state_over state lines) line ∷ ps) (pieces-none (state_with (state_over state lines) line)))
+
+-- a line adds at most one event
+event_adds : (state : State) (event : Option Event) → (state_by state event).events ≤ state.events + 1
+event_adds state None = omega arith
+event_adds state (Some event) = omega arith
+
+pub line_adds : (state : State) (line : Line) → (state_with state line).events ≤ state.events + 1
+line_adds state line = event_adds state (event_in state (decision_for state line))
+
+-- the state of the history with an event
+history_state : (site : Site) (history : List Event) (event : Option Event) → state_by (state_of site history) event ≡ state_of site (history_by history event)
+history_state site history None = refl
+history_state site history (Some event) = stands.state site event history
+
+states_are : (site : Site) (lines : List Line) (history : List Event) → state_over (state_of site history) lines ≡ state_of site (history_over site history lines)
+unfolding history_over
+states_are site [] history = states-none (state_of site history)
+states_are site (line ∷ lines) history =
+    let state = state_of site history in
+    states-first state line lines
+    ∙ (ap (λ s. state_over s lines) (history_state site history (event_in state (decision_for state line)))
+    ∙ states_are site lines (history_with site history line))
+
+pieces_are : (site : Site) (lines : List Line) (history : List Event) → pieces_over (state_of site history) lines ≡ pieces_of site history lines
+unfolding pieces_of
+pieces_are site [] history = pieces-none (state_of site history)
+pieces_are site (line ∷ lines) history =
+    let state = state_of site history in
+    pieces-first state line lines
+    ∙ (ap (λ s. piece_of state line ∷ pieces_over s lines) (history_state site history (event_in state (decision_for state line)))
+    ∙ ap (λ ps. piece_of state line ∷ ps) (pieces_are site lines (history_with site history line)))
+
+-- the report by the history is the one by the state
+pub report_is : (site : Site) (history : List Event) (script : List ℕ) → session_over (state_of site history) (lines_of script) ≡ report_of site history script
+report_is site history script =
+    let lines = spelled_in Session 0 (lines_of script) in
+    let state = state_of site history in
+    let end = session_end (refused_in Session 0 (lines_of script)) (length (lines_of script)) in
+    ap (λ ps. (open_piece state ∷ ps) ++ end (state_over state lines)) (pieces_are site lines history)
+    ∙ ap (λ s. (open_piece state ∷ pieces_of site history lines) ++ end s) (states_are site lines history)
+
+pub front_is : (site : Site) (history : List Event) (front : List ℕ) → open_piece (state_of site history) ∷ pieces_over (state_of site history) (spelled_in Session 0 (lines_of front)) ≡ front_pieces site history front
+front_is site history front = ap (λ ps. open_piece (state_of site history) ∷ ps) (pieces_are site (spelled_in Session 0 (lines_of front)) history)

@@ -1,0 +1,283 @@
+-- How far a session has come.
+use Rattle.std.proofs.Common.{◌≡◌, ℕ, ◌+◌, ◌≤◌, Option, Some, None, Ok, Err, Bool, false, List, [], ◌∷◌, ◌++◌, IfSome, length, refl, ap, ◌∙◌, sym, subst, arith, append_assoc, inl}
+use Rattle.std.specs.List.{position}
+use Rattle.std.specs.Io.KnownBytes.{prepend_known}
+use Rattle.std.proofs.lemmas.List.{append-nil}
+use Rattle.bac_values.specs.declared.report.ReportLine.{ReportLine}
+use Rattle.ground_io.specs.Trace.{Told, Adds, WhereTold}
+use Rattle.script_lines.specs.declared.line.Grammar.TheVariants.{Session}
+use Rattle.script_lines.specs.declared.line.Line.{Line}
+use Rattle.script_lines.specs.declared.lines.LineFault.{LineFault}
+use Rattle.script_lines.specs.declared.lines.LineFault.TheVariants.{Grammar, Read, NoMemory}
+use Rattle.script_lines.specs.Script.{AtEnd, is_line_feed, next_in, lines_of, ReadsLine, TakesLines}
+use Rattle.alarm_core.specs.declared.site.Site.{Site}
+use Rattle.alarm_core.specs.Next.{first_state}
+use Rattle.alarm_core.specs.State.{State}
+use Rattle.alarm_core.proofs.Standing.{stands}
+use Rattle.alarm_server.specs.declared.emission.Unsent.{Unsent}
+use Rattle.alarm_server.specs.declared.emission.Unsent.TheVariants as unsent
+use Rattle.alarm_server.specs.declared.status.Status.{Status}
+use Rattle.alarm_server.specs.declared.status.Status.TheVariants as status
+use Rattle.alarm_server.specs.Emission.{sent, SendsUpTo, Ends}
+use Rattle.alarm_server.specs.Status.{of_line_fault, of_unsent}
+use Rattle.alarm_server.specs.Stopping.{StopsReading}
+use Rattle.alarm_server.specs.Script.{spelled_in, refused_in, refused_line}
+use Rattle.alarm_server.specs.Report.{front_pieces, report_of}
+use Rattle.alarm_server.specs.Session.{end_piece, open_piece, piece_of, piece_text, pieces_over, session_end, session_over, state_over, state_with}
+use Rattle.alarm_server.proofs.Sending.{adds_nothing, sent_then, front_then, front_more}
+use Rattle.alarm_server.proofs.Spelled.{spelled_gives, spells_none, spells_refused, spells_same}
+use Rattle.alarm_server.proofs.Fronts.{front_lines, lines_of-whole, takes_then}
+use Rattle.alarm_server.proofs.Played.{front_is, pieces-append, pieces-next, pieces-none, report_is, states-append, states-next, states-none}
+
+-- these lines and those of the octets to come are those of the script
+pub record Remains (lines : List Line) (number : ℕ) (script octets : List ℕ) : Type 0 where
+  pub spelled : spelled_in Session 0 (lines_of script) ≡ lines ++ spelled_in Session number (lines_of octets)
+  pub refused : refused_in Session 0 (lines_of script) ≡ refused_in Session number (lines_of octets)
+  pub count : length (lines_of script) ≡ number + length (lines_of octets)
+
+-- the pieces of a session so far
+abbrev pub front : State → List Line → List (List ReportLine)
+front start lines = open_piece start ∷ pieces_over start lines
+
+-- these lines were taken, the core is in their state, and their pieces went out
+pub record Progress (start : State) (text come : Option (List ℕ)) (old new : Option Told) (number : ℕ) (ended : Bool) (state : State) : Type 0 where
+  pub lines : List Line
+  pub reached : state ≡ state_over start lines
+  pub out : Adds old new (sent piece_text (front start lines))
+  pub remains : WhereTold text come (Remains lines number)
+  pub whole : ended ≡ false → WhereTold text come (TakesLines 0 number)
+
+-- what is told at two steps is told over both
+where_then : {A : Type 0} (a b c : Option A) (P Q R : A → A → Type 0) → ((x y z : A) → P x y → Q y z → R x z) → WhereTold a b P → WhereTold b c Q → WhereTold a c R
+where_then None b c P Q R f first second = tt
+where_then (Some x) None c P Q R f first second = absurd first
+where_then (Some x) (Some y) None P Q R f first second = second
+where_then (Some x) (Some y) (Some z) P Q R f first second = f x y z first second
+
+remains_all : (text : Option (List ℕ)) → WhereTold text (prepend_known [] text) (Remains [] 0)
+remains_all None = tt
+remains_all (Some script) = record { spelled = refl; refused = refl; count = omega arith }
+
+takes_none : (text : Option (List ℕ)) → WhereTold text (prepend_known [] text) (TakesLines 0 0)
+takes_none None = tt
+takes_none (Some script) = record { taken = []; whole = inl refl; front = refl; count = omega arith }
+
+-- behind the first piece
+pub begins : (start state : State) (text : Option (List ℕ)) (old new : Option Told) → state ≡ start → Adds old new (sent piece_text (open_piece start ∷ [])) → Progress start text (prepend_known [] text) old new 0 false state
+begins start state text old new same opened = record {
+  lines = [];
+  reached = same ∙ sym (states-none start);
+  out = subst (λ ps. Adds old new (sent piece_text (open_piece start ∷ ps))) (sym (pieces-none start)) opened;
+  remains = remains_all text;
+  whole = λ h. takes_none text;
+}
+
+-- what is left to report behind these lines
+abbrev rest_of : State → List Line → ℕ → List ℕ → List (List ReportLine)
+rest_of start lines number octets =
+    let behind = spelled_in Session number (lines_of octets) in
+    pieces_over (state_over start lines) behind ++ session_end (refused_in Session number (lines_of octets)) (number + length (lines_of octets)) (state_over (state_over start lines) behind)
+
+after : (start : State) (lines : List Line) (number : ℕ) (script octets : List ℕ) → Remains lines number script octets → session_over start (lines_of script) ≡ front start lines ++ rest_of start lines number octets
+after start lines number script octets r =
+    let behind = spelled_in Session number (lines_of octets) in
+    let end = λ (refused : Option ℕ) (count : ℕ) (state : State). session_end refused count state in
+    let whole = λ (ls : List Line) (refused : Option ℕ) (count : ℕ). (open_piece start ∷ pieces_over start ls) ++ end refused count (state_over start ls) in
+    ap (λ ls. whole ls (refused_in Session 0 (lines_of script)) (length (lines_of script))) r.spelled
+    ∙ (ap (λ o. whole (lines ++ behind) o (length (lines_of script))) r.refused
+    ∙ (ap (λ n. whole (lines ++ behind) (refused_in Session number (lines_of octets)) n) r.count
+    ∙ (ap (λ ps. (open_piece start ∷ ps) ++ end (refused_in Session number (lines_of octets)) (number + length (lines_of octets)) (state_over start (lines ++ behind))) (pieces-append lines behind start)
+    ∙ (ap (λ s. (open_piece start ∷ (pieces_over start lines ++ pieces_over (state_over start lines) behind)) ++ end (refused_in Session number (lines_of octets)) (number + length (lines_of octets)) s) (states-append lines behind start)
+    ∙ append_assoc (front start lines) (pieces_over (state_over start lines) behind) (end (refused_in Session number (lines_of octets)) (number + length (lines_of octets)) (state_over (state_over start lines) behind))))))
+
+-- behind the last line nothing but the end is left
+report_all : (start : State) (lines : List Line) (number : ℕ) (script octets : List ℕ) → Remains lines number script octets → spelled_in Session number (lines_of octets) ≡ [] →
+    session_over start (lines_of script) ≡ front start lines ++ session_end (refused_in Session number (lines_of octets)) (number + length (lines_of octets)) (state_over start lines)
+report_all start lines number script octets r none =
+    let reached = state_over start lines in
+    let end = session_end (refused_in Session number (lines_of octets)) (number + length (lines_of octets)) in
+    after start lines number script octets r
+    ∙ (ap (λ ls. front start lines ++ (pieces_over reached ls ++ end (state_over reached ls))) none
+    ∙ (ap (λ ps. front start lines ++ (ps ++ end (state_over reached []))) (pieces-none reached)
+    ∙ ap (λ s. front start lines ++ end s) (states-none reached)))
+
+-- nothing has gone out
+pub ends_at_once : (start : State) (text : Option (List ℕ)) (told : Option Told) → IfSome text (λ t. Ends piece_text status.NoMemory (session_over start (lines_of t)) told told)
+ends_at_once start None told = tt
+ends_at_once start (Some script) told = ([], session_over start (lines_of script), refl, adds_nothing told)
+
+ends_front : (fault : Unsent) (pieces : List (List ReportLine)) (old new : Option Told) → SendsUpTo piece_text fault pieces old new → Ends piece_text (of_unsent fault) pieces old new
+ends_front unsent.Lost pieces old new h = h
+ends_front unsent.NoMemory pieces old new h = h
+
+-- the first piece is in the way
+pub ends_at_first : (start : State) (text : Option (List ℕ)) (old new : Option Told) (fault : Unsent) → SendsUpTo piece_text fault (open_piece start ∷ []) old new →
+    IfSome text (λ t. Ends piece_text (of_unsent fault) (session_over start (lines_of t)) old new)
+ends_at_first start None old new fault sends = tt
+ends_at_first start (Some t) old new fault sends =
+    let texts = lines_of t in
+    let lines = spelled_in Session 0 texts in
+    ends_front fault (session_over start texts) old new
+    (front_more piece_text fault old new (open_piece start ∷ []) (pieces_over start lines ++ session_end (refused_in Session 0 texts) (length texts) (state_over start lines)) sends)
+
+-- a fault while a line is read
+pub ends_at_line : (start : State) (text come come' : Option (List ℕ)) (old new : Option Told) (number number' : ℕ) (ended : Bool) (state : State) (fault : LineFault) → Progress start text come old new number ended state → WhereTold come come' (ReadsLine Session number number' (Err fault)) →
+    IfSome text (λ t. Ends piece_text (of_line_fault fault) (session_over start (lines_of t)) old new)
+ends_at_line start None come come' old new number number' ended state fault p read = tt
+ends_at_line start (Some t) None come' old new number number' ended state fault p read = absurd p.remains
+ends_at_line start (Some t) (Some octets) None old new number number' ended state fault p read = absurd read
+ends_at_line start (Some t) (Some octets) (Some rest) old new number number' ended state (Grammar line) p read =
+    let h = spells_refused Session (lines_of octets) number line read.0 in
+    let all = report_all start p.lines number t octets p.remains h.spelled
+    ∙ (ap (λ o. front start p.lines ++ session_end o (number + length (lines_of octets)) (state_over start p.lines)) h.refused ∙ append-nil (front start p.lines)) in
+    subst (λ pieces. Adds old new (sent piece_text pieces)) (sym all) p.out
+ends_at_line start (Some t) (Some octets) (Some rest) old new number number' ended state Read p read =
+    (front start p.lines, rest_of start p.lines number octets, after start p.lines number t octets p.remains, p.out)
+ends_at_line start (Some t) (Some octets) (Some rest) old new number number' ended state NoMemory p read =
+    (front start p.lines, rest_of start p.lines number octets, after start p.lines number t octets p.remains, p.out)
+
+-- want of memory behind these lines
+pub ends_between : (start : State) (text come : Option (List ℕ)) (old new : Option Told) (number : ℕ) (ended : Bool) (state : State) → Progress start text come old new number ended state →
+    IfSome text (λ t. Ends piece_text status.NoMemory (session_over start (lines_of t)) old new)
+ends_between start None come old new number ended state p = tt
+ends_between start (Some t) None old new number ended state p = absurd p.remains
+ends_between start (Some t) (Some octets) old new number ended state p =
+    (front start p.lines, rest_of start p.lines number octets, after start p.lines number t octets p.remains, p.out)
+
+-- the line that is refused is the first outside the grammar
+pub refused_first : (start : State) (text come come' : Option (List ℕ)) (old new : Option Told) (number number' : ℕ) (ended : Bool) (state : State) (line : ℕ) → Progress start text come old new number ended state → WhereTold come come' (ReadsLine Session number number' (Err (Grammar line))) →
+    IfSome text (λ t. refused_line Session t ≡ Some line)
+refused_first start None come come' old new number number' ended state line p read = tt
+refused_first start (Some t) None come' old new number number' ended state line p read = absurd p.remains
+refused_first start (Some t) (Some octets) None old new number number' ended state line p read = absurd read
+refused_first start (Some t) (Some octets) (Some rest) old new number number' ended state line p read =
+    p.remains.refused ∙ (spells_refused Session (lines_of octets) number line read.0).refused
+
+-- one more line was taken
+remains_next : (lines : List Line) (number number' : ℕ) (line : Line) (script octets rest : List ℕ) → Remains lines number script octets → ReadsLine Session number number' (Ok (Some line)) octets rest → Remains (lines ++ line ∷ []) number' script rest
+remains_next lines number number' line script octets rest r (next, is) =
+    let h = spelled_gives Session (lines_of octets) number line (lines_of rest) next in
+    let behind = spelled_in Session line.number (lines_of rest) in
+    record {
+      spelled = r.spelled ∙ (ap (λ l. lines ++ l) h.spelled ∙ (sym (append_assoc lines (line ∷ []) behind) ∙ ap (λ n. (lines ++ line ∷ []) ++ spelled_in Session n (lines_of rest)) is));
+      refused = r.refused ∙ (h.refused ∙ ap (λ n. refused_in Session n (lines_of rest)) is);
+      count = omega (arith, r.count, h.count);
+    }
+
+-- the pieces with one more
+front-next : (start : State) (lines : List Line) (line : Line) (state : State) → state ≡ state_over start lines → front start (lines ++ line ∷ []) ≡ front start lines ++ piece_of state line ∷ []
+front-next start lines line state reached =
+    ap (λ ps. open_piece start ∷ ps) (pieces-next lines line start) ∙ ap (λ s. front start lines ++ piece_of s line ∷ []) (sym reached)
+
+-- a fault while the piece of a line goes out
+pub ends_at_piece : (start : State) (text come come' : Option (List ℕ)) (old new new' : Option Told) (number number' : ℕ) (ended : Bool) (state : State) (line : Line) (piece : List ReportLine) (fault : Unsent) → Progress start text come old new number ended state → WhereTold come come' (ReadsLine Session number number' (Ok (Some line))) →
+    piece ≡ piece_of state line → SendsUpTo piece_text fault (piece ∷ []) new new' → IfSome text (λ t. Ends piece_text (of_unsent fault) (session_over start (lines_of t)) old new')
+ends_at_piece start None come come' old new new' number number' ended state line piece fault p read same sends = tt
+ends_at_piece start (Some t) None come' old new new' number number' ended state line piece fault p read same sends = absurd p.remains
+ends_at_piece start (Some t) (Some octets) None old new new' number number' ended state line piece fault p read same sends = absurd read
+ends_at_piece start (Some t) (Some octets) (Some rest) old new new' number number' ended state line piece fault p read same sends =
+    let next = remains_next p.lines number number' line t octets rest p.remains read in
+    let more = rest_of start (p.lines ++ line ∷ []) number' rest in
+    let pieces = front-next start p.lines line state p.reached ∙ ap (λ x. front start p.lines ++ x ∷ []) (sym same) in
+    let all = after start (p.lines ++ line ∷ []) number' t rest next ∙ ap (λ ps. ps ++ more) pieces in
+    ends_front fault (session_over start (lines_of t)) old new'
+    (subst (λ ps. SendsUpTo piece_text fault ps old new') (sym all)
+    (front_more piece_text fault old new' (front start p.lines ++ piece ∷ []) more (front_then piece_text fault old new new' (front start p.lines) (piece ∷ []) p.out sends)))
+
+-- one more line
+pub goes_on : (start : State) (text come come' : Option (List ℕ)) (old new new' : Option Told) (number number' : ℕ) (ended ended' : Bool) (state state' : State) (line : Line) (piece : List ReportLine) → Progress start text come old new number ended state → WhereTold come come' (ReadsLine Session number number' (Ok (Some line))) →
+    (ended' ≡ false → ended ≡ false) → (ended' ≡ false → WhereTold come come' (TakesLines number number')) → state' ≡ state_with state line → piece ≡ piece_of state line → Adds new new' (sent piece_text (piece ∷ [])) → Progress start text come' old new' number' ended' state'
+goes_on start text come come' old new new' number number' ended ended' state state' line piece p read stays taken moved same sends =
+    let pieces = front-next start p.lines line state p.reached ∙ ap (λ x. front start p.lines ++ x ∷ []) (sym same) in
+    record {
+      lines = p.lines ++ line ∷ [];
+      reached = moved ∙ (ap (λ s. state_with s line) p.reached ∙ sym (states-next p.lines line start));
+      out = subst (λ ps. Adds old new' (sent piece_text ps)) (sym pieces) (sent_then piece_text old new new' (front start p.lines) (piece ∷ []) p.out sends);
+      remains = where_then text come come' (Remains p.lines number) (ReadsLine Session number number' (Ok (Some line))) (Remains (p.lines ++ line ∷ []) number')
+          (λ script octets rest r q. remains_next p.lines number number' line script octets rest r q) p.remains read;
+      whole = λ e. where_then text come come' (TakesLines 0 number) (TakesLines number number') (TakesLines 0 number')
+          (λ script octets rest first_lines more. takes_then 0 number number' script octets rest first_lines more) (p.whole (stays e)) (taken e);
+    }
+
+-- behind the last line, the end is all that is left to report
+report_end : (start : State) (octets script : List ℕ) (number number' : ℕ) (lines : List Line) (state : State) → state ≡ state_over start lines → Remains lines number script octets → next_in Session number (lines_of octets) ≡ AtEnd number' →
+    session_over start (lines_of script) ≡ front start lines ++ end_piece number' state ∷ []
+report_end start octets script number number' lines state reached r next =
+    let h = spells_none Session (lines_of octets) number number' next in
+    report_all start lines number script octets r h.spelled
+    ∙ (ap (λ o. front start lines ++ session_end o (number + length (lines_of octets)) (state_over start lines)) h.refused
+    ∙ (ap (λ n. front start lines ++ end_piece n (state_over start lines) ∷ []) h.count
+    ∙ ap (λ s. front start lines ++ end_piece number' s ∷ []) (sym reached)))
+
+-- the script's end
+pub ends : (start : State) (text come come' : Option (List ℕ)) (old new new' : Option Told) (number number' : ℕ) (ended : Bool) (state : State) (piece : List ReportLine) → Progress start text come old new number ended state → WhereTold come come' (ReadsLine Session number number' (Ok None)) →
+    piece ≡ end_piece number' state → Adds new new' (sent piece_text (piece ∷ [])) → IfSome text (λ t. Ends piece_text status.Done (session_over start (lines_of t)) old new')
+ends start None come come' old new new' number number' ended state piece p read same last = tt
+ends start (Some t) None come' old new new' number number' ended state piece p read same last = absurd p.remains
+ends start (Some t) (Some octets) None old new new' number number' ended state piece p read same last = absurd read
+ends start (Some t) (Some octets) (Some rest) old new new' number number' ended state piece p read same last =
+    let all = report_end start octets t number number' p.lines state p.reached p.remains read.0 ∙ ap (λ x. front start p.lines ++ x ∷ []) (sym same) in
+    subst (λ ps. Adds old new' (sent piece_text ps)) (sym all) (sent_then piece_text old new new' (front start p.lines) (piece ∷ []) p.out last)
+
+-- a fault while the last piece goes out
+pub ends_at_end : (start : State) (text come come' : Option (List ℕ)) (old new new' : Option Told) (number number' : ℕ) (ended : Bool) (state : State) (piece : List ReportLine) (fault : Unsent) → Progress start text come old new number ended state → WhereTold come come' (ReadsLine Session number number' (Ok None)) →
+    piece ≡ end_piece number' state → SendsUpTo piece_text fault (piece ∷ []) new new' → IfSome text (λ t. Ends piece_text (of_unsent fault) (session_over start (lines_of t)) old new')
+ends_at_end start None come come' old new new' number number' ended state piece fault p read same last = tt
+ends_at_end start (Some t) None come' old new new' number number' ended state piece fault p read same last = absurd p.remains
+ends_at_end start (Some t) (Some octets) None old new new' number number' ended state piece fault p read same last = absurd read
+ends_at_end start (Some t) (Some octets) (Some rest) old new new' number number' ended state piece fault p read same last =
+    let all = report_end start octets t number number' p.lines state p.reached p.remains read.0 ∙ ap (λ x. front start p.lines ++ x ∷ []) (sym same) in
+    ends_front fault (session_over start (lines_of t)) old new'
+    (subst (λ ps. SendsUpTo piece_text fault ps old new') (sym all) (front_then piece_text fault old new new' (front start p.lines) (piece ∷ []) p.out last))
+
+-- the source failed: the lines that were taken are those of the whole lines that were read
+stops_where : (start : State) (t octets rest pending : List ℕ) (old new : Option Told) (number number' : ℕ) (lines : List Line) → Adds old new (sent piece_text (front start lines)) → Remains lines number t octets → next_in Session number' (lines_of (pending ++ rest)) ≡ next_in Session number (lines_of octets) → TakesLines 0 number' t (pending ++ rest) → position is_line_feed pending ≡ None →
+    StopsReading piece_text (λ whole. front start (spelled_in Session 0 (lines_of whole))) t rest old new
+stops_where start t octets rest pending old new number number' lines out r next taken no_feed =
+    let h = spells_same Session number' number (lines_of (pending ++ rest)) (lines_of octets) next in
+    let parts : lines_of t ≡ lines_of taken.taken ++ lines_of (pending ++ rest) = ap lines_of taken.front ∙ lines_of-whole taken.taken (pending ++ rest) taken.whole in
+    let spelled = ap (spelled_in Session 0) (sym parts) ∙ (r.spelled ∙ ap (λ l. lines ++ l) (sym h.spelled)) in
+    let refused = ap (refused_in Session 0) (sym parts) ∙ (r.refused ∙ sym h.refused) in
+    let same = front_lines Session (lines_of taken.taken) (lines_of (pending ++ rest)) lines number' spelled refused (omega (arith, taken.count)) in
+    record {
+      whole = taken.taken;
+      begun = pending;
+      read = taken.front ∙ sym (append_assoc taken.taken pending rest);
+      whole_lines = taken.whole;
+      no_line_feed = no_feed;
+      emitted = subst (λ ls. Adds old new (sent piece_text (front start ls))) same out;
+    }
+
+pub stops_reading : (start : State) (text come left : Option (List ℕ)) (pending : List ℕ) (old new : Option Told) (number number' : ℕ) (ended ended' : Bool) (state : State) → Progress start text come old new number ended state → WhereTold come (prepend_known pending left) (ReadsLine Session number number' (Err Read)) →
+    (ended' ≡ false → ended ≡ false) → (ended' ≡ false → WhereTold come (prepend_known pending left) (TakesLines number number')) → (ended' ≡ false) × (position is_line_feed pending ≡ None) →
+    WhereTold text left (λ t rest. StopsReading piece_text (λ whole. front start (spelled_in Session 0 (lines_of whole))) t rest old new)
+stops_reading start None come left pending old new number number' ended ended' state p read stays taken waits = tt
+stops_reading start (Some t) None left pending old new number number' ended ended' state p read stays taken waits = absurd p.remains
+stops_reading start (Some t) (Some octets) None pending old new number number' ended ended' state p read stays taken waits = absurd read
+stops_reading start (Some t) (Some octets) (Some rest) pending old new number number' ended ended' state p read stays taken waits =
+    stops_where start t octets rest pending old new number number' p.lines p.out p.remains read
+    (takes_then 0 number number' t octets (pending ++ rest) (p.whole (stays waits.0)) (taken waits.0)) waits.1
+
+-- the report by the history, in the place of the one by the state
+pub by_history : (site : Site) (text : Option (List ℕ)) (status : Status) (old new : Option Told) → IfSome text (λ t. Ends piece_text status (session_over (first_state site) (lines_of t)) old new) →
+    IfSome text (λ t. Ends piece_text status (report_of site [] t) old new)
+by_history site None status old new h = tt
+by_history site (Some t) status old new h =
+    subst (λ ps. Ends piece_text status ps old new) (ap (λ s. session_over s (lines_of t)) (stands.starts site) ∙ report_is site [] t) h
+
+fronts : (site : Site) (whole : List ℕ) → front (first_state site) (spelled_in Session 0 (lines_of whole)) ≡ front_pieces site [] whole
+fronts site whole = ap (λ s. front s (spelled_in Session 0 (lines_of whole))) (stands.starts site) ∙ front_is site [] whole
+
+pub stops_by_history : (site : Site) (text left : Option (List ℕ)) (old new : Option Told) →
+    WhereTold text left (λ t rest. StopsReading piece_text (λ whole. front (first_state site) (spelled_in Session 0 (lines_of whole))) t rest old new) →
+    WhereTold text left (λ t rest. StopsReading piece_text (front_pieces site []) t rest old new)
+stops_by_history site None left old new h = tt
+stops_by_history site (Some t) None old new h = absurd h
+stops_by_history site (Some t) (Some rest) old new h = record {
+  whole = h.whole;
+  begun = h.begun;
+  read = h.read;
+  whole_lines = h.whole_lines;
+  no_line_feed = h.no_line_feed;
+  emitted = subst (λ ps. Adds old new (sent piece_text ps)) (fronts site h.whole) h.emitted;
+}

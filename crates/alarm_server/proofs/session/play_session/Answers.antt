@@ -1,0 +1,217 @@
+use Rattle.std.proofs.Common.{◌≡◌, ◌≤◌, ◌+◌, ◌∷◌, [], Err, ap, subst, ◌∙◌, arith, refl, sym}
+use Rattle.std.proofs.lemmas.Result.{err_from_is_err_and}
+use Rattle.ground_io.specs.Trace.{Adds, WhereTold}
+use Rattle.script_lines.specs.declared.line.Grammar.TheVariants.{Session}
+use Rattle.script_lines.specs.Reading.{octets_to_come}
+use Rattle.script_lines.specs.Script.{ReadsLine}
+use Rattle.alarm_core.specs.Next.{first_state}
+use Rattle.alarm_server.specs.declared.status.Status.TheVariants.{Done, NoMemory, ScriptRefused, ReadFault}
+use Rattle.alarm_server.specs.Emission.{SendsUpTo, sent}
+use Rattle.alarm_server.specs.Session.{end_piece, piece_of, piece_text, state_with}
+use Rattle.alarm_server.specs.Status.{of_line_fault, of_unsent}
+use Rattle.alarm_server.proofs.Progress.{grammar_fault, read_fault}
+use Rattle.alarm_server.proofs.Played.{line_adds}
+use Rattle.alarm_server.proofs.SessionProgress.{begins, by_history, ends, ends_at_end, ends_at_first, ends_at_line, ends_at_once, ends_at_piece, goes_on, refused_first, stops_by_history, stops_reading}
+use Rattle.alarm_server.proofs.session.play_session.Goals as goal
+
+pub returns-in_err-lines-clause-ends : goal.returns-in_err-lines-clause-ends
+returns-in_err-lines-clause-ends g c =
+    let p = err_from_is_err_and c.from_residual.result c.from_residual.ensures.1 in
+    let site = c.args.site.now in
+    let told = g.G.Ground.told c.args.device.now in
+    rw (p.1, p.2) (by_history site (g.T.Source.left c.args.script.now) NoMemory told told (ends_at_once (first_state site) (g.T.Source.left c.args.script.now) told))
+
+pub returns-in_err-core-clause-ends : goal.returns-in_err-core-clause-ends
+returns-in_err-core-clause-ends g c =
+    let p = err_from_is_err_and c.from_residual-in_err-core.result c.from_residual-in_err-core.ensures.1 in
+    let site = c.args.site.now in
+    let text = g.T.Source.left c.args.script.now in
+    let before = g.G.Ground.told c.args.device.now in
+    let after = g.G.Ground.told c.begin.new.device in
+    let fault = c.in_err-core.field-0.0 in
+    rw (p.1, p.2) (by_history site text (of_unsent fault) before after (ends_at_first (first_state site) text before after fault c.in_err-core.ensures.sends))
+
+pub loop-core-init : goal.loop-core-init
+loop-core-init g c =
+    let start = first_state c.args.site.now in
+    let first = c.in_ok-core.ensures.starts in
+    rw c.in_ok-lines.ensures.start
+    (record {
+      progress = begins start c.in_ok-core.core (g.T.Source.left c.args.script.now) (g.G.Ground.told c.args.device.now) (g.G.Ground.told c.begin.new.device) first c.in_ok-core.ensures.sends;
+      few = let none = ap (λ s. s.events) first in omega (arith, none);
+      grammar = refl;
+      source = λ e. absurd cc;
+      size = c.begin.ensures.size;
+      disk = c.begin.ensures.disk;
+      read = omega arith;
+      emitted = c.begin.ensures.cause.later;
+    })
+
+pub returns-in_err-line-clause-ends : goal.returns-in_err-line-clause-ends
+returns-in_err-line-clause-ends g c =
+    let p = err_from_is_err_and c.from_residual-in_err-line.result c.from_residual-in_err-line.ensures.1 in
+    let here = c.loop-core in
+    let next = c.next_line.new in
+    let site = c.args.site.now in
+    let text = g.T.Source.left c.args.script.now in
+    let before = g.G.Ground.told c.args.device.now in
+    let fault = c.in_err-line.field-0.0 in
+    rw (p.1, p.2)
+    (by_history site text (of_line_fault fault) before (g.G.Ground.told here.device)
+    (ends_at_line (first_state site) text (octets_to_come here.lines (g.T.Source.left here.script)) (octets_to_come next.self (g.T.Source.left next.source)) before (g.G.Ground.told here.device) here.lines.number next.self.number here.lines.ended here.core fault here.invariant.progress (rw here.invariant.grammar at c.in_err-line.ensures.line)))
+
+pub returns-in_err-line-clause-refused : goal.returns-in_err-line-clause-refused
+returns-in_err-line-clause-refused g c = λ line e.
+    let p = err_from_is_err_and c.from_residual-in_err-line.result c.from_residual-in_err-line.ensures.1 in
+    let same : of_line_fault c.in_err-line.field-0.0 ≡ ScriptRefused line = cc in
+    let fault = grammar_fault c.in_err-line.field-0.0 line same in
+    let here = c.loop-core in
+    let next = c.next_line.new in
+    let come = octets_to_come here.lines (g.T.Source.left here.script) in
+    let come' = octets_to_come next.self (g.T.Source.left next.source) in
+    let read = subst (λ f. WhereTold come come' (ReadsLine Session here.lines.number next.self.number (Err f))) fault (rw here.invariant.grammar at c.in_err-line.ensures.line) in
+    refused_first (first_state c.args.site.now) (g.T.Source.left c.args.script.now) come come' (g.G.Ground.told c.args.device.now) (g.G.Ground.told here.device) here.lines.number next.self.number here.lines.ended here.core line here.invariant.progress read
+
+pub returns-in_err-line-clause-stops : goal.returns-in_err-line-clause-stops
+returns-in_err-line-clause-stops g c = λ e.
+    let p = err_from_is_err_and c.from_residual-in_err-line.result c.from_residual-in_err-line.ensures.1 in
+    let same : of_line_fault c.in_err-line.field-0.0 ≡ ReadFault = cc in
+    let fault = read_fault c.in_err-line.field-0.0 same in
+    let here = c.loop-core in
+    let next = c.next_line.new in
+    let site = c.args.site.now in
+    let text = g.T.Source.left c.args.script.now in
+    let before = g.G.Ground.told c.args.device.now in
+    let come = octets_to_come here.lines (g.T.Source.left here.script) in
+    let come' = octets_to_come next.self (g.T.Source.left next.source) in
+    let read = subst (λ f. WhereTold come come' (ReadsLine Session here.lines.number next.self.number (Err f))) fault (rw here.invariant.grammar at c.in_err-line.ensures.line) in
+    stops_by_history site text (g.T.Source.left next.source) before (g.G.Ground.told here.device)
+    (stops_reading (first_state site) text come (g.T.Source.left next.source) next.self.pending before (g.G.Ground.told here.device) here.lines.number next.self.number here.lines.ended next.self.ended here.core here.invariant.progress read c.next_line.ensures.ended c.next_line.ensures.whole_lines (c.next_line.ensures.waits (c.in_err-line.was ∙ ap Err fault)))
+
+pub returns-in_err-play_line-clause-ends : goal.returns-in_err-play_line-clause-ends
+returns-in_err-play_line-clause-ends g c =
+    let p = err_from_is_err_and c.from_residual-in_err-play_line.result c.from_residual-in_err-play_line.ensures.1 in
+    let here = c.loop-core in
+    let next = c.next_line.new in
+    let site = c.args.site.now in
+    let text = g.T.Source.left c.args.script.now in
+    let before = g.G.Ground.told c.args.device.now in
+    let read = rw (c.in-Some.is, here.invariant.grammar) at c.in_ok-line.ensures.line in
+    let fault = c.in_err-play_line.field-0.0 in
+    let line = c.in-Some.line in
+    rw (p.1, p.2)
+    (by_history site text (of_unsent fault) before (g.G.Ground.told c.play_line.new.device)
+    (ends_at_piece (first_state site) text (octets_to_come here.lines (g.T.Source.left here.script)) (octets_to_come next.self (g.T.Source.left next.source)) before (g.G.Ground.told here.device) (g.G.Ground.told c.play_line.new.device) here.lines.number next.self.number here.lines.ended here.core line (piece_of here.core line) fault here.invariant.progress read refl c.in_err-play_line.ensures.sends))
+
+pub loop-core-preserved : goal.loop-core-preserved
+loop-core-preserved g c =
+    let here = c.loop-core in
+    let next = c.next_line.new in
+    let read = rw (c.in-Some.is, here.invariant.grammar) at c.in_ok-line.ensures.line in
+    let line = c.in-Some.line in
+    let moved = c.in_ok-play_line.ensures.state in
+    let adds = line_adds here.core line in
+    let count = ap (λ s. s.events) moved in
+    let grows = rw c.in-Some.is at c.in_ok-line.ensures.grows in
+    record {
+      progress = goes_on (first_state c.args.site.now) (g.T.Source.left c.args.script.now) (octets_to_come here.lines (g.T.Source.left here.script)) (octets_to_come next.self (g.T.Source.left next.source)) (g.G.Ground.told c.args.device.now) (g.G.Ground.told here.device) (g.G.Ground.told c.play_line.new.device) here.lines.number next.self.number here.lines.ended next.self.ended here.core c.play_line.new.core line (piece_of here.core line) here.invariant.progress read c.next_line.ensures.ended c.next_line.ensures.whole_lines moved refl c.in_ok-play_line.ensures.sends;
+      few = omega (arith, here.invariant.few, adds, count, grows);
+      grammar = c.next_line.ensures.grammar ∙ here.invariant.grammar;
+      source = c.next_line.ensures.source;
+      size = c.play_line.ensures.size ∙ here.invariant.size;
+      disk = c.play_line.ensures.disk ∙ here.invariant.disk;
+      read = omega (arith, here.invariant.read, c.next_line.ensures.cause.later);
+      emitted = omega (arith, here.invariant.emitted, c.play_line.ensures.cause.later);
+    }
+
+pub loop-core-preserved-in_ok-play_line : goal.loop-core-preserved-in_ok-play_line
+loop-core-preserved-in_ok-play_line g c =
+    let here = c.loop-core in
+    let next = c.next_line.new in
+    let read = rw (c.in-Some.is, here.invariant.grammar) at c.in_ok-line.ensures.line in
+    let line = c.in-Some.line in
+    let moved = c.in_ok-play_line.ensures.state in
+    let adds = line_adds here.core line in
+    let count = ap (λ s. s.events) moved in
+    let grows = rw c.in-Some.is at c.in_ok-line.ensures.grows in
+    record {
+      progress = goes_on (first_state c.args.site.now) (g.T.Source.left c.args.script.now) (octets_to_come here.lines (g.T.Source.left here.script)) (octets_to_come next.self (g.T.Source.left next.source)) (g.G.Ground.told c.args.device.now) (g.G.Ground.told here.device) (g.G.Ground.told c.play_line.new.device) here.lines.number next.self.number here.lines.ended next.self.ended here.core c.play_line.new.core line (piece_of here.core line) here.invariant.progress read c.next_line.ensures.ended c.next_line.ensures.whole_lines moved refl c.in_ok-play_line.ensures.sends;
+      few = omega (arith, here.invariant.few, adds, count, grows);
+      grammar = c.next_line.ensures.grammar ∙ here.invariant.grammar;
+      source = c.next_line.ensures.source;
+      size = c.play_line.ensures.size ∙ here.invariant.size;
+      disk = c.play_line.ensures.disk ∙ here.invariant.disk;
+      read = omega (arith, here.invariant.read, c.next_line.ensures.cause.later);
+      emitted = omega (arith, here.invariant.emitted, c.play_line.ensures.cause.later);
+    }
+
+pub loop-core-preserved-in_ok-play_line-2 : goal.loop-core-preserved-in_ok-play_line-2
+loop-core-preserved-in_ok-play_line-2 g c =
+    let here = c.loop-core in
+    let next = c.next_line.new in
+    let read = rw (c.in-Some.is, here.invariant.grammar) at c.in_ok-line.ensures.line in
+    let line = c.in-Some.line in
+    let moved = c.in_ok-play_line.ensures.state in
+    let adds = line_adds here.core line in
+    let count = ap (λ s. s.events) moved in
+    let grows = rw c.in-Some.is at c.in_ok-line.ensures.grows in
+    record {
+      progress = goes_on (first_state c.args.site.now) (g.T.Source.left c.args.script.now) (octets_to_come here.lines (g.T.Source.left here.script)) (octets_to_come next.self (g.T.Source.left next.source)) (g.G.Ground.told c.args.device.now) (g.G.Ground.told here.device) (g.G.Ground.told c.play_line.new.device) here.lines.number next.self.number here.lines.ended next.self.ended here.core c.play_line.new.core line (piece_of here.core line) here.invariant.progress read c.next_line.ensures.ended c.next_line.ensures.whole_lines moved refl c.in_ok-play_line.ensures.sends;
+      few = omega (arith, here.invariant.few, adds, count, grows);
+      grammar = c.next_line.ensures.grammar ∙ here.invariant.grammar;
+      source = c.next_line.ensures.source;
+      size = c.play_line.ensures.size ∙ here.invariant.size;
+      disk = c.play_line.ensures.disk ∙ here.invariant.disk;
+      read = omega (arith, here.invariant.read, c.next_line.ensures.cause.later);
+      emitted = omega (arith, here.invariant.emitted, c.play_line.ensures.cause.later);
+    }
+
+pub loop-core-preserved-in_ok-play_line-3 : goal.loop-core-preserved-in_ok-play_line-3
+loop-core-preserved-in_ok-play_line-3 g c =
+    let here = c.loop-core in
+    let next = c.next_line.new in
+    let read = rw (c.in-Some.is, here.invariant.grammar) at c.in_ok-line.ensures.line in
+    let line = c.in-Some.line in
+    let moved = c.in_ok-play_line.ensures.state in
+    let adds = line_adds here.core line in
+    let count = ap (λ s. s.events) moved in
+    let grows = rw c.in-Some.is at c.in_ok-line.ensures.grows in
+    record {
+      progress = goes_on (first_state c.args.site.now) (g.T.Source.left c.args.script.now) (octets_to_come here.lines (g.T.Source.left here.script)) (octets_to_come next.self (g.T.Source.left next.source)) (g.G.Ground.told c.args.device.now) (g.G.Ground.told here.device) (g.G.Ground.told c.play_line.new.device) here.lines.number next.self.number here.lines.ended next.self.ended here.core c.play_line.new.core line (piece_of here.core line) here.invariant.progress read c.next_line.ensures.ended c.next_line.ensures.whole_lines moved refl c.in_ok-play_line.ensures.sends;
+      few = omega (arith, here.invariant.few, adds, count, grows);
+      grammar = c.next_line.ensures.grammar ∙ here.invariant.grammar;
+      source = c.next_line.ensures.source;
+      size = c.play_line.ensures.size ∙ here.invariant.size;
+      disk = c.play_line.ensures.disk ∙ here.invariant.disk;
+      read = omega (arith, here.invariant.read, c.next_line.ensures.cause.later);
+      emitted = omega (arith, here.invariant.emitted, c.play_line.ensures.cause.later);
+    }
+
+pub returns-in_err-end-clause-ends : goal.returns-in_err-end-clause-ends
+returns-in_err-end-clause-ends g c =
+    let p = err_from_is_err_and c.from_residual-in_err-end.result c.from_residual-in_err-end.ensures.1 in
+    let here = c.loop-core in
+    let next = c.next_line.new in
+    let site = c.args.site.now in
+    let text = g.T.Source.left c.args.script.now in
+    let before = g.G.Ground.told c.args.device.now in
+    let after = g.G.Ground.told c.end.new.device in
+    let read = rw (c.in_default.is, here.invariant.grammar) at c.in_ok-line.ensures.line in
+    let fault = c.in_err-end.field-0.0 in
+    rw (p.1, p.2)
+    (by_history site text (of_unsent fault) before after
+    (ends_at_end (first_state site) text (octets_to_come here.lines (g.T.Source.left here.script)) (octets_to_come next.self (g.T.Source.left next.source)) before (g.G.Ground.told here.device) after here.lines.number next.self.number here.lines.ended here.core (end_piece c.count.result here.core) fault here.invariant.progress read
+    (ap (λ n. end_piece n here.core) c.count.ensures.number) c.in_err-end.ensures.sends))
+
+pub returns-clause-ends : goal.returns-clause-ends
+returns-clause-ends g c =
+    let here = c.loop-core in
+    let next = c.next_line.new in
+    let site = c.args.site.now in
+    let text = g.T.Source.left c.args.script.now in
+    let before = g.G.Ground.told c.args.device.now in
+    let after = g.G.Ground.told c.end.new.device in
+    let read = rw (c.in_default.is, here.invariant.grammar) at c.in_ok-line.ensures.line in
+    by_history site text Done before after
+    (ends (first_state site) text (octets_to_come here.lines (g.T.Source.left here.script)) (octets_to_come next.self (g.T.Source.left next.source)) before (g.G.Ground.told here.device) after here.lines.number next.self.number here.lines.ended here.core (end_piece c.count.result here.core) here.invariant.progress read
+    (ap (λ n. end_piece n here.core) c.count.ensures.number) c.in_ok-end.ensures.sends)

@@ -1,0 +1,125 @@
+-- The sites on which a bench plays a script, by their names.
+use Rattle.std.specs.Prelude.{◌≡◌, ℕ, pos, Bool, true, false, Option, Some, None, List, [], ◌∷◌, replicate, if◌then◌else◌, codes}
+use Rattle.std.specs.Str.{bytes_eq}
+use Rattle.bac_values.specs.Address.{Address}
+use Rattle.bac_values.specs.Identifier.{Identifier, number_of_kind}
+use Rattle.bac_values.specs.declared.object_kind.ObjectKind.TheVariants.{IntegerValue, MultiStateValue}
+use Rattle.bac_values.specs.declared.value.Value.{Value}
+use Rattle.bac_values.specs.declared.value.Value.TheVariants.{Signed, Unsigned}
+use Rattle.notify_class.specs.Recipients.{ListedRecipient}
+use Rattle.object_table.specs.declared.object_site.ObjectSite.{ObjectSite}
+use Rattle.alarm_core.specs.declared.site.ClassSite.{ClassSite}
+use Rattle.alarm_core.specs.declared.site.DeviceSite.{DeviceSite}
+use Rattle.alarm_core.specs.declared.site.Site.{Site}
+
+-- the device of each bench: 1001, which starts on 2023-11-14 at 22:13:20 UTC
+abbrev pub plant_device : DeviceSite
+plant_device = record {
+  instance = 1001;
+  name = codes "Plant";
+  vendor = 999;
+  start = 1700000000000;
+  zone_minutes = pos 0;
+  apdu_timeout = 3000;
+  retries = 3;
+  outbox = 256;
+}
+
+-- the recipient at 10.0.0.5:47808, which is told of everything at all times and confirms it
+abbrev pub operator : ListedRecipient
+operator = record {
+  days = 127;
+  from = 0;
+  to = 8639999;
+  peer = record { ip = 167772165; port = 47808; net = 0; mac = [] };
+  process = 1;
+  confirmed = true;
+  transitions = replicate 3 true;
+}
+
+-- notification class 7: its transitions to-offnormal and to-fault want to be acknowledged
+abbrev pub operators : ClassSite
+operators = record {
+  name = codes "notification-class:7";
+  class = record {
+    instance = 7;
+    priority = 100 ∷ 90 ∷ 200 ∷ [];
+    ack_required = true ∷ true ∷ false ∷ [];
+    destinations = operator ∷ [];
+  };
+}
+
+-- an integer value of 50 with the limits 20 and 80, a deadband of 5 and a delay of so many seconds
+abbrev pub tank : ℕ → ℕ → ObjectSite
+tank instance delay = record {
+  object = record { number = number_of_kind IntegerValue; instance = instance };
+  name = codes "Tank";
+  value = Signed (pos 50);
+  out_of_service = false;
+  reliability_inhibit = false;
+  states = 0;
+  fault_low = None;
+  fault_high = None;
+  fault_values = [];
+  class = Some 7;
+  notify = 0;
+  enable = replicate 3 true;
+  time_delay = delay;
+  time_delay_normal = None;
+  detection = true;
+  inhibit = false;
+  low = pos 20;
+  high = pos 80;
+  deadband = 5;
+  limit_enable = replicate 2 true;
+  alarm_value = None;
+  alarm_values = [];
+  mask = None;
+}
+
+-- a multi-state value with five states, of which 2 and 3 are alarms after five seconds
+abbrev pub mode : ObjectSite
+mode = record {
+  object = record { number = number_of_kind MultiStateValue; instance = 1 };
+  name = codes "multi-state-value:1";
+  value = Unsigned 1;
+  out_of_service = false;
+  reliability_inhibit = false;
+  states = 5;
+  fault_low = None;
+  fault_high = None;
+  fault_values = [];
+  class = Some 7;
+  notify = 0;
+  enable = replicate 3 true;
+  time_delay = 5;
+  time_delay_normal = None;
+  detection = true;
+  inhibit = false;
+  low = pos 0;
+  high = pos 0;
+  deadband = 0;
+  limit_enable = replicate 2 false;
+  alarm_value = None;
+  alarm_values = Unsigned 2 ∷ Unsigned 3 ∷ [];
+  mask = None;
+}
+
+-- the plant with these objects
+abbrev pub plant : List ObjectSite → Site
+plant objects = record {
+  device = plant_device;
+  classes = operators ∷ [];
+  objects = objects;
+  enrollments = [];
+  logs = [];
+}
+
+-- S has a tank with a delay of ten seconds, S0 one without a delay, W one without and one with it, G three with it, M a multi-state value
+unfoldable pub site_named : List ℕ → Option Site
+site_named name =
+    if bytes_eq name (codes "S") then Some (plant (tank 1 10 ∷ []))
+    else (if bytes_eq name (codes "S0") then Some (plant (tank 1 0 ∷ []))
+    else (if bytes_eq name (codes "W") then Some (plant (tank 1 0 ∷ tank 2 10 ∷ []))
+    else (if bytes_eq name (codes "G") then Some (plant (tank 1 10 ∷ tank 2 10 ∷ tank 3 10 ∷ []))
+    else (if bytes_eq name (codes "M") then Some (plant (mode ∷ [])) else None))))

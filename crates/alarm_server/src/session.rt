@@ -1,0 +1,179 @@
+ghost use Rattle.std.specs.Prelude.{◌≡◌, ℕ, ◌<◌, ◌^◌, ◌∷◌, ◌++◌, [], List, IfErr, IfOk, IfSome, IsErrOf, OnOk, map};
+ghost use Rattle.std.specs.Io.KnownBytes.{IsAtEnd};
+ghost use Rattle.bac_values.specs.Moments.{IsMoment};
+ghost use Rattle.ground_io.specs.Counts.{HasCause};
+ghost use Rattle.ground_io.specs.Trace.{WhereTold};
+ghost use Rattle.script_lines.specs.declared.line.Grammar.TheVariants.{Session};
+ghost use Rattle.alarm_core.specs.Allowed.{IsAllowed};
+ghost use Rattle.alarm_core.specs.History.{raised};
+ghost use Rattle.alarm_core.specs.Next.{first_state, next_state};
+ghost use Rattle.alarm_core.specs.Sites.{IsSite};
+ghost use Rattle.alarm_server.specs.Emission.{Ends, Sends};
+ghost use Rattle.alarm_server.specs.Report.{front_pieces, report_of};
+ghost use Rattle.alarm_server.specs.Script.{refused_line};
+ghost use Rattle.alarm_server.specs.Session.{end_piece, entered_piece, open_piece, piece_of, piece_text, reply_lines, state_with};
+ghost use Rattle.alarm_server.specs.Status.{IsFault, status_of};
+ghost use Rattle.alarm_server.specs.Stopping.{StopsReading};
+
+use crate::emission::Unsent;
+use crate::growing::{add, single};
+use crate::pieces::emit_piece;
+use crate::status::Status;
+use alarm_core::{Core, Event, Site};
+use bac_values::{Moved, NoMemory, ReportLine, Send};
+use ground_io::{Ground, Source};
+use script_lines::{Line, Lines};
+use service_desk::{Decision, decide};
+use std::alloc::Global;
+
+// The lines of a piece that tell of changes of event states.
+fn add_changes(piece: &mut Vec<ReportLine>, number: u64, moves: &[Moved]) -> Result<(), NoMemory>
+    ensures changes { OnOk result (piece.new.items ≡ piece.old.items ++ map (λ moved. ReportLine.Change number moved) moves.now) }
+{
+    for moved in moves {
+        let line = ReportLine::Change {
+            line: number,
+            moved: *moved,
+        };
+        add(piece, line)?;
+    }
+    Ok(())
+}
+
+fn add_reply(piece: &mut Vec<ReportLine>, number: u64, reply: Option<Send>) -> Result<(), NoMemory>
+    ensures reply { OnOk result (piece.new.items ≡ piece.old.items ++ reply_lines number reply) }
+{
+    match reply {
+        Some(send) => add(piece, ReportLine::Sent { line: number, send }),
+        None => Ok(()),
+    }
+}
+
+// Enters an event, and gives the piece of its line.
+fn enter(
+    alloc: Global,
+    core: &mut Core,
+    number: u64,
+    event: &Event,
+    reply: Option<Send>,
+) -> Result<Vec<ReportLine>, NoMemory>
+    requires moment { IsMoment event.now.moment }
+    requires allowed { IsAllowed core.old event.now.act }
+    requires few { core.old.events < 2 ^ 63 }
+    ensures state { OnOk result (core.new ≡ next_state (raised core.old.last_moment event.now) core.old) }
+    ensures piece { IfOk result (λ piece. piece.items ≡ entered_piece number core.old (raised core.old.last_moment event.now) reply) }
+{
+    let outcome = core.step(event)?;
+    let entered = ReportLine::Entered {
+        line: number,
+        event: core.events(),
+        moment: outcome.moment,
+    };
+    let mut piece = single(alloc, entered)?;
+    add_changes(&mut piece, number, outcome.moves.as_slice())?;
+    add_reply(&mut piece, number, reply)?;
+    Ok(piece)
+}
+
+// The piece of a line that is answered without an event.
+fn replied(alloc: Global, number: u64, send: Send) -> Result<Vec<ReportLine>, NoMemory>
+    ensures piece { IfOk result (λ piece. piece.items ≡ ReportLine.Reply number ∷ (ReportLine.Sent number send ∷ [])) }
+{
+    let mut piece = single(alloc, ReportLine::Reply { line: number })?;
+    add(&mut piece, ReportLine::Sent { line: number, send })?;
+    Ok(piece)
+}
+
+// Takes a line, and gives its piece.
+fn take(alloc: Global, core: &mut Core, line: &Line) -> Result<Vec<ReportLine>, NoMemory>
+    requires moment { IsMoment line.now.moment }
+    requires few { core.old.events < 2 ^ 63 }
+    ensures state { OnOk result (core.new ≡ state_with core.old line.now) }
+    ensures piece { IfOk result (λ piece. piece.items ≡ piece_of core.old line.now) }
+{
+    let number = line.number;
+    match decide(alloc, core, &line.input, line.moment)? {
+        Decision::Ignore => single(alloc, ReportLine::Ignored { line: number }),
+        Decision::Idle => single(alloc, ReportLine::Idle { line: number }),
+        Decision::Refuse { why } => single(alloc, ReportLine::Refused { line: number, why }),
+        Decision::Reply { send } => replied(alloc, number, send),
+        Decision::Enter { event, reply, .. } => enter(alloc, core, number, &event, reply),
+    }
+}
+
+// Takes a line, and emits its piece.
+fn play_line<G: Ground>(
+    alloc: Global,
+    device: &mut G,
+    core: &mut Core,
+    line: &Line,
+) -> Result<(), Unsent>
+    requires moment { IsMoment line.now.moment }
+    requires few { core.old.events < 2 ^ 63 }
+    ensures state { OnOk result (core.new ≡ state_with core.old line.now) }
+    ensures sends { Sends piece_text result (piece_of core.old line.now ∷ []) (G.told device.old) (G.told device.new) }
+    ensures size { G.size device.new ≡ G.size device.old }
+    ensures disk { G.disk_faults device.new ≡ G.disk_faults device.old }
+    ensures cause { HasCause (G.emit_faults device.old) (G.emit_faults device.new) (IsErrOf result Unsent.Lost) }
+{
+    let piece = take(alloc, core, line)?;
+    emit_piece(alloc, device, piece.as_slice())
+}
+
+// Starts the core of a site, and emits the first piece.
+fn begin<G: Ground>(alloc: Global, site: &Site, device: &mut G) -> Result<Core, Unsent>
+    requires site { IsSite site.now }
+    ensures starts { IfOk result (λ core. core ≡ first_state site.now) }
+    ensures sends { Sends piece_text result (open_piece (first_state site.now) ∷ []) (G.told device.old) (G.told device.new) }
+    ensures size { G.size device.new ≡ G.size device.old }
+    ensures disk { G.disk_faults device.new ≡ G.disk_faults device.old }
+    ensures cause { HasCause (G.emit_faults device.old) (G.emit_faults device.new) (IsErrOf result Unsent.Lost) }
+{
+    let core = Core::start(alloc, site)?;
+    let events = core.events();
+    let piece = single(alloc, ReportLine::Open { events })?;
+    emit_piece(alloc, device, piece.as_slice())?;
+    Ok(core)
+}
+
+// Emits the last piece.
+fn end<G: Ground>(alloc: Global, device: &mut G, lines: u64, core: &Core) -> Result<(), Unsent>
+    ensures sends { Sends piece_text result (end_piece lines core.now ∷ []) (G.told device.old) (G.told device.new) }
+    ensures size { G.size device.new ≡ G.size device.old }
+    ensures disk { G.disk_faults device.new ≡ G.disk_faults device.old }
+    ensures cause { HasCause (G.emit_faults device.old) (G.emit_faults device.new) (IsErrOf result Unsent.Lost) }
+{
+    let events = core.events();
+    let piece = single(alloc, ReportLine::End { lines, events })?;
+    emit_piece(alloc, device, piece.as_slice())
+}
+
+/// Plays a script to a site that no event has reached yet: each line that isn't skipped gives one piece of the report.
+pub fn play_session<T: Source, G: Ground>(
+    alloc: Global,
+    site: &Site,
+    script: &mut T,
+    device: &mut G,
+) -> Result<(), Status>
+    requires site { IsSite site.now }
+    ensures ends { IfSome (T.left script.old) (λ text.
+        Ends piece_text (status_of result) (report_of site.now [] text) (G.told device.old) (G.told device.new)) }
+    ensures to_end { OnOk result (IsAtEnd (T.left script.new)) }
+    ensures refused { (line : ℕ) → result ≡ Err (Status.ScriptRefused line) →
+        IfSome (T.left script.old) (λ text. refused_line Session text ≡ Some line) }
+    ensures stops { result ≡ Err Status.ReadFault → WhereTold (T.left script.old) (T.left script.new)
+        (λ text rest. StopsReading piece_text (front_pieces site.now []) text rest (G.told device.old) (G.told device.new)) }
+    ensures fault { IfErr result IsFault }
+    ensures size { G.size device.new ≡ G.size device.old }
+    ensures disk { G.disk_faults device.new ≡ G.disk_faults device.old }
+    ensures read_cause { HasCause (T.faults script.old) (T.faults script.new) (IsErrOf result Status.ReadFault) }
+    ensures emit_cause { HasCause (G.emit_faults device.old) (G.emit_faults device.new) (IsErrOf result Status.EmitFault) }
+{
+    let mut lines = Lines::new(alloc)?;
+    let mut core = begin(alloc, site, device)?;
+    while let Some(line) = lines.next_line(script)? {
+        play_line(alloc, device, &mut core, &line)?;
+    }
+    end(alloc, device, lines.count(), &core)?;
+    Ok(())
+}

@@ -1,0 +1,121 @@
+-- What becomes of an input, by the state of the core alone (ANSI/ASHRAE 135-2020, 5.4.5 and clause 13).
+use Rattle.std.specs.Prelude.{◌≡◌, ℕ, ◌==◌, ◌&&◌, Bool, if◌then◌else◌, Option, Some, None, is_none, Result, Ok, Err, List, [], ◌∷◌, drop}
+use Rattle.bac_values.specs.Address.{Address}
+use Rattle.bac_values.specs.Identifier.{Identifier}
+use Rattle.bac_values.specs.declared.event_state.EventState.{EventState}
+use Rattle.bac_values.specs.declared.input.Input.{Input}
+use Rattle.bac_values.specs.declared.input.Input.TheVariants.{Tick, Pump, Set, Fault, Datagram}
+use Rattle.bac_values.specs.declared.input.SetFault.{SetFault}
+use Rattle.bac_values.specs.declared.input.SetFault.TheVariants.{WrongKind}
+use Rattle.bac_values.specs.declared.transition.Transition.{Transition}
+use Rattle.bac_values.specs.declared.value.Value.{Value}
+use Rattle.bvlc_npdu.specs.declared.reading.Incoming.{Incoming}
+use Rattle.bvlc_npdu.specs.Reading.{incoming_at}
+use Rattle.apdu_frame.specs.declared.apdu.Apdu.{Apdu}
+use Rattle.apdu_frame.specs.declared.apdu.Apdu.TheVariants.{Request, Segmented}
+use Rattle.apdu_frame.specs.Reading.{apdu_of}
+use Rattle.service_parameters.specs.declared.malformed.Malformed.{Malformed}
+use Rattle.event_services.specs.declared.acknowledge.AckRequest.{AckRequest}
+use Rattle.event_services.specs.Acknowledgements.{acknowledge_request_of}
+use Rattle.ack_alarm.specs.declared.verdict.Verdict.{Verdict}
+use Rattle.ack_alarm.specs.declared.verdict.Verdict.TheVariants.{Accept, Already, Error}
+use Rattle.ack_alarm.specs.Verdicts.{acknowledgement_verdict}
+use Rattle.object_table.specs.declared.change.Change.{Change}
+use Rattle.object_table.specs.Rows.{row_of}
+use Rattle.object_table.specs.Verdicts.{checked_fault, checked_set}
+use Rattle.alarm_core.specs.declared.event.Act.{Act}
+use Rattle.alarm_core.specs.declared.event.Act.TheVariants.{Write, Ack}
+use Rattle.alarm_core.specs.declared.event.Event.{Event}
+use Rattle.alarm_core.specs.Allowed.{IsAllowed}
+use Rattle.alarm_core.specs.Found.{found_in, is_other_object}
+use Rattle.alarm_core.specs.History.{StateTransition, raised, tick_at}
+use Rattle.alarm_core.specs.Next.{next_transitions}
+use Rattle.alarm_core.specs.State.{State}
+use Rattle.service_desk.specs.declared.decision.Decision.{Decision}
+use Rattle.service_desk.specs.declared.decision.Decision.TheVariants.{Ignore, Idle, Refuse, Reply, Enter}
+use Rattle.service_desk.specs.declared.replies.Asker.{Asker}
+use Rattle.service_desk.specs.Replies.{acknowledged, aborted, refused, rejected}
+
+-- the reasons of a Reject and of Aborts
+abbrev pub unrecognized_service : ℕ
+unrecognized_service = 9
+
+abbrev pub other : ℕ
+other = 0
+
+abbrev pub segmentation_not_supported : ℕ
+segmentation_not_supported = 4
+
+-- a tick is an event where some object would move
+abbrev pub tick_with : List StateTransition → ℕ → Decision
+tick_with [] moment = Idle
+tick_with (transition ∷ transitions) moment = Enter (tick_at moment) None None
+
+abbrev pub tick_decision : State → ℕ → Decision
+tick_decision state moment = tick_with (next_transitions (raised state.last_moment (tick_at moment)) state) moment
+
+abbrev pub write_at : ℕ → Change → Event
+write_at moment change = record { moment = moment; act = Write change }
+
+-- what a value or a fault from the field comes to
+abbrev pub field_decision : ℕ → Result Change SetFault → Decision
+field_decision moment (Err why) = Refuse why
+field_decision moment (Ok change) = Enter (write_at moment change) None None
+
+-- whether an object is of the site and has no value
+abbrev pub has_no_value : State → Identifier → Bool
+has_no_value state object = is_none (row_of object state.rows) && is_other_object state.site object
+
+-- such an object is of the wrong kind
+abbrev pub by_kind : State → Identifier → Result Change SetFault → Result Change SetFault
+by_kind state object checked = if has_no_value state object then Err WrongKind else checked
+
+abbrev pub ack_at : ℕ → Identifier → Transition → EventState → Event
+ack_at moment object transition named = record { moment = moment; act = Ack object transition named }
+
+-- a verdict on an acknowledgement, as it is answered
+abbrev pub verdict_decision : ℕ → Asker → Identifier → Verdict → Decision
+verdict_decision moment asker object (Accept transition named) = Enter (ack_at moment object transition named) (Some (acknowledged asker)) (Some (aborted asker other))
+verdict_decision moment asker object Already = Reply (acknowledged asker)
+verdict_decision moment asker object (Error class code) = Reply (refused asker class code)
+
+-- AcknowledgeAlarm (13.5)
+abbrev pub acknowledge_with : State → ℕ → Asker → Result AckRequest Malformed → Decision
+acknowledge_with state moment asker (Err refusal) = Reply (rejected asker refusal.reject)
+acknowledge_with state moment asker (Ok request) = verdict_decision moment asker request.object (acknowledgement_verdict (found_in state request.object) request)
+
+abbrev pub acknowledge_decision : State → ℕ → Asker → List ℕ → Decision
+acknowledge_decision state moment asker parameters = acknowledge_with state moment asker (acknowledge_request_of parameters)
+
+-- a confirmed request, by its service
+abbrev pub request_decision : State → ℕ → Asker → List ℕ → Decision
+request_decision state moment asker parameters =
+    if asker.service == 0 then acknowledge_decision state moment asker parameters
+    else Reply (rejected asker unrecognized_service)
+
+abbrev pub asker_of : Address → ℕ → ℕ → Asker
+asker_of peer invoke service = record { peer = peer; invoke = invoke; service = service }
+
+-- an APDU, by its header
+abbrev pub apdu_decision : State → ℕ → Address → List ℕ → Apdu → Decision
+apdu_decision state moment peer octets (Request max_apdu invoke service start) = request_decision state moment (asker_of peer invoke service) (drop start octets)
+apdu_decision state moment peer octets (Segmented invoke) = Reply (aborted (asker_of peer invoke 0) segmentation_not_supported)
+apdu_decision state moment peer octets header = Ignore
+
+abbrev pub incoming_decision : State → ℕ → List ℕ → Option Incoming → Decision
+incoming_decision state moment octets None = Ignore
+incoming_decision state moment octets (Some incoming) =
+    apdu_decision state moment incoming.peer (drop incoming.start octets) (apdu_of (drop incoming.start octets))
+
+-- what becomes of an input at a moment
+abbrev pub decision_on : State → Input → ℕ → Decision
+decision_on state Tick moment = tick_decision state moment
+decision_on state Pump moment = Idle
+decision_on state (Set object value) moment = field_decision moment (by_kind state object (checked_set state.rows object value))
+decision_on state (Fault object reliability) moment = field_decision moment (by_kind state object (checked_fault state.rows object reliability))
+decision_on state (Datagram peer octets) moment = incoming_decision state moment octets (incoming_at peer octets)
+
+-- an event that a decision enters may come after the state, at the moment
+abbrev pub EntersAllowed : State → ℕ → Decision → Type 0
+EntersAllowed state moment (Enter event reply full) = (event.moment ≡ moment) × IsAllowed state event.act
+EntersAllowed state moment decision = Unit {0}

@@ -1,0 +1,13 @@
+//! What becomes of an input: an event, a reply, or nothing.
+//!
+//! A decision is a function of the core's state and of the input alone.
+#![tactic(auto)]
+
+mod acknowledging;
+mod datagrams;
+mod deciding;
+mod decision;
+mod replies;
+
+pub use deciding::decide;
+pub use decision::Decision;
