@@ -1,4 +1,4 @@
-ghost use Rattle.std.specs.Prelude.{◌≡◌, ◌≤◌, ◌<◌, ◌+◌, ◌∷◌, [], IfOk};
+ghost use Rattle.std.specs.Prelude.{◌≡◌, ◌≤◌, ◌<◌, ◌+◌, ◌∷◌, [], IfOk, OnOk};
 ghost use Rattle.event_machine.specs.Next.{has_lasted, run_seen};
 ghost use Rattle.std.specs.Prelude.{nat_le};
 ghost use Rattle.std.specs.List.{list_any};
@@ -45,6 +45,15 @@ impl Past {
         let mut seen = Vec::with_capacity(alloc, self.seen.len() + 2)?;
         seen.extend_from_slice(self.seen.as_slice())?;
         Ok(Past { seen })
+    }
+
+    /// Room for at least two more points. The points are as they were, also where memory is refused.
+    pub fn reserve(&mut self) -> Result<(), NoMemory>
+        ensures points { self.new.points ≡ self.old.points }
+        ensures room { OnOk result (2 ≤ self.new.spare) }
+    {
+        self.seen.reserve(2)?;
+        Ok(())
     }
 
     /// Whether the rule at a place has had the key of the newest point for so many milliseconds.

@@ -22,8 +22,8 @@ const KINDS: [ObjectKind; 10] = [
     ObjectKind::PositiveIntegerValue,
 ];
 
-// The type of objects with a name.
-fn kind_named(name: &[u8]) -> Option<ObjectKind>
+/// The type of objects with a name.
+pub fn kind_named(name: &[u8]) -> Option<ObjectKind>
     ensures kind { result ≡ kind_named name.now }
 {
     KINDS

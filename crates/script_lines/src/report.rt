@@ -5,8 +5,8 @@ use crate::names::{kind_name, refusal_word, state_name};
 use bac_values::{Moved, NoMemory, ObjectId, Peer, ReportLine, Send};
 use std::alloc::{AllocError, Global};
 
-// KIND:INSTANCE, with the type's number where it has no name.
-fn object_text(alloc: Global, object: ObjectId) -> Result<String, AllocError>
+/// The text `KIND:INSTANCE` of an object, with the type's number where it has no name.
+pub fn object_text(alloc: Global, object: ObjectId) -> Result<String, AllocError>
     ensures text { IfOk result (λ text. string_bytes text ≡ object_text object) }
 {
     let instance = object.instance();

@@ -32,8 +32,8 @@ fn bits_value(digits: &[u8]) -> Option<u64>
     Some(number)
 }
 
-// The string of bits whose first bit is the first digit.
-fn bits(digits: &[u8]) -> Option<Bits>
+/// The string of at most 64 bits that digits 0 and 1 spell, whose first bit is the first digit.
+pub fn read_bits(digits: &[u8]) -> Option<Bits>
     ensures bits { result ≡ bits_of digits.now }
 {
     if digits.len() > 64 {
@@ -119,7 +119,7 @@ fn value_named(alloc: Global, name: &[u8], digits: &[u8]) -> Result<Option<Value
         return Ok(number.map(|number| Value::Unsigned(number as u32)));
     }
     if name == b"bits:".as_slice() {
-        return Ok(bits(digits).map(Value::Bits));
+        return Ok(read_bits(digits).map(Value::Bits));
     }
     if name == b"text:".as_slice() {
         return Ok(text(alloc, digits)?.map(Value::Text));
