@@ -1,5 +1,5 @@
 -- What the reader of AcknowledgeAlarm promises.
-use Rattle.std.proofs.Common.{◌≡◌, ◌≢◌, ℕ, ◌+◌, ◌<◌, ◌≤◌, Bool, true, false, cond, ltb, Some, List, [], ◌∷◌, ◌++◌, length, drop, Result, Ok, Err, refl, sym, ap, subst, ◌∙◌, append_assoc, arith, inl, inr}
+use Rattle.std.proofs.Common.{◌≡◌, ◌≢◌, ℕ, ◌+◌, ◌<◌, ◌≤◌, Bool, true, false, cond, ltb, Some, List, [], ◌∷◌, ◌++◌, length, drop, Result, Ok, Err, refl, sym, ap, subst, ◌∙◌, arith, inl, inr}
 use Rattle.std.specs.Prelude.{◌↔◌, ◌⊎◌, IfOk, IfErr}
 use Rattle.std.proofs.lemmas.List.{length-append, length-drop, drop_all, drop_at, append-nil}
 use Rattle.bac_values.specs.Identifier.{Identifier}
@@ -18,7 +18,7 @@ use Rattle.service_parameters.proofs.Sequences.{required_ok, required_again, not
 use Rattle.event_services.specs.declared.acknowledge.AckRequest.{AckRequest}
 use Rattle.event_services.specs.declared.time_stamp.AckStamp.{AckStamp}
 use Rattle.event_services.specs.TimeStamps.{time_stamp_at}
-use Rattle.event_services.specs.Acknowledgements.{SpellsSource, SpellsStampOf, SpellsAcknowledgement, SpellsParameter, SpellsParameters, LacksParameter, HasMore, HasInvalidParameter, skipped, acknowledge_request_of}
+use Rattle.event_services.specs.Acknowledgements.{SpellsSource, SpellsStampOf, SpellsAcknowledgement, SpellsParameters, LacksParameter, HasMore, HasInvalidParameter, skipped, acknowledge_request_of}
 use Rattle.event_services.proofs.StampReaders.{stamp_of_reader}
 use Rattle.event_services.proofs.AckSteps.{place_of, source_at, step, step_laws, as_unsigned, as_enumerated, run, cause, run_fails, run_ends}
 

@@ -1,10 +1,9 @@
 -- The parameters of AcknowledgeAlarm in their order, without their values: which of them are there, and why one is refused.
-use Rattle.std.proofs.Common.{◌≡◌, ℕ, zero, suc, ◌+◌, ◌<◌, ◌≤◌, Some, List, [], ◌++◌, length, drop, Result, Ok, Err, refl, sym, ap, subst, ◌∙◌, arith, inl, inr}
+use Rattle.std.proofs.Common.{◌≡◌, ℕ, zero, suc, ◌+◌, ◌<◌, ◌≤◌, Some, List, [], ◌++◌, length, Result, Ok, Err, refl, sym, ap, subst, ◌∙◌, arith, inl, inr}
 use Rattle.std.specs.Prelude.{◌⊎◌}
 use Rattle.bac_tags.specs.declared.fault.TagFault.{TagFault}
 use Rattle.bac_tags.specs.Contents.{SpellsUnsigned, SpellsEnumerated, SpellsObject}
 use Rattle.bac_tags.specs.Reading.{valued, content_at, unsigned_at, object_at}
-use Rattle.bac_tags.specs.Elements.{SpellsElement}
 use Rattle.bac_tags.proofs.Standing.{IsBytes, Stands, Stands-nil, Stands-then, Stands-front, Stands-back, Stands-within}
 use Rattle.service_parameters.specs.declared.malformed.Malformed.{Malformed}
 use Rattle.service_parameters.specs.Refusals.{invalid_tag, missing_parameter}

@@ -10,3 +10,4 @@ pub mod ToldReaders
 pub mod NoteLaws
 pub mod NoteAgain
 pub mod NoteWritten
+pub mod NoteLengthLaws

@@ -1,21 +1,18 @@
 -- A notification that is spelled is read, whichever of its parameters are absent.
-use Rattle.std.proofs.Common.{◌≡◌, ◌≢◌, ℕ, ◌+◌, ◌<◌, ◌≤◌, Bool, true, false, cond, eqb, ltb, ◌||◌, Option, Some, None, List, [], ◌∷◌, ◌++◌, length, drop, Result, Ok, Err, refl, sym, ap, subst, ◌∙◌, append_assoc, arith, inl, inr}
-use Rattle.std.specs.Prelude.{◌⊎◌, ok_or}
-use Rattle.std.proofs.lemmas.List.{length-append, append-nil}
+use Rattle.std.proofs.Common.{◌≡◌, ◌≢◌, ℕ, ◌+◌, ◌<◌, ◌≤◌, Bool, Option, Some, None, List, [], ◌++◌, length, drop, Ok, Err, refl, sym, ap, subst, ◌∙◌, append_assoc, arith}
+use Rattle.std.proofs.lemmas.List.{append-nil}
 use Rattle.bac_values.specs.Identifier.{Identifier}
 use Rattle.bac_values.specs.declared.event_state.EventState.{EventState}
 use Rattle.bac_values.specs.declared.stamp.Stamp.{Stamp}
-use Rattle.bac_tags.specs.declared.fault.TagFault.{TagFault}
-use Rattle.bac_tags.specs.declared.fault.TagFault.TheVariants.{WrongTag, BadLength}
+use Rattle.bac_tags.specs.declared.fault.TagFault.TheVariants.{WrongTag}
 use Rattle.bac_tags.specs.declared.tag.Tag.{Tag}
 use Rattle.bac_tags.specs.Tags.{SpellsTag}
 use Rattle.bac_tags.specs.Elements.{element_tag, SpellsElement, HasOtherTag}
 use Rattle.bac_tags.specs.Contents.{IsUnsigned, SpellsObject, SpellsBoolean}
-use Rattle.bac_tags.specs.Reading.{◌>>=◌, header_at, content_at, unsigned_at, object_at, boolean_at}
-use Rattle.bac_tags.proofs.Standing.{Stands, Stands-from, Stands-front, Stands-back, Stands-within}
+use Rattle.bac_tags.specs.Reading.{content_at, unsigned_at, object_at, boolean_at}
+use Rattle.bac_tags.proofs.Standing.{Stands, Stands-front, Stands-back, Stands-within}
 use Rattle.bac_tags.proofs.ElementLaws.{header_other}
-use Rattle.service_parameters.specs.declared.malformed.Malformed.{Malformed}
-use Rattle.service_parameters.specs.Reading.{required, optional, nothing_follows}
+use Rattle.service_parameters.specs.Reading.{optional}
 use Rattle.service_parameters.proofs.ElementReaders.{Reader, object_reader, boolean_reader}
 use Rattle.service_parameters.proofs.Sequences.{required_again, nothing_none}
 use Rattle.service_parameters.proofs.OptionalReaders.{optional_again, optional_none}

@@ -1,20 +1,12 @@
 -- A notification that is read is spelled so, and one that is spelled so is read.
-use Rattle.std.proofs.Common.{◌≡◌, ◌≢◌, ℕ, ◌+◌, ◌<◌, ◌≤◌, Bool, Option, Some, None, List, [], ◌∷◌, ◌++◌, length, drop, Result, Ok, Err, refl, sym, ap, subst, ◌∙◌, append_assoc, arith, inl, inr}
-use Rattle.std.specs.Prelude.{◌⊎◌}
-use Rattle.std.proofs.lemmas.List.{length-append, length-drop, drop_all, append-nil}
-use Rattle.std.proofs.lemmas.Bool.{cases_lt}
+use Rattle.std.proofs.Common.{◌≡◌, ℕ, ◌≤◌, Bool, Option, Some, None, List, [], ◌++◌, length, Result, Ok, refl, sym, ap, subst, ◌∙◌, arith}
 use Rattle.bac_values.specs.Identifier.{Identifier}
-use Rattle.bac_values.specs.declared.event_state.EventState.{EventState}
-use Rattle.bac_values.specs.declared.stamp.Stamp.{Stamp}
-use Rattle.bac_tags.specs.declared.fault.TagFault.{TagFault}
-use Rattle.bac_tags.specs.declared.fault.TagFault.TheVariants.{WrongTag}
 use Rattle.bac_tags.specs.Contents.{SpellsObject, SpellsBoolean}
 use Rattle.bac_tags.specs.Reading.{object_at, boolean_at}
-use Rattle.bac_tags.proofs.Steps.{chosen as chosen_fault}
-use Rattle.bac_tags.proofs.Standing.{IsBytes, Stands, Stands-nil, Stands-from, Stands-then, Stands-front, Stands-back, Stands-within}
+use Rattle.bac_tags.proofs.Standing.{IsBytes, Stands, Stands-nil, Stands-then, Stands-within}
 use Rattle.bac_tags.proofs.Answered.{Spelled}
 use Rattle.service_parameters.specs.declared.malformed.Malformed.{Malformed}
-use Rattle.service_parameters.specs.Reading.{◌>>=◌, required, or_absent, optional, nothing_follows}
+use Rattle.service_parameters.specs.Reading.{◌>>=◌, required, optional, nothing_follows}
 use Rattle.service_parameters.proofs.Steps.{bind_ok, ok_is}
 use Rattle.service_parameters.proofs.ElementReaders.{Reader, object_reader, boolean_reader}
 use Rattle.service_parameters.proofs.Sequences.{required_ok, nothing_ok}

@@ -1,6 +1,6 @@
 -- Readers of the elements of notifications: what is read is spelled so, and what is spelled so is read.
-use Rattle.std.proofs.Common.{◌≡◌, ◌≢◌, ℕ, ◌+◌, ◌*◌, ◌/◌, ◌%◌, ◌^◌, ◌<◌, ◌≤◌, Bool, true, false, cond, eqb, ltb, leb, ◌&&◌, Option, Some, None, List, [], ◌∷◌, ◌++◌, length, drop, Result, Ok, Err, refl, sym, ap, subst, ◌∙◌, arith, inl, inr}
-use Rattle.std.specs.Prelude.{◌⊎◌, ok_or, find, IsUtf8, nat_le}
+use Rattle.std.proofs.Common.{◌≡◌, ℕ, ◌+◌, ◌*◌, ◌/◌, ◌%◌, ◌^◌, ◌<◌, ◌≤◌, Bool, true, false, eqb, ltb, ◌&&◌, Option, Some, None, List, [], ◌∷◌, ◌++◌, length, Result, Ok, refl, sym, ap, subst, ◌∙◌, arith, inl, inr}
+use Rattle.std.specs.Prelude.{ok_or, find, IsUtf8, nat_le}
 use Rattle.std.specs.Int.{from_bool}
 use Rattle.std.specs.Str.{is_utf8}
 use Rattle.std.proofs.lemmas.Bool.{eqb-true, eq-eqb, ltb-true, lt-ltb, leb-true, and_parts, cases_Bool, cases_eq, ne_eqb}
@@ -13,17 +13,16 @@ use Rattle.bac_values.specs.declared.event_state.EventState.{EventState}
 use Rattle.bac_values.specs.declared.event_state.EventState.TheVariants as states
 use Rattle.bac_values.specs.declared.reliability.Reliability.{Reliability as Reliable}
 use Rattle.bac_values.specs.declared.reliability.Reliability.TheVariants as reliabilities
-use Rattle.bac_values.specs.declared.stamp.Stamp.{Stamp}
 use Rattle.bac_values.specs.declared.status_flags.StatusFlags.{StatusFlags}
 use Rattle.bac_values.specs.declared.value.Value.{Value}
 use Rattle.bac_tags.specs.declared.fault.TagFault.{TagFault}
-use Rattle.bac_tags.specs.declared.fault.TagFault.TheVariants.{BadLength, WrongTag}
+use Rattle.bac_tags.specs.declared.fault.TagFault.TheVariants.{BadLength}
 use Rattle.bac_tags.specs.Contents.{IsBits, SpellsBits}
 use Rattle.bac_tags.specs.Stamps.{SpellsStamp}
 use Rattle.bac_tags.specs.Values.{SpellsValue}
-use Rattle.bac_tags.specs.Reading.{◌>>=◌, content_at, unsigned_at, bits_at, stamp_at, value_at}
+use Rattle.bac_tags.specs.Reading.{◌>>=◌, bits_at, stamp_at, value_at}
 use Rattle.bac_tags.proofs.Steps.{bind_ok, ok_is}
-use Rattle.bac_tags.proofs.Standing.{IsBytes, Stands, Stands-then, Stands-front, Stands-back, Stands-within}
+use Rattle.bac_tags.proofs.Standing.{Stands, Stands-then, Stands-front, Stands-back, Stands-within}
 use Rattle.bac_tags.proofs.Answered.{Spelled}
 use Rattle.bac_tags.proofs.ElementLaws.{some_ok}
 use Rattle.bac_tags.proofs.Readers.{Forms, reads_form, form_again}
@@ -31,9 +30,9 @@ use Rattle.byteorder.specs.Endian.{big_number}
 use Rattle.bac_tags.proofs.Mirror.{mirrored_small}
 use Rattle.bac_tags.proofs.ValueLaws.{value_found, value_again}
 use Rattle.service_parameters.specs.Tags.{SpellsEnclosed, enclosed_at}
-use Rattle.service_parameters.proofs.ElementReaders.{Reader, read_found as spelled_found, element_some, tag_some, spelled_from, unsigned_reader, bits_reader, stamp_reader, enclosed_reader}
+use Rattle.service_parameters.proofs.ElementReaders.{Reader, read_found as spelled_found, element_some, tag_some, unsigned_reader, bits_reader, stamp_reader, enclosed_reader}
 use Rattle.event_services.specs.Notifications.{bits_of_flags}
-use Rattle.event_services.specs.NoteReading.{Reads, both_at, made_at, held_at, number_at, octet_of, octet_number_at, state_at, flags_of, flags_at, text_of, text_at, moment_at}
+use Rattle.event_services.specs.NoteReading.{Reads, both_at, held_at, number_at, octet_of, octet_number_at, state_at, flags_of, flags_at, text_of, text_at, moment_at}
 use Rattle.event_services.specs.NoteGrammar.{SpellsBoth, SpellsNumber, SpellsOctetNumber, SpellsState, SpellsReliability, SpellsFlags, IsTextContent, SpellsText, SpellsMoment}
 use Rattle.event_services.proofs.TextForms.{text_from}
 

@@ -1,7 +1,6 @@
 -- What is written of a notification spells it.
-use Rattle.std.proofs.Common.{◌≡◌, ℤ, ℕ, ◌^◌, ◌*◌, ◌+◌, ◌<◌, ◌≤◌, Bool, true, false, Option, Some, None, List, [], ◌∷◌, ◌++◌, length, Ok, refl, sym, ap, subst, ◌∙◌, append_assoc, arith}
+use Rattle.std.proofs.Common.{◌≡◌, ℕ, ◌^◌, ◌<◌, ◌≤◌, Bool, true, false, Option, Some, None, List, ◌∷◌, ◌++◌, length, Ok, refl, subst, append_assoc, arith}
 use Rattle.std.specs.Int.{from_bool}
-use Rattle.std.proofs.lemmas.List.{append-nil}
 use Rattle.bac_values.specs.EventStates.{number_of_state}
 use Rattle.bac_values.specs.Reliabilities.{number_of_reliability}
 use Rattle.bac_values.specs.declared.event_state.EventState.{EventState}

@@ -1,22 +1,19 @@
 -- Time stamps: what is read is spelled so, and what is spelled so is read.
-use Rattle.std.proofs.Common.{◌≡◌, ℕ, ◌+◌, ◌≤◌, true, false, cond, eqb, Option, Some, List, ◌++◌, length, Result, Ok, Err, refl, sym, ap, subst, ◌∙◌, arith, inl, inr}
-use Rattle.std.specs.Prelude.{◌⊎◌}
-use Rattle.std.proofs.lemmas.Bool.{eqb-true}
+use Rattle.std.proofs.Common.{◌≡◌, ℕ, ◌+◌, ◌≤◌, cond, eqb, Some, List, ◌++◌, length, Result, Ok, Err, refl, sym, ap, subst, ◌∙◌, inl, inr}
 use Rattle.bac_values.specs.declared.stamp.Stamp.{Stamp}
 use Rattle.bac_tags.specs.declared.fault.TagFault.{TagFault}
 use Rattle.bac_tags.specs.declared.fault.TagFault.TheVariants.{WrongTag}
 use Rattle.bac_tags.specs.declared.tag.Tag.{Tag}
-use Rattle.bac_tags.specs.Tags.{SpellsTag}
 use Rattle.bac_tags.specs.Elements.{element_tag, SpellsElement}
-use Rattle.bac_tags.specs.Contents.{IsUnsigned, SpellsUnsigned}
+use Rattle.bac_tags.specs.Contents.{IsUnsigned}
 use Rattle.bac_tags.specs.Stamps.{SpellsStamp}
 use Rattle.bac_tags.specs.Reading.{◌>>=◌, valued, content_at, tag_at, unsigned_at, stamp_at}
 use Rattle.bac_tags.proofs.Steps.{bind_ok, chosen, ok_is}
 use Rattle.bac_tags.proofs.Standing.{IsBytes, Stands, Stands-front}
 use Rattle.bac_tags.proofs.Answered.{Spelled}
 use Rattle.bac_tags.proofs.TagLaws.{tag_again}
-use Rattle.service_parameters.specs.Tags.{opening, SpellsEnclosed, IsOctets, SpellsOctets, enclosed_at}
-use Rattle.service_parameters.proofs.ElementReaders.{Reader, element_some, tag_some, whole, unsigned_reader, octets_reader, stamp_reader, enclosed_reader}
+use Rattle.service_parameters.specs.Tags.{opening, SpellsEnclosed, IsOctets, enclosed_at}
+use Rattle.service_parameters.proofs.ElementReaders.{Reader, element_some, whole, unsigned_reader, octets_reader, stamp_reader, enclosed_reader}
 use Rattle.event_services.specs.declared.time_stamp.AckStamp.{AckStamp}
 use Rattle.event_services.specs.declared.time_stamp.AckStamp.TheVariants.{Time, Sequence, DateTime}
 use Rattle.event_services.specs.TimeStamps.{SpellsTimeStamp, form_at, time_stamp_at}

@@ -1,6 +1,5 @@
 -- Readers of what notifications tell: what is read is spelled so, and what is spelled so is read.
-use Rattle.std.proofs.Common.{◌≡◌, ℤ, ℕ, ◌+◌, ◌≤◌, Bool, true, false, cond, eqb, Option, Some, None, List, [], ◌∷◌, ◌++◌, length, drop, Result, Ok, Err, refl, sym, ap, subst, ◌∙◌, arith, inl, inr}
-use Rattle.std.specs.Prelude.{◌⊎◌}
+use Rattle.std.proofs.Common.{◌≡◌, ℤ, ℕ, ◌+◌, ◌≤◌, Bool, true, false, cond, eqb, Option, Some, None, List, [], ◌++◌, length, Result, Ok, Err, refl, sym, ap, subst, ◌∙◌, arith, inl, inr}
 use Rattle.std.proofs.lemmas.Bool.{eqb-true, cases_Bool}
 use Rattle.std.proofs.lemmas.List.{length-append}
 use Rattle.bac_values.specs.BitString.{BitString}
@@ -11,22 +10,19 @@ use Rattle.bac_values.specs.declared.value.Value.{Value}
 use Rattle.bac_tags.specs.declared.fault.TagFault.{TagFault}
 use Rattle.bac_tags.specs.declared.fault.TagFault.TheVariants.{WrongTag}
 use Rattle.bac_tags.specs.declared.tag.Tag.{Tag}
-use Rattle.bac_tags.specs.declared.tag.Shape.{Shape}
-use Rattle.bac_tags.specs.declared.tag.Shape.TheVariants.{Primitive, Opening, Closing}
 use Rattle.bac_tags.specs.Elements.{element_tag}
 use Rattle.bac_tags.specs.Contents.{IsUnsigned, SpellsSigned, SpellsBits}
 use Rattle.bac_tags.specs.Values.{SpellsValue}
 use Rattle.bac_tags.specs.Reading.{◌>>=◌, tag_at, signed_at, bits_at, value_at}
 use Rattle.bac_tags.proofs.Steps.{bind_ok, chosen, ok_is}
-use Rattle.bac_tags.proofs.Standing.{IsBytes, Stands, Stands-nil, Stands-then, Stands-front, Stands-back, Stands-within}
+use Rattle.bac_tags.proofs.Standing.{IsBytes, Stands, Stands-then, Stands-front, Stands-back, Stands-within}
 use Rattle.bac_tags.proofs.Answered.{Spelled}
 use Rattle.bac_tags.proofs.TagLaws.{tag_again}
 use Rattle.service_parameters.specs.Tags.{opening, closing, SpellsEnclosed, is_closing, opening_at, closing_at, enclosed_at}
-use Rattle.service_parameters.proofs.TagReaders.{StandsTag}
 use Rattle.service_parameters.proofs.ElementReaders.{Reader, tag_some, opening_found, opening_again, closing_found, closing_again, signed_reader, bits_reader, enclosed_reader}
 use Rattle.event_services.specs.declared.notification.EventValues.{EventValues}
 use Rattle.event_services.specs.declared.notification.EventValues.TheVariants.{Bitstring, State, Command, UnsignedRange, SignedOutOfRange, UnsignedOutOfRange, Characterstring, Reliability}
-use Rattle.event_services.specs.Notifications.{type_of_values, state_number}
+use Rattle.event_services.specs.Notifications.{state_number}
 use Rattle.event_services.specs.NoteReading.{Reads, both_at, made_at, held_at, number_at, flags_at, text_at, property_state_in, property_state_at, reliability_number_at, present_value, property_value_at, properties_at, bitstring_at, changed_state_at, commanded_at, unsigned_range_at, signed_out_of_range_at, unsigned_out_of_range_at, changed_text_at, reliability_at, told_at, values_at}
 use Rattle.event_services.specs.NoteGrammar.{SpellsBoth, SpellsNumber, SpellsReliability, SpellsFlags, SpellsText, SpellsPropertyState, SpellsPresentValue, SpellsPropertyValue, SpellsPropertyList, SpellsTold, SpellsToldOf, SpellsValuesOf}
 use Rattle.event_services.proofs.StampReaders.{element_number}

@@ -1,5 +1,5 @@
 -- GetEventInformation (ANSI/ASHRAE 135-2020, 13.12): the request, and the one spelling of its answer.
-use Rattle.std.specs.Prelude.{◌≡◌, ◌≢◌, ◌⊎◌, ℕ, ◌+◌, ◌*◌, Bool, Option, Some, None, List, [], ◌∷◌, ◌++◌, length, flat_map, Result, Ok, Err}
+use Rattle.std.specs.Prelude.{◌≡◌, ◌≢◌, ◌⊎◌, ℕ, ◌+◌, ◌*◌, Bool, Option, Some, None, List, [], ◌∷◌, ◌++◌, length, flat_map, Result, Ok}
 use Rattle.std.specs.Int.{from_bool}
 use Rattle.bac_values.specs.BitString.{BitString}
 use Rattle.bac_values.specs.EventStates.{number_of_state}

@@ -6,3 +6,4 @@ pub mod NoteReading
 pub mod NoteService
 pub mod NoteGrammar
 pub mod NoteRanges
+pub mod NoteLengths

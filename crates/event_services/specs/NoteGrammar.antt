@@ -1,7 +1,6 @@
 -- Which octets are a notification (ANSI/ASHRAE 135-2020, clause 21, ConfirmedEventNotification-Request and BACnetNotificationParameters), in any spelling of its elements.
-use Rattle.std.specs.Prelude.{◌≡◌, ℕ, ◌<◌, ◌≤◌, if◌then◌else◌, Bool, Option, Some, None, List, [], ◌∷◌, ◌++◌, length, IsUtf8}
+use Rattle.std.specs.Prelude.{◌≡◌, ℕ, ◌<◌, ◌≤◌, Bool, Option, Some, None, List, [], ◌∷◌, ◌++◌, length, IsUtf8}
 use Rattle.bac_values.specs.EventStates.{number_of_state}
-use Rattle.bac_values.specs.Identifier.{Identifier}
 use Rattle.bac_values.specs.Reliabilities.{number_of_reliability}
 use Rattle.bac_values.specs.declared.event_state.EventState.{EventState}
 use Rattle.bac_values.specs.declared.reliability.Reliability.{Reliability as Reliable}

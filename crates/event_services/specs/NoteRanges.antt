@@ -3,7 +3,6 @@ use Rattle.std.specs.Prelude.{◌≡◌, ℕ, ◌^◌, ◌<◌, ◌≤◌, Optio
 use Rattle.std.specs.Int.{w32}
 use Rattle.bac_values.specs.BitString.{IsBitString}
 use Rattle.bac_values.specs.Identifier.{IsIdentifier}
-use Rattle.bac_values.specs.declared.value.Value.{Value}
 use Rattle.bac_tags.specs.Values.{IsOneElement}
 use Rattle.event_services.specs.declared.notification.Notification.{Notification}
 use Rattle.event_services.specs.declared.notification.EventValues.{EventValues}

@@ -4,8 +4,6 @@ use Rattle.std.specs.Int.{from_bool}
 use Rattle.bac_values.specs.BitString.{BitString}
 use Rattle.bac_values.specs.EventStates.{number_of_state}
 use Rattle.bac_values.specs.Reliabilities.{number_of_reliability}
-use Rattle.bac_values.specs.declared.event_state.EventState.{EventState}
-use Rattle.bac_values.specs.declared.stamp.Stamp.{Stamp}
 use Rattle.bac_values.specs.declared.status_flags.StatusFlags.{StatusFlags}
 use Rattle.bac_values.specs.declared.value.Value.{Value}
 use Rattle.bac_values.specs.declared.value.Value.TheVariants as values
@@ -124,6 +122,10 @@ written_states note =
     written_unsigned (Some 8) note.notify ++ written_if (written_boolean (Some 9)) note.ack_required
     ++ written_if (λ state. written_unsigned (Some 10) (number_of_state state)) note.from
     ++ written_unsigned (Some 11) (number_of_state note.to)
+
+-- a notification as it is told to a process
+abbrev pub told_to : ℕ → Notification → Notification
+told_to process note = record note { process = process }
 
 unfoldable pub written_notification : Notification → List ℕ
 written_notification note =

@@ -19,4 +19,4 @@ pub use notification::{EventValues, Notification};
 pub use read_note::{NoteFault, read_notification, reads_back};
 pub use service_parameters::Malformed;
 pub use time_stamp::AckStamp;
-pub use write_note::write_notification;
+pub use write_note::{write_notification, write_notification_to};

@@ -2,7 +2,9 @@ ghost use Rattle.std.specs.Prelude.{◌≡◌, ◌++◌, List, ◌<◌, ◌≤�
 ghost use Rattle.bac_tags.specs.Writing.{written_tag, written_unsigned, written_boolean, written_stamp, written_value};
 ghost use Rattle.bac_values.specs.EventStates.{number_of_state};
 ghost use Rattle.service_parameters.specs.Tags.{opening, closing};
-ghost use Rattle.event_services.specs.Notifications.{IsOneValue, IsOneOrNone, HasOneValues, IsTold, type_of_values, written_enclosed, written_text_in, bits_of_flags, written_flags, written_property, written_told, written_if, written_values, written_source, written_kind, written_event, written_states, written_notification};
+ghost use Rattle.event_services.specs.Notifications.{IsOneValue, IsOneOrNone, HasOneValues, IsTold, type_of_values, written_enclosed, written_text_in, bits_of_flags, written_flags, written_property, written_told, written_if, written_values, written_source, written_kind, written_event, written_states, written_notification, told_to};
+ghost use Rattle.event_services.specs.NoteLengths.{most_octets, IsShort, AreShort, HasShortText};
+ghost use Rattle.event_services.specs.NoteRanges.{IfAny};
 
 use crate::notification::{EventValues, Notification};
 use bac_tags::{
@@ -45,7 +47,8 @@ pub(crate) fn write_closing(out: &mut Vec<u8>, number: u8) -> Result<(), NoMemor
 
 /// Appends a text with that number in a context.
 fn write_text(out: &mut Vec<u8>, number: u8, text: &Text) -> Result<(), NoMemory>
-    ensures { OnOk result (out.new.items ≡ out.old.items ++ written_text_in number text.now) }
+    ensures written { OnOk result (out.new.items ≡ out.old.items ++ written_text_in number text.now) }
+    ensures short { length text.now ≤ 256 }
 {
     let octets = text.octets();
     write_tag(
@@ -87,7 +90,8 @@ fn write_flags(out: &mut Vec<u8>, flags: StatusFlags) -> Result<(), NoMemory>
 /// Appends a value between the tags of a number.
 fn write_enclosed_value(out: &mut Vec<u8>, number: u8, value: &Value) -> Result<(), NoMemory>
     requires { IsOneValue value.now }
-    ensures { OnOk result (out.new.items ≡ out.old.items ++ written_enclosed number (written_value value.now)) }
+    ensures written { OnOk result (out.new.items ≡ out.old.items ++ written_enclosed number (written_value value.now)) }
+    ensures short { OnOk result (IsShort value.now) }
 {
     write_opening(out, number)?;
     write_value(out, value)?;
@@ -100,7 +104,8 @@ pub(crate) fn write_enclosed_stamp(
     number: u8,
     stamp: Stamp,
 ) -> Result<(), NoMemory>
-    ensures { OnOk result (out.new.items ≡ out.old.items ++ written_enclosed number (written_stamp stamp)) }
+    ensures written { OnOk result (out.new.items ≡ out.old.items ++ written_enclosed number (written_stamp stamp)) }
+    ensures whole { length stamp.octets ≡ 8 }
 {
     write_opening(out, number)?;
     write_stamp(out, None, stamp)?;
@@ -110,7 +115,8 @@ pub(crate) fn write_enclosed_stamp(
 /// Appends a property's value, if there is one.
 fn write_property(out: &mut Vec<u8>, property: &Option<Value>) -> Result<(), NoMemory>
     requires { IsOneOrNone property.now }
-    ensures { OnOk result (out.new.items ≡ out.old.items ++ written_property property.now) }
+    ensures written { OnOk result (out.new.items ≡ out.old.items ++ written_property property.now) }
+    ensures short { OnOk result (IfAny IsShort property.now) }
 {
     let Some(value) = property else {
         return Ok(());
@@ -128,7 +134,8 @@ fn write_commanded(
 ) -> Result<(), NoMemory>
     requires command { IsOneValue command.now }
     requires feedback { IsOneValue feedback.now }
-    ensures { OnOk result (out.new.items ≡ out.old.items ++ written_told (EventValues.Command command.now flags feedback.now)) }
+    ensures written { OnOk result (out.new.items ≡ out.old.items ++ written_told (EventValues.Command command.now flags feedback.now)) }
+    ensures short { OnOk result (IsShort command.now × IsShort feedback.now) }
 {
     write_enclosed_value(out, 0, command)?;
     write_flags(out, flags)?;
@@ -204,7 +211,8 @@ fn write_changed(
     flags: StatusFlags,
     alarm: &Text,
 ) -> Result<(), NoMemory>
-    ensures { OnOk result (out.new.items ≡ out.old.items ++ written_told (EventValues.Characterstring changed.now flags alarm.now)) }
+    ensures written { OnOk result (out.new.items ≡ out.old.items ++ written_told (EventValues.Characterstring changed.now flags alarm.now)) }
+    ensures short { OnOk result ((length changed.now ≤ 256) × (length alarm.now ≤ 256)) }
 {
     write_text(out, 0, changed)?;
     write_flags(out, flags)?;
@@ -219,7 +227,8 @@ fn write_reliability(
     property: &Option<Value>,
 ) -> Result<(), NoMemory>
     requires { IsOneOrNone property.now }
-    ensures { OnOk result (out.new.items ≡ out.old.items ++ written_told (EventValues.Reliability reliability flags property.now)) }
+    ensures written { OnOk result (out.new.items ≡ out.old.items ++ written_told (EventValues.Reliability reliability flags property.now)) }
+    ensures short { OnOk result (IfAny IsShort property.now) }
 {
     write_unsigned(out, Some(0), u32::from(reliability.number()))?;
     write_flags(out, flags)?;
@@ -231,7 +240,8 @@ fn write_reliability(
 /// Appends what stands between the tags of the event's type.
 fn write_told(out: &mut Vec<u8>, told: &EventValues) -> Result<(), NoMemory>
     requires { HasOneValues told.now }
-    ensures { OnOk result (out.new.items ≡ out.old.items ++ written_told told.now) }
+    ensures written { OnOk result (out.new.items ≡ out.old.items ++ written_told told.now) }
+    ensures short { OnOk result (AreShort told.now) }
 {
     match told {
         EventValues::Bitstring { referenced, flags } => {
@@ -297,7 +307,8 @@ fn type_of_values(told: &EventValues) -> u8
 /// Appends the values of an event, if there are any.
 fn write_values(out: &mut Vec<u8>, values: &Option<EventValues>) -> Result<(), NoMemory>
     requires { MatchOption values.now (Unit {0}) HasOneValues }
-    ensures { OnOk result (out.new.items ≡ out.old.items ++ written_if written_values values.now) }
+    ensures written { OnOk result (out.new.items ≡ out.old.items ++ written_if written_values values.now) }
+    ensures short { OnOk result (IfAny AreShort values.now) }
 {
     let Some(told) = values else {
         return Ok(());
@@ -312,7 +323,8 @@ fn write_values(out: &mut Vec<u8>, values: &Option<EventValues>) -> Result<(), N
 
 /// Appends a text, if there is one.
 fn write_message(out: &mut Vec<u8>, text: &Option<Text>) -> Result<(), NoMemory>
-    ensures { OnOk result (out.new.items ≡ out.old.items ++ written_if (written_text_in 7) text.now) }
+    ensures written { OnOk result (out.new.items ≡ out.old.items ++ written_if (written_text_in 7) text.now) }
+    ensures short { OnOk result (IfAny HasShortText text.now) }
 {
     match text {
         Some(text) => write_text(out, 7, text),
@@ -321,17 +333,18 @@ fn write_message(out: &mut Vec<u8>, text: &Option<Text>) -> Result<(), NoMemory>
 }
 
 /// Appends who is told by whom, and of what.
-fn write_source(out: &mut Vec<u8>, note: &Notification) -> Result<(), NoMemory>
-    ensures { OnOk result (out.new.items ≡ out.old.items ++ written_source note.now) }
+fn write_source(out: &mut Vec<u8>, process: u32, note: &Notification) -> Result<(), NoMemory>
+    ensures { OnOk result (out.new.items ≡ out.old.items ++ written_source (told_to process note.now)) }
 {
-    write_unsigned(out, Some(0), note.process)?;
+    write_unsigned(out, Some(0), process)?;
     write_object(out, Some(1), note.device)?;
     write_object(out, Some(2), note.object)
 }
 
 /// Appends a time stamp between the tags of a number.
 fn write_time_stamp(out: &mut Vec<u8>, number: u8, stamp: Stamp) -> Result<(), NoMemory>
-    ensures { OnOk result (out.new.items ≡ out.old.items ++ written_enclosed number (written_enclosed 2 (written_stamp stamp))) }
+    ensures written { OnOk result (out.new.items ≡ out.old.items ++ written_enclosed number (written_enclosed 2 (written_stamp stamp))) }
+    ensures whole { length stamp.octets ≡ 8 }
 {
     write_opening(out, number)?;
     write_enclosed_stamp(out, 2, stamp)?;
@@ -348,10 +361,11 @@ fn write_kind(out: &mut Vec<u8>, note: &Notification) -> Result<(), NoMemory>
 }
 
 /// Appends what says which event it is.
-fn write_event(out: &mut Vec<u8>, note: &Notification) -> Result<(), NoMemory>
-    ensures { OnOk result (out.new.items ≡ out.old.items ++ written_event note.now) }
+fn write_event(out: &mut Vec<u8>, process: u32, note: &Notification) -> Result<(), NoMemory>
+    ensures written { OnOk result (out.new.items ≡ out.old.items ++ written_event (told_to process note.now)) }
+    ensures whole { OnOk result (length note.now.stamp.octets ≡ 8) }
 {
-    write_source(out, note)?;
+    write_source(out, process, note)?;
     write_time_stamp(out, 3, note.stamp)?;
     write_kind(out, note)
 }
@@ -386,17 +400,34 @@ fn write_states(out: &mut Vec<u8>, note: &Notification) -> Result<(), NoMemory>
     write_unsigned(out, Some(11), u32::from(note.to.number()))
 }
 
-/// Writes the parameters of a notification, each in its one spelling. Parameters that it lacks are left out.
+/// Writes the parameters of a notification that is told to a process, which needn't be its own. Each is in its one
+/// spelling, and parameters that it lacks are left out. There are at most 1,024 octets.
 #[tactic(auto, unfolding(crate::specs::Notifications::written_notification))]
-pub fn write_notification(alloc: Global, note: &Notification) -> Result<Vec<u8>, NoMemory>
+pub fn write_notification_to(
+    alloc: Global,
+    process: u32,
+    note: &Notification,
+) -> Result<Vec<u8>, NoMemory>
     // The values are those of the event type, and each is one element.
     requires { IsTold note.now.event_type note.now.values }
-    ensures written { IfOk result (λ octets. octets.items ≡ written_notification note.now) }
+    ensures written { IfOk result (λ octets. octets.items ≡ written_notification (told_to process note.now)) }
+    ensures short { IfOk result (λ octets. length octets.items ≤ most_octets) }
 {
     let mut out = Vec::new(alloc);
-    write_event(&mut out, note)?;
+    write_event(&mut out, process, note)?;
     write_message(&mut out, &note.text)?;
     write_states(&mut out, note)?;
     write_values(&mut out, &note.values)?;
     Ok(out)
+}
+
+/// Writes the parameters of a notification, each in its one spelling. Parameters that it lacks are left out. There are
+/// at most 1,024 octets.
+pub fn write_notification(alloc: Global, note: &Notification) -> Result<Vec<u8>, NoMemory>
+    // The values are those of the event type, and each is one element.
+    requires { IsTold note.now.event_type note.now.values }
+    ensures written { IfOk result (λ octets. octets.items ≡ written_notification note.now) }
+    ensures short { IfOk result (λ octets. length octets.items ≤ most_octets) }
+{
+    write_notification_to(alloc, note.process, note)
 }

@@ -1,4 +1,4 @@
-use Rattle.std.proofs.Common.{Ok, Err, ap, sym, ◌∙◌, inl, Some}
+use Rattle.std.proofs.Common.{Err, ap, sym, ◌∙◌, inl, Some}
 use Rattle.std.proofs.lemmas.Result.{err_from_is_err_and}
 use Rattle.event_services.proofs.TextForms.{text_err, text_none, text_some}
 use Rattle.event_services.proofs.read_elements.text_at.Goals as goal

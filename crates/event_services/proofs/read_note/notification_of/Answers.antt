@@ -1,6 +1,6 @@
 use Rattle.std.proofs.Common.{Err, ap, ◌∙◌}
 use Rattle.std.proofs.lemmas.Result.{err_from_is_err_and}
-use Rattle.event_services.proofs.NoteChain.{Source, Kind, States, Parts, parts, note_whole, note_fails}
+use Rattle.event_services.proofs.NoteChain.{Source, Kind, States, parts, note_whole, note_fails}
 use Rattle.event_services.proofs.read_note.notification_of.Goals as goal
 
 pub returns-in_err-nothing_follows : goal.returns-in_err-nothing_follows

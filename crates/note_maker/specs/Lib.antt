@@ -1,0 +1,4 @@
+pub mod Notes
+pub mod EventTypes
+pub mod Told
+pub mod Shapes

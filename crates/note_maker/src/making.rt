@@ -1,0 +1,54 @@
+ghost use Rattle.std.specs.Prelude.{◌≡◌, ◌≤◌, length, All, Contains, IfOk};
+ghost use Rattle.bac_values.specs.Moments.{IsMoment};
+ghost use Rattle.bac_values.specs.declared.note.Note.{Note};
+ghost use Rattle.event_services.specs.Notifications.{IsTold};
+ghost use Rattle.event_services.specs.NoteLengths.{most_octets};
+ghost use Rattle.notify_class.specs.Edits.{peers_of};
+ghost use Rattle.note_maker.specs.Notes.{note_to, notes_for};
+
+use crate::growing::add;
+use bac_values::{Items, NoMemory, Note, Transition};
+use civil_stamp::Zone;
+use event_services::{Notification, write_notification_to};
+use notify_class::{Class, Destination, uses};
+use std::alloc::Global;
+
+/// The note that tells a recipient.
+fn note_to(alloc: Global, facts: &Notification, destination: &Destination) -> Result<Note, NoMemory>
+    requires { IsTold facts.now.event_type facts.now.values }
+    ensures note { IfOk result (λ note. note ≡ note_to facts.now destination.now) }
+    ensures short { IfOk result (λ note. length note.body ≤ most_octets) }
+{
+    let body = write_notification_to(alloc, destination.process, facts)?;
+    Ok(Note {
+        peer: destination.peer,
+        confirmed: destination.confirmed,
+        body: Items::of(body),
+    })
+}
+
+/// The notes that tell the recipients of a class of an event at a moment: one for each that is notified of such a
+/// transition then, in the order of the list. Each is told its own process identifier.
+pub fn notes_of(
+    alloc: Global,
+    facts: &Notification,
+    class: &Class,
+    transition: Transition,
+    moment: u64,
+    zone: &Zone,
+) -> Result<Vec<Note>, NoMemory>
+    // The values are those of the event type, and each is one element.
+    requires told { IsTold facts.now.event_type facts.now.values }
+    requires moment { IsMoment moment }
+    ensures notes { IfOk result (λ notes. notes.items ≡ notes_for facts.now class.now.destinations transition moment zone.now) }
+    ensures short { IfOk result (λ notes. All (λ (note : Note). length note.body ≤ most_octets) notes.items) }
+    ensures peers { IfOk result (λ notes. All (λ (note : Note). Contains (peers_of class.now.destinations) note.peer) notes.items) }
+{
+    let mut notes = Vec::new(alloc);
+    for destination in class.destinations.as_slice() {
+        if uses(destination, transition, moment, zone) {
+            add(&mut notes, note_to(alloc, facts, destination)?)?;
+        }
+    }
+    Ok(notes)
+}
