@@ -1,3 +1,4 @@
 pub mod Still
+pub mod Runs
 pub mod Standing
 pub mod Moved

@@ -30,6 +30,7 @@ use Rattle.alarm_core.specs.State.{State, Tracked, alarms_of, state_of, tracked_
 use Rattle.alarm_core.specs.Allowed.{IsAllowed, IsHistory, Represents}
 use Rattle.alarm_core.specs.Next.{acked, alarms_with, change_at, change_by, first_state, first_tracked, kept_of, looked, next_state, next_transitions, tracked_with, transitions_by, transitions_with}
 use Rattle.alarm_core.specs.Laws.{StandsForItsHistory}
+use Rattle.alarm_core.proofs.Runs.{run_starts_stand}
 
 -- an object with what is kept of it
 abbrev tracked_as : Site → Row → AlarmState → List Seen → Tracked
@@ -160,7 +161,7 @@ stands_start : (site : Site) → first_state site ≡ state_of site []
 stands_start site = ap (λ f. record { site = site; events = 0; last_moment = site.device.start; rows = rows_after site []; alarms = map f (detecting_rows site) }) (fun_ext (first_one site))
 
 pub stands : StandsForItsHistory
-stands = record { starts = stands_start; state = stands_state; transitions = stands_transitions }
+stands = record { starts = stands_start; state = stands_state; transitions = stands_transitions; run_starts = run_starts_stand }
 
 -- a state that represents a history represents the longer one after an event
 pub represents_after : (history : List Event) (old new : State) (event : Event) → Represents old history → new ≡ next_state event old →

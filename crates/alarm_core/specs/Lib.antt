@@ -6,4 +6,7 @@ pub mod Found
 pub mod Allowed
 pub mod Next
 pub mod Moves
+pub mod RunStarts
 pub mod Laws
+pub mod Properties
+pub mod Reading

@@ -16,6 +16,13 @@ fn is_of_kind(object: ObjectId, kind: ObjectKind, instance: u32) -> bool
     object.number() == kind.number() && object.instance() == instance
 }
 
+/// Whether an identifier is that of the site's device.
+pub(crate) fn is_device(site: &Site, object: ObjectId) -> bool
+    ensures same { result ≡ is_object object (device_object site.now) }
+{
+    is_of_kind(object, ObjectKind::Device, site.device.instance)
+}
+
 fn is_class(listed: &ClassSite, object: ObjectId) -> bool
     ensures same { result ≡ is_object object (class_object listed.now) }
 {
@@ -58,7 +65,7 @@ fn some_log(logs: &[LogSite], object: ObjectId) -> bool
 pub(crate) fn is_other_object(site: &Site, object: ObjectId) -> bool
     ensures other { result ≡ is_other_object site.now object }
 {
-    is_of_kind(object, ObjectKind::Device, site.device.instance)
+    is_device(site, object)
         || some_class(site.classes.as_slice(), object)
         || some_enrollment(site.enrollments.as_slice(), object)
         || some_log(site.logs.as_slice(), object)

@@ -6,14 +6,16 @@ ghost use Rattle.alarm_core.specs.declared.event.Act.TheVariants.{Tick, Write, A
 ghost use Rattle.alarm_core.specs.declared.event.Event.{Event};
 ghost use Rattle.alarm_core.specs.Allowed.{IsAllowed, Represents};
 ghost use Rattle.event_machine.specs.Finding.{as_finding};
-ghost use Rattle.alarm_core.specs.Found.{found_in, is_other_object};
+ghost use Rattle.alarm_core.specs.Found.{device_object, found_in, is_other_object};
 ghost use Rattle.alarm_core.specs.History.{moved_by, raised, rows_with, tick_at, transitions_of};
 ghost use Rattle.alarm_core.specs.Moves.{moved_at, moved_with};
 ghost use Rattle.alarm_core.specs.Next.{acked, alarms_with, first_state, looked, next_state, next_transitions};
+ghost use Rattle.alarm_core.specs.Properties.{alarm_in};
 ghost use Rattle.alarm_core.specs.Sights.{site_stamp};
 ghost use Rattle.alarm_core.specs.Sites.{IsSite};
 
 use crate::copying::{copy_of_change, copy_of_objects, copy_of_site};
+use crate::device_content::device_object;
 use crate::finding::{is_other_object, watched_in};
 use crate::looking::{acknowledge_in, are_still, look_at_all};
 use crate::starting::first_alarms;
@@ -21,7 +23,7 @@ use crate::watched::Watched;
 use crate::{Act, Event, Outcome, Site};
 use bac_values::{Items, Moved, NoMemory, ObjectId, Stamp, Transition};
 use civil_stamp::{Zone, stamp_of};
-use event_machine::Found;
+use event_machine::{Alarm, Found};
 use object_table::{Change, Table};
 use std::alloc::Global;
 use std::marker::Model;
@@ -41,6 +43,7 @@ pub struct Core {
 impl Model for Core {
     ghost use Rattle.std.specs.Prelude.{◌≡◌};
     ghost use Rattle.bac_values.specs.Moments.{IsMoment};
+    ghost use Rattle.alarm_core.specs.Sites.{IsSite};
     ghost use Rattle.alarm_core.specs.State.{State};
 
     ghost Value = { State };
@@ -54,6 +57,7 @@ impl Model for Core {
     } };
 
     ghost invariant = { λ core. record {
+      site : IsSite core.site;
       zone : core.zone ≡ core.site.device.zone_minutes;
       moment : IsMoment core.last_moment;
     } };
@@ -93,8 +97,26 @@ impl Core {
     /// The site.
     pub fn site(&self) -> &Site
         ensures site { result.now ≡ self.now.site }
+        ensures keeps { IsSite self.now.site }
     {
         &self.site
+    }
+
+    /// The identifier of the site's device.
+    pub fn device(&self) -> ObjectId
+        ensures device { result ≡ device_object self.now.site }
+    {
+        device_object(&self.site)
+    }
+
+    /// The alarm of an object; one whose event detection isn't enabled has that of an object that never moved.
+    pub(crate) fn alarm_of(&self, object: ObjectId) -> Alarm
+        ensures alarm { result ≡ alarm_in self.now object }
+    {
+        match watched_in(&self.alarms, object) {
+            Some(watched) => *watched.alarm(),
+            None => Alarm::new(),
+        }
     }
 
     /// How many events there were.

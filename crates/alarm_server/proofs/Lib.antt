@@ -1,5 +1,3 @@
-pub mod Lasting
-pub mod Seen
 pub mod Sending
 pub mod Spelled
 pub mod Fronts
@@ -9,3 +7,4 @@ pub mod PieceLines
 pub mod Played
 pub mod SessionProgress
 pub mod Outcomes
+mod SixKinds

@@ -3,9 +3,10 @@ use Rattle.std.specs.Prelude.{◌≡◌, ℕ, pos, Bool, true, false, Option, So
 use Rattle.std.specs.Str.{bytes_eq}
 use Rattle.bac_values.specs.Address.{Address}
 use Rattle.bac_values.specs.Identifier.{Identifier, number_of_kind}
-use Rattle.bac_values.specs.declared.object_kind.ObjectKind.TheVariants.{IntegerValue, MultiStateValue}
+use Rattle.bac_values.specs.declared.object_kind.ObjectKind.{ObjectKind}
+use Rattle.bac_values.specs.declared.object_kind.ObjectKind.TheVariants.{BinaryValue, BitStringValue, CharacterStringValue, IntegerValue, MultiStateValue, PositiveIntegerValue}
 use Rattle.bac_values.specs.declared.value.Value.{Value}
-use Rattle.bac_values.specs.declared.value.Value.TheVariants.{Signed, Unsigned}
+use Rattle.bac_values.specs.declared.value.Value.TheVariants.{Bits, Enumerated, Signed, Text, Unsigned}
 use Rattle.notify_class.specs.Recipients.{ListedRecipient}
 use Rattle.object_table.specs.declared.object_site.ObjectSite.{ObjectSite}
 use Rattle.alarm_core.specs.declared.site.ClassSite.{ClassSite}
@@ -105,6 +106,62 @@ mode = record {
   mask = None;
 }
 
+-- the first object of a kind
+abbrev pub first_of : ObjectKind → Identifier
+first_of kind = record { number = number_of_kind kind; instance = 1 }
+
+-- an object without a class; a multi-state value has so many states
+abbrev pub plain : Identifier → List ℕ → Value → ℕ → ObjectSite
+plain object name value states = record {
+  object = object;
+  name = name;
+  value = value;
+  out_of_service = false;
+  reliability_inhibit = false;
+  states = states;
+  fault_low = None;
+  fault_high = None;
+  fault_values = [];
+  class = None;
+  notify = 0;
+  enable = replicate 3 false;
+  time_delay = 0;
+  time_delay_normal = None;
+  detection = false;
+  inhibit = false;
+  low = pos 0;
+  high = pos 0;
+  deadband = 0;
+  limit_enable = replicate 2 false;
+  alarm_value = None;
+  alarm_values = [];
+  mask = None;
+}
+
+-- an inactive binary value
+abbrev pub plain_pump : ObjectSite
+plain_pump = plain (first_of BinaryValue) (codes "Pump") (Enumerated 0) 0
+
+-- a multi-state value of 1, with five states
+abbrev pub plain_mode : ObjectSite
+plain_mode = plain (first_of MultiStateValue) (codes "Mode") (Unsigned 1) 5
+
+-- a bit string value of four bits, none of them set
+abbrev pub plain_bits : ObjectSite
+plain_bits = plain (first_of BitStringValue) (codes "Bits") (Bits (record { size = 4; bits = 0 })) 0
+
+-- a character string value
+abbrev pub plain_note : ObjectSite
+plain_note = plain (first_of CharacterStringValue) (codes "Note") (Text (codes "ok")) 0
+
+-- a positive integer value of 50
+abbrev pub plain_flow : ObjectSite
+plain_flow = plain (first_of PositiveIntegerValue) (codes "Flow") (Unsigned 50) 0
+
+-- the tank of S, and one object of each other kind
+abbrev pub six_kinds : List ObjectSite
+six_kinds = plain_pump ∷ plain_mode ∷ plain_bits ∷ plain_note ∷ tank 1 10 ∷ plain_flow ∷ []
+
 -- the plant with these objects
 abbrev pub plant : List ObjectSite → Site
 plant objects = record {
@@ -115,11 +172,12 @@ plant objects = record {
   logs = [];
 }
 
--- S has a tank with a delay of ten seconds, S0 one without a delay, W one without and one with it, G three with it, M a multi-state value
+-- S has a tank with a delay of ten seconds, S0 one without a delay, W one without and one with it, G three with it, M a multi-state value, K what S has and one object of each other kind
 unfoldable pub site_named : List ℕ → Option Site
 site_named name =
     if bytes_eq name (codes "S") then Some (plant (tank 1 10 ∷ []))
     else (if bytes_eq name (codes "S0") then Some (plant (tank 1 0 ∷ []))
     else (if bytes_eq name (codes "W") then Some (plant (tank 1 0 ∷ tank 2 10 ∷ []))
     else (if bytes_eq name (codes "G") then Some (plant (tank 1 10 ∷ tank 2 10 ∷ tank 3 10 ∷ []))
-    else (if bytes_eq name (codes "M") then Some (plant (mode ∷ [])) else None))))
+    else (if bytes_eq name (codes "M") then Some (plant (mode ∷ []))
+    else (if bytes_eq name (codes "K") then Some (plant six_kinds) else None)))))

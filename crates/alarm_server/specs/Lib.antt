@@ -1,7 +1,5 @@
-pub mod Points
-pub mod Held
-pub mod Detection
 pub mod Settings
+pub mod Looks
 pub mod Watched
 pub mod Status
 pub mod Emission

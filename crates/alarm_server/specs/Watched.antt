@@ -1,21 +1,22 @@
 -- What is known of the object on trial.
-use Rattle.std.specs.Prelude.{List, map, reverse}
+use Rattle.std.specs.Prelude.{◌≡◌, ℕ, ℤ, List}
 use Rattle.bac_values.specs.declared.value.Value.TheVariants.{Signed}
+use Rattle.algorithm_rules.specs.declared.table.Algorithm.TheVariants.{SignedOutOfRange}
+use Rattle.event_machine.specs.declared.seen.Seen.{Seen}
+use Rattle.event_machine.specs.Points.{Point, Incident, newest_of}
+use Rattle.event_machine.specs.Summary.{AlarmState, IsAfter}
 use Rattle.alarm_server.specs.declared.settings.Settings.{Settings}
-use Rattle.alarm_server.specs.declared.look.Look.{Look}
-use Rattle.alarm_server.specs.Settings.{facts_with}
-use Rattle.alarm_server.specs.Points.{Point}
-use Rattle.alarm_server.specs.Detection.{Detection}
+use Rattle.alarm_server.specs.Looks.{point_at}
 
--- the settings, and the detection so far
+-- its settings, the moment and the value of the last look, its alarm, and what is kept of the points since it entered its state
 pub record Watched : Type 0 where
   pub settings : Settings
-  pub detection : Detection
+  pub moment : ℕ
+  pub value : ℤ
+  pub alarm : AlarmState
+  pub points : List Seen
 
--- a look as a point of the object
-abbrev pub point_of : Settings → Look → Point
-point_of settings look = record { moment = look.moment; facts = facts_with settings (Signed look.value) }
-
--- looks, which are kept with the oldest first, as points, the newest first
-abbrev pub points_seen : Settings → List Look → List Point
-points_seen settings looks = reverse (map (point_of settings) looks)
+-- This is known after a course: the last look was at its newest point, and the alarm and the kept points are those that looking back over it gives.
+pub record HasSeen (first : Point) (later : List Incident) (watched : Watched) : Type 0 where
+  pub newest : newest_of first later ≡ point_at watched.settings watched.moment (Signed watched.value)
+  pub after : IsAfter SignedOutOfRange first later watched.alarm watched.points

@@ -2,11 +2,11 @@ ghost use Rattle.std.specs.Prelude.{◌≡◌, ◌∷◌, ◌≤◌, [], All, If
 ghost use Rattle.object_table.specs.Objects.{IsObject};
 ghost use Rattle.object_table.specs.Rows.{AscendsById};
 ghost use Rattle.alarm_core.specs.Sites.{IsSite};
-ghost use Rattle.alarm_server.specs.BenchSites.{mode, operator, operators, plant, plant_device, site_named, tank};
+ghost use Rattle.alarm_server.specs.BenchSites.{mode, operator, operators, plain, plain_bits, plain_flow, plain_mode, plain_note, plain_pump, plant, plant_device, site_named, six_kinds, tank};
 
 use crate::growing::{add, single};
 use alarm_core::{ClassSite, DeviceSite, Site};
-use bac_values::{Items, NoMemory, ObjectId, ObjectKind, Peer, Text, Value};
+use bac_values::{Bits, Items, NoMemory, ObjectId, ObjectKind, Peer, Text, Value};
 use notify_class::{Class, Destination};
 use object_table::ObjectSite;
 use std::alloc::Global;
@@ -129,6 +129,84 @@ fn mode(alloc: Global) -> Result<ObjectSite, NoMemory>
     })
 }
 
+fn plain(
+    alloc: Global,
+    object: ObjectId,
+    name: &str,
+    value: Value,
+    states: u32,
+) -> Result<ObjectSite, NoMemory>
+    ensures plain { IfOk result (λ site. site ≡ plain object name.now value states) }
+{
+    Ok(ObjectSite {
+        object,
+        name: text(alloc, name)?,
+        value,
+        out_of_service: false,
+        reliability_inhibit: false,
+        states,
+        fault_low: None,
+        fault_high: None,
+        fault_values: Items::of(Vec::new(alloc)),
+        class: None,
+        notify: 0,
+        enable: [false; 3],
+        time_delay: 0,
+        time_delay_normal: None,
+        detection: false,
+        inhibit: false,
+        low: 0,
+        high: 0,
+        deadband: 0,
+        limit_enable: [false; 2],
+        alarm_value: None,
+        alarm_values: Items::of(Vec::new(alloc)),
+        mask: None,
+    })
+}
+
+fn plain_pump(alloc: Global) -> Result<ObjectSite, NoMemory>
+    ensures pump { IfOk result (λ object. object ≡ plain_pump) }
+    ensures object { IfOk result (λ object. IsObject object) }
+{
+    let object = ObjectId::of_kind(ObjectKind::BinaryValue, 1).unwrap();
+    plain(alloc, object, "Pump", Value::Enumerated(0), 0)
+}
+
+fn plain_mode(alloc: Global) -> Result<ObjectSite, NoMemory>
+    ensures mode { IfOk result (λ object. object ≡ plain_mode) }
+    ensures object { IfOk result (λ object. IsObject object) }
+{
+    let object = ObjectId::of_kind(ObjectKind::MultiStateValue, 1).unwrap();
+    plain(alloc, object, "Mode", Value::Unsigned(1), 5)
+}
+
+fn plain_bits(alloc: Global) -> Result<ObjectSite, NoMemory>
+    ensures bits { IfOk result (λ object. object ≡ plain_bits) }
+    ensures object { IfOk result (λ object. IsObject object) }
+{
+    let object = ObjectId::of_kind(ObjectKind::BitStringValue, 1).unwrap();
+    let bits = Bits::new(4, 0).unwrap();
+    plain(alloc, object, "Bits", Value::Bits(bits), 0)
+}
+
+fn plain_note(alloc: Global) -> Result<ObjectSite, NoMemory>
+    ensures note { IfOk result (λ object. object ≡ plain_note) }
+    ensures object { IfOk result (λ object. IsObject object) }
+{
+    let object = ObjectId::of_kind(ObjectKind::CharacterStringValue, 1).unwrap();
+    let note = text(alloc, "ok")?;
+    plain(alloc, object, "Note", Value::Text(note), 0)
+}
+
+fn plain_flow(alloc: Global) -> Result<ObjectSite, NoMemory>
+    ensures flow { IfOk result (λ object. object ≡ plain_flow) }
+    ensures object { IfOk result (λ object. IsObject object) }
+{
+    let object = ObjectId::of_kind(ObjectKind::PositiveIntegerValue, 1).unwrap();
+    plain(alloc, object, "Flow", Value::Unsigned(50), 0)
+}
+
 fn plant(alloc: Global, objects: Vec<ObjectSite>) -> Result<Site, NoMemory>
     requires ascending { AscendsById objects.items }
     requires objects { All IsObject objects.items }
@@ -179,12 +257,25 @@ fn three_tanks(alloc: Global) -> Result<Site, NoMemory>
     plant(alloc, objects)
 }
 
+fn six_kinds(alloc: Global) -> Result<Site, NoMemory>
+    ensures plant { IfOk result (λ site. site ≡ plant six_kinds) }
+    ensures keeps { IfOk result (λ site. IsSite site) }
+{
+    let mut objects = single(alloc, plain_pump(alloc)?)?;
+    add(&mut objects, plain_mode(alloc)?)?;
+    add(&mut objects, plain_bits(alloc)?)?;
+    add(&mut objects, plain_note(alloc)?)?;
+    add(&mut objects, tank(alloc, 1, 10)?)?;
+    add(&mut objects, plain_flow(alloc)?)?;
+    plant(alloc, objects)
+}
+
 /// Whether a bench has a site with this name.
 #[tactic(auto, unfolding(crate::specs::BenchSites::site_named))]
 pub fn is_bench_site(name: &str) -> bool
     ensures named { result ≡ is_some (site_named name.now) }
 {
-    name == "S" || name == "S0" || name == "W" || name == "G" || name == "M"
+    name == "S" || name == "S0" || name == "W" || name == "G" || name == "M" || name == "K"
 }
 
 /// The site of a bench with this name, and none exactly where there is no such site.
@@ -208,6 +299,9 @@ pub fn bench_site(alloc: Global, name: &str) -> Result<Option<Site>, NoMemory>
     }
     if name == "M" {
         return Ok(Some(one_mode(alloc)?));
+    }
+    if name == "K" {
+        return Ok(Some(six_kinds(alloc)?));
     }
     Ok(None)
 }

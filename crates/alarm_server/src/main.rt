@@ -8,8 +8,6 @@ mod bench_site;
 mod command;
 mod emission;
 mod growing;
-mod held;
-mod look;
 mod paths;
 mod pieces;
 mod run;

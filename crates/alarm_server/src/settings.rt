@@ -59,6 +59,7 @@ impl Settings {
     pub fn snapshot<'a>(&self, value: &'a Value) -> Snapshot<'a>
         ensures facts { facts_of result ≡ facts_with self.now value.now }
         ensures no_list { result.alarm_values.now ≡ [] }
+        ensures algorithm { result.algorithm ≡ Algorithm.SignedOutOfRange }
     {
         Snapshot {
             algorithm: Algorithm::SignedOutOfRange,

@@ -361,3 +361,305 @@ from 1700000000000 10.0.0.9:47808 00\npump 1700000000000\n",
 fn a_bench_of_no_name_is_refused(rt: HostRuntime) -> Result<(), Fail> {
     expect(&rt, rt.alloc(), "bench T", "tick 5\n", "", Status::Usage)
 }
+
+// That a session answers each of these datagrams from 10.0.0.9 as it is wanted.
+fn expect_answers(
+    rt: &impl Abort,
+    alloc: Global,
+    words: &str,
+    answers: &[(&str, &str)],
+) -> Result<(), Fail> {
+    let mut script = String::new(alloc);
+    let mut report = String::from_str(alloc, "open 0\n")?;
+    for (place, (datagram, answer)) in answers.iter().enumerate() {
+        let line = place + 1;
+        let from = format!(in alloc; "from 1700000000000 10.0.0.9:47808 {datagram}\n")?;
+        let sent = format!(in alloc; "{line} reply\n{line} send 10.0.0.9:47808 {answer}\n")?;
+        script.push_str(from.as_str())?;
+        report.push_str(sent.as_str())?;
+    }
+    let count = answers.len();
+    let end = format!(in alloc; "end {count} 0\n")?;
+    report.push_str(end.as_str())?;
+    expect(
+        rt,
+        alloc,
+        words,
+        script.as_str(),
+        report.as_str(),
+        Status::Done,
+    )
+}
+
+#[test]
+fn wrong_writes_are_answered_and_enter_nothing(rt: HostRuntime) -> Result<(), Fail> {
+    expect_answers(
+        &rt,
+        rt.alloc(),
+        "bench S",
+        &[
+            // a REAL, a request that is cut behind the property, and a segment
+            (
+                "810a001801040005010f0c0b40000119553e443f8000003f",
+                "810a000d010050010f91029109",
+            ),
+            ("810a001101040005010f0c0b4000011955", "810a00090100600105"),
+            ("810a000c010408050100040f", "810a00090100710104"),
+            // no such object, and a property that can't be written
+            (
+                "810a001501040005010f0c0b40000919553e31013f",
+                "810a000d010050010f9101911f",
+            ),
+            (
+                "810a001501040005010f0c0b40000119243e91003f",
+                "810a000d010050010f91029128",
+            ),
+        ],
+    )
+}
+
+#[test]
+fn event_state_is_read(rt: HostRuntime) -> Result<(), Fail> {
+    expect_answers(
+        &rt,
+        rt.alloc(),
+        "bench S",
+        &[(
+            "810a001101040005010c0c0b4000011924",
+            "810a0014010030010c0c0b40000119243e91003f",
+        )],
+    )
+}
+
+#[test]
+fn wrong_reads_are_answered_by_the_first_error(rt: HostRuntime) -> Result<(), Fail> {
+    expect_answers(
+        &rt,
+        rt.alloc(),
+        "bench S",
+        &[
+            // no such object, no such property, no array, above the array's length
+            (
+                "810a001101040005010c0c0b4000091924",
+                "810a000d010050010c9101911f",
+            ),
+            (
+                "810a001101040005010c0c0b400001194a",
+                "810a000d010050010c91029120",
+            ),
+            (
+                "810a001301040005010c0c0b40000119552901",
+                "810a000d010050010c91029132",
+            ),
+            (
+                "810a001301040005010c0c0b40000119822904",
+                "810a000d010050010c9102912a",
+            ),
+            // a length that the octets don't have
+            ("810a001001040005010c0dffffffffff", "810a00090100600104"),
+            // a service that isn't built
+            ("810a000a01040005011b", "810a00090100600109"),
+        ],
+    )
+}
+
+#[test]
+fn arrays_are_read_by_index(rt: HostRuntime) -> Result<(), Fail> {
+    expect_answers(
+        &rt,
+        rt.alloc(),
+        "bench S",
+        &[
+            (
+                "810a001301040005010c0c0b40000119822900",
+                "810a0016010030010c0c0b400001198229003e21033f",
+            ),
+            (
+                "810a001301040005010c0c020003e9194c2901",
+                "810a0019010030010c0c020003e9194c29013ec4020003e93f",
+            ),
+        ],
+    )
+}
+
+#[test]
+fn who_is_is_answered_within_its_range(rt: HostRuntime) -> Result<(), Fail> {
+    let i_am = "810a001501001000c4020003e92205c491032203e7";
+    expect_answers(
+        &rt,
+        rt.alloc(),
+        "bench S",
+        &[
+            ("810a000801001008", i_am),
+            ("810a000e010010080a03e91a03e9", i_am),
+            // from behind a router
+            (
+                "810a000c0108000501171008",
+                "810a001a012000050117ff1000c4020003e92205c491032203e7",
+            ),
+        ],
+    )
+}
+
+#[test]
+fn who_is_is_ignored_outside_its_range(rt: HostRuntime) -> Result<(), Fail> {
+    // 1 to 2, up to 1000, from 1002, the low limit alone, and another unconfirmed service
+    for datagram in [
+        "810a000c0100100809011902",
+        "810a000d0100100809001a03e8",
+        "810a000e010010080a03ea1a07d0",
+        "810a000a010010080901",
+        "810a000801001007",
+    ] {
+        let script = format!(in rt.alloc(); "from 1700000000000 10.0.0.9:47808 {datagram}\n")?;
+        expect(
+            &rt,
+            rt.alloc(),
+            "bench S",
+            script.as_str(),
+            "open 0\n1 ignored\nend 1 0\n",
+            Status::Done,
+        )?;
+    }
+    Ok(())
+}
+
+#[test]
+fn inhibition_written_over_the_wire_ends_an_alarm(rt: HostRuntime) -> Result<(), Fail> {
+    expect_behind(
+        &rt,
+        rt.alloc(),
+        "from 1700000011000 10.0.0.9:47808 810a001501040005010f0c0b4000011a01623e113f\n\
+from 1700000012000 10.0.0.9:47808 810a001501040005020f0c0b4000011a01623e103f\n\
+tick 1700000021999\ntick 1700000022000\n",
+        "3 entered 3 1700000011000\n3 change integer-value:1 high-limit normal\n\
+3 send 10.0.0.9:47808 810a0009010020010f\n\
+4 entered 4 1700000012000\n4 send 10.0.0.9:47808 810a0009010020020f\n5 idle\n\
+6 entered 5 1700000022000\n6 change integer-value:1 normal high-limit\nend 6 5\n",
+    )
+}
+
+#[test]
+fn a_value_out_of_range_is_refused_and_the_next_is_written(rt: HostRuntime) -> Result<(), Fail> {
+    expect(
+        &rt,
+        rt.alloc(),
+        "bench K",
+        "from 1700000000000 10.0.0.9:47808 810a001501040005010f0c0140000119553e91023f\n\
+from 1700000000000 10.0.0.9:47808 810a001501040005010f0c0140000119553e91013f\n",
+        "open 0\n1 reply\n1 send 10.0.0.9:47808 810a000d010050010f91029125\n\
+2 entered 1 1700000000000\n2 send 10.0.0.9:47808 810a0009010020010f\nend 2 1\n",
+        Status::Done,
+    )
+}
+
+#[test]
+fn what_was_written_is_read_back(rt: HostRuntime) -> Result<(), Fail> {
+    expect(
+        &rt,
+        rt.alloc(),
+        "bench K",
+        "from 1700000000000 10.0.0.9:47808 810a001101040005010c0c014000011955\n\
+from 1700000000000 10.0.0.9:47808 810a001501040005020f0c0140000119553e91013f\n\
+from 1700000000000 10.0.0.9:47808 810a001101040005030c0c014000011955\n",
+        "open 0\n1 reply\n\
+1 send 10.0.0.9:47808 810a0014010030010c0c0140000119553e91003f\n\
+2 entered 1 1700000000000\n2 send 10.0.0.9:47808 810a0009010020020f\n3 reply\n\
+3 send 10.0.0.9:47808 810a0014010030030c0c0140000119553e91013f\nend 3 1\n",
+        Status::Done,
+    )
+}
+
+#[test]
+fn values_of_six_kinds_are_set_and_read(rt: HostRuntime) -> Result<(), Fail> {
+    for (object, value, identifier, written, lengths) in [
+        ("binary-value:1", "active", "01400001", "9101", "14"),
+        (
+            "multi-state-value:1",
+            "unsigned:5",
+            "04c00001",
+            "2105",
+            "14",
+        ),
+        ("bitstring-value:1", "bits:1010", "09c00001", "8204a0", "15"),
+        (
+            "characterstring-value:1",
+            "text:6869",
+            "0a000001",
+            "73006869",
+            "16",
+        ),
+        ("integer-value:1", "signed:-5", "0b400001", "31fb", "14"),
+        (
+            "positive-integer-value:1",
+            "unsigned:300",
+            "0c000001",
+            "22012c",
+            "15",
+        ),
+    ] {
+        let script = format!(in rt.alloc();
+            "set 1700000000000 {object} {value}\n\
+from 1700000000000 10.0.0.9:47808 810a001101040005010c0c{identifier}1955\n"
+        )?;
+        let report = format!(in rt.alloc();
+            "open 0\n1 entered 1 1700000000000\n2 reply\n\
+2 send 10.0.0.9:47808 810a00{lengths}010030010c0c{identifier}19553e{written}3f\nend 2 1\n"
+        )?;
+        expect(
+            &rt,
+            rt.alloc(),
+            "bench K",
+            script.as_str(),
+            report.as_str(),
+            Status::Done,
+        )?;
+    }
+    Ok(())
+}
+
+#[test]
+fn a_list_that_is_longer_than_the_asker_takes_is_aborted(rt: HostRuntime) -> Result<(), Fail> {
+    // Object_List to one that takes 50 octets, and to one that takes 128; the answer has 52
+    expect_answers(
+        &rt,
+        rt.alloc(),
+        "bench K",
+        &[
+            ("810a001101040000010c0c020003e9194c", "810a00090100710104"),
+            (
+                "810a001101040001010c0c020003e9194c",
+                "810a003a010030010c0c020003e9194c3ec401400001c4020003e9c403c00007c404c00001c409c00001c40a000001c40b400001c40c0000013f",
+            ),
+        ],
+    )
+}
+
+#[test]
+fn an_answer_may_be_as_long_as_the_asker_takes(rt: HostRuntime) -> Result<(), Fail> {
+    let text = "6161616161616161616161616161616161616161616161616161616161616161616161";
+    for (more, answer) in [
+        ("", "810a0038010030010c0c0a00000119553e752400"),
+        ("61", "810a00090100710104"),
+    ] {
+        let end = if more.is_empty() { "3f" } else { "" };
+        let shown = if more.is_empty() { text } else { "" };
+        let script = format!(in rt.alloc();
+            "set 1700000000000 characterstring-value:1 text:{text}{more}\n\
+from 1700000000000 10.0.0.9:47808 810a001101040000010c0c0a0000011955\n"
+        )?;
+        let report = format!(in rt.alloc();
+            "open 0\n1 entered 1 1700000000000\n2 reply\n\
+2 send 10.0.0.9:47808 {answer}{shown}{end}\nend 2 1\n"
+        )?;
+        expect(
+            &rt,
+            rt.alloc(),
+            "bench K",
+            script.as_str(),
+            report.as_str(),
+            Status::Done,
+        )?;
+    }
+    Ok(())
+}

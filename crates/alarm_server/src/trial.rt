@@ -1,51 +1,91 @@
-ghost use Rattle.std.specs.Prelude.{◌≡◌, ℕ, List, [], ◌∷◌, OnOk, IfErr, IfSome, IsErrOf};
+ghost use Rattle.std.specs.Prelude.{◌≡◌, ℕ, List, ◌∷◌, map, OnOk, IfErr, IfSome, IsErrOf};
+ghost use Rattle.std.specs.Option.{option_to_list};
+ghost use Rattle.event_machine.specs.Given.{moves_in};
 ghost use Rattle.script_lines.specs.declared.line.Grammar.TheVariants.{Trial};
 ghost use Rattle.script_lines.specs.Report.{report_text};
 ghost use Rattle.alarm_server.specs.Stopping.{StopsReading};
 ghost use Rattle.std.specs.Io.KnownBytes.{IsAtEnd};
 ghost use Rattle.ground_io.specs.Counts.{HasCause};
 ghost use Rattle.ground_io.specs.Trace.{WhereTold};
-ghost use Rattle.algorithm_rules.specs.declared.table.Algorithm.TheVariants.{SignedOutOfRange};
 ghost use Rattle.script_lines.specs.Line.{IsTrialLine};
 ghost use Rattle.script_lines.specs.Script.{lines_of};
-ghost use Rattle.alarm_server.specs.Points.{Point, points_after};
-ghost use Rattle.alarm_server.specs.Detection.{detection_at, detection_after, transition_after};
+ghost use Rattle.bac_values.specs.declared.value.Value.TheVariants.{Signed};
+ghost use Rattle.event_machine.specs.Points.{Incident, Looked, Point};
+ghost use Rattle.alarm_server.specs.Looks.{looks_after, point_at};
 ghost use Rattle.alarm_server.specs.Emission.{Sends, Ends};
 ghost use Rattle.alarm_server.specs.Status.{status_of, IsFault};
 ghost use Rattle.alarm_server.specs.Script.{refused_line};
-ghost use Rattle.alarm_server.specs.Trial.{SendsTransitions, front_transitions, report_over};
-ghost use Rattle.alarm_server.specs.Watched.{point_of};
+ghost use Rattle.alarm_server.specs.Trial.{SendsTransitions, front_transitions, move_line, newest_moves, report_over};
+ghost use Rattle.alarm_server.specs.Watched.{HasSeen};
 
 use crate::emission::{Unsent, emit};
-use crate::look::Look;
 use crate::settings::Settings;
 use crate::status::Status;
 use crate::watch::Watch;
 use bac_values::{Input, ReportLine, Value};
+use event_machine::{Changed, Move};
 use ground_io::{Ground, Source};
 use script_lines::{Line, Lines};
 use std::alloc::Global;
 
-// Looks at the object once more, and emits the line of a move.
-fn look_at<G: Ground>(
+// Emits the line of a move, if there is one.
+fn emit_move<G: Ground>(
     alloc: Global,
     device: &mut G,
-    watch: &mut Watch,
-    look: Look,
+    moment: u64,
+    moved: Option<Move>,
 ) -> Result<(), Unsent>
-    ensures seen { OnOk result (watch.new ≡ record watch.old {
-      detection = detection_after SignedOutOfRange (point_of watch.old.settings look) watch.old.detection;
-    }) }
-    ensures sends { Sends report_text result (transition_after SignedOutOfRange (point_of watch.old.settings look) watch.old.detection)
-        (G.told device.old) (G.told device.new) }
+    ensures sends { Sends report_text result (map (move_line moment) (option_to_list moved)) (G.told device.old) (G.told device.new) }
     ensures size { G.size device.new ≡ G.size device.old }
     ensures disk { G.disk_faults device.new ≡ G.disk_faults device.old }
     ensures cause { HasCause (G.emit_faults device.old) (G.emit_faults device.new) (IsErrOf result Unsent.Lost) }
 {
-    match watch.look(look)? {
-        Some(line) => emit(alloc, device, &line),
-        None => Ok(()),
-    }
+    let Some(moved) = moved else {
+        return Ok(());
+    };
+    let line = ReportLine::TrialMove {
+        moment,
+        from: moved.from,
+        to: moved.to,
+    };
+    emit(alloc, device, &line)
+}
+
+// Emits the lines of the moves at one point.
+fn emit_moves<G: Ground>(
+    alloc: Global,
+    device: &mut G,
+    moment: u64,
+    changed: Changed,
+) -> Result<(), Unsent>
+    ensures sends { Sends report_text result (map (move_line moment) (moves_in changed)) (G.told device.old) (G.told device.new) }
+    ensures size { G.size device.new ≡ G.size device.old }
+    ensures disk { G.disk_faults device.new ≡ G.disk_faults device.old }
+    ensures cause { HasCause (G.emit_faults device.old) (G.emit_faults device.new) (IsErrOf result Unsent.Lost) }
+{
+    emit_move(alloc, device, moment, changed.first)?;
+    emit_move(alloc, device, moment, changed.second)
+}
+
+// Looks at the object once more, and emits the lines of its moves.
+fn look_at<G: Ground>(
+    alloc: Global,
+    device: &mut G,
+    watch: &mut Watch,
+    moment: u64,
+    value: i32,
+) -> Result<(), Unsent>
+    ensures settings { watch.new.settings ≡ watch.old.settings }
+    ensures seen { (first : Point) (later : List Incident) → HasSeen first later watch.old →
+        OnOk result (HasSeen first (Looked (point_at watch.old.settings moment (Signed value)) ∷ later) watch.new) }
+    ensures sends { (first : Point) (later : List Incident) → HasSeen first later watch.old →
+        Sends report_text result (newest_moves first (Looked (point_at watch.old.settings moment (Signed value)) ∷ later)) (G.told device.old) (G.told device.new) }
+    ensures size { G.size device.new ≡ G.size device.old }
+    ensures disk { G.disk_faults device.new ≡ G.disk_faults device.old }
+    ensures cause { HasCause (G.emit_faults device.old) (G.emit_faults device.new) (IsErrOf result Unsent.Lost) }
+{
+    let changed = watch.look(moment, value)?;
+    emit_moves(alloc, device, moment, changed)
 }
 
 // Takes the event of a line: a tick is one look, a write two.
@@ -56,25 +96,24 @@ fn take<G: Ground>(
     line: Line,
 ) -> Result<(), Unsent>
     requires { IsTrialLine line }
-    ensures seen { (first : Point) (later : List Point) → watch.old.detection ≡ detection_at SignedOutOfRange first later →
-        OnOk result (watch.new.detection ≡ detection_at SignedOutOfRange first (points_after line.moment line.input first later)) }
-    ensures sends { (first : Point) (later : List Point) → watch.old.detection ≡ detection_at SignedOutOfRange first later →
-        SendsTransitions result first later (points_after line.moment line.input first later) (G.told device.old) (G.told device.new) }
+    ensures seen { (first : Point) (later : List Incident) → HasSeen first later watch.old →
+        OnOk result (HasSeen first (looks_after line.moment line.input first later) watch.new) }
+    ensures sends { (first : Point) (later : List Incident) → HasSeen first later watch.old →
+        SendsTransitions result first later (looks_after line.moment line.input first later) (G.told device.old) (G.told device.new) }
     ensures size { G.size device.new ≡ G.size device.old }
     ensures disk { G.disk_faults device.new ≡ G.disk_faults device.old }
     ensures cause { HasCause (G.emit_faults device.old) (G.emit_faults device.new) (IsErrOf result Unsent.Lost) }
 {
-    let last = watch.last();
-    let again = Look::at(line.moment.max(last.moment), last.value);
-    look_at(alloc, device, watch, again)?;
+    let moment = line.moment.max(watch.moment());
+    let last = watch.value();
+    look_at(alloc, device, watch, moment, last)?;
     let Input::Set { value, .. } = &line.input else {
         return Ok(());
     };
     let Value::Signed(number) = value else {
         return Ok(());
     };
-    let changed = Look::at(again.moment, *number);
-    look_at(alloc, device, watch, changed)
+    look_at(alloc, device, watch, moment, *number)
 }
 
 /// Plays a script to an object with these settings: each line is one event, and each move gives one line of the report.

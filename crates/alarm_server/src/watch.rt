@@ -1,101 +1,114 @@
-ghost use Rattle.std.specs.Prelude.{◌≡◌, ◌∷◌, [], List, OnOk, OnErr, IfOk};
-ghost use Rattle.std.specs.Option.{option_to_list};
+ghost use Rattle.std.specs.Prelude.{◌≡◌, ◌∷◌, [], List, OnOk, OnErr, IfOk, false, replicate};
+ghost use Rattle.event_machine.specs.AlarmRecord.{never};
+ghost use Rattle.event_machine.specs.Detection.{moves_at};
+ghost use Rattle.event_machine.specs.Given.{moves_in, point_of};
+ghost use Rattle.event_machine.specs.Points.{Incident, Looked, Point};
 ghost use Rattle.algorithm_rules.specs.declared.table.Algorithm.TheVariants.{SignedOutOfRange};
-ghost use Rattle.alarm_server.specs.Points.{Point};
-ghost use Rattle.alarm_server.specs.Detection.{detection_at, detection_after, transition_after, rule_held};
-ghost use Rattle.alarm_server.specs.Watched.{point_of};
+ghost use Rattle.bac_values.specs.declared.value.Value.TheVariants.{Signed};
+ghost use Rattle.alarm_server.specs.Looks.{point_at};
+ghost use Rattle.alarm_server.specs.Trial.{first_point};
+ghost use Rattle.alarm_server.specs.Watched.{HasSeen};
 
-use crate::held::is_held;
-use crate::look::Look;
 use crate::settings::Settings;
-use algorithm_rules::{Algorithm, Rule, rule};
-use bac_values::{EventState, FIRST_MOMENT, NoMemory, ReportLine};
-use std::alloc::{AllocError, Global};
+use bac_values::{FIRST_MOMENT, NoMemory, Reliability, Stamp, Value};
+use event_machine::{Alarm, Changed, Past, PointFacts, begin, look};
+use std::alloc::Global;
 use std::marker::Model;
 
-/// The object on trial: its event state, and all looks at it since it entered that state, the oldest first.
+/// The object on trial: its last look, its alarm, and what is kept of the points since it entered its event state.
 #[derive(Drop)]
 pub struct Watch {
     settings: Settings,
-    state: EventState,
-    since: Vec<Look>,
+    moment: u64,
+    value: i32,
+    alarm: Alarm,
+    past: Past,
 }
 
 impl Model for Watch {
-    ghost use Rattle.std.specs.Prelude.{◌<◌, length};
-    ghost use Rattle.alarm_server.specs.Watched.{Watched, points_seen};
+    ghost use Rattle.alarm_server.specs.Watched.{Watched};
 
     ghost Value = { Watched };
 
     ghost view = { λ watch. record {
       settings = watch.settings;
-      detection = record { state = watch.state; since = points_seen watch.settings watch.since.items };
+      moment = watch.moment;
+      value = watch.value;
+      alarm = watch.alarm;
+      points = watch.past.points;
     } };
+}
 
-    ghost invariant = { λ watch. 0 < length watch.since.items };
+// What is seen of the object at a moment, beside its value. Nothing that a trial reports shows the stamp.
+fn point_facts(moment: u64) -> PointFacts
+    ensures facts { result ≡ record {
+      moment = moment;
+      stamp = never;
+      reliability = Reliability.NoFaultDetected;
+      inhibited = false;
+      ack_required = replicate 3 false;
+    } }
+{
+    PointFacts {
+        moment,
+        stamp: Stamp::NEVER,
+        reliability: Reliability::NoFaultDetected,
+        inhibited: false,
+        ack_required: [false; 3],
+    }
 }
 
 impl Watch {
-    ghost use Rattle.alarm_server.specs.Trial.{first_point};
-
     /// The object at its first point, with its first value.
-    #[tactic(auto, unfolding(crate::specs::Detection::detection_at))]
     pub fn start(alloc: Global, settings: Settings) -> Result<Watch, NoMemory>
         ensures settings { IfOk result (λ watch. watch.settings ≡ settings) }
-        ensures first { IfOk result (λ watch. watch.detection ≡ detection_at SignedOutOfRange (first_point settings) []) }
+        ensures first { IfOk result (λ watch. HasSeen (first_point settings) [] watch) }
     {
-        let mut since = Vec::new(alloc);
-        since
-            .push(Look::at(FIRST_MOMENT, settings.low))
-            .map_err(AllocError::from)?;
+        let alarm = Alarm::new();
+        let mut past = Past::new(alloc);
+        past.reserve()?;
+        let value = Value::Signed(settings.low);
+        let point = point_facts(FIRST_MOMENT);
+        begin(&alarm, &mut past, &settings.snapshot(&value), &point);
         Ok(Watch {
             settings,
-            state: EventState::Normal,
-            since,
+            moment: FIRST_MOMENT,
+            value: settings.low,
+            alarm,
+            past,
         })
     }
 
-    /// The newest look.
-    pub fn last(&self) -> Look
-        ensures newest { (older : List Point) × (self.now.detection.since ≡ point_of self.now.settings result ∷ older) }
+    /// When the object was last looked at, in milliseconds since 1970.
+    pub fn moment(&self) -> u64
+        ensures moment { result ≡ self.now.moment }
     {
-        self.since[self.since.len() - 1]
+        self.moment
     }
 
-    // The first rule of the state that is held at one more look.
-    fn rule_held(&self, newest: &Look) -> Option<Rule>
-        ensures rule { result ≡ rule_held SignedOutOfRange (point_of self.now.settings newest.now) self.now.detection }
+    /// Its value there.
+    pub fn value(&self) -> i32
+        ensures value { result ≡ self.now.value }
     {
-        for place in 0..u8::MAX {
-            let rule = rule(Algorithm::SignedOutOfRange, self.state, place)?;
-            if is_held(&self.settings, &rule, newest, &self.since) {
-                return Some(rule);
-            }
-        }
-        None
+        self.value
     }
 
-    /// Looks once more, and gives the report's line where the object moves. Want of memory leaves all as it was.
-    pub fn look(&mut self, look: Look) -> Result<Option<ReportLine>, NoMemory>
-        ensures seen { OnOk result (self.new ≡ record self.old {
-          detection = detection_after SignedOutOfRange (point_of self.old.settings look) self.old.detection;
-        }) }
-        ensures line { IfOk result (λ line.
-            option_to_list line ≡ transition_after SignedOutOfRange (point_of self.old.settings look) self.old.detection) }
+    /// Looks once more, at a moment and with a value, and gives the moves of the object. Want of memory leaves all as it
+    /// was.
+    pub fn look(&mut self, moment: u64, value: i32) -> Result<Changed, NoMemory>
+        ensures settings { self.new.settings ≡ self.old.settings }
+        ensures seen { (first : Point) (later : List Incident) → HasSeen first later self.old →
+            OnOk result (HasSeen first (Looked (point_at self.old.settings moment (Signed value)) ∷ later) self.new) }
+        ensures moves { (first : Point) (later : List Incident) → HasSeen first later self.old →
+            IfOk result (λ changed. moves_in changed ≡ moves_at SignedOutOfRange first (Looked (point_at self.old.settings moment (Signed value)) ∷ later)) }
         ensures err { OnErr result (self.new ≡ self.old) }
     {
-        let Some(rule) = self.rule_held(&look) else {
-            self.since.push(look).map_err(AllocError::from)?;
-            return Ok(None);
-        };
-        let line = ReportLine::TrialMove {
-            moment: look.moment,
-            from: self.state,
-            to: rule.target,
-        };
-        self.state = rule.target;
-        self.since.truncate(1);
-        self.since[0] = look;
-        Ok(Some(line))
+        self.past.reserve()?;
+        self.moment = moment;
+        self.value = value;
+        let seen = Value::Signed(value);
+        let snapshot = self.settings.snapshot(&seen);
+        let point = point_facts(moment);
+        Ok(look(&mut self.alarm, &mut self.past, &snapshot, &point))
     }
 }

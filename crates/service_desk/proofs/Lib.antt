@@ -1,1 +1,3 @@
 pub mod Entering
+pub mod Lengths
+pub mod Fitting

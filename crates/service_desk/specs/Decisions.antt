@@ -1,5 +1,5 @@
 -- What becomes of an input, by the state of the core alone (ANSI/ASHRAE 135-2020, 5.4.5 and clause 13).
-use Rattle.std.specs.Prelude.{◌≡◌, ℕ, ◌==◌, ◌&&◌, Bool, if◌then◌else◌, Option, Some, None, is_none, Result, Ok, Err, List, [], ◌∷◌, drop}
+use Rattle.std.specs.Prelude.{◌≡◌, ℕ, ◌==◌, nat_le, ◌&&◌, Bool, true, false, if◌then◌else◌, Option, Some, None, is_none, Result, Ok, Err, List, [], ◌∷◌, drop}
 use Rattle.bac_values.specs.Address.{Address}
 use Rattle.bac_values.specs.Identifier.{Identifier}
 use Rattle.bac_values.specs.declared.event_state.EventState.{EventState}
@@ -7,44 +7,48 @@ use Rattle.bac_values.specs.declared.input.Input.{Input}
 use Rattle.bac_values.specs.declared.input.Input.TheVariants.{Tick, Pump, Set, Fault, Datagram}
 use Rattle.bac_values.specs.declared.input.SetFault.{SetFault}
 use Rattle.bac_values.specs.declared.input.SetFault.TheVariants.{WrongKind}
+use Rattle.bac_values.specs.declared.note.Send.{Send}
 use Rattle.bac_values.specs.declared.transition.Transition.{Transition}
-use Rattle.bac_values.specs.declared.value.Value.{Value}
 use Rattle.bvlc_npdu.specs.declared.reading.Incoming.{Incoming}
 use Rattle.bvlc_npdu.specs.Reading.{incoming_at}
 use Rattle.apdu_frame.specs.declared.apdu.Apdu.{Apdu}
-use Rattle.apdu_frame.specs.declared.apdu.Apdu.TheVariants.{Request, Segmented}
+use Rattle.apdu_frame.specs.declared.apdu.Apdu.TheVariants.{Request, Segmented, Unconfirmed}
 use Rattle.apdu_frame.specs.Reading.{apdu_of}
+use Rattle.apdu_frame.specs.Writing.{written_unconfirmed}
 use Rattle.service_parameters.specs.declared.malformed.Malformed.{Malformed}
 use Rattle.event_services.specs.declared.acknowledge.AckRequest.{AckRequest}
 use Rattle.event_services.specs.Acknowledgements.{acknowledge_request_of}
+use Rattle.property_services.specs.declared.requests.ReadRequest.{ReadRequest}
+use Rattle.property_services.specs.declared.requests.WriteRequest.{WriteRequest}
+use Rattle.property_services.specs.Reading.{read_property_of, who_is_of, write_property_of}
+use Rattle.property_services.specs.Writing.{written_i_am, written_read_ack}
 use Rattle.ack_alarm.specs.declared.verdict.Verdict.{Verdict}
 use Rattle.ack_alarm.specs.declared.verdict.Verdict.TheVariants.{Accept, Already, Error}
 use Rattle.ack_alarm.specs.Verdicts.{acknowledgement_verdict}
 use Rattle.object_table.specs.declared.change.Change.{Change}
+use Rattle.object_table.specs.declared.faults.WriteFault.{WriteFault}
+use Rattle.object_table.specs.declared.faults.WriteFault.TheVariants as write_faults
 use Rattle.object_table.specs.Rows.{row_of}
 use Rattle.object_table.specs.Verdicts.{checked_fault, checked_set}
-use Rattle.alarm_core.specs.declared.event.Act.{Act}
+use Rattle.alarm_core.specs.declared.content.ReadFault.{ReadFault}
+use Rattle.alarm_core.specs.declared.content.ReadFault.TheVariants as read_faults
 use Rattle.alarm_core.specs.declared.event.Act.TheVariants.{Write, Ack}
 use Rattle.alarm_core.specs.declared.event.Event.{Event}
 use Rattle.alarm_core.specs.Allowed.{IsAllowed}
-use Rattle.alarm_core.specs.Found.{found_in, is_other_object}
+use Rattle.alarm_core.specs.declared.site.Site.{Site}
+use Rattle.alarm_core.specs.Found.{device_object, found_in, is_other_object}
 use Rattle.alarm_core.specs.History.{StateTransition, raised, tick_at}
 use Rattle.alarm_core.specs.Next.{next_transitions}
+use Rattle.alarm_core.specs.Reading.{read_of, write_of}
 use Rattle.alarm_core.specs.State.{State}
 use Rattle.service_desk.specs.declared.decision.Decision.{Decision}
 use Rattle.service_desk.specs.declared.decision.Decision.TheVariants.{Ignore, Idle, Refuse, Reply, Enter}
 use Rattle.service_desk.specs.declared.replies.Asker.{Asker}
-use Rattle.service_desk.specs.Replies.{acknowledged, aborted, refused, rejected}
+use Rattle.service_desk.specs.Replies.{abort_to, aborted, acknowledged, answered, other, refused, rejected, reply_to, segmentation_not_supported}
 
--- the reasons of a Reject and of Aborts
+-- the reason of a Reject
 abbrev pub unrecognized_service : ℕ
 unrecognized_service = 9
-
-abbrev pub other : ℕ
-other = 0
-
-abbrev pub segmentation_not_supported : ℕ
-segmentation_not_supported = 4
 
 -- a tick is an event where some object would move
 abbrev pub tick_with : List StateTransition → ℕ → Decision
@@ -87,19 +91,68 @@ acknowledge_with state moment asker (Ok request) = verdict_decision moment asker
 abbrev pub acknowledge_decision : State → ℕ → Asker → List ℕ → Decision
 acknowledge_decision state moment asker parameters = acknowledge_with state moment asker (acknowledge_request_of parameters)
 
+-- a property that was read, or the error; no reading ends for want of memory
+abbrev pub read_reply : Asker → ReadRequest → Result (List ℕ) ReadFault → Send
+read_reply asker request (Ok octets) = answered asker (written_read_ack request octets)
+read_reply asker request (Err (read_faults.Error class code)) = refused asker class code
+read_reply asker request (Err read_faults.NoMemory) = aborted asker other
+
+-- ReadProperty (15.5)
+abbrev pub read_with : State → Asker → Result ReadRequest Malformed → Decision
+read_with state asker (Err refusal) = Reply (rejected asker refusal.reject)
+read_with state asker (Ok request) = Reply (read_reply asker request (read_of state request.object request.property.0 request.index))
+
+abbrev pub read_decision : State → Asker → List ℕ → Decision
+read_decision state asker parameters = read_with state asker (read_property_of parameters)
+
+-- a write that makes a change, or the error; no verdict on a write is want of memory
+abbrev pub change_decision : ℕ → Asker → Result Change WriteFault → Decision
+change_decision moment asker (Ok change) = Enter (write_at moment change) (Some (acknowledged asker)) (Some (aborted asker other))
+change_decision moment asker (Err (write_faults.Error class code)) = Reply (refused asker class code)
+change_decision moment asker (Err write_faults.NoMemory) = Reply (aborted asker other)
+
+-- WriteProperty (15.9)
+abbrev pub write_with : State → ℕ → Asker → Result WriteRequest Malformed → Decision
+write_with state moment asker (Err refusal) = Reply (rejected asker refusal.reject)
+write_with state moment asker (Ok request) = change_decision moment asker (write_of state request.object request.property.0 request.index request.value)
+
+abbrev pub write_decision : State → ℕ → Asker → List ℕ → Decision
+write_decision state moment asker parameters = write_with state moment asker (write_property_of parameters)
+
 -- a confirmed request, by its service
 abbrev pub request_decision : State → ℕ → Asker → List ℕ → Decision
 request_decision state moment asker parameters =
     if asker.service == 0 then acknowledge_decision state moment asker parameters
-    else Reply (rejected asker unrecognized_service)
+    else (if asker.service == 12 then read_decision state asker parameters
+    else (if asker.service == 15 then write_decision state moment asker parameters
+    else Reply (rejected asker unrecognized_service)))
 
-abbrev pub asker_of : Address → ℕ → ℕ → Asker
-asker_of peer invoke service = record { peer = peer; invoke = invoke; service = service }
+-- whether the devices that are asked include the site's
+abbrev pub asks : Result (Option (ℕ × ℕ)) Malformed → ℕ → Bool
+asks (Err refusal) instance = false
+asks (Ok None) instance = true
+asks (Ok (Some limits)) instance = nat_le limits.0 instance && nat_le instance limits.1
+
+-- I-Am (16.10), to the peer that asked
+abbrev pub i_am : Site → Address → Send
+i_am site peer = reply_to peer (written_unconfirmed 0 (written_i_am (device_object site) site.device.vendor))
+
+-- Who-Is (16.10)
+abbrev pub who_is_decision : Site → Address → List ℕ → Decision
+who_is_decision site peer parameters = if asks (who_is_of parameters) site.device.instance then Reply (i_am site peer) else Ignore
+
+-- an unconfirmed request, by its service
+abbrev pub unconfirmed_decision : Site → Address → ℕ → List ℕ → Decision
+unconfirmed_decision site peer service parameters = if service == 8 then who_is_decision site peer parameters else Ignore
+
+abbrev pub asker_of : Address → ℕ → ℕ → ℕ → Asker
+asker_of peer max_apdu invoke service = record { peer = peer; max_apdu = max_apdu; invoke = invoke; service = service }
 
 -- an APDU, by its header
 abbrev pub apdu_decision : State → ℕ → Address → List ℕ → Apdu → Decision
-apdu_decision state moment peer octets (Request max_apdu invoke service start) = request_decision state moment (asker_of peer invoke service) (drop start octets)
-apdu_decision state moment peer octets (Segmented invoke) = Reply (aborted (asker_of peer invoke 0) segmentation_not_supported)
+apdu_decision state moment peer octets (Request max_apdu invoke service start) = request_decision state moment (asker_of peer max_apdu invoke service) (drop start octets)
+apdu_decision state moment peer octets (Segmented invoke) = Reply (abort_to peer invoke segmentation_not_supported)
+apdu_decision state moment peer octets (Unconfirmed service start) = unconfirmed_decision state.site peer service (drop start octets)
 apdu_decision state moment peer octets header = Ignore
 
 abbrev pub incoming_decision : State → ℕ → List ℕ → Option Incoming → Decision

@@ -1,14 +1,24 @@
 -- The replies of the device.
-use Rattle.std.specs.Prelude.{ℕ, Bool, false, List}
+use Rattle.std.specs.Prelude.{ℕ, nat_lt, false, if◌then◌else◌, List, length}
 use Rattle.bac_values.specs.Address.{Address}
 use Rattle.bac_values.specs.declared.note.Send.{Send}
-use Rattle.apdu_frame.specs.Writing.{written_abort, written_error, written_reject, written_simple_ack}
+use Rattle.apdu_frame.specs.Writing.{written_abort, written_complex_ack, written_error, written_reject, written_simple_ack}
 use Rattle.bvlc_npdu.specs.Writing.{written_frame}
 use Rattle.service_desk.specs.declared.replies.Asker.{Asker}
+
+-- the reasons of Aborts
+abbrev pub other : ℕ
+other = 0
+
+abbrev pub segmentation_not_supported : ℕ
+segmentation_not_supported = 4
 
 -- an APDU on its way to a peer that needn't answer it
 abbrev pub reply_to : Address → List ℕ → Send
 reply_to peer apdu = record { peer = peer; bytes = written_frame peer false apdu }
+
+abbrev pub abort_to : Address → ℕ → ℕ → Send
+abort_to peer invoke reason = reply_to peer (written_abort invoke reason)
 
 abbrev pub acknowledged : Asker → Send
 acknowledged asker = reply_to asker.peer (written_simple_ack asker.invoke asker.service)
@@ -20,4 +30,12 @@ abbrev pub rejected : Asker → ℕ → Send
 rejected asker reason = reply_to asker.peer (written_reject asker.invoke reason)
 
 abbrev pub aborted : Asker → ℕ → Send
-aborted asker reason = reply_to asker.peer (written_abort asker.invoke reason)
+aborted asker reason = abort_to asker.peer asker.invoke reason
+
+-- an answer, unless it is longer than the asker takes (5.4.5.3): the device sends no segments
+unfoldable pub fitting : Asker → List ℕ → Send
+fitting asker apdu = if nat_lt asker.max_apdu (length apdu) then aborted asker segmentation_not_supported else reply_to asker.peer apdu
+
+-- the result of a request
+abbrev pub answered : Asker → List ℕ → Send
+answered asker body = fitting asker (written_complex_ack asker.invoke asker.service body)

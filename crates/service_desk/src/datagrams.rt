@@ -1,11 +1,14 @@
-ghost use Rattle.std.specs.Prelude.{◌≡◌, ◌≤◌, IfOk, drop, length};
+ghost use Rattle.std.specs.Prelude.{◌≡◌, ◌≤◌, ℕ, IfOk, drop, length};
 ghost use Rattle.apdu_frame.specs.Reading.{apdu_of};
-ghost use Rattle.service_desk.specs.Decisions.{EntersAllowed, apdu_decision, incoming_decision, request_decision};
+ghost use Rattle.service_desk.specs.Decisions.{EntersAllowed, apdu_decision, incoming_decision, request_decision, unconfirmed_decision};
 ghost use Rattle.bvlc_npdu.specs.Reading.{incoming_at};
 
 use crate::Decision;
 use crate::acknowledging::acknowledge;
-use crate::replies::Asker;
+use crate::reading::read_property;
+use crate::replies::{Asker, abort_to};
+use crate::who_is::who_is;
+use crate::writing::write_property;
 use alarm_core::Core;
 use apdu_frame::{Apdu, read_apdu};
 use bac_values::{NoMemory, Peer};
@@ -20,14 +23,34 @@ fn request_decision(
     asker: &Asker,
     parameters: &[u8],
 ) -> Result<Decision, NoMemory>
+    requires most { asker.now.max_apdu ≤ 1476 }
     ensures decision { IfOk result (λ decision. decision ≡ request_decision core.now moment asker.now parameters.now) }
     ensures allowed { IfOk result (EntersAllowed core.now moment) }
 {
     match asker.service {
         0 => acknowledge(alloc, core, moment, asker, parameters),
+        12 => read_property(alloc, core, asker, parameters),
+        15 => write_property(alloc, core, moment, asker, parameters),
         _ => Ok(Decision::Reply {
             send: asker.rejected(alloc, 9)?,
         }),
+    }
+}
+
+// An unconfirmed request, by its service.
+fn unconfirmed_decision(
+    alloc: Global,
+    core: &Core,
+    peer: Peer,
+    service: u8,
+    parameters: &[u8],
+) -> Result<Decision, NoMemory>
+    ensures decision { IfOk result (λ decision. decision ≡ unconfirmed_decision core.now.site peer service parameters.now) }
+    ensures allowed { (moment : ℕ) → IfOk result (EntersAllowed core.now moment) }
+{
+    match service {
+        8 => who_is(alloc, core, peer, parameters),
+        _ => Ok(Decision::Ignore),
     }
 }
 
@@ -44,27 +67,24 @@ fn apdu_decision(
 {
     match read_apdu(octets) {
         Apdu::Request {
+            max_apdu,
             invoke,
             service,
             start,
-            ..
         } => {
             let asker = Asker {
                 peer,
+                max_apdu,
                 invoke,
                 service,
             };
             request_decision(alloc, core, moment, &asker, &octets[start..])
         }
-        Apdu::Segmented { invoke } => {
-            let asker = Asker {
-                peer,
-                invoke,
-                service: 0,
-            };
-            Ok(Decision::Reply {
-                send: asker.aborted(alloc, 4)?,
-            })
+        Apdu::Segmented { invoke } => Ok(Decision::Reply {
+            send: abort_to(alloc, peer, invoke, 4)?,
+        }),
+        Apdu::Unconfirmed { service, start } => {
+            unconfirmed_decision(alloc, core, peer, service, &octets[start..])
         }
         _ => Ok(Decision::Ignore),
     }

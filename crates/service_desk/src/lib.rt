@@ -7,7 +7,12 @@ mod acknowledging;
 mod datagrams;
 mod deciding;
 mod decision;
+mod laws;
+mod reading;
 mod replies;
+mod who_is;
+mod writing;
 
 pub use deciding::decide;
 pub use decision::Decision;
+pub use laws::each_reply_fits;

@@ -18,7 +18,7 @@ loop-watch-init g c =
     let told = g.G.Ground.told c.args.device.now in
     rw c.in_ok-lines.ensures.start
     (record {
-      progress = begins c.args.settings (g.T.Source.left c.args.script.now) told c.in_ok-watch.watch.detection c.in_ok-watch.ensures.first;
+      progress = begins c.args.settings (g.T.Source.left c.args.script.now) told c.in_ok-watch.watch c.in_ok-watch.ensures.first;
       grammar = refl;
       source = λ e. absurd cc;
       size = refl;
@@ -33,7 +33,7 @@ returns-in_err-line-clause-ends g c =
     let here = c.loop-watch in
     let next = c.next_line.new in
     rw (p.1, p.2)
-    (ends_at_line c.args.settings (g.T.Source.left c.args.script.now) (octets_to_come here.lines (g.T.Source.left here.script)) (octets_to_come next.self (g.T.Source.left next.source)) (g.G.Ground.told c.args.device.now) (g.G.Ground.told here.device) here.lines.number next.self.number here.lines.ended here.watch.detection c.in_err-line.field-0.0 here.invariant.progress (rw here.invariant.grammar at c.in_err-line.ensures.line))
+    (ends_at_line c.args.settings (g.T.Source.left c.args.script.now) (octets_to_come here.lines (g.T.Source.left here.script)) (octets_to_come next.self (g.T.Source.left next.source)) (g.G.Ground.told c.args.device.now) (g.G.Ground.told here.device) here.lines.number next.self.number here.lines.ended here.watch c.in_err-line.field-0.0 here.invariant.progress (rw here.invariant.grammar at c.in_err-line.ensures.line))
 
 pub returns-in_err-line-clause-refused : goal.returns-in_err-line-clause-refused
 returns-in_err-line-clause-refused g c = λ line e.
@@ -45,7 +45,7 @@ returns-in_err-line-clause-refused g c = λ line e.
     let come = octets_to_come here.lines (g.T.Source.left here.script) in
     let come' = octets_to_come next.self (g.T.Source.left next.source) in
     let read = subst (λ f. WhereTold come come' (ReadsLine Trial here.lines.number next.self.number (Err f))) fault (rw here.invariant.grammar at c.in_err-line.ensures.line) in
-    refused_first c.args.settings (g.T.Source.left c.args.script.now) come come' (g.G.Ground.told c.args.device.now) (g.G.Ground.told here.device) here.lines.number next.self.number here.lines.ended here.watch.detection line here.invariant.progress read
+    refused_first c.args.settings (g.T.Source.left c.args.script.now) come come' (g.G.Ground.told c.args.device.now) (g.G.Ground.told here.device) here.lines.number next.self.number here.lines.ended here.watch line here.invariant.progress read
 
 pub returns-in_err-line-clause-stops : goal.returns-in_err-line-clause-stops
 returns-in_err-line-clause-stops g c = λ e.
@@ -57,7 +57,7 @@ returns-in_err-line-clause-stops g c = λ e.
     let come = octets_to_come here.lines (g.T.Source.left here.script) in
     let come' = octets_to_come next.self (g.T.Source.left next.source) in
     let read = subst (λ f. WhereTold come come' (ReadsLine Trial here.lines.number next.self.number (Err f))) fault (rw here.invariant.grammar at c.in_err-line.ensures.line) in
-    stops_reading c.args.settings (g.T.Source.left c.args.script.now) come (g.T.Source.left next.source) next.self.pending (g.G.Ground.told c.args.device.now) (g.G.Ground.told here.device) here.lines.number next.self.number here.lines.ended next.self.ended here.watch.detection here.invariant.progress read c.next_line.ensures.ended c.next_line.ensures.whole_lines (c.next_line.ensures.waits (c.in_err-line.was ∙ ap Err fault))
+    stops_reading c.args.settings (g.T.Source.left c.args.script.now) come (g.T.Source.left next.source) next.self.pending (g.G.Ground.told c.args.device.now) (g.G.Ground.told here.device) here.lines.number next.self.number here.lines.ended next.self.ended here.watch here.invariant.progress read c.next_line.ensures.ended c.next_line.ensures.whole_lines (c.next_line.ensures.waits (c.in_err-line.was ∙ ap Err fault))
 
 pub returns-in_err-take-clause-ends : goal.returns-in_err-take-clause-ends
 returns-in_err-take-clause-ends g c =
@@ -66,7 +66,7 @@ returns-in_err-take-clause-ends g c =
     let next = c.next_line.new in
     let read = rw (c.in-Some.is, here.invariant.grammar) at c.in_ok-line.ensures.line in
     rw (p.1, p.2)
-    (ends_at_event c.args.settings (g.T.Source.left c.args.script.now) (octets_to_come here.lines (g.T.Source.left here.script)) (octets_to_come next.self (g.T.Source.left next.source)) (g.G.Ground.told c.args.device.now) (g.G.Ground.told here.device) (g.G.Ground.told c.take.new.device) here.lines.number next.self.number here.lines.ended here.watch.detection c.in-Some.line c.in_err-take.field-0.0 here.invariant.progress read (c.in_err-take.ensures.sends (first_point c.args.settings)))
+    (ends_at_event c.args.settings (g.T.Source.left c.args.script.now) (octets_to_come here.lines (g.T.Source.left here.script)) (octets_to_come next.self (g.T.Source.left next.source)) (g.G.Ground.told c.args.device.now) (g.G.Ground.told here.device) (g.G.Ground.told c.take.new.device) here.lines.number next.self.number here.lines.ended here.watch c.in-Some.line c.in_err-take.field-0.0 here.invariant.progress read (c.in_err-take.ensures.sends (first_point c.args.settings)))
 
 pub loop-watch-preserved : goal.loop-watch-preserved
 loop-watch-preserved g c =
@@ -75,7 +75,7 @@ loop-watch-preserved g c =
     let read = rw (c.in-Some.is, here.invariant.grammar) at c.in_ok-line.ensures.line in
     let first = first_point c.args.settings in
     record {
-      progress = goes_on c.args.settings (g.T.Source.left c.args.script.now) (octets_to_come here.lines (g.T.Source.left here.script)) (octets_to_come next.self (g.T.Source.left next.source)) (g.G.Ground.told c.args.device.now) (g.G.Ground.told here.device) (g.G.Ground.told c.take.new.device) here.lines.number next.self.number here.lines.ended next.self.ended here.watch.detection c.take.new.watch.detection c.in-Some.line here.invariant.progress read c.next_line.ensures.ended c.next_line.ensures.whole_lines (c.in_ok-take.ensures.seen first) (c.in_ok-take.ensures.sends first);
+      progress = goes_on c.args.settings (g.T.Source.left c.args.script.now) (octets_to_come here.lines (g.T.Source.left here.script)) (octets_to_come next.self (g.T.Source.left next.source)) (g.G.Ground.told c.args.device.now) (g.G.Ground.told here.device) (g.G.Ground.told c.take.new.device) here.lines.number next.self.number here.lines.ended next.self.ended here.watch c.take.new.watch c.in-Some.line here.invariant.progress read c.next_line.ensures.ended c.next_line.ensures.whole_lines (c.in_ok-take.ensures.seen first) (c.in_ok-take.ensures.sends first);
       grammar = c.next_line.ensures.grammar ∙ here.invariant.grammar;
       source = c.next_line.ensures.source;
       size = c.take.ensures.size ∙ here.invariant.size;
@@ -94,7 +94,7 @@ returns-in_err-emit-clause-ends g c =
     let after = g.G.Ground.told c.emit.new.device in
     let fault = c.in_err-emit.field-0.0 in
     rw (p.1, p.2)
-    (ends_at_end c.args.settings (g.T.Source.left c.args.script.now) (octets_to_come here.lines (g.T.Source.left here.script)) (octets_to_come next.self (g.T.Source.left next.source)) (g.G.Ground.told c.args.device.now) before after here.lines.number next.self.number here.lines.ended here.watch.detection fault here.invariant.progress read
+    (ends_at_end c.args.settings (g.T.Source.left c.args.script.now) (octets_to_come here.lines (g.T.Source.left here.script)) (octets_to_come next.self (g.T.Source.left next.source)) (g.G.Ground.told c.args.device.now) before after here.lines.number next.self.number here.lines.ended here.watch fault here.invariant.progress read
     (subst (λ n. SendsUpTo report_text fault (TrialEnd n ∷ []) before after) c.count.ensures.number c.in_err-emit.ensures.sends))
 
 pub returns-clause-ends : goal.returns-clause-ends
@@ -104,5 +104,5 @@ returns-clause-ends g c =
     let read = rw (c.in_default.is, here.invariant.grammar) at c.in_ok-line.ensures.line in
     let before = g.G.Ground.told here.device in
     let after = g.G.Ground.told c.emit.new.device in
-    ends c.args.settings (g.T.Source.left c.args.script.now) (octets_to_come here.lines (g.T.Source.left here.script)) (octets_to_come next.self (g.T.Source.left next.source)) (g.G.Ground.told c.args.device.now) before after here.lines.number next.self.number here.lines.ended here.watch.detection here.invariant.progress read
+    ends c.args.settings (g.T.Source.left c.args.script.now) (octets_to_come here.lines (g.T.Source.left here.script)) (octets_to_come next.self (g.T.Source.left next.source)) (g.G.Ground.told c.args.device.now) before after here.lines.number next.self.number here.lines.ended here.watch here.invariant.progress read
     (subst (λ n. Adds before after (sent report_text (TrialEnd n ∷ []))) c.count.ensures.number c.in_ok-emit.ensures.sends)

@@ -8,7 +8,7 @@ use Rattle.alarm_server.proofs.trial.play.Given as goal
 -- the lines so far were taken, in a trial's grammar, and their moves went out; the disk is as it was, and faults were counted only upwards
 abbrev pub invariant-loop-watch : goal.invariant-loop-watch
 invariant-loop-watch g l = record {
-  progress : Progress l.fn.settings (g.T.Source.left l.initial.script) (octets_to_come l.lines (g.T.Source.left l.script)) (g.G.Ground.told l.initial.device) (g.G.Ground.told l.device) l.lines.number l.lines.ended l.watch.detection;
+  progress : Progress l.fn.settings (g.T.Source.left l.initial.script) (octets_to_come l.lines (g.T.Source.left l.script)) (g.G.Ground.told l.initial.device) (g.G.Ground.told l.device) l.lines.number l.lines.ended l.watch;
   grammar : l.lines.grammar ≡ Trial;
   source : l.lines.ended ≡ true → IsAtEnd (g.T.Source.left l.script);
   size : g.G.Ground.size l.device ≡ g.G.Ground.size l.initial.device;

@@ -1,0 +1,150 @@
+ghost use Rattle.std.specs.Prelude.{◌≡◌, ◌==◌, ◌++◌, All, IfOk, OnOk, filter, map};
+ghost use Rattle.bac_values.specs.Identifier.{Identifier, known_kinds, number_of_kind};
+ghost use Rattle.alarm_core.specs.Found.{class_object, device_object};
+ghost use Rattle.alarm_core.specs.Properties.{device_content, identifiers_of, object_list};
+ghost use Rattle.alarm_core.specs.Reading.{AnswersContent};
+ghost use Rattle.alarm_core.specs.Sites.{HasInstance, IsSite};
+
+use crate::encoding::{array_of_objects, enumerated, object, text, unsigned};
+use crate::growing::add;
+use crate::{ClassSite, Content, EnrollmentSite, LogSite, ReadFault, Site};
+use bac_values::{NoMemory, ObjectId, ObjectKind, PropertyId};
+use object_table::ObjectSite;
+use std::alloc::Global;
+
+/// The identifier of a site's device.
+pub(crate) fn device_object(site: &Site) -> ObjectId
+    requires site { IsSite site.now }
+    ensures object { result ≡ device_object site.now }
+{
+    ObjectId::of_kind(ObjectKind::Device, site.device.instance).unwrap()
+}
+
+fn class_object(listed: &ClassSite) -> ObjectId
+    requires instance { HasInstance listed.now }
+    ensures object { result ≡ class_object listed.now }
+{
+    ObjectId::of_kind(ObjectKind::NotificationClass, listed.class.instance).unwrap()
+}
+
+fn add_objects(identifiers: &mut Vec<ObjectId>, objects: &[ObjectSite]) -> Result<(), NoMemory>
+    ensures added { OnOk result (identifiers.new.items ≡ identifiers.old.items ++ map (λ (object : ObjectSite). object.object) objects.now) }
+{
+    for object in objects {
+        add(identifiers, object.object)?;
+    }
+    Ok(())
+}
+
+fn add_classes(identifiers: &mut Vec<ObjectId>, classes: &[ClassSite]) -> Result<(), NoMemory>
+    requires instances { All HasInstance classes.now }
+    ensures added { OnOk result (identifiers.new.items ≡ identifiers.old.items ++ map class_object classes.now) }
+{
+    for listed in classes {
+        add(identifiers, class_object(listed))?;
+    }
+    Ok(())
+}
+
+fn add_enrollments(
+    identifiers: &mut Vec<ObjectId>,
+    enrollments: &[EnrollmentSite],
+) -> Result<(), NoMemory>
+    ensures added { OnOk result (identifiers.new.items ≡ identifiers.old.items ++ map (λ (enrollment : EnrollmentSite). enrollment.object) enrollments.now) }
+{
+    for enrollment in enrollments {
+        add(identifiers, enrollment.object)?;
+    }
+    Ok(())
+}
+
+fn add_logs(identifiers: &mut Vec<ObjectId>, logs: &[LogSite]) -> Result<(), NoMemory>
+    ensures added { OnOk result (identifiers.new.items ≡ identifiers.old.items ++ map (λ (log : LogSite). log.object) logs.now) }
+{
+    for log in logs {
+        add(identifiers, log.object)?;
+    }
+    Ok(())
+}
+
+// The device, and the site's objects list by list.
+fn identifiers_of(alloc: Global, site: &Site) -> Result<Vec<ObjectId>, NoMemory>
+    requires site { IsSite site.now }
+    ensures identifiers { IfOk result (λ identifiers. identifiers.items ≡ identifiers_of site.now) }
+{
+    let mut identifiers = Vec::new(alloc);
+    add(&mut identifiers, device_object(site))?;
+    add_objects(&mut identifiers, site.objects.as_slice())?;
+    add_classes(&mut identifiers, site.classes.as_slice())?;
+    add_enrollments(&mut identifiers, site.enrollments.as_slice())?;
+    add_logs(&mut identifiers, site.logs.as_slice())?;
+    Ok(identifiers)
+}
+
+fn known_kinds() -> [ObjectKind; 10]
+    ensures kinds { result ≡ known_kinds }
+{
+    [
+        ObjectKind::BinaryValue,
+        ObjectKind::Device,
+        ObjectKind::EventEnrollment,
+        ObjectKind::NotificationClass,
+        ObjectKind::MultiStateValue,
+        ObjectKind::EventLog,
+        ObjectKind::BitStringValue,
+        ObjectKind::CharacterStringValue,
+        ObjectKind::IntegerValue,
+        ObjectKind::PositiveIntegerValue,
+    ]
+}
+
+// Puts the identifiers of one type behind the others.
+fn add_of_kind(
+    list: &mut Vec<ObjectId>,
+    kind: ObjectKind,
+    identifiers: &[ObjectId],
+) -> Result<(), NoMemory>
+    ensures added { OnOk result (list.new.items ≡ list.old.items ++ filter (λ (object : Identifier). object.number == number_of_kind kind) identifiers.now) }
+{
+    for object in identifiers {
+        if object.number() == kind.number() {
+            add(list, *object)?;
+        }
+    }
+    Ok(())
+}
+
+// Object_List, type by type.
+fn object_list(alloc: Global, site: &Site) -> Result<Vec<ObjectId>, NoMemory>
+    requires site { IsSite site.now }
+    ensures list { IfOk result (λ list. list.items ≡ object_list site.now) }
+{
+    let identifiers = identifiers_of(alloc, site)?;
+    let kinds = known_kinds();
+    let mut list = Vec::new(alloc);
+    for kind in &kinds {
+        add_of_kind(&mut list, *kind, &identifiers)?;
+    }
+    Ok(list)
+}
+
+/// What a property of the device is (ANSI/ASHRAE 135-2020, 12.11), or why there is none.
+pub(crate) fn device_content(
+    alloc: Global,
+    site: &Site,
+    property: PropertyId,
+) -> Result<Content, ReadFault>
+    requires site { IsSite site.now }
+    ensures content { AnswersContent result (device_content site.now property.0) }
+{
+    match property {
+        PropertyId::OBJECT_IDENTIFIER => Ok(object(alloc, device_object(site))?),
+        PropertyId::OBJECT_NAME => Ok(text(alloc, &site.device.name)?),
+        PropertyId::OBJECT_TYPE => Ok(enumerated(alloc, 8)?),
+        PropertyId::OBJECT_LIST => Ok(array_of_objects(alloc, &object_list(alloc, site)?)?),
+        PropertyId::MAX_APDU_LENGTH_ACCEPTED => Ok(unsigned(alloc, 1476)?),
+        PropertyId::SEGMENTATION_SUPPORTED => Ok(enumerated(alloc, 3)?),
+        PropertyId::VENDOR_IDENTIFIER => Ok(unsigned(alloc, u32::from(site.device.vendor))?),
+        _ => Err(ReadFault::UNKNOWN_PROPERTY),
+    }
+}

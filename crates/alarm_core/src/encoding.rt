@@ -1,0 +1,212 @@
+ghost use Rattle.std.specs.Prelude.{◌≡◌, ◌++◌, All, IfOk, if◌then◌else◌, map, true};
+ghost use Rattle.std.specs.List.{flat_map};
+ghost use Rattle.bac_values.specs.BitString.{IsBitString};
+ghost use Rattle.bac_values.specs.declared.value.Value.TheVariants as values;
+ghost use Rattle.bac_tags.specs.Values.{IsWritable};
+ghost use Rattle.bac_tags.specs.Writing.{written_object, written_tag, written_value};
+ghost use Rattle.object_table.specs.Flags.{string_of};
+ghost use Rattle.alarm_core.specs.declared.content.Content.TheVariants.{Elements};
+ghost use Rattle.alarm_core.specs.Properties.{array_of_values, flags, list_of_values, one, written_time_stamp};
+
+use crate::Content;
+use crate::growing::add;
+use bac_tags::{Shape, Tag, write_object, write_stamp, write_tag, write_value};
+use bac_values::{Bits, Items, NoMemory, ObjectId, Stamp, Text, Value};
+use std::alloc::Global;
+
+fn octets_of(alloc: Global, value: &Value) -> Result<Items<u8>, NoMemory>
+    requires writable { IsWritable value.now }
+    ensures octets { IfOk result (λ octets. octets ≡ written_value value.now) }
+{
+    let mut octets = Vec::new(alloc);
+    write_value(&mut octets, value)?;
+    Ok(Items::of(octets))
+}
+
+/// One value.
+pub(crate) fn one(alloc: Global, value: &Value) -> Result<Content, NoMemory>
+    requires writable { IsWritable value.now }
+    ensures one { IfOk result (λ content. content ≡ one value.now) }
+{
+    let octets = octets_of(alloc, value)?;
+    Ok(Content::Whole { octets })
+}
+
+/// True or false.
+pub(crate) fn boolean(alloc: Global, truth: bool) -> Result<Content, NoMemory>
+    ensures one { IfOk result (λ content. content ≡ one (values.Bool truth)) }
+{
+    one(alloc, &Value::Bool(truth))
+}
+
+/// A whole number without a sign.
+pub(crate) fn unsigned(alloc: Global, number: u32) -> Result<Content, NoMemory>
+    ensures one { IfOk result (λ content. content ≡ one (values.Unsigned number)) }
+{
+    one(alloc, &Value::Unsigned(number))
+}
+
+/// The number of one of a list of names.
+pub(crate) fn enumerated(alloc: Global, number: u32) -> Result<Content, NoMemory>
+    ensures one { IfOk result (λ content. content ≡ one (values.Enumerated number)) }
+{
+    one(alloc, &Value::Enumerated(number))
+}
+
+/// A text.
+pub(crate) fn text(alloc: Global, text: &Text) -> Result<Content, NoMemory>
+    ensures one { IfOk result (λ content. content ≡ one (values.Text text.now)) }
+{
+    one(alloc, &Value::Text(text.clone()?))
+}
+
+/// An object's identifier.
+pub(crate) fn object(alloc: Global, object: ObjectId) -> Result<Content, NoMemory>
+    ensures one { IfOk result (λ content. content ≡ one (values.Object object)) }
+{
+    one(alloc, &Value::Object(object))
+}
+
+fn weight(flag: bool, bit: u64) -> u64
+    ensures weight { result ≡ (if flag then bit else 0) }
+{
+    if flag { bit } else { 0 }
+}
+
+fn string_with(length: u8, bits: u64) -> Bits
+    requires string { IsBitString length bits }
+    ensures string { result ≡ record { size = length; bits = bits } }
+{
+    match Bits::new(length, bits) {
+        Ok(string) => string,
+        Err(_) => unreachable!(),
+    }
+}
+
+fn string_of_two(flags: [bool; 2]) -> Bits
+    ensures string { result ≡ string_of flags }
+{
+    let [first, second] = flags;
+    string_with(2, weight(first, 1) + weight(second, 2))
+}
+
+fn string_of_three(flags: [bool; 3]) -> Bits
+    ensures string { result ≡ string_of flags }
+{
+    let [first, second, third] = flags;
+    string_with(3, weight(first, 1) + weight(second, 2) + weight(third, 4))
+}
+
+fn string_of_four(flags: [bool; 4]) -> Bits
+    ensures string { result ≡ string_of flags }
+{
+    let [first, second, third, fourth] = flags;
+    string_with(
+        4,
+        weight(first, 1) + weight(second, 2) + weight(third, 4) + weight(fourth, 8),
+    )
+}
+
+/// A string of two bits, the first flag first.
+pub(crate) fn two_flags(alloc: Global, bits: [bool; 2]) -> Result<Content, NoMemory>
+    ensures one { IfOk result (λ content. content ≡ flags bits) }
+{
+    one(alloc, &Value::Bits(string_of_two(bits)))
+}
+
+/// A string of three bits, the first flag first.
+pub(crate) fn three_flags(alloc: Global, bits: [bool; 3]) -> Result<Content, NoMemory>
+    ensures one { IfOk result (λ content. content ≡ flags bits) }
+{
+    one(alloc, &Value::Bits(string_of_three(bits)))
+}
+
+/// A string of four bits, the first flag first.
+pub(crate) fn four_flags(alloc: Global, bits: [bool; 4]) -> Result<Content, NoMemory>
+    ensures one { IfOk result (λ content. content ≡ flags bits) }
+{
+    one(alloc, &Value::Bits(string_of_four(bits)))
+}
+
+/// A list of values, whose elements stand one after the other.
+pub(crate) fn list_of_values(alloc: Global, values: &[Value]) -> Result<Content, NoMemory>
+    requires writable { All IsWritable values.now }
+    ensures list { IfOk result (λ content. content ≡ list_of_values values.now) }
+{
+    let mut octets = Vec::new(alloc);
+    for value in values {
+        write_value(&mut octets, value)?;
+    }
+    Ok(Content::Whole {
+        octets: Items::of(octets),
+    })
+}
+
+/// An array of values.
+pub(crate) fn array_of_values(alloc: Global, values: &[Value]) -> Result<Content, NoMemory>
+    requires writable { All IsWritable values.now }
+    ensures array { IfOk result (λ content. content ≡ array_of_values values.now) }
+{
+    let mut elements = Vec::new(alloc);
+    for value in values {
+        add(&mut elements, octets_of(alloc, value)?)?;
+    }
+    Ok(Content::Elements {
+        elements: Items::of(elements),
+    })
+}
+
+// The tag that opens or closes a date and a time in a time stamp.
+fn date_and_time(shape: Shape) -> Tag
+    ensures tag { result ≡ record { number = 2; context = true; shape = shape } }
+{
+    Tag {
+        number: 2,
+        context: true,
+        shape,
+    }
+}
+
+fn time_stamp(alloc: Global, stamp: Stamp) -> Result<Items<u8>, NoMemory>
+    ensures octets { IfOk result (λ octets. octets ≡ written_time_stamp stamp) }
+{
+    let mut octets = Vec::new(alloc);
+    write_tag(&mut octets, date_and_time(Shape::Opening))?;
+    write_stamp(&mut octets, None, stamp)?;
+    write_tag(&mut octets, date_and_time(Shape::Closing))?;
+    Ok(Items::of(octets))
+}
+
+/// An array of time stamps, each of which is a date and a time.
+pub(crate) fn array_of_stamps(alloc: Global, stamps: &[Stamp]) -> Result<Content, NoMemory>
+    ensures array { IfOk result (λ content. content ≡ Elements (map written_time_stamp stamps.now)) }
+{
+    let mut elements = Vec::new(alloc);
+    for stamp in stamps {
+        add(&mut elements, time_stamp(alloc, *stamp)?)?;
+    }
+    Ok(Content::Elements {
+        elements: Items::of(elements),
+    })
+}
+
+fn object_octets(alloc: Global, object: ObjectId) -> Result<Items<u8>, NoMemory>
+    ensures octets { IfOk result (λ octets. octets ≡ written_object None object) }
+{
+    let mut octets = Vec::new(alloc);
+    write_object(&mut octets, None, object)?;
+    Ok(Items::of(octets))
+}
+
+/// An array of identifiers.
+pub(crate) fn array_of_objects(alloc: Global, objects: &[ObjectId]) -> Result<Content, NoMemory>
+    ensures array { IfOk result (λ content. content ≡ Elements (map (written_object None) objects.now)) }
+{
+    let mut elements = Vec::new(alloc);
+    for object in objects {
+        add(&mut elements, object_octets(alloc, *object)?)?;
+    }
+    Ok(Content::Elements {
+        elements: Items::of(elements),
+    })
+}
