@@ -1,4 +1,22 @@
+pub mod KnownPeers
+pub mod NotesGo
+pub mod Delivering
 pub mod Still
 pub mod Runs
+pub mod MovesOnce
+pub mod Settled
+pub mod Shares
+pub mod FewTold
+pub mod Room
 pub mod Standing
 pub mod Moved
+pub mod Told
+pub mod ToldBy
+pub mod Queued
+pub mod ToldKnown
+pub mod Acted
+pub mod Notified
+pub mod NeverFull
+pub mod Written
+pub mod LastLists
+mod Kept

@@ -5,12 +5,11 @@ use Rattle.std.proofs.lemmas.List.{map-append}
 use Rattle.std.specs.List.{flat_map}
 use Rattle.std.proofs.lemmas.List.Concat.{flat_map-cons}
 use Rattle.std.proofs.lemmas.Simd.{map-map}
-use Rattle.bac_values.specs.declared.moved.Moved.{Moved}
 use Rattle.bac_values.specs.declared.stamp.Stamp.{Stamp}
 use Rattle.object_table.specs.declared.row.Row.{Row}
 use Rattle.object_table.specs.Writes.{written}
 use Rattle.alarm_core.specs.declared.event.Act.{Act}
-use Rattle.alarm_core.specs.declared.event.Act.TheVariants.{Tick, Write, Ack}
+use Rattle.alarm_core.specs.declared.event.Act.TheVariants.{Tick, Write, Ack, Pump, Answer, Edit}
 use Rattle.alarm_core.proofs.Still.{map-none}
 use Rattle.alarm_core.specs.History.{moved_by, transition_with}
 use Rattle.alarm_core.specs.State.{Tracked}
@@ -43,6 +42,9 @@ moved_is moment stamp (Write change) rows alarms =
     ∙ (ap (λ ms. ms ++ map moved_by (flat_map (transitions_by moment stamp (written change rows)) after)) (moved_all moment stamp rows alarms)
     ∙ ap (λ ms. flat_map (moved_at moment stamp rows) alarms ++ ms) (moved_all moment stamp (written change rows) after))
 moved_is moment stamp (Ack object transition state) rows alarms = refl
+moved_is moment stamp Pump rows alarms = refl
+moved_is moment stamp (Answer peer invoke kind) rows alarms = refl
+moved_is moment stamp (Edit number recipients) rows alarms = refl
 
 -- nothing is reported exactly where there is no transition
 pub none_moved : (moment : ℕ) (stamp : Stamp) (act : Act) (rows : List Row) (alarms : List Tracked) →

@@ -34,7 +34,7 @@ use Rattle.object_table.specs.Writes.{changed, set_by, set_known, written}
 use Rattle.object_table.proofs.Order.{less_is_other}
 use Rattle.object_table.proofs.Places.{find_at, table_of}
 use Rattle.alarm_core.specs.declared.event.Act.{Act}
-use Rattle.alarm_core.specs.declared.event.Act.TheVariants.{Tick, Write, Ack}
+use Rattle.alarm_core.specs.declared.event.Act.TheVariants.{Tick, Write, Ack, Pump, Answer, Edit}
 use Rattle.alarm_core.specs.declared.event.Event.{Event}
 use Rattle.alarm_core.specs.declared.site.Site.{Site}
 use Rattle.alarm_core.specs.Sights.{algorithm_for, detecting_rows, first_rows, is_detecting}
@@ -152,40 +152,44 @@ newest_is algorithm first (Looked point ∷ older) =
     later_newest (is_fault d.state) (rule_held algorithm d) d ∙ fault_newest to point before
 newest_is algorithm first (Acknowledged transition ∷ older) = newest_is algorithm first older
 
--- a write keeps the identifiers
-known_keeps : (property : ObjectProperty) (value : Value) (site : ObjectSite) → (set_known property value site).object ≡ site.object
-known_keeps PresentValue value site = refl
-known_keeps OutOfService (Truth truth) site = refl
-known_keeps ReliabilityEvaluationInhibit (Truth truth) site = refl
-known_keeps TimeDelay (Unsigned seconds) site = refl
-known_keeps TimeDelayNormal (Unsigned seconds) site = refl
-known_keeps HighLimit (Signed limit) site = refl
-known_keeps HighLimit (Unsigned limit) site = refl
-known_keeps LowLimit (Signed limit) site = refl
-known_keeps LowLimit (Unsigned limit) site = refl
-known_keeps Deadband (Unsigned deadband) site = refl
-known_keeps LimitEnable (Bits flags) site = refl
-known_keeps AlarmValue value site = refl
-known_keeps EventEnable (Bits flags) site = refl
-known_keeps EventAlgorithmInhibit (Truth truth) site = refl
-known_keeps _ _ site = refl
+-- a write keeps the identifiers and the classes
+pub record Keeps (before after : ObjectSite) : Type 0 where
+  pub object : after.object ≡ before.object
+  pub class : after.class ≡ before.class
 
-set_keeps : (property : Option ObjectProperty) (value : Value) (site : ObjectSite) → (set_by property value site).object ≡ site.object
-set_keeps None value site = refl
+known_keeps : (property : ObjectProperty) (value : Value) (site : ObjectSite) → Keeps site (set_known property value site)
+known_keeps PresentValue value site = record { object = refl; class = refl }
+known_keeps OutOfService (Truth truth) site = record { object = refl; class = refl }
+known_keeps ReliabilityEvaluationInhibit (Truth truth) site = record { object = refl; class = refl }
+known_keeps TimeDelay (Unsigned seconds) site = record { object = refl; class = refl }
+known_keeps TimeDelayNormal (Unsigned seconds) site = record { object = refl; class = refl }
+known_keeps HighLimit (Signed limit) site = record { object = refl; class = refl }
+known_keeps HighLimit (Unsigned limit) site = record { object = refl; class = refl }
+known_keeps LowLimit (Signed limit) site = record { object = refl; class = refl }
+known_keeps LowLimit (Unsigned limit) site = record { object = refl; class = refl }
+known_keeps Deadband (Unsigned deadband) site = record { object = refl; class = refl }
+known_keeps LimitEnable (Bits flags) site = record { object = refl; class = refl }
+known_keeps AlarmValue value site = record { object = refl; class = refl }
+known_keeps EventEnable (Bits flags) site = record { object = refl; class = refl }
+known_keeps EventAlgorithmInhibit (Truth truth) site = record { object = refl; class = refl }
+known_keeps _ _ site = record { object = refl; class = refl }
+
+set_keeps : (property : Option ObjectProperty) (value : Value) (site : ObjectSite) → Keeps site (set_by property value site)
+set_keeps None value site = record { object = refl; class = refl }
 set_keeps (Some property) value site = known_keeps property value site
 
-changed_keeps : (what : What) (row : Row) → (changed what row).site.object ≡ row.site.object
+changed_keeps : (what : What) (row : Row) → Keeps row.site (changed what row).site
 changed_keeps (Property property value) row = set_keeps (property_of property.0) value row.site
-changed_keeps (FieldFault reliability) row = refl
+changed_keeps (FieldFault reliability) row = record { object = refl; class = refl }
 
-abbrev written_row : Change → Row → Row
+abbrev pub written_row : Change → Row → Row
 written_row change row = if is_object change.object row.site.object then changed change.what row else row
 
-written_keeps : (change : Change) (row : Row) → (written_row change row).site.object ≡ row.site.object
+pub written_keeps : (change : Change) (row : Row) → Keeps row.site (written_row change row).site
 written_keeps change row =
-    elim (is_object change.object row.site.object) as (λ b. (if b then changed change.what row else row).site.object ≡ row.site.object) [
+    elim (is_object change.object row.site.object) as (λ b. Keeps row.site (if b then changed change.what row else row).site) [
       | true ↦ changed_keeps change.what row
-      | false ↦ refl
+      | false ↦ record { object = refl; class = refl }
     ]
 
 -- so the row of an object is found behind it too
@@ -202,8 +206,8 @@ row_of-map object f keeps (row ∷ rows) =
       | false ↦ row_of-map object f keeps rows
     ]
 
-row_of-written : (object : Identifier) (change : Change) (rows : List Row) (row : Row) → row_of object rows ≡ Some row → row_of object (written change rows) ≡ Some (written_row change row)
-row_of-written object change rows row is = row_of-map object (written_row change) (written_keeps change) rows ∙ ap (over_row (written_row change)) is
+pub row_of-written : (object : Identifier) (change : Change) (rows : List Row) (row : Row) → row_of object rows ≡ Some row → row_of object (written change rows) ≡ Some (written_row change row)
+row_of-written object change rows row is = row_of-map object (written_row change) (λ r. (written_keeps change r).object) rows ∙ ap (over_row (written_row change)) is
 
 -- after a history an object has a row, which is inhibited exactly as the object's newest point is
 abbrev newest_inhibited : Site → Row → List Incident → Bool
@@ -235,8 +239,11 @@ shown_more site first moment (Ack object transition state) rows w shown = record
   found = shown.found;
   inhibited = shown.inhibited ∙ acknowledged_same (is_object object first.site.object) site first transition (incidents_of site first w);
 }
+shown_more site first moment Pump rows w shown = shown
+shown_more site first moment (Answer peer invoke kind) rows w shown = shown
+shown_more site first moment (Edit number recipients) rows w shown = shown
 
-abbrev IsFirst : Site → Row → Type 0
+abbrev pub IsFirst : Site → Row → Type 0
 IsFirst site first = row_of first.site.object (first_rows site) ≡ Some first
 
 shown_after : (site : Site) (first : Row) → IsFirst site first → (history : List Event) → IsShown site first (rows_after site history) (occurrences_of site history)
@@ -255,7 +262,7 @@ earlier_is_other rows ascending j k d before low =
     less_is_other (get_or rows j d).site.object (get_or rows k d).site.object
     (rw (← get_or-map object_in rows j d (object_in d) high, ← get_or-map object_in rows k d (object_in d) low) below)
 
-own_rows : (site : Site) → IsSite site → All (IsFirst site) (first_rows site)
+pub own_rows : (site : Site) → IsSite site → All (IsFirst site) (first_rows site)
 own_rows site is k d low =
     let rows = first_rows site in
     let ascending = (table_of site.objects is.ascending is.objects).ascending in

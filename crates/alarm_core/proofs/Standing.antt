@@ -1,35 +1,40 @@
 -- The next state is that of the longer history.
-use Rattle.std.proofs.Common.{◌≡◌, ℕ, ◌+◌, ◌≤◌, max, IsTrue, ◌↔◌, Bool, true, false, if◌then◌else◌, Option, Some, None, List, [], ◌∷◌, ◌++◌, length, map, refl, ap, ◌∙◌, sym, arith, append_assoc, subst}
+use Rattle.std.proofs.Common.{◌≡◌, ℕ, ◌+◌, ◌≤◌, IsTrue, ◌↔◌, Bool, true, false, if◌then◌else◌, Option, Some, None, List, [], ◌∷◌, ◌++◌, length, map, Ok, refl, ap, ◌∙◌, sym, arith, append_assoc, subst}
 use Rattle.std.proofs.Math.Path.{fun_ext}
 use Rattle.std.proofs.lemmas.List.{append-nil, length-append}
 use Rattle.std.specs.List.{flat_map}
 use Rattle.std.proofs.lemmas.Simd.{map-map}
 use Rattle.std.proofs.lemmas.List.Folds.{flat_map-map}
 use Rattle.bac_values.specs.Identifier.{Identifier}
-use Rattle.bac_values.specs.declared.stamp.Stamp.{Stamp}
 use Rattle.bac_values.specs.declared.transition.Transition.{Transition}
-use Rattle.algorithm_rules.specs.declared.table.Algorithm.{Algorithm}
-use Rattle.event_machine.specs.declared.moves.Move.{Move}
 use Rattle.event_machine.specs.declared.seen.Seen.{Seen}
-use Rattle.event_machine.specs.Points.{Point, Incident, Looked, Acknowledged}
-use Rattle.event_machine.specs.Detection.{detection_at, moves_at}
+use Rattle.event_machine.specs.Points.{Incident, Looked, Acknowledged}
+use Rattle.event_machine.specs.Detection.{detection_at}
 use Rattle.event_machine.specs.Summary.{AlarmState, IsAfter, alarm_of, points_with}
-use Rattle.event_machine.specs.Next.{Kept, acknowledged, kept_as, next_look}
-use Rattle.event_machine.specs.Laws.{KeepsCourse}
+use Rattle.event_machine.specs.Next.{acknowledged, next_look}
 use Rattle.event_machine.proofs.Keeping.{keeps_course}
 use Rattle.object_table.specs.declared.row.Row.{Row}
 use Rattle.object_table.specs.Rows.{is_object, row_of}
 use Rattle.object_table.specs.Writes.{written}
 use Rattle.alarm_core.specs.declared.event.Act.{Act}
-use Rattle.alarm_core.specs.declared.event.Act.TheVariants.{Tick, Write, Ack}
+use Rattle.alarm_core.specs.declared.event.Act.TheVariants.{Tick, Write, Ack, Pump, Answer, Edit}
 use Rattle.alarm_core.specs.declared.event.Event.{Event}
 use Rattle.alarm_core.specs.declared.site.Site.{Site}
 use Rattle.alarm_core.specs.Sights.{ack_required_of, algorithm_for, detecting_rows, point_of, site_stamp}
-use Rattle.alarm_core.specs.History.{Occurrence, AllLooked, OneAcknowledged, StateTransition, detection_of, first_point, incidents_of, last_moment_of, looked_with, moves_with, occurrences_of, occurrences_with, raised, rows_after, rows_with, tick_at, transition_with, transitions_at, transitions_of, transitions_over}
+use Rattle.alarm_core.specs.History.{Occurrence, AllLooked, OneAcknowledged, detection_of, event_transitions, first_point, look_transitions, incidents_of, last_moment_of, looked_with, moves_with, occurrences_of, occurrences_with, rows_after, rows_with, tick_at, transition_with, transitions_at, transitions_of, transitions_over}
+use Rattle.outbox.specs.Outboxes.{OutboxState, unfinished_in}
+use Rattle.alarm_core.specs.Classes.{classes_after, classes_with}
+use Rattle.alarm_core.specs.Deliveries.{event_notes, notes_by, notifications_of, outbox_after}
 use Rattle.alarm_core.specs.State.{State, Tracked, alarms_of, state_of, tracked_of}
 use Rattle.alarm_core.specs.Allowed.{IsAllowed, IsHistory, Represents}
-use Rattle.alarm_core.specs.Next.{acked, alarms_with, change_at, change_by, first_state, first_tracked, kept_of, looked, next_state, next_transitions, tracked_with, transitions_by, transitions_with}
+use Rattle.alarm_core.specs.Next.{acked, alarms_with, change_by, first_state, first_tracked, kept_of, looked, next_notes, next_state, next_transitions, outbox_with, tracked_with, transitions_by, transitions_with}
 use Rattle.alarm_core.specs.Laws.{StandsForItsHistory}
+use Rattle.alarm_core.specs.Room.{HasRoom}
+use Rattle.alarm_core.specs.Sites.{IsSite}
+use Rattle.alarm_core.specs.Verdicts.{queue_verdict, step_verdict}
+use Rattle.alarm_core.proofs.Delivering.{first_outbox, outbox_more, sends_more}
+use Rattle.alarm_core.proofs.Queued.{within_verdict}
+use Rattle.alarm_core.proofs.Room.{tick_fits}
 use Rattle.alarm_core.proofs.Runs.{run_starts_stand}
 
 -- an object with what is kept of it
@@ -126,30 +131,74 @@ alarms_more site moment (Write change) rows w =
     ap (map (looked moment (site_stamp site moment) (written change rows))) (looked_all site moment rows w)
     ∙ looked_all site moment (written change rows) (AllLooked moment rows ∷ w)
 alarms_more site moment (Ack object transition state) rows w = acked_all site object transition w
+alarms_more site moment Pump rows w = refl
+alarms_more site moment (Answer peer invoke kind) rows w = refl
+alarms_more site moment (Edit number recipients) rows w = refl
 
-transitions_more : (site : Site) (moment : ℕ) (act : Act) (rows : List Row) (w : List Occurrence) →
-    transitions_over site (occurrences_with moment act rows w) ≡ transitions_over site w ++ transitions_with moment (site_stamp site moment) act rows (alarms_of site w)
-transitions_more site moment Tick rows w = ap (λ ts. transitions_over site w ++ ts) (sym (transitions_all site moment rows w))
-transitions_more site moment (Write change) rows w =
+-- the transitions of one more event
+transitions_same : (site : Site) (moment : ℕ) (act : Act) (rows : List Row) (w : List Occurrence) →
+    transitions_with moment (site_stamp site moment) act rows (alarms_of site w) ≡ event_transitions site moment act rows w
+transitions_same site moment Tick rows w = transitions_all site moment rows w
+transitions_same site moment (Write change) rows w =
     let stamp = site_stamp site moment in
     let after = written change rows in
-    let before = transitions_over site w in
-    ap (λ ts. (before ++ ts) ++ flat_map (transitions_at site moment after (AllLooked moment rows ∷ w)) (detecting_rows site)) (sym (transitions_all site moment rows w))
-    ∙ (ap (λ ts. (before ++ flat_map (transitions_by moment stamp rows) (alarms_of site w)) ++ ts) (sym (transitions_all site moment after (AllLooked moment rows ∷ w)))
-    ∙ (ap (λ alarms. (before ++ flat_map (transitions_by moment stamp rows) (alarms_of site w)) ++ flat_map (transitions_by moment stamp after) alarms) (sym (looked_all site moment rows w))
-    ∙ append_assoc before (flat_map (transitions_by moment stamp rows) (alarms_of site w)) (flat_map (transitions_by moment stamp after) (map (looked moment stamp rows) (alarms_of site w)))))
-transitions_more site moment (Ack object transition state) rows w = sym (append-nil (transitions_over site w))
+    ap (λ ts. ts ++ flat_map (transitions_by moment stamp after) (map (looked moment stamp rows) (alarms_of site w))) (transitions_all site moment rows w)
+    ∙ (ap (λ alarms. look_transitions site moment rows w ++ flat_map (transitions_by moment stamp after) alarms) (looked_all site moment rows w)
+    ∙ ap (λ ts. look_transitions site moment rows w ++ ts) (transitions_all site moment after (AllLooked moment rows ∷ w)))
+transitions_same site moment (Ack object transition state) rows w = refl
+transitions_same site moment Pump rows w = refl
+transitions_same site moment (Answer peer invoke kind) rows w = refl
+transitions_same site moment (Edit number recipients) rows w = refl
+
+transitions_longer : (site : Site) (moment : ℕ) (act : Act) (rows : List Row) (w : List Occurrence) →
+    transitions_over site (occurrences_with moment act rows w) ≡ transitions_over site w ++ event_transitions site moment act rows w
+transitions_longer site moment Tick rows w = refl
+transitions_longer site moment (Write change) rows w =
+    append_assoc (transitions_over site w) (look_transitions site moment rows w) (look_transitions site moment (written change rows) (AllLooked moment rows ∷ w))
+transitions_longer site moment (Ack object transition state) rows w = sym (append-nil (transitions_over site w))
+transitions_longer site moment Pump rows w = sym (append-nil (transitions_over site w))
+transitions_longer site moment (Answer peer invoke kind) rows w = sym (append-nil (transitions_over site w))
+transitions_longer site moment (Edit number recipients) rows w = sym (append-nil (transitions_over site w))
+
+same_transitions : (site : Site) (event : Event) (history : List Event) →
+    next_transitions event (state_of site history) ≡ event_transitions site event.moment event.act (rows_after site history) (occurrences_of site history)
+same_transitions site event history = transitions_same site event.moment event.act (rows_after site history) (occurrences_of site history)
+
+same_notes : (site : Site) (event : Event) (history : List Event) → next_notes event (state_of site history) ≡ event_notes site event history
+same_notes site event history = ap (notes_by site (classes_after site history) (rows_after site history) event.moment event.act) (same_transitions site event history)
+
+-- a state with what an event changes
+with_parts : Site → Event → List Event → ℕ → List Tracked → OutboxState → State
+with_parts site event history events alarms outbox = record {
+  site = site;
+  events = events;
+  last_moment = event.moment;
+  rows = rows_with event.act (rows_after site history);
+  alarms = alarms;
+  classes = classes_with event.act (classes_after site history);
+  outbox = outbox;
+}
 
 stands_state : (site : Site) (event : Event) (history : List Event) → next_state event (state_of site history) ≡ state_of site (event ∷ history)
+unfolding with_parts
 stands_state site event history =
+    let longer = event ∷ history in
+    let events : length history + 1 ≡ length longer = omega arith in
     let alarms = alarms_more site event.moment event.act (rows_after site history) (occurrences_of site history) in
-    let events : length history + 1 ≡ length (event ∷ history) = omega arith in
-    ap (λ xs. record { site = site; events = length history + 1; last_moment = event.moment; rows = rows_with event.act (rows_after site history); alarms = xs }) alarms
-    ∙ ap (λ n. record { site = site; events = n; last_moment = event.moment; rows = rows_with event.act (rows_after site history); alarms = alarms_of site (occurrences_of site (event ∷ history)) }) events
+    let outbox = ap (λ notes. outbox_with event.moment event.act notes (outbox_after site history)) (same_notes site event history) ∙ outbox_more site event history in
+    ap (λ xs. with_parts site event history (length history + 1) xs (next_state event (state_of site history)).outbox) alarms
+    ∙ (ap (with_parts site event history (length history + 1) (alarms_of site (occurrences_of site longer))) outbox
+    ∙ ap (λ n. with_parts site event history n (alarms_of site (occurrences_of site longer)) (outbox_after site longer)) events)
 
 stands_transitions : (site : Site) (event : Event) (history : List Event) →
     transitions_of site (event ∷ history) ≡ transitions_of site history ++ next_transitions event (state_of site history)
-stands_transitions site event history = transitions_more site event.moment event.act (rows_after site history) (occurrences_of site history)
+stands_transitions site event history =
+    transitions_longer site event.moment event.act (rows_after site history) (occurrences_of site history)
+    ∙ ap (λ ts. transitions_of site history ++ ts) (sym (same_transitions site event history))
+
+stands_notes : (site : Site) (event : Event) (history : List Event) →
+    notifications_of site (event ∷ history) ≡ notifications_of site history ++ next_notes event (state_of site history)
+stands_notes site event history = ap (λ notes. notifications_of site history ++ notes) (sym (same_notes site event history))
 
 -- the start
 first_one : (site : Site) (first : Row) → first_tracked site first ≡ tracked_of site [] first
@@ -158,22 +207,44 @@ first_one site first =
     tracked_same site first [] tracked.alarm tracked.points (keeps_course.begins (algorithm_for first.site.object) (first_point site first))
 
 stands_start : (site : Site) → first_state site ≡ state_of site []
-stands_start site = ap (λ f. record { site = site; events = 0; last_moment = site.device.start; rows = rows_after site []; alarms = map f (detecting_rows site) }) (fun_ext (first_one site))
+stands_start site =
+    let with_both : List Tracked → OutboxState → State = λ alarms outbox.
+    record { site = site; events = 0; last_moment = site.device.start; rows = rows_after site []; alarms = alarms; classes = classes_after site []; outbox = outbox } in
+    ap (λ f. with_both (map f (detecting_rows site)) (first_state site).outbox) (fun_ext (first_one site)) ∙ ap (with_both (alarms_of site [])) (first_outbox site)
+
+-- a tick where nothing is unfinished
+stands_ticks : (site : Site) → IsSite site → HasRoom site → (history : List Event) → IsHistory site history → unfinished_in (outbox_after site history).posts ≡ 0 →
+    (moment : ℕ) → step_verdict (tick_at moment) (state_of site history) ≡ Ok tt
+stands_ticks site is room history is_history none moment =
+    let notes = event_notes site (tick_at moment) history in
+    let outbox = outbox_after site history in
+    let fits = tick_fits site room is history is_history moment in
+    ap (λ ns. queue_verdict ns outbox) (same_notes site (tick_at moment) history) ∙ within_verdict notes outbox (λ over. omega (arith, over.1, none, fits))
 
 pub stands : StandsForItsHistory
-stands = record { starts = stands_start; state = stands_state; transitions = stands_transitions; run_starts = run_starts_stand }
+stands = record {
+  starts = stands_start;
+  state = stands_state;
+  transitions = stands_transitions;
+  notifications = stands_notes;
+  sends = sends_more;
+  run_starts = run_starts_stand;
+  ticks_fit = stands_ticks;
+}
 
 -- a state that represents a history represents the longer one after an event
 pub represents_after : (history : List Event) (old new : State) (event : Event) → Represents old history → new ≡ next_state event old →
-    old.last_moment ≤ event.moment → Rattle.bac_values.specs.Moments.IsMoment event.moment → IsAllowed old event.act → Represents new (event ∷ history)
-represents_after history old new event r next low moment allowed =
+    old.last_moment ≤ event.moment → Rattle.bac_values.specs.Moments.IsMoment event.moment → IsAllowed old event.act → unfinished_in new.outbox.posts ≤ new.site.device.outbox → Represents new (event ∷ history)
+represents_after history old new event r next low moment allowed fits =
     let site = old.site in
     let longer : new ≡ state_of site (event ∷ history) = next ∙ (ap (next_state event) r.shows ∙ stands_state site event history) in
     let same_site : new.site ≡ site = ap (λ (s : State). s.site) next in
     let last : last_moment_of site history ≤ event.moment = subst (λ (s : State). s.last_moment ≤ event.moment) r.shows low in
+    let fits_in : unfinished_in (outbox_after site (event ∷ history)).posts ≤ site.device.outbox =
+    subst (λ (s : State). unfinished_in s.outbox.posts ≤ s.site.device.outbox) longer fits in
     let is_allowed : IsAllowed (state_of site history) event.act = subst (λ (s : State). IsAllowed s event.act) r.shows allowed in
     record {
-      is_history = subst (λ (s : Site). IsHistory s (event ∷ history)) (sym same_site) (last, moment, is_allowed, r.is_history);
+      is_history = subst (λ (s : Site). IsHistory s (event ∷ history)) (sym same_site) (last, moment, is_allowed, fits_in, r.is_history);
       shows = subst (λ (s : Site). new ≡ state_of s (event ∷ history)) (sym same_site) longer;
     }
 

@@ -1,21 +1,15 @@
 -- What there is under an identifier.
-use Rattle.std.specs.Prelude.{ℕ, Bool, ◌||◌, if◌then◌else◌, Option, Some, None, List, find, is_some}
+use Rattle.std.specs.Prelude.{Bool, ◌||◌, if◌then◌else◌, Option, Some, None, List, find, is_some}
 use Rattle.std.specs.List.{list_any}
-use Rattle.bac_values.specs.Identifier.{Identifier, number_of_kind}
-use Rattle.bac_values.specs.declared.object_kind.ObjectKind.TheVariants.{Device, NotificationClass}
+use Rattle.bac_values.specs.Identifier.{Identifier}
 use Rattle.event_machine.specs.Finding.{Finding, NoSuchObject, WithoutAlarm, WithAlarm}
 use Rattle.object_table.specs.Rows.{is_object, row_of}
 use Rattle.alarm_core.specs.declared.site.ClassSite.{ClassSite}
 use Rattle.alarm_core.specs.declared.site.EnrollmentSite.{EnrollmentSite}
 use Rattle.alarm_core.specs.declared.site.LogSite.{LogSite}
 use Rattle.alarm_core.specs.declared.site.Site.{Site}
+pub use Rattle.alarm_core.specs.Devices.{device_object, class_object}
 use Rattle.alarm_core.specs.State.{State, Tracked}
-
-abbrev pub device_object : Site → Identifier
-device_object site = record { number = number_of_kind Device; instance = site.device.instance }
-
-abbrev pub class_object : ClassSite → Identifier
-class_object listed = record { number = number_of_kind NotificationClass; instance = listed.class.instance }
 
 -- whether a site has the object beside its value objects
 abbrev pub is_other_object : Site → Identifier → Bool

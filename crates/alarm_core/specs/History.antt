@@ -30,9 +30,8 @@ abbrev pub tick_at : ℕ → Event
 tick_at moment = record { moment = moment; act = Tick }
 
 abbrev pub rows_with : Act → List Row → List Row
-rows_with Tick rows = rows
 rows_with (Write change) rows = written change rows
-rows_with (Ack object transition state) rows = rows
+rows_with act rows = rows
 
 -- the properties of all objects after a history: the site's, each replaced by what the last write to it says
 abbrev pub rows_after : Site → List Event → List Row
@@ -44,11 +43,12 @@ pub data Occurrence : Type 0 where
   AllLooked : ℕ → List Row → Occurrence
   OneAcknowledged : Identifier → Transition → Occurrence
 
--- a tick is one look; a write is one with the properties before it, and then one with those after it
+-- a tick is one look; a write is one with the properties before it, and then one with those after it; nothing else is one
 abbrev pub occurrences_with : ℕ → Act → List Row → List Occurrence → List Occurrence
 occurrences_with moment Tick rows older = AllLooked moment rows ∷ older
 occurrences_with moment (Write change) rows older = AllLooked moment (written change rows) ∷ AllLooked moment rows ∷ older
 occurrences_with moment (Ack object transition state) rows older = OneAcknowledged object transition ∷ older
+occurrences_with moment act rows older = older
 
 -- the looks and acknowledgements of a history, the newest first; the point at the start is not among them
 abbrev pub occurrences_of : Site → List Event → List Occurrence
@@ -110,9 +110,20 @@ abbrev pub transitions_at : Site → ℕ → List Row → List Occurrence → Ro
 transitions_at site moment rows older first =
     map (transition_with first.site.object moment rows (detection_of site first older).cause) (moves_with site first moment (row_of first.site.object rows) older)
 
+-- those of all objects at one more look
+abbrev pub look_transitions : Site → ℕ → List Row → List Occurrence → List StateTransition
+look_transitions site moment rows older = flat_map (transitions_at site moment rows older) (detecting_rows site)
+
+-- those that an act makes
+abbrev pub event_transitions : Site → ℕ → Act → List Row → List Occurrence → List StateTransition
+event_transitions site moment Tick rows older = look_transitions site moment rows older
+event_transitions site moment (Write change) rows older =
+    look_transitions site moment rows older ++ look_transitions site moment (written change rows) (AllLooked moment rows ∷ older)
+event_transitions site moment act rows older = []
+
 abbrev pub transitions_over : Site → List Occurrence → List StateTransition
 transitions_over site [] = []
-transitions_over site (AllLooked moment rows ∷ older) = transitions_over site older ++ flat_map (transitions_at site moment rows older) (detecting_rows site)
+transitions_over site (AllLooked moment rows ∷ older) = transitions_over site older ++ look_transitions site moment rows older
 transitions_over site (OneAcknowledged object transition ∷ older) = transitions_over site older
 
 -- the event-state transitions of a history: by point, then by ascending object, then the one that the reliability made first

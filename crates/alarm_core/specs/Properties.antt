@@ -1,10 +1,9 @@
 -- The properties of objects as they are read (ANSI/ASHRAE 135-2020, clause 12).
-use Rattle.std.specs.Prelude.{ℕ, ◌==◌, ℤ, pos, negsuc, Bool, true, false, not, ◌&&◌, if◌then◌else◌, Option, Some, None, Result, Ok, Err, List, [], ◌∷◌, ◌++◌, map, filter}
+use Rattle.std.specs.Prelude.{ℕ, ◌==◌, ℤ, pos, negsuc, Bool, false, not, if◌then◌else◌, Option, Some, None, Result, Ok, Err, List, [], ◌∷◌, ◌++◌, map, filter}
 use Rattle.std.specs.List.{flat_map}
 use Rattle.bac_values.specs.EventStates.{number_of_state}
 use Rattle.bac_values.specs.Identifier.{Identifier, known_kinds, number_of_kind}
 use Rattle.bac_values.specs.Reliabilities.{number_of_reliability}
-use Rattle.bac_values.specs.BitString.{BitString}
 use Rattle.bac_values.specs.declared.event_state.EventState.{EventState as State'}
 use Rattle.bac_values.specs.declared.object_kind.ObjectKind.{ObjectKind}
 use Rattle.bac_values.specs.declared.object_kind.ObjectKind.TheVariants.{IntegerValue, MultiStateValue}
@@ -22,17 +21,15 @@ use Rattle.object_table.specs.declared.object_site.ObjectSite.{ObjectSite}
 use Rattle.object_table.specs.declared.row.Row.{Row}
 use Rattle.object_table.specs.Flags.{string_of}
 use Rattle.object_table.specs.Properties.{has, kind_in, property_of}
-use Rattle.object_table.specs.Rows.{is_object, row_of}
 use Rattle.reliability_eval.specs.Reliability.{reliability_of}
 use Rattle.alarm_core.specs.declared.content.Content.{Content}
 use Rattle.alarm_core.specs.declared.content.Content.TheVariants.{Whole, Elements}
 use Rattle.alarm_core.specs.declared.content.ReadFault.{ReadFault}
 use Rattle.alarm_core.specs.declared.content.ReadFault.TheVariants.{Error}
-use Rattle.alarm_core.specs.declared.site.ClassSite.{ClassSite}
 use Rattle.alarm_core.specs.declared.site.EnrollmentSite.{EnrollmentSite}
 use Rattle.alarm_core.specs.declared.site.LogSite.{LogSite}
 use Rattle.alarm_core.specs.declared.site.Site.{Site}
-use Rattle.alarm_core.specs.Found.{class_object, device_object, is_other_object, tracked_in}
+use Rattle.alarm_core.specs.Found.{class_object, device_object, tracked_in}
 use Rattle.alarm_core.specs.State.{State, Tracked}
 
 -- one value
@@ -162,17 +159,3 @@ device_content site number =
     else (if number == 107 then Ok (one (values.Enumerated 3))
     else (if number == 120 then Ok (one (values.Unsigned site.device.vendor))
     else Err unknown_property))))))
-
--- a property of an object beside the value objects
-abbrev pub other_content : Site → Identifier → ℕ → Result Content ReadFault
-other_content site object number =
-    if is_object object (device_object site) then device_content site number
-    else (if is_other_object site object then Err unknown_property else Err unknown_object)
-
-abbrev pub content_by : State → Identifier → ℕ → Option Row → Result Content ReadFault
-content_by state object number (Some row) = row_content (alarm_in state object) row number
-content_by state object number None = other_content state.site object number
-
--- what a property of an object is, or why there is none
-abbrev pub content_of : State → Identifier → ℕ → Result Content ReadFault
-content_of state object number = content_by state object number (row_of object state.rows)

@@ -1,5 +1,5 @@
 -- How reads and writes of properties are answered: the first error that applies (ANSI/ASHRAE 135-2020, 15.5, 15.9 and clause 18).
-use Rattle.std.specs.Prelude.{◌≡◌, ◌==◌, ℕ, ◌-◌, ◌⊎◌, if◌then◌else◌, Option, Some, None, Result, Ok, Err, List, [], ◌∷◌, length, slice_get, Vec}
+use Rattle.std.specs.Prelude.{◌≡◌, ◌==◌, ℕ, ◌-◌, ◌⊎◌, if◌then◌else◌, Option, Some, None, Result, Ok, Err, List, length, slice_get, Vec}
 use Rattle.std.specs.declared.alloc.Global.{Global}
 use Rattle.std.specs.List.{flat_map}
 use Rattle.bac_values.specs.Identifier.{Identifier}
@@ -15,7 +15,8 @@ use Rattle.alarm_core.specs.declared.content.Content.{Content}
 use Rattle.alarm_core.specs.declared.content.Content.TheVariants.{Whole, Elements}
 use Rattle.alarm_core.specs.declared.content.ReadFault.{ReadFault}
 use Rattle.alarm_core.specs.declared.content.ReadFault.TheVariants.{Error, NoMemory}
-use Rattle.alarm_core.specs.Properties.{content_of, invalid_array_index, other_content, property_is_not_an_array}
+use Rattle.alarm_core.specs.Contents.{content_of, other_content}
+use Rattle.alarm_core.specs.Properties.{invalid_array_index, property_is_not_an_array}
 use Rattle.alarm_core.specs.State.{State}
 
 -- an element of an array, which are counted from 1
@@ -71,7 +72,7 @@ denied (Ok content) index = denied_by (index_verdict (size_of content) index)
 
 abbrev pub write_by : State → Option Row → Identifier → ℕ → Option ℕ → Value → Result Change WriteFault
 write_by state (Some row) object number index value = write_by_row (Some row) object number index value
-write_by state None object number index value = denied (other_content state.site object number) index
+write_by state None object number index value = denied (other_content state.site state.classes object number) index
 
 -- the change that a write of a property makes, or the first error that applies to it
 abbrev pub write_of : State → Identifier → ℕ → Option ℕ → Value → Result Change WriteFault

@@ -1,5 +1,5 @@
 -- What the event-state detection of an object sees of its properties (ANSI/ASHRAE 135-2020, 13.2 and 13.3).
-use Rattle.std.specs.Prelude.{ℕ, ◌==◌, ◌&&◌, Bool, false, Option, Some, None, List, map, filter, find, is_some, replicate, slice_index_or, option_and_then}
+use Rattle.std.specs.Prelude.{ℕ, ◌==◌, ◌&&◌, Bool, false, Option, Some, None, List, filter, find, is_some, replicate, slice_index_or, option_and_then}
 use Rattle.bac_values.specs.Identifier.{Identifier, kind_of}
 use Rattle.bac_values.specs.declared.object_kind.ObjectKind.{ObjectKind}
 use Rattle.bac_values.specs.declared.object_kind.ObjectKind.TheVariants.{BitStringValue, CharacterStringValue, IntegerValue, PositiveIntegerValue}

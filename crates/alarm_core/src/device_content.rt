@@ -20,7 +20,8 @@ pub(crate) fn device_object(site: &Site) -> ObjectId
     ObjectId::of_kind(ObjectKind::Device, site.device.instance).unwrap()
 }
 
-fn class_object(listed: &ClassSite) -> ObjectId
+/// The identifier of a notification class of a site.
+pub(crate) fn class_object(listed: &ClassSite) -> ObjectId
     requires instance { HasInstance listed.now }
     ensures object { result ≡ class_object listed.now }
 {

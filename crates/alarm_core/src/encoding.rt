@@ -73,7 +73,8 @@ fn weight(flag: bool, bit: u64) -> u64
     if flag { bit } else { 0 }
 }
 
-fn string_with(length: u8, bits: u64) -> Bits
+/// The string of so many bits, the first one lowest.
+pub(crate) fn string_with(length: u8, bits: u64) -> Bits
     requires string { IsBitString length bits }
     ensures string { result ≡ record { size = length; bits = bits } }
 {
@@ -90,7 +91,8 @@ fn string_of_two(flags: [bool; 2]) -> Bits
     string_with(2, weight(first, 1) + weight(second, 2))
 }
 
-fn string_of_three(flags: [bool; 3]) -> Bits
+/// The string of three flags, the first flag first.
+pub(crate) fn string_of_three(flags: [bool; 3]) -> Bits
     ensures string { result ≡ string_of flags }
 {
     let [first, second, third] = flags;

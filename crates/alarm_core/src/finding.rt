@@ -1,9 +1,11 @@
-ghost use Rattle.std.specs.Prelude.{◌≡◌, find};
+ghost use Rattle.std.specs.Prelude.{◌≡◌, All, IfSome, find};
 ghost use Rattle.std.specs.List.{list_any};
-ghost use Rattle.std.specs.Option.{option_map};
+ghost use Rattle.std.specs.Option.{option_copied, option_map};
 ghost use Rattle.bac_values.specs.Identifier.{number_of_kind};
 ghost use Rattle.object_table.specs.Rows.{is_object};
+ghost use Rattle.alarm_core.specs.ClassProperties.{listed_class};
 ghost use Rattle.alarm_core.specs.Found.{class_object, device_object, is_other_object, tracked_in};
+ghost use Rattle.alarm_core.specs.Sites.{HasInstance};
 
 use crate::watched::Watched;
 use crate::{ClassSite, EnrollmentSite, LogSite, Site};
@@ -39,6 +41,15 @@ fn is_log(listed: &LogSite, object: ObjectId) -> bool
     ensures same { result ≡ is_object object listed.now.object }
 {
     listed.object == object
+}
+
+/// The notification class with this identifier.
+pub(crate) fn listed_class(classes: &[ClassSite], object: ObjectId) -> Option<&ClassSite>
+    requires instances { All HasInstance classes.now }
+    ensures class { option_copied result ≡ listed_class object classes.now }
+    ensures instance { IfSome result (λ listed. HasInstance listed.now) }
+{
+    classes.iter().find(|listed| is_class(listed, object))
 }
 
 fn some_class(classes: &[ClassSite], object: ObjectId) -> bool

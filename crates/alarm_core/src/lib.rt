@@ -5,6 +5,8 @@
 //! next event needs, and stands for the state that its history leaves (`specs/State.antt`).
 #![tactic(auto)]
 
+mod class_content;
+mod classes;
 mod content;
 mod copying;
 mod device_content;
@@ -12,20 +14,25 @@ mod encoding;
 mod event;
 mod finding;
 mod growing;
+mod knowing;
 mod laws;
 mod looking;
+#[cfg(test)]
+mod note_tests;
 mod object_content;
+mod queueing;
 mod reading;
 mod sight;
 mod site;
 mod starting;
 mod state;
+mod telling;
 #[cfg(test)]
 mod tests;
 mod watched;
 
 pub use content::{Content, ReadFault};
-pub use event::{Act, Event, Outcome};
-pub use laws::stands_for_its_history;
+pub use event::{Act, Event, Outcome, StepFault};
+pub use laws::{reads_the_last_list, stands_for_its_history};
 pub use site::{ClassSite, DeviceSite, EnrollmentSite, LogSite, Site};
 pub use state::Core;

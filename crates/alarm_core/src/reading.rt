@@ -5,17 +5,23 @@ ghost use Rattle.object_table.specs.Objects.{IsObject};
 ghost use Rattle.object_table.specs.Writes.{IsTaken};
 ghost use Rattle.alarm_core.specs.declared.content.Content.TheVariants.{Elements};
 ghost use Rattle.alarm_core.specs.declared.content.ReadFault.TheVariants as faults;
-ghost use Rattle.alarm_core.specs.Properties.{content_of, other_content, row_content};
+ghost use Rattle.alarm_core.specs.Classes.{class_in};
+ghost use Rattle.alarm_core.specs.ClassProperties.{recipients_of};
+ghost use Rattle.alarm_core.specs.Contents.{content_of, other_content};
+ghost use Rattle.alarm_core.specs.Properties.{row_content};
 ghost use Rattle.alarm_core.specs.Reading.{AnswersContent, AnswersRead, AnswersWrite, denied, part_of, read_of, size_of, write_of};
 ghost use Rattle.alarm_core.specs.Sites.{IsSite};
 
+use crate::class_content::class_content;
 use crate::device_content::device_content;
-use crate::finding::{is_device, is_other_object};
+use crate::finding::{is_device, is_other_object, listed_class};
 use crate::object_content::object_content;
+use crate::telling::class_in;
 use crate::{Content, Core, ReadFault, Site};
 use bac_tags::write_unsigned;
 use bac_values::{Items, NoMemory, ObjectId, PropertyId, Value};
 use event_machine::Alarm;
+use notify_class::{Class, Destination};
 use object_table::{Change, ObjectProperty, Row, WriteFault, check_index};
 use std::alloc::Global;
 
@@ -39,18 +45,33 @@ fn row_content(
     Ok(object_content(alloc, kind, alarm, row, known)?)
 }
 
+// The recipients of the class with this instance, if there is one.
+fn recipients_of(classes: &[Class], instance: u32) -> &[Destination]
+    ensures recipients { result.now ≡ recipients_of (class_in instance classes.now) }
+{
+    match class_in(instance, classes) {
+        Some(class) => class.destinations.as_slice(),
+        None => &[],
+    }
+}
+
 // What a property of an object beside the value objects is, or why there is none.
 fn other_content(
     alloc: Global,
     site: &Site,
+    classes: &[Class],
     object: ObjectId,
     property: PropertyId,
 ) -> Result<Content, ReadFault>
     requires site { IsSite site.now }
-    ensures content { AnswersContent result (other_content site.now object property.0) }
+    ensures content { AnswersContent result (other_content site.now classes.now object property.0) }
 {
     if is_device(site, object) {
         return device_content(alloc, site, property);
+    }
+    if let Some(listed) = listed_class(site.classes.as_slice(), object) {
+        let recipients = recipients_of(classes, listed.class.instance);
+        return class_content(alloc, listed, recipients, property);
     }
     if is_other_object(site, object) {
         Err(ReadFault::UNKNOWN_PROPERTY)
@@ -136,15 +157,16 @@ fn size_of(content: &Content) -> Result<Option<u32>, ReadFault>
 fn denied(
     alloc: Global,
     site: &Site,
+    classes: &[Class],
     object: ObjectId,
     property: PropertyId,
     index: Option<u32>,
 ) -> Result<Change, WriteFault>
     requires site { IsSite site.now }
-    ensures denied { AnswersWrite result (denied (other_content site.now object property.0) index) }
+    ensures denied { AnswersWrite result (denied (other_content site.now classes.now object property.0) index) }
     ensures none { IsErr result }
 {
-    let content = other_content(alloc, site, object, property)?;
+    let content = other_content(alloc, site, classes, object, property)?;
     let size = size_of(&content)?;
     check_index(size, index)?;
     Err(WriteFault::WRITE_ACCESS_DENIED)
@@ -161,7 +183,7 @@ impl Core {
     {
         match self.table().row(object) {
             Some(row) => row_content(alloc, &self.alarm_of(object), row, property),
-            None => other_content(alloc, self.site(), object, property),
+            None => other_content(alloc, self.site(), self.classes(), object, property),
         }
     }
 
@@ -197,7 +219,7 @@ impl Core {
         if self.table().row(object).is_some() {
             self.table().check_write(object, property, index, value)
         } else {
-            denied(alloc, self.site(), object, property, index)
+            denied(alloc, self.site(), self.classes(), object, property, index)
         }
     }
 }

@@ -23,7 +23,8 @@ fn algorithm_of(kind: Option<ObjectKind>) -> Algorithm
     }
 }
 
-fn algorithm_for(object: ObjectId) -> Algorithm
+/// The event algorithm that an object of this type applies.
+pub(crate) fn algorithm_for(object: ObjectId) -> Algorithm
     ensures algorithm { result ≡ algorithm_for object }
 {
     algorithm_of(object.kind())

@@ -1,48 +1,70 @@
-ghost use Rattle.std.specs.Prelude.{◌≡◌, ◌↔◌, ◌<◌, ◌^◌, ◌∷◌, ◌++◌, [], All, List, max, map, IfOk, IsTrue, OnErr, OnOk};
+ghost use Rattle.std.specs.Prelude.{◌≡◌, ◌↔◌, ◌<◌, ◌^◌, ◌∷◌, ◌++◌, [], All, List, Ok, max, map, IfOk, IsTrue, OnErr, OnOk};
 ghost use Rattle.std.specs.List.{flat_map};
 ghost use Rattle.bac_values.specs.Moments.{IsMoment};
-ghost use Rattle.object_table.specs.Writes.{IsTaken, written};
+ghost use Rattle.notify_class.specs.Edits.{peers_of};
+ghost use Rattle.object_table.specs.Writes.{IsTaken};
+ghost use Rattle.outbox.specs.Outboxes.{AreKnown, answered, has_in_flight, is_idle, learned, new_outbox, peers_of as peers_of_posts, pumped, queued, sends_of, unfinished_in};
+ghost use Rattle.outbox.specs.Peers.{IsAscending};
 ghost use Rattle.alarm_core.specs.declared.event.Act.TheVariants.{Tick, Write, Ack};
-ghost use Rattle.alarm_core.specs.declared.event.Event.{Event};
+ghost use Rattle.alarm_core.specs.declared.event.Event.{Event as Happening};
 ghost use Rattle.alarm_core.specs.Allowed.{IsAllowed, Represents};
 ghost use Rattle.event_machine.specs.Finding.{as_finding};
+ghost use Rattle.alarm_core.specs.Classes.{edited};
+ghost use Rattle.alarm_core.specs.Deliveries.{notifications_of};
 ghost use Rattle.alarm_core.specs.Found.{device_object, found_in, is_other_object};
-ghost use Rattle.alarm_core.specs.History.{moved_by, raised, rows_with, tick_at, transitions_of};
-ghost use Rattle.alarm_core.specs.Moves.{moved_at, moved_with};
-ghost use Rattle.alarm_core.specs.Next.{acked, alarms_with, first_state, looked, next_state, next_transitions};
+ghost use Rattle.alarm_core.specs.History.{moved_by, raised, tick_at, transitions_of};
+ghost use Rattle.alarm_core.specs.Moves.{acted, moved_at, moved_with, told_at, told_with};
+ghost use Rattle.alarm_core.specs.Next.{first_state, looked, next_notes, next_sends, next_state, next_transitions, sends_with};
+ghost use Rattle.alarm_core.specs.Notes.{IsShort};
 ghost use Rattle.alarm_core.specs.Properties.{alarm_in};
+ghost use Rattle.alarm_core.specs.Room.{HasRoom};
 ghost use Rattle.alarm_core.specs.Sights.{site_stamp};
 ghost use Rattle.alarm_core.specs.Sites.{IsSite};
+ghost use Rattle.alarm_core.specs.Verdicts.{Answers, queue_verdict, step_verdict};
 
+use crate::classes::{classes_of, edited_classes};
 use crate::copying::{copy_of_change, copy_of_objects, copy_of_site};
 use crate::device_content::device_object;
 use crate::finding::{is_other_object, watched_in};
+use crate::knowing::{peers_in, peers_of, peers_with};
 use crate::looking::{acknowledge_in, are_still, look_at_all};
+use crate::queueing::queue_all;
 use crate::starting::first_alarms;
+use crate::telling::notes_of_acknowledgement;
 use crate::watched::Watched;
-use crate::{Act, Event, Outcome, Site};
-use bac_values::{Items, Moved, NoMemory, ObjectId, Stamp, Transition};
+use crate::{Act, Event, Outcome, Site, StepFault};
+use bac_values::{
+    EventState, Items, Moved, NoMemory, Note, ObjectId, Peer, Send, Stamp, Transition,
+};
 use civil_stamp::{Zone, stamp_of};
 use event_machine::{Alarm, Found};
+use notify_class::{Class, Destination};
 use object_table::{Change, Table};
+use outbox::Outbox;
 use std::alloc::Global;
 use std::marker::Model;
 
-/// The core of a site: the properties and the alarms of its objects, as its events have left them.
+/// The core of a site: the properties and the alarms of its objects, its notification classes, and what waits for each
+/// recipient, as its events have left them.
 #[derive(Drop)]
 pub struct Core {
-    alloc: Global,
-    site: Site,
-    zone: Zone,
+    pub(crate) alloc: Global,
+    pub(crate) site: Site,
+    pub(crate) zone: Zone,
     events: u64,
     last_moment: u64,
-    table: Table,
-    alarms: Vec<Watched>,
+    pub(crate) table: Table,
+    pub(crate) alarms: Vec<Watched>,
+    pub(crate) classes: Vec<Class>,
+    pub(crate) peers: Vec<Peer>,
+    pub(crate) outbox: Outbox,
 }
 
 impl Model for Core {
-    ghost use Rattle.std.specs.Prelude.{◌≡◌};
+    ghost use Rattle.std.specs.Prelude.{◌≡◌, All};
     ghost use Rattle.bac_values.specs.Moments.{IsMoment};
+    ghost use Rattle.outbox.specs.Outboxes.{peers_of};
+    ghost use Rattle.alarm_core.specs.Known.{KnowsClass};
     ghost use Rattle.alarm_core.specs.Sites.{IsSite};
     ghost use Rattle.alarm_core.specs.State.{State};
 
@@ -54,13 +76,25 @@ impl Model for Core {
       last_moment = core.last_moment;
       rows = core.table;
       alarms = core.alarms.items;
+      classes = core.classes.items;
+      outbox = core.outbox;
     } };
 
     ghost invariant = { λ core. record {
       site : IsSite core.site;
       zone : core.zone ≡ core.site.device.zone_minutes;
       moment : IsMoment core.last_moment;
+      limit : core.outbox.limit ≡ core.site.device.outbox;
+      peers : core.peers.items ≡ peers_of core.outbox.posts;
+      known : All (KnowsClass core.peers.items) core.classes.items;
     } };
+}
+
+/// What an act reports.
+#[derive(Drop)]
+struct Done {
+    moves: Vec<Moved>,
+    sends: Vec<Send>,
 }
 
 // The zone of a site.
@@ -69,6 +103,23 @@ fn zone_of(site: &Site) -> Zone
     ensures zone { result ≡ site.now.device.zone_minutes }
 {
     Zone::fixed(site.device.zone_minutes).unwrap()
+}
+
+// Nothing waits for the peers of some classes.
+fn first_outbox(alloc: Global, site: &Site, peers: &[Peer]) -> Result<Outbox, NoMemory>
+    requires site { IsSite site.now }
+    requires ascending { IsAscending peers.now }
+    ensures outbox { IfOk result (λ outbox. outbox ≡ new_outbox peers.now site.now.device.outbox site.now.device.apdu_timeout site.now.device.retries) }
+{
+    let device = &site.device;
+    let peers = peers.to_vec(alloc)?;
+    Outbox::new(
+        alloc,
+        peers,
+        device.outbox,
+        u64::from(device.apdu_timeout),
+        device.retries,
+    )
 }
 
 impl Core {
@@ -82,6 +133,9 @@ impl Core {
         let start = site.device.start;
         let table = Table::new(alloc, copy_of_objects(alloc, site.objects.as_slice())?)?;
         let alarms = first_alarms(alloc, site, table.rows(), stamp_of(start, &zone))?;
+        let classes = classes_of(alloc, site.classes.as_slice())?;
+        let peers = peers_with(alloc, &[], &peers_in(alloc, &classes)?)?;
+        let outbox = first_outbox(alloc, site, &peers)?;
         let site = copy_of_site(alloc, site)?;
         Ok(Core {
             alloc,
@@ -91,6 +145,9 @@ impl Core {
             last_moment: start,
             table,
             alarms,
+            classes,
+            peers,
+            outbox,
         })
     }
 
@@ -141,6 +198,42 @@ impl Core {
         &self.table
     }
 
+    /// The notification classes, ascending, with their lists as the edits have left them.
+    pub fn classes(&self) -> &[Class]
+        ensures classes { result.now ≡ self.now.classes }
+    {
+        self.classes.as_slice()
+    }
+
+    /// The peers that it knows, ascending: those of the site's lists, and those of every edit.
+    pub fn known_peers(&self) -> &[Peer]
+        ensures known { result.now ≡ peers_of_posts self.now.outbox.posts }
+    {
+        self.peers.as_slice()
+    }
+
+    /// What waits for each of them.
+    pub fn outbox(&self) -> &Outbox
+        ensures outbox { result.now ≡ self.now.outbox }
+    {
+        &self.outbox
+    }
+
+    /// Whether a pump at a moment, raised to the last one, would send nothing and finish nothing.
+    pub fn idle_pump(&self, moment: u64) -> bool
+        requires moment { IsMoment moment }
+        ensures idle { result ≡ is_idle (max moment self.now.last_moment) self.now.outbox }
+    {
+        self.outbox.idle(moment.max(self.last_moment))
+    }
+
+    /// Whether a notification to this peer with this invoke ID is in flight.
+    pub fn has_in_flight(&self, peer: &Peer, invoke: u8) -> bool
+        ensures in_flight { result ≡ has_in_flight peer.now invoke self.now.outbox }
+    {
+        self.outbox.has_in_flight(peer, invoke)
+    }
+
     fn stamp_at(&self, moment: u64) -> Stamp
         requires moment { IsMoment moment }
         ensures stamp { result ≡ site_stamp self.now.site moment }
@@ -148,48 +241,98 @@ impl Core {
         stamp_of(moment, &self.zone)
     }
 
-    fn tick(&mut self, moment: u64, stamp: Stamp) -> Result<Vec<Moved>, NoMemory>
-        ensures state { OnOk result (self.new ≡ record self.old { alarms = map (looked moment stamp self.old.rows) self.old.alarms }) }
-        ensures moves { IfOk result (λ moves. moves.items ≡ flat_map (moved_at moment stamp self.old.rows) self.old.alarms) }
-        ensures same { OnErr result (self.new ≡ self.old) }
+    // All objects are looked at once more; their moves and their notes go behind the others.
+    fn look(
+        &self,
+        alarms: &[Watched],
+        moment: u64,
+        stamp: Stamp,
+        moves: &mut Vec<Moved>,
+        notes: &mut Vec<Note>,
+    ) -> Result<Vec<Watched>, NoMemory>
+        requires moment { IsMoment moment }
+        requires stamp { stamp ≡ site_stamp self.now.site moment }
+        requires short { All IsShort notes.old.items }
+        ensures alarms { IfOk result (λ next. next.items ≡ map (looked moment stamp self.now.rows) alarms.now) }
+        ensures moves { OnOk result (moves.new.items ≡ moves.old.items ++ flat_map (moved_at moment stamp self.now.rows) alarms.now) }
+        ensures notes { OnOk result (notes.new.items ≡ notes.old.items ++ flat_map (told_at self.now.site self.now.classes moment stamp self.now.rows) alarms.now) }
+        ensures short { OnOk result (All IsShort notes.new.items) }
     {
-        let mut moves = Vec::new(self.alloc);
-        let alarms = look_at_all(
+        look_at_all(
             self.alloc,
-            &self.alarms,
+            &self.site,
+            &self.zone,
+            &self.classes,
+            alarms,
             &self.table,
             moment,
             stamp,
-            &mut moves,
-        )?;
-        self.alarms = alarms;
-        Ok(moves)
+            moves,
+            notes,
+        )
     }
 
-    fn write(&mut self, moment: u64, stamp: Stamp, change: Change) -> Result<Vec<Moved>, NoMemory>
-        requires taken { IsTaken change self.old.rows }
-        ensures state { OnOk result (self.new ≡ record self.old {
-          rows = written change self.old.rows;
-          alarms = alarms_with moment stamp (Write change) self.old.rows self.old.alarms;
-        }) }
-        ensures moves { IfOk result (λ moves. moves.items ≡ moved_with moment stamp (Write change) self.old.rows self.old.alarms) }
+    fn tick(&mut self, moment: u64, stamp: Stamp) -> Result<Done, StepFault>
+        requires moment { IsMoment moment }
+        requires stamp { stamp ≡ site_stamp self.old.site moment }
+        ensures state { OnOk result (self.new ≡ acted moment stamp Tick self.old) }
+        ensures moves { IfOk result (λ done. done.moves.items ≡ moved_with moment stamp Tick self.old.rows self.old.alarms) }
+        ensures sends { IfOk result (λ done. done.sends.items ≡ []) }
         ensures same { OnErr result (self.new ≡ self.old) }
+        ensures verdict { Answers result (queue_verdict (told_with self.old.site self.old.classes moment stamp Tick self.old.rows self.old.alarms) self.old.outbox) }
     {
-        let mut moves = Vec::new(self.alloc);
-        let before = look_at_all(
-            self.alloc,
-            &self.alarms,
-            &self.table,
-            moment,
-            stamp,
-            &mut moves,
-        )?;
+        let (mut moves, mut notes) = (Vec::new(self.alloc), Vec::new(self.alloc));
+        let alarms = self.look(&self.alarms, moment, stamp, &mut moves, &mut notes)?;
+        queue_all(self.alloc, &mut self.outbox, notes)?;
+        self.alarms = alarms;
+        let sends = Vec::new(self.alloc);
+        Ok(Done { moves, sends })
+    }
+
+    // After a change of the table: all objects are looked at once more, and the notes of both looks are queued.
+    fn finish_write(
+        &mut self,
+        before: &[Watched],
+        moment: u64,
+        stamp: Stamp,
+        mut moves: Vec<Moved>,
+        mut notes: Vec<Note>,
+    ) -> Result<Done, StepFault>
+        requires moment { IsMoment moment }
+        requires stamp { stamp ≡ site_stamp self.old.site moment }
+        requires short { All IsShort notes.items }
+        requires known { AreKnown notes.items self.old.outbox.posts }
+        ensures state { OnOk result (self.new ≡ record self.old {
+          alarms = map (looked moment stamp self.old.rows) before.now;
+          outbox = queued (notes.items ++ flat_map (told_at self.old.site self.old.classes moment stamp self.old.rows) before.now) self.old.outbox;
+        }) }
+        ensures moves { IfOk result (λ done. done.moves.items ≡ moves.items ++ flat_map (moved_at moment stamp self.old.rows) before.now) }
+        ensures sends { IfOk result (λ done. done.sends.items ≡ []) }
+        ensures same { OnErr result (self.new ≡ self.old) }
+        ensures verdict { Answers result (queue_verdict (notes.items ++ flat_map (told_at self.old.site self.old.classes moment stamp self.old.rows) before.now) self.old.outbox) }
+    {
+        let after = self.look(before, moment, stamp, &mut moves, &mut notes)?;
+        queue_all(self.alloc, &mut self.outbox, notes)?;
+        self.alarms = after;
+        let sends = Vec::new(self.alloc);
+        Ok(Done { moves, sends })
+    }
+
+    fn write(&mut self, moment: u64, stamp: Stamp, change: Change) -> Result<Done, StepFault>
+        requires moment { IsMoment moment }
+        requires stamp { stamp ≡ site_stamp self.old.site moment }
+        requires taken { IsTaken change self.old.rows }
+        ensures state { OnOk result (self.new ≡ acted moment stamp (Write change) self.old) }
+        ensures moves { IfOk result (λ done. done.moves.items ≡ moved_with moment stamp (Write change) self.old.rows self.old.alarms) }
+        ensures sends { IfOk result (λ done. done.sends.items ≡ []) }
+        ensures same { OnErr result (self.new ≡ self.old) }
+        ensures verdict { Answers result (queue_verdict (told_with self.old.site self.old.classes moment stamp (Write change) self.old.rows self.old.alarms) self.old.outbox) }
+    {
+        let (mut moves, mut notes) = (Vec::new(self.alloc), Vec::new(self.alloc));
+        let before = self.look(&self.alarms, moment, stamp, &mut moves, &mut notes)?;
         let undo = self.table.apply(change);
-        match look_at_all(self.alloc, &before, &self.table, moment, stamp, &mut moves) {
-            Ok(after) => {
-                self.alarms = after;
-                Ok(moves)
-            }
+        match self.finish_write(&before, moment, stamp, moves, notes) {
+            Ok(done) => Ok(done),
             Err(fault) => {
                 let _redo = self.table.apply(undo);
                 Err(fault)
@@ -199,26 +342,99 @@ impl Core {
 
     fn acknowledge(
         &mut self,
+        moment: u64,
+        stamp: Stamp,
         object: ObjectId,
         transition: Transition,
-    ) -> Result<Vec<Moved>, NoMemory>
-        ensures state { OnOk result (self.new ≡ record self.old { alarms = map (acked object transition) self.old.alarms }) }
-        ensures moves { IfOk result (λ moves. moves.items ≡ []) }
+        named: EventState,
+    ) -> Result<Done, StepFault>
+        requires moment { IsMoment moment }
+        requires stamp { stamp ≡ site_stamp self.old.site moment }
+        ensures state { OnOk result (self.new ≡ acted moment stamp (Ack object transition named) self.old) }
+        ensures moves { IfOk result (λ done. done.moves.items ≡ []) }
+        ensures sends { IfOk result (λ done. done.sends.items ≡ []) }
         ensures same { OnErr result (self.new ≡ self.old) }
+        ensures verdict { Answers result (queue_verdict (told_with self.old.site self.old.classes moment stamp (Ack object transition named) self.old.rows self.old.alarms) self.old.outbox) }
     {
+        let row = self.table.row(object);
+        let told = notes_of_acknowledgement(
+            self.alloc,
+            &self.site,
+            &self.zone,
+            &self.classes,
+            row,
+            transition,
+            named,
+            moment,
+            stamp,
+        )?;
         let alarms = acknowledge_in(self.alloc, &self.alarms, object, transition)?;
+        queue_all(self.alloc, &mut self.outbox, told)?;
         self.alarms = alarms;
-        Ok(Vec::new(self.alloc))
+        Ok(Done {
+            moves: Vec::new(self.alloc),
+            sends: Vec::new(self.alloc),
+        })
     }
 
-    fn act(&mut self, moment: u64, stamp: Stamp, act: &Act) -> Result<Vec<Moved>, NoMemory>
-        requires allowed { IsAllowed self.old act.now }
-        ensures state { OnOk result (self.new ≡ record self.old {
-          rows = rows_with act.now self.old.rows;
-          alarms = alarms_with moment stamp act.now self.old.rows self.old.alarms;
-        }) }
-        ensures moves { IfOk result (λ moves. moves.items ≡ moved_with moment stamp act.now self.old.rows self.old.alarms) }
+    fn pump(&mut self, moment: u64) -> Result<Done, StepFault>
+        requires moment { IsMoment moment }
+        ensures state { OnOk result (self.new ≡ record self.old { outbox = pumped moment self.old.outbox }) }
+        ensures moves { IfOk result (λ done. done.moves.items ≡ []) }
+        ensures sends { IfOk result (λ done. done.sends.items ≡ sends_of moment self.old.outbox) }
         ensures same { OnErr result (self.new ≡ self.old) }
+        ensures verdict { Answers result (Ok tt) }
+    {
+        let sends = self.outbox.pump(self.alloc, moment)?;
+        Ok(Done {
+            moves: Vec::new(self.alloc),
+            sends,
+        })
+    }
+
+    fn answer(&mut self, peer: &Peer, invoke: u8) -> Done
+        ensures state { self.new ≡ record self.old { outbox = answered peer.now invoke self.old.outbox } }
+        ensures moves { result.moves.items ≡ [] }
+        ensures sends { result.sends.items ≡ [] }
+    {
+        let _answered = self.outbox.answer(peer, invoke);
+        Done {
+            moves: Vec::new(self.alloc),
+            sends: Vec::new(self.alloc),
+        }
+    }
+
+    fn edit(&mut self, class: u32, destinations: &[Destination]) -> Result<Done, StepFault>
+        ensures state { OnOk result (self.new ≡ record self.old {
+          classes = map (edited class destinations.now) self.old.classes;
+          outbox = learned (peers_of destinations.now) self.old.outbox;
+        }) }
+        ensures moves { IfOk result (λ done. done.moves.items ≡ []) }
+        ensures sends { IfOk result (λ done. done.sends.items ≡ []) }
+        ensures same { OnErr result (self.new ≡ self.old) }
+        ensures verdict { Answers result (Ok tt) }
+    {
+        let classes = edited_classes(self.alloc, class, destinations, &self.classes)?;
+        let others = peers_of(self.alloc, destinations)?;
+        let peers = peers_with(self.alloc, &self.peers, &others)?;
+        self.outbox.learn(self.alloc, &others)?;
+        self.classes = classes;
+        self.peers = peers;
+        Ok(Done {
+            moves: Vec::new(self.alloc),
+            sends: Vec::new(self.alloc),
+        })
+    }
+
+    fn act(&mut self, moment: u64, stamp: Stamp, act: &Act) -> Result<Done, StepFault>
+        requires moment { IsMoment moment }
+        requires stamp { stamp ≡ site_stamp self.old.site moment }
+        requires allowed { IsAllowed self.old act.now }
+        ensures state { OnOk result (self.new ≡ acted moment stamp act.now self.old) }
+        ensures moves { IfOk result (λ done. done.moves.items ≡ moved_with moment stamp act.now self.old.rows self.old.alarms) }
+        ensures sends { IfOk result (λ done. done.sends.items ≡ sends_with moment act.now self.old.outbox) }
+        ensures same { OnErr result (self.new ≡ self.old) }
+        ensures verdict { Answers result (queue_verdict (told_with self.old.site self.old.classes moment stamp act.now self.old.rows self.old.alarms) self.old.outbox) }
     {
         match act {
             Act::Tick => self.tick(moment, stamp),
@@ -229,34 +445,52 @@ impl Core {
             Act::Ack {
                 object,
                 transition,
-                ..
-            } => self.acknowledge(*object, *transition),
+                state,
+            } => self.acknowledge(moment, stamp, *object, *transition, *state),
+            Act::Pump => self.pump(moment),
+            Act::Answer { peer, invoke, .. } => Ok(self.answer(peer, *invoke)),
+            Act::Edit {
+                class,
+                destinations,
+            } => self.edit(*class, destinations.as_slice()),
         }
     }
 
-    /// Takes an event, whose moment is raised to the last one. Want of memory changes nothing.
-    pub fn step(&mut self, event: &Event) -> Result<Outcome, NoMemory>
+    /// Takes an event, whose moment is raised to the last one. A fault changes nothing: notifications that don't fit the
+    /// outbox are `Full`, with the number that would then wait and the one that may. A tick is never `Full` where nothing
+    /// waits and the site's classes leave room for one transition of each of their objects.
+    pub fn step(&mut self, event: &Event) -> Result<Outcome, StepFault>
         requires moment { IsMoment event.now.moment }
         requires allowed { IsAllowed self.old event.now.act }
         requires few { self.old.events < 2 ^ 63 }
         ensures state { OnOk result (self.new ≡ next_state (raised self.old.last_moment event.now) self.old) }
         ensures moment { IfOk result (λ outcome. outcome.moment ≡ max event.now.moment self.old.last_moment) }
         ensures moves { IfOk result (λ outcome. outcome.moves ≡ map moved_by (next_transitions (raised self.old.last_moment event.now) self.old)) }
+        ensures sends { IfOk result (λ outcome. outcome.sends ≡ next_sends (raised self.old.last_moment event.now) self.old) }
         ensures same { OnErr result (self.new ≡ self.old) }
-        ensures represents { (history : List Event) → Represents self.old history →
+        ensures verdict { Answers result (step_verdict (raised self.old.last_moment event.now) self.old) }
+        ensures represents { (history : List Happening) → Represents self.old history →
             OnOk result (Represents self.new (raised self.old.last_moment event.now ∷ history)) }
-        ensures transitions { (history : List Event) → Represents self.old history →
+        ensures transitions { (history : List Happening) → Represents self.old history →
             transitions_of self.old.site (raised self.old.last_moment event.now ∷ history)
             ≡ transitions_of self.old.site history ++ next_transitions (raised self.old.last_moment event.now) self.old }
+        ensures notifications { (history : List Happening) → Represents self.old history →
+            notifications_of self.old.site (raised self.old.last_moment event.now ∷ history)
+            ≡ notifications_of self.old.site history ++ next_notes (raised self.old.last_moment event.now) self.old }
+        ensures ticks_fit { HasRoom self.old.site → (history : List Happening) → Represents self.old history → unfinished_in self.old.outbox.posts ≡ 0 →
+            event.now.act ≡ Tick → step_verdict (raised self.old.last_moment event.now) self.old ≡ Ok tt }
     {
         let moment = event.moment.max(self.last_moment);
         let stamp = self.stamp_at(moment);
-        let moves = self.act(moment, stamp, &event.act)?;
+        let done = self.act(moment, stamp, &event.act)?;
+        // The outbox is within its limit, as ever.
+        let _room = self.outbox.room();
         self.events += 1;
         self.last_moment = moment;
         Ok(Outcome {
             moment,
-            moves: Items::of(moves),
+            moves: Items::of(done.moves),
+            sends: Items::of(done.sends),
         })
     }
 
@@ -264,7 +498,7 @@ impl Core {
     pub fn idle_tick(&self, moment: u64) -> bool
         requires moment { IsMoment moment }
         ensures still { IsTrue result ↔ (next_transitions (raised self.now.last_moment (tick_at moment)) self.now ≡ []) }
-        ensures history { (history : List Event) → Represents self.now history →
+        ensures history { (history : List Happening) → Represents self.now history →
             (IsTrue result ↔ (transitions_of self.now.site (raised self.now.last_moment (tick_at moment) ∷ history) ≡ transitions_of self.now.site history)) }
     {
         let moment = moment.max(self.last_moment);

@@ -4,7 +4,6 @@ use Rattle.std.specs.List.{onto_first}
 use Rattle.std.proofs.lemmas.Bool.{cases_Bool}
 use Rattle.std.proofs.lemmas.List.{append_cancel_right, append-nil, length-append}
 use Rattle.script_lines.specs.declared.line.Grammar.{Grammar}
-use Rattle.script_lines.specs.declared.line.Grammar.TheVariants.{Trial, Session}
 use Rattle.script_lines.specs.declared.line.Line.{Line}
 use Rattle.script_lines.specs.declared.line.LineSays.{LineSays}
 use Rattle.script_lines.specs.declared.line.LineSays.TheVariants.{Skipped, Outside, Spells}

@@ -1,5 +1,5 @@
 -- What is said of a program by its words.
-use Rattle.std.proofs.Common.{◌≡◌, ℕ, Option, Some, None, List, [], IfSome, refl, subst, ap, sym}
+use Rattle.std.proofs.Common.{◌≡◌, ℕ, Option, Some, None, List, [], IfSome, refl, subst}
 use Rattle.ground_io.specs.Trace.{Told}
 use Rattle.script_lines.specs.Script.{lines_of}
 use Rattle.alarm_server.specs.declared.command.Command.{Command}

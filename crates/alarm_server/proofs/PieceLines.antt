@@ -1,25 +1,42 @@
 -- The lines of a piece.
-use Rattle.std.proofs.Common.{◌≡◌, ℕ, ◌+◌, Option, List, [], ◌∷◌, ◌++◌, map, ap, ◌∙◌}
+use Rattle.std.proofs.Common.{◌≡◌, ℕ, ◌+◌, Option, Result, Ok, List, [], ◌∷◌, ◌++◌, map, ap, append_assoc, sym, ◌∙◌}
 use Rattle.std.proofs.lemmas.Simd.{map-map}
 use Rattle.bac_values.specs.declared.moved.Moved.{Moved}
 use Rattle.bac_values.specs.declared.note.Send.{Send}
 use Rattle.bac_values.specs.declared.report.ReportLine.{ReportLine}
 use Rattle.bac_values.specs.declared.report.ReportLine.TheVariants.{Entered, Change}
 use Rattle.alarm_core.specs.declared.event.Event.{Event}
+use Rattle.alarm_core.specs.declared.event.StepFault.{StepFault}
 use Rattle.alarm_core.specs.History.{moved_by}
-use Rattle.alarm_core.specs.Next.{next_transitions}
+use Rattle.alarm_core.specs.Next.{next_sends, next_transitions}
 use Rattle.alarm_core.specs.State.{State}
-use Rattle.alarm_server.specs.Session.{entered_piece, reply_lines}
+use Rattle.alarm_server.specs.Session.{enter_piece, entered_piece, reply_lines, send_line}
 
--- the lines that were put together
-abbrev put_together : ℕ → ℕ → ℕ → List Moved → Option Send → List ReportLine
-put_together number events moment moves reply = Entered number events moment ∷ (map (λ moved. Change number moved) moves ++ reply_lines number reply)
+-- the lines in the order in which they are put together
+abbrev put_together : ℕ → ℕ → ℕ → List Moved → List Send → Option Send → List ReportLine
+put_together number events moment moves sends reply =
+    (((Entered number events moment ∷ []) ++ map (λ moved. Change number moved) moves) ++ map (send_line number) sends) ++ reply_lines number reply
 
-pub entered_is : (number : ℕ) (state : State) (event : Event) (reply : Option Send) (moves : List Moved) (events moment : ℕ) →
-    events ≡ state.events + 1 → moment ≡ event.moment → moves ≡ map moved_by (next_transitions event state) →
-    put_together number events moment moves reply ≡ entered_piece number state event reply
-entered_is number state event reply moves events moment same_events same_moment same_moves =
-    ap (λ n. put_together number n moment moves reply) same_events
-    ∙ (ap (λ m. put_together number (state.events + 1) m moves reply) same_moment
-    ∙ (ap (λ ms. put_together number (state.events + 1) event.moment ms reply) same_moves
-    ∙ ap (λ lines. Entered number (state.events + 1) event.moment ∷ (lines ++ reply_lines number reply)) (map-map (λ moved. Change number moved) moved_by (next_transitions event state))))
+abbrev in_order : ℕ → ℕ → ℕ → List Moved → List Send → Option Send → List ReportLine
+in_order number events moment moves sends reply =
+    Entered number events moment ∷ (map (λ moved. Change number moved) moves ++ (map (send_line number) sends ++ reply_lines number reply))
+
+entered_is : (number : ℕ) (state : State) (event : Event) (reply : Option Send) (moves : List Moved) (sends : List Send) (events moment : ℕ) →
+    events ≡ state.events + 1 → moment ≡ event.moment → moves ≡ map moved_by (next_transitions event state) → sends ≡ next_sends event state →
+    put_together number events moment moves sends reply ≡ entered_piece number state event reply
+entered_is number state event reply moves sends events moment same_events same_moment same_moves same_sends =
+    let rest = map (send_line number) (next_sends event state) ++ reply_lines number reply in
+    ap (λ lines. Entered number events moment ∷ lines) (append_assoc (map (λ moved. Change number moved) moves) (map (send_line number) sends) (reply_lines number reply))
+    ∙ (ap (λ n. in_order number n moment moves sends reply) same_events
+    ∙ (ap (λ m. in_order number (state.events + 1) m moves sends reply) same_moment
+    ∙ (ap (λ ms. in_order number (state.events + 1) event.moment ms sends reply) same_moves
+    ∙ (ap (λ ss. in_order number (state.events + 1) event.moment (map moved_by (next_transitions event state)) ss reply) same_sends
+    ∙ ap (λ lines. Entered number (state.events + 1) event.moment ∷ (lines ++ rest)) (map-map (λ moved. Change number moved) moved_by (next_transitions event state))))))
+
+-- where the notifications fit
+pub fits_is : (number : ℕ) (state : State) (event : Event) (reply full : Option Send) (verdict : Result (Unit {0}) StepFault) (moves : List Moved) (sends : List Send) (events moment : ℕ) →
+    verdict ≡ Ok tt → events ≡ state.events + 1 → moment ≡ event.moment → moves ≡ map moved_by (next_transitions event state) → sends ≡ next_sends event state →
+    put_together number events moment moves sends reply ≡ enter_piece number state event reply full verdict
+fits_is number state event reply full verdict moves sends events moment fits same_events same_moment same_moves same_sends =
+    entered_is number state event reply moves sends events moment same_events same_moment same_moves same_sends
+    ∙ sym (ap (enter_piece number state event reply full) fits)

@@ -1,16 +1,12 @@
 -- The pieces and the states of lines, one after the other; and the report by the history.
-use Rattle.std.proofs.Common.{◌≡◌, ℕ, ◌+◌, ◌≤◌, Option, Some, None, List, [], ◌∷◌, ◌++◌, length, refl, ap, ◌∙◌, sym, subst, arith}
-use Rattle.bac_values.specs.declared.report.ReportLine.{ReportLine}
+use Rattle.std.proofs.Common.{◌≡◌, ℕ, ◌+◌, ◌≤◌, Option, Some, None, List, [], ◌∷◌, ◌++◌, length, refl, ap, ◌∙◌, sym, arith}
 use Rattle.script_lines.specs.declared.line.Grammar.TheVariants.{Session}
 use Rattle.script_lines.specs.declared.line.Line.{Line}
 use Rattle.script_lines.specs.Script.{lines_of}
 use Rattle.alarm_core.specs.declared.event.Event.{Event}
 use Rattle.alarm_core.specs.declared.site.Site.{Site}
-use Rattle.alarm_core.specs.Next.{next_state}
 use Rattle.alarm_core.specs.State.{State, state_of}
 use Rattle.alarm_core.proofs.Standing.{stands}
-use Rattle.service_desk.specs.declared.decision.Decision.{Decision}
-use Rattle.service_desk.specs.declared.decision.Decision.TheVariants.{Ignore, Idle, Refuse, Reply, Enter}
 use Rattle.alarm_server.specs.Script.{spelled_in, refused_in}
 use Rattle.alarm_server.specs.Session.{decision_for, event_in, open_piece, piece_of, pieces_over, session_end, session_over, state_by, state_over, state_with}
 use Rattle.alarm_server.specs.Report.{front_pieces, history_by, history_over, history_with, pieces_of, report_of}

@@ -1,7 +1,6 @@
 -- The sites on which a bench plays a script, by their names.
-use Rattle.std.specs.Prelude.{◌≡◌, ℕ, pos, Bool, true, false, Option, Some, None, List, [], ◌∷◌, replicate, if◌then◌else◌, codes}
+use Rattle.std.specs.Prelude.{ℕ, pos, Bool, true, false, Option, Some, None, List, [], ◌∷◌, replicate, if◌then◌else◌, codes}
 use Rattle.std.specs.Str.{bytes_eq}
-use Rattle.bac_values.specs.Address.{Address}
 use Rattle.bac_values.specs.Identifier.{Identifier, number_of_kind}
 use Rattle.bac_values.specs.declared.object_kind.ObjectKind.{ObjectKind}
 use Rattle.bac_values.specs.declared.object_kind.ObjectKind.TheVariants.{BinaryValue, BitStringValue, CharacterStringValue, IntegerValue, MultiStateValue, PositiveIntegerValue}
@@ -13,9 +12,9 @@ use Rattle.alarm_core.specs.declared.site.ClassSite.{ClassSite}
 use Rattle.alarm_core.specs.declared.site.DeviceSite.{DeviceSite}
 use Rattle.alarm_core.specs.declared.site.Site.{Site}
 
--- the device of each bench: 1001, which starts on 2023-11-14 at 22:13:20 UTC
-abbrev pub plant_device : DeviceSite
-plant_device = record {
+-- the device of each bench: 1001, which starts on 2023-11-14 at 22:13:20 UTC, with room for so many notifications
+abbrev pub plant_device : ℕ → DeviceSite
+plant_device outbox = record {
   instance = 1001;
   name = codes "Plant";
   vendor = 999;
@@ -23,36 +22,56 @@ plant_device = record {
   zone_minutes = pos 0;
   apdu_timeout = 3000;
   retries = 3;
-  outbox = 256;
+  outbox = outbox;
 }
 
--- the recipient at 10.0.0.5:47808, which is told of everything at all times and confirms it
-abbrev pub operator : ListedRecipient
-operator = record {
+-- a recipient at port 47808 of an address, which is told of everything at all times
+abbrev pub recipient : ℕ → ℕ → Bool → ListedRecipient
+recipient ip process confirmed = record {
   days = 127;
   from = 0;
   to = 8639999;
-  peer = record { ip = 167772165; port = 47808; net = 0; mac = [] };
-  process = 1;
-  confirmed = true;
+  peer = record { ip = ip; port = 47808; net = 0; mac = [] };
+  process = process;
+  confirmed = confirmed;
   transitions = replicate 3 true;
 }
 
--- notification class 7: its transitions to-offnormal and to-fault want to be acknowledged
-abbrev pub operators : ClassSite
-operators = record {
-  name = codes "notification-class:7";
+-- the one at 10.0.0.5, which confirms what it is told
+abbrev pub operator : ListedRecipient
+operator = recipient 167772165 1 true
+
+-- the one at 10.0.0.6, which confirms it too
+abbrev pub engineer : ListedRecipient
+engineer = recipient 167772166 1 true
+
+-- the one at 10.0.0.7, which doesn't
+abbrev pub printer : ListedRecipient
+printer = recipient 167772167 0 false
+
+-- a notification class whose transitions to-offnormal and to-fault want to be acknowledged
+abbrev pub class_of : ℕ → List ℕ → List ListedRecipient → ClassSite
+class_of instance name recipients = record {
+  name = name;
   class = record {
-    instance = 7;
+    instance = instance;
     priority = 100 ∷ 90 ∷ 200 ∷ [];
     ack_required = true ∷ true ∷ false ∷ [];
-    destinations = operator ∷ [];
+    destinations = recipients;
   };
 }
 
--- an integer value of 50 with the limits 20 and 80, a deadband of 5 and a delay of so many seconds
-abbrev pub tank : ℕ → ℕ → ObjectSite
-tank instance delay = record {
+-- notification class 7 with these recipients
+abbrev pub class_seven : List ListedRecipient → ClassSite
+class_seven recipients = class_of 7 (codes "notification-class:7") recipients
+
+-- notification class 8, whose recipient is the engineer
+abbrev pub class_eight : ClassSite
+class_eight = class_of 8 (codes "notification-class:8") (engineer ∷ [])
+
+-- an integer value of 50 in a class, with the limits 20 and 80, a deadband of 5 and a delay of so many seconds
+abbrev pub tank_in : ℕ → ℕ → ℕ → ObjectSite
+tank_in class instance delay = record {
   object = record { number = number_of_kind IntegerValue; instance = instance };
   name = codes "Tank";
   value = Signed (pos 50);
@@ -62,7 +81,7 @@ tank instance delay = record {
   fault_low = None;
   fault_high = None;
   fault_values = [];
-  class = Some 7;
+  class = Some class;
   notify = 0;
   enable = replicate 3 true;
   time_delay = delay;
@@ -77,6 +96,10 @@ tank instance delay = record {
   alarm_values = [];
   mask = None;
 }
+
+-- one in class 7
+abbrev pub tank : ℕ → ℕ → ObjectSite
+tank instance delay = tank_in 7 instance delay
 
 -- a multi-state value with five states, of which 2 and 3 are alarms after five seconds
 abbrev pub mode : ObjectSite
@@ -162,17 +185,25 @@ plain_flow = plain (first_of PositiveIntegerValue) (codes "Flow") (Unsigned 50) 
 abbrev pub six_kinds : List ObjectSite
 six_kinds = plain_pump ∷ plain_mode ∷ plain_bits ∷ plain_note ∷ tank 1 10 ∷ plain_flow ∷ []
 
--- the plant with these objects
-abbrev pub plant : List ObjectSite → Site
-plant objects = record {
-  device = plant_device;
-  classes = operators ∷ [];
+-- the plant with room for so many notifications, these classes and these objects
+abbrev pub plant_with : ℕ → List ClassSite → List ObjectSite → Site
+plant_with outbox classes objects = record {
+  device = plant_device outbox;
+  classes = classes;
   objects = objects;
   enrollments = [];
   logs = [];
 }
 
--- S has a tank with a delay of ten seconds, S0 one without a delay, W one without and one with it, G three with it, M a multi-state value, K what S has and one object of each other kind
+-- the plant with these objects, of which the operator is told
+abbrev pub plant : List ObjectSite → Site
+plant objects = plant_with 256 (class_seven (operator ∷ []) ∷ []) objects
+
+-- the plant with the smallest outbox, where the engineer is told of one tank, and the operator and the printer of the other
+abbrev pub full_plant : Site
+full_plant = plant_with 64 (class_seven (operator ∷ printer ∷ []) ∷ class_eight ∷ []) (tank_in 8 1 0 ∷ tank 2 0 ∷ [])
+
+-- S has a tank with a delay of ten seconds, S0 one without a delay, W one without and one with it, G three with it, M a multi-state value, K what S has and one object of each other kind, F two tanks without a delay and an outbox that is soon full
 unfoldable pub site_named : List ℕ → Option Site
 site_named name =
     if bytes_eq name (codes "S") then Some (plant (tank 1 10 ∷ []))
@@ -180,4 +211,5 @@ site_named name =
     else (if bytes_eq name (codes "W") then Some (plant (tank 1 0 ∷ tank 2 10 ∷ []))
     else (if bytes_eq name (codes "G") then Some (plant (tank 1 10 ∷ tank 2 10 ∷ tank 3 10 ∷ []))
     else (if bytes_eq name (codes "M") then Some (plant (mode ∷ []))
-    else (if bytes_eq name (codes "K") then Some (plant six_kinds) else None)))))
+    else (if bytes_eq name (codes "K") then Some (plant six_kinds)
+    else (if bytes_eq name (codes "F") then Some full_plant else None))))))

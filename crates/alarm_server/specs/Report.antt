@@ -1,5 +1,5 @@
 -- The report of a session, by the history of its events.
-use Rattle.std.specs.Prelude.{◌≡◌, ℕ, Option, Some, None, List, [], ◌∷◌, ◌++◌, length}
+use Rattle.std.specs.Prelude.{ℕ, Option, Some, None, List, [], ◌∷◌, ◌++◌, length}
 use Rattle.bac_values.specs.declared.report.ReportLine.{ReportLine}
 use Rattle.script_lines.specs.declared.line.Grammar.TheVariants.{Session}
 use Rattle.script_lines.specs.declared.line.Line.{Line}

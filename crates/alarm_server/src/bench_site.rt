@@ -1,8 +1,8 @@
 ghost use Rattle.std.specs.Prelude.{◌≡◌, ◌∷◌, ◌≤◌, [], All, IfOk, IfSome, IsSome, OnErr, is_some};
 ghost use Rattle.object_table.specs.Objects.{IsObject};
 ghost use Rattle.object_table.specs.Rows.{AscendsById};
-ghost use Rattle.alarm_core.specs.Sites.{IsSite};
-ghost use Rattle.alarm_server.specs.BenchSites.{mode, operator, operators, plain, plain_bits, plain_flow, plain_mode, plain_note, plain_pump, plant, plant_device, site_named, six_kinds, tank};
+ghost use Rattle.alarm_core.specs.Sites.{HasInstance, IsSite};
+ghost use Rattle.alarm_server.specs.BenchSites.{class_eight, class_of, class_seven, engineer, full_plant, mode, operator, plain, plain_bits, plain_flow, plain_mode, plain_note, plain_pump, plant, plant_device, plant_with, printer, recipient, site_named, six_kinds, tank, tank_in};
 
 use crate::growing::{add, single};
 use alarm_core::{ClassSite, DeviceSite, Site};
@@ -20,8 +20,8 @@ fn text(alloc: Global, source: &str) -> Result<Text, NoMemory>
     }
 }
 
-fn plant_device(alloc: Global) -> Result<DeviceSite, NoMemory>
-    ensures device { IfOk result (λ device. device ≡ plant_device) }
+fn plant_device(alloc: Global, outbox: u32) -> Result<DeviceSite, NoMemory>
+    ensures device { IfOk result (λ device. device ≡ plant_device outbox) }
 {
     Ok(DeviceSite {
         instance: 1001,
@@ -31,42 +31,80 @@ fn plant_device(alloc: Global) -> Result<DeviceSite, NoMemory>
         zone_minutes: 0,
         apdu_timeout: 3000,
         retries: 3,
-        outbox: 256,
+        outbox,
     })
 }
 
-fn operator() -> Destination
-    ensures operator { result ≡ operator }
+fn recipient(ip: u32, process: u32, confirmed: bool) -> Destination
+    ensures recipient { result ≡ recipient ip process confirmed }
 {
     Destination {
         days: 127,
         from: 0,
         to: 8_639_999,
-        peer: Peer::local(167_772_165, 47808),
-        process: 1,
-        confirmed: true,
+        peer: Peer::local(ip, 47808),
+        process,
+        confirmed,
         transitions: [true; 3],
     }
 }
 
-fn operators(alloc: Global) -> Result<ClassSite, NoMemory>
-    ensures operators { IfOk result (λ class. class ≡ operators) }
+// The recipient at 10.0.0.5.
+fn operator() -> Destination
+    ensures operator { result ≡ operator }
 {
-    let destinations = single(alloc, operator())?;
+    recipient(167_772_165, 1, true)
+}
+
+// The recipient at 10.0.0.6.
+fn engineer() -> Destination
+    ensures engineer { result ≡ engineer }
+{
+    recipient(167_772_166, 1, true)
+}
+
+// The recipient at 10.0.0.7.
+fn printer() -> Destination
+    ensures printer { result ≡ printer }
+{
+    recipient(167_772_167, 0, false)
+}
+
+fn class_of(
+    alloc: Global,
+    instance: u32,
+    name: &str,
+    recipients: Vec<Destination>,
+) -> Result<ClassSite, NoMemory>
+    ensures class { IfOk result (λ class. class ≡ class_of instance name.now recipients.items) }
+{
     Ok(ClassSite {
-        name: text(alloc, "notification-class:7")?,
+        name: text(alloc, name)?,
         class: Class {
-            instance: 7,
+            instance,
             priority: [100, 90, 200],
             ack_required: [true, true, false],
-            destinations: Items::of(destinations),
+            destinations: Items::of(recipients),
         },
     })
 }
 
-fn tank(alloc: Global, instance: u32, delay: u32) -> Result<ObjectSite, NoMemory>
+fn class_seven(alloc: Global, recipients: Vec<Destination>) -> Result<ClassSite, NoMemory>
+    ensures class { IfOk result (λ class. class ≡ class_seven recipients.items) }
+{
+    class_of(alloc, 7, "notification-class:7", recipients)
+}
+
+fn class_eight(alloc: Global) -> Result<ClassSite, NoMemory>
+    ensures class { IfOk result (λ class. class ≡ class_eight) }
+{
+    let recipients = single(alloc, engineer())?;
+    class_of(alloc, 8, "notification-class:8", recipients)
+}
+
+fn tank_in(alloc: Global, class: u32, instance: u32, delay: u32) -> Result<ObjectSite, NoMemory>
     requires instance { instance ≤ 4_194_302 }
-    ensures tank { IfOk result (λ object. object ≡ tank instance delay) }
+    ensures tank { IfOk result (λ object. object ≡ tank_in class instance delay) }
     ensures object { IfOk result (λ object. IsObject object) }
 {
     Ok(ObjectSite {
@@ -79,7 +117,7 @@ fn tank(alloc: Global, instance: u32, delay: u32) -> Result<ObjectSite, NoMemory
         fault_low: None,
         fault_high: None,
         fault_values: Items::of(Vec::new(alloc)),
-        class: Some(7),
+        class: Some(class),
         notify: 0,
         enable: [true; 3],
         time_delay: delay,
@@ -94,6 +132,14 @@ fn tank(alloc: Global, instance: u32, delay: u32) -> Result<ObjectSite, NoMemory
         alarm_values: Items::of(Vec::new(alloc)),
         mask: None,
     })
+}
+
+fn tank(alloc: Global, instance: u32, delay: u32) -> Result<ObjectSite, NoMemory>
+    requires instance { instance ≤ 4_194_302 }
+    ensures tank { IfOk result (λ object. object ≡ tank instance delay) }
+    ensures object { IfOk result (λ object. IsObject object) }
+{
+    tank_in(alloc, 7, instance, delay)
 }
 
 fn mode(alloc: Global) -> Result<ObjectSite, NoMemory>
@@ -207,21 +253,37 @@ fn plain_flow(alloc: Global) -> Result<ObjectSite, NoMemory>
     plain(alloc, object, "Flow", Value::Unsigned(50), 0)
 }
 
+fn plant_with(
+    alloc: Global,
+    outbox: u32,
+    classes: Vec<ClassSite>,
+    objects: Vec<ObjectSite>,
+) -> Result<Site, NoMemory>
+    requires outbox { outbox ≤ 16_384 }
+    requires classes { All HasInstance classes.items }
+    requires ascending { AscendsById objects.items }
+    requires objects { All IsObject objects.items }
+    ensures plant { IfOk result (λ site. site ≡ plant_with outbox classes.items objects.items) }
+    ensures keeps { IfOk result (λ site. IsSite site) }
+{
+    Ok(Site {
+        device: plant_device(alloc, outbox)?,
+        classes: Items::of(classes),
+        objects: Items::of(objects),
+        enrollments: Items::of(Vec::new(alloc)),
+        logs: Items::of(Vec::new(alloc)),
+    })
+}
+
 fn plant(alloc: Global, objects: Vec<ObjectSite>) -> Result<Site, NoMemory>
     requires ascending { AscendsById objects.items }
     requires objects { All IsObject objects.items }
     ensures plant { IfOk result (λ site. site ≡ plant objects.items) }
     ensures keeps { IfOk result (λ site. IsSite site) }
 {
-    let device = plant_device(alloc)?;
-    let classes = single(alloc, operators(alloc)?)?;
-    Ok(Site {
-        device,
-        classes: Items::of(classes),
-        objects: Items::of(objects),
-        enrollments: Items::of(Vec::new(alloc)),
-        logs: Items::of(Vec::new(alloc)),
-    })
+    let recipients = single(alloc, operator())?;
+    let classes = single(alloc, class_seven(alloc, recipients)?)?;
+    plant_with(alloc, 256, classes, objects)
 }
 
 fn one_tank(alloc: Global, delay: u32) -> Result<Site, NoMemory>
@@ -270,12 +332,31 @@ fn six_kinds(alloc: Global) -> Result<Site, NoMemory>
     plant(alloc, objects)
 }
 
+fn full_plant(alloc: Global) -> Result<Site, NoMemory>
+    ensures plant { IfOk result (λ site. site ≡ full_plant) }
+    ensures keeps { IfOk result (λ site. IsSite site) }
+{
+    let mut recipients = single(alloc, operator())?;
+    add(&mut recipients, printer())?;
+    let mut classes = single(alloc, class_seven(alloc, recipients)?)?;
+    add(&mut classes, class_eight(alloc)?)?;
+    let mut objects = single(alloc, tank_in(alloc, 8, 1, 0)?)?;
+    add(&mut objects, tank(alloc, 2, 0)?)?;
+    plant_with(alloc, 64, classes, objects)
+}
+
 /// Whether a bench has a site with this name.
 #[tactic(auto, unfolding(crate::specs::BenchSites::site_named))]
 pub fn is_bench_site(name: &str) -> bool
     ensures named { result ≡ is_some (site_named name.now) }
 {
-    name == "S" || name == "S0" || name == "W" || name == "G" || name == "M" || name == "K"
+    name == "S"
+        || name == "S0"
+        || name == "W"
+        || name == "G"
+        || name == "M"
+        || name == "K"
+        || name == "F"
 }
 
 /// The site of a bench with this name, and none exactly where there is no such site.
@@ -302,6 +383,9 @@ pub fn bench_site(alloc: Global, name: &str) -> Result<Option<Site>, NoMemory>
     }
     if name == "K" {
         return Ok(Some(six_kinds(alloc)?));
+    }
+    if name == "F" {
+        return Ok(Some(full_plant(alloc)?));
     }
     Ok(None)
 }

@@ -8,6 +8,8 @@ mod bench_site;
 mod command;
 mod emission;
 mod growing;
+#[cfg(test)]
+mod notification_tests;
 mod paths;
 mod pieces;
 mod run;
@@ -39,8 +41,8 @@ milliseconds since 1970. Each move of the event state gives the line
 alarm-server bench NAME < SCRIPT
 
 bench plays a session to a site that stands in the program, from no event on:
-NAME is S, S0, W, G or M. Each line of SCRIPT gives a piece of the report: what
-it came to, the changes of event states, and the datagrams of replies.
+NAME is S, S0, W, G, M, K or F. Each line of SCRIPT gives a piece of the report:
+what it came to, the changes of event states, and the datagrams that go out.
 
 alarm-server --help      prints this text
 alarm-server --version   prints the version";

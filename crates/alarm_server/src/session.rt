@@ -5,13 +5,12 @@ ghost use Rattle.ground_io.specs.Counts.{HasCause};
 ghost use Rattle.ground_io.specs.Trace.{WhereTold};
 ghost use Rattle.script_lines.specs.declared.line.Grammar.TheVariants.{Session};
 ghost use Rattle.alarm_core.specs.Allowed.{IsAllowed};
-ghost use Rattle.alarm_core.specs.History.{raised};
-ghost use Rattle.alarm_core.specs.Next.{first_state, next_state};
+ghost use Rattle.alarm_core.specs.Next.{first_state};
 ghost use Rattle.alarm_core.specs.Sites.{IsSite};
 ghost use Rattle.alarm_server.specs.Emission.{Ends, Sends};
 ghost use Rattle.alarm_server.specs.Report.{front_pieces, report_of};
 ghost use Rattle.alarm_server.specs.Script.{refused_line};
-ghost use Rattle.alarm_server.specs.Session.{end_piece, entered_piece, open_piece, piece_of, piece_text, reply_lines, state_with};
+ghost use Rattle.alarm_server.specs.Session.{end_piece, event_in, open_piece, piece_by, piece_of, piece_text, reply_lines, send_line, state_by, state_with};
 ghost use Rattle.alarm_server.specs.Status.{IsFault, status_of};
 ghost use Rattle.alarm_server.specs.Stopping.{StopsReading};
 
@@ -19,7 +18,7 @@ use crate::emission::Unsent;
 use crate::growing::{add, single};
 use crate::pieces::emit_piece;
 use crate::status::Status;
-use alarm_core::{Core, Event, Site};
+use alarm_core::{Core, Event, Site, StepFault};
 use bac_values::{Moved, NoMemory, ReportLine, Send};
 use ground_io::{Ground, Source};
 use script_lines::{Line, Lines};
@@ -40,6 +39,16 @@ fn add_changes(piece: &mut Vec<ReportLine>, number: u64, moves: &[Moved]) -> Res
     Ok(())
 }
 
+// The lines of a piece that tell of what is sent.
+fn add_sends(piece: &mut Vec<ReportLine>, number: u64, sends: Vec<Send>) -> Result<(), NoMemory>
+    ensures sends { OnOk result (piece.new.items ≡ piece.old.items ++ map (send_line number) sends.items) }
+{
+    for send in sends {
+        add(piece, ReportLine::Sent { line: number, send })?;
+    }
+    Ok(())
+}
+
 fn add_reply(piece: &mut Vec<ReportLine>, number: u64, reply: Option<Send>) -> Result<(), NoMemory>
     ensures reply { OnOk result (piece.new.items ≡ piece.old.items ++ reply_lines number reply) }
 {
@@ -49,6 +58,26 @@ fn add_reply(piece: &mut Vec<ReportLine>, number: u64, reply: Option<Send>) -> R
     }
 }
 
+// The piece of a line whose event's notifications don't fit the outbox.
+fn full_piece(
+    alloc: Global,
+    number: u64,
+    would: u32,
+    limit: u32,
+    full: Option<Send>,
+) -> Result<Vec<ReportLine>, NoMemory>
+    ensures piece { IfOk result (λ piece. piece.items ≡ ReportLine.Full number would limit ∷ reply_lines number full) }
+{
+    let line = ReportLine::Full {
+        line: number,
+        would,
+        limit,
+    };
+    let mut piece = single(alloc, line)?;
+    add_reply(&mut piece, number, full)?;
+    Ok(piece)
+}
+
 // Enters an event, and gives the piece of its line.
 fn enter(
     alloc: Global,
@@ -56,14 +85,21 @@ fn enter(
     number: u64,
     event: &Event,
     reply: Option<Send>,
+    full: Option<Send>,
 ) -> Result<Vec<ReportLine>, NoMemory>
     requires moment { IsMoment event.now.moment }
     requires allowed { IsAllowed core.old event.now.act }
     requires few { core.old.events < 2 ^ 63 }
-    ensures state { OnOk result (core.new ≡ next_state (raised core.old.last_moment event.now) core.old) }
-    ensures piece { IfOk result (λ piece. piece.items ≡ entered_piece number core.old (raised core.old.last_moment event.now) reply) }
+    ensures state { OnOk result (core.new ≡ state_by core.old (event_in core.old (Decision.Enter event.now reply full))) }
+    ensures piece { IfOk result (λ piece. piece.items ≡ piece_by number core.old (Decision.Enter event.now reply full)) }
 {
-    let outcome = core.step(event)?;
+    let outcome = match core.step(event) {
+        Ok(outcome) => outcome,
+        Err(StepFault::Full { would, limit }) => {
+            return full_piece(alloc, number, would, limit, full);
+        }
+        Err(StepFault::NoMemory) => return Err(NoMemory),
+    };
     let entered = ReportLine::Entered {
         line: number,
         event: core.events(),
@@ -71,6 +107,7 @@ fn enter(
     };
     let mut piece = single(alloc, entered)?;
     add_changes(&mut piece, number, outcome.moves.as_slice())?;
+    add_sends(&mut piece, number, outcome.sends.into_vec())?;
     add_reply(&mut piece, number, reply)?;
     Ok(piece)
 }
@@ -97,7 +134,7 @@ fn take(alloc: Global, core: &mut Core, line: &Line) -> Result<Vec<ReportLine>, 
         Decision::Idle => single(alloc, ReportLine::Idle { line: number }),
         Decision::Refuse { why } => single(alloc, ReportLine::Refused { line: number, why }),
         Decision::Reply { send } => replied(alloc, number, send),
-        Decision::Enter { event, reply, .. } => enter(alloc, core, number, &event, reply),
+        Decision::Enter { event, reply, full } => enter(alloc, core, number, &event, reply, full),
     }
 }
 

@@ -51,8 +51,8 @@ fn trial(
     Ok((text, status))
 }
 
-// That a trial with no failing calls emits this and ends so.
-fn expect(
+/// That a program with no failing calls emits this and ends so.
+pub(crate) fn expect(
     rt: &impl Abort,
     alloc: Global,
     words: &str,
@@ -249,8 +249,13 @@ fn moments_of_a_session_never_fall(rt: HostRuntime) -> Result<(), Fail> {
     )
 }
 
-// What a session of S with these lines behind a set and a tick that lead to HIGH_LIMIT says of them.
-fn expect_behind(rt: &impl Abort, alloc: Global, more: &str, report: &str) -> Result<(), Fail> {
+/// That a session of S with these lines behind a set and a tick that lead to HIGH_LIMIT says this of them.
+pub(crate) fn expect_behind(
+    rt: &impl Abort,
+    alloc: Global,
+    more: &str,
+    report: &str,
+) -> Result<(), Fail> {
     let script = format!(in alloc; "{SET_AND_TICK}{more}")?;
     let wanted = format!(in alloc; "{SET_AND_TICKED}{report}")?;
     expect(

@@ -1,15 +1,15 @@
 mod Fronts
 mod Pumping
 mod Laws
-mod Standing
-mod PeerLemmas
+pub mod Standing
+pub mod PeerLemmas
 mod PlaceLemmas
 mod Keeping
 mod Answering
 mod Going
 mod Settling
-mod Making
-mod Learning
+pub mod Making
+pub mod Learning
 mod Finished
 mod Counting
 mod Idling

@@ -1,5 +1,5 @@
 -- What becomes of an input, by the state of the core alone (ANSI/ASHRAE 135-2020, 5.4.5 and clause 13).
-use Rattle.std.specs.Prelude.{◌≡◌, ℕ, ◌==◌, nat_le, ◌&&◌, Bool, true, false, if◌then◌else◌, Option, Some, None, is_none, Result, Ok, Err, List, [], ◌∷◌, drop}
+use Rattle.std.specs.Prelude.{◌≡◌, ℕ, max, ◌==◌, nat_le, ◌&&◌, Bool, true, false, if◌then◌else◌, Option, Some, None, is_none, Result, Ok, Err, List, [], ◌∷◌, drop}
 use Rattle.bac_values.specs.Address.{Address}
 use Rattle.bac_values.specs.Identifier.{Identifier}
 use Rattle.bac_values.specs.declared.event_state.EventState.{EventState}
@@ -12,7 +12,7 @@ use Rattle.bac_values.specs.declared.transition.Transition.{Transition}
 use Rattle.bvlc_npdu.specs.declared.reading.Incoming.{Incoming}
 use Rattle.bvlc_npdu.specs.Reading.{incoming_at}
 use Rattle.apdu_frame.specs.declared.apdu.Apdu.{Apdu}
-use Rattle.apdu_frame.specs.declared.apdu.Apdu.TheVariants.{Request, Segmented, Unconfirmed}
+use Rattle.apdu_frame.specs.declared.apdu.Apdu.TheVariants.{Request, Segmented, Unconfirmed, SimpleAck, Error as ErrorAnswer, Reject as RejectAnswer, Abort as AbortAnswer}
 use Rattle.apdu_frame.specs.Reading.{apdu_of}
 use Rattle.apdu_frame.specs.Writing.{written_unconfirmed}
 use Rattle.service_parameters.specs.declared.malformed.Malformed.{Malformed}
@@ -30,9 +30,10 @@ use Rattle.object_table.specs.declared.faults.WriteFault.{WriteFault}
 use Rattle.object_table.specs.declared.faults.WriteFault.TheVariants as write_faults
 use Rattle.object_table.specs.Rows.{row_of}
 use Rattle.object_table.specs.Verdicts.{checked_fault, checked_set}
+use Rattle.outbox.specs.Outboxes.{has_in_flight, is_idle}
 use Rattle.alarm_core.specs.declared.content.ReadFault.{ReadFault}
 use Rattle.alarm_core.specs.declared.content.ReadFault.TheVariants as read_faults
-use Rattle.alarm_core.specs.declared.event.Act.TheVariants.{Write, Ack}
+use Rattle.alarm_core.specs.declared.event.Act.TheVariants.{Write, Ack, Pump as Pumped, Answer}
 use Rattle.alarm_core.specs.declared.event.Event.{Event}
 use Rattle.alarm_core.specs.Allowed.{IsAllowed}
 use Rattle.alarm_core.specs.declared.site.Site.{Site}
@@ -57,6 +58,13 @@ tick_with (transition ∷ transitions) moment = Enter (tick_at moment) None None
 
 abbrev pub tick_decision : State → ℕ → Decision
 tick_decision state moment = tick_with (next_transitions (raised state.last_moment (tick_at moment)) state) moment
+
+-- a pump is an event where a notification would be sent or finished
+abbrev pub pump_at : ℕ → Event
+pump_at moment = record { moment = moment; act = Pumped }
+
+abbrev pub pump_decision : State → ℕ → Decision
+pump_decision state moment = if is_idle (max moment state.last_moment) state.outbox then Idle else Enter (pump_at moment) None None
 
 abbrev pub write_at : ℕ → Change → Event
 write_at moment change = record { moment = moment; act = Write change }
@@ -145,6 +153,35 @@ who_is_decision site peer parameters = if asks (who_is_of parameters) site.devic
 abbrev pub unconfirmed_decision : Site → Address → ℕ → List ℕ → Decision
 unconfirmed_decision site peer service parameters = if service == 8 then who_is_decision site peer parameters else Ignore
 
+-- the service of confirmed notifications (13.8)
+abbrev pub confirmed_event_notification : ℕ
+confirmed_event_notification = 2
+
+-- the numbers of the PDUs that answer a confirmed request without a result (20.1.4, 20.1.7 to 20.1.9)
+abbrev pub simple_ack_pdu : ℕ
+simple_ack_pdu = 2
+
+abbrev pub error_pdu : ℕ
+error_pdu = 5
+
+abbrev pub reject_pdu : ℕ
+reject_pdu = 6
+
+abbrev pub abort_pdu : ℕ
+abort_pdu = 7
+
+abbrev pub answer_at : ℕ → Address → ℕ → ℕ → Event
+answer_at moment peer invoke kind = record { moment = moment; act = Answer peer invoke kind }
+
+-- an answer is an event where a confirmed notification to its peer is in flight with its invoke ID (5.4.4)
+abbrev pub answer_decision : State → ℕ → Address → ℕ → ℕ → Decision
+answer_decision state moment peer invoke kind = if has_in_flight peer invoke state.outbox then Enter (answer_at moment peer invoke kind) None None else Ignore
+
+-- one that names its service answers a notification where that is the service of confirmed notifications
+abbrev pub named_answer_decision : State → ℕ → Address → ℕ → ℕ → ℕ → Decision
+named_answer_decision state moment peer invoke service kind =
+    if service == confirmed_event_notification then answer_decision state moment peer invoke kind else Ignore
+
 abbrev pub asker_of : Address → ℕ → ℕ → ℕ → Asker
 asker_of peer max_apdu invoke service = record { peer = peer; max_apdu = max_apdu; invoke = invoke; service = service }
 
@@ -153,6 +190,10 @@ abbrev pub apdu_decision : State → ℕ → Address → List ℕ → Apdu → D
 apdu_decision state moment peer octets (Request max_apdu invoke service start) = request_decision state moment (asker_of peer max_apdu invoke service) (drop start octets)
 apdu_decision state moment peer octets (Segmented invoke) = Reply (abort_to peer invoke segmentation_not_supported)
 apdu_decision state moment peer octets (Unconfirmed service start) = unconfirmed_decision state.site peer service (drop start octets)
+apdu_decision state moment peer octets (SimpleAck invoke service) = named_answer_decision state moment peer invoke service simple_ack_pdu
+apdu_decision state moment peer octets (ErrorAnswer invoke service) = named_answer_decision state moment peer invoke service error_pdu
+apdu_decision state moment peer octets (RejectAnswer invoke) = answer_decision state moment peer invoke reject_pdu
+apdu_decision state moment peer octets (AbortAnswer invoke) = answer_decision state moment peer invoke abort_pdu
 apdu_decision state moment peer octets header = Ignore
 
 abbrev pub incoming_decision : State → ℕ → List ℕ → Option Incoming → Decision
@@ -163,7 +204,7 @@ incoming_decision state moment octets (Some incoming) =
 -- what becomes of an input at a moment
 abbrev pub decision_on : State → Input → ℕ → Decision
 decision_on state Tick moment = tick_decision state moment
-decision_on state Pump moment = Idle
+decision_on state Pump moment = pump_decision state moment
 decision_on state (Set object value) moment = field_decision moment (by_kind state object (checked_set state.rows object value))
 decision_on state (Fault object reliability) moment = field_decision moment (by_kind state object (checked_fault state.rows object reliability))
 decision_on state (Datagram peer octets) moment = incoming_decision state moment octets (incoming_at peer octets)

@@ -1,10 +1,11 @@
 ghost use Rattle.std.specs.Prelude.{◌≡◌, ◌≤◌, ℕ, IfOk, drop, length};
 ghost use Rattle.apdu_frame.specs.Reading.{apdu_of};
-ghost use Rattle.service_desk.specs.Decisions.{EntersAllowed, apdu_decision, incoming_decision, request_decision, unconfirmed_decision};
+ghost use Rattle.service_desk.specs.Decisions.{EntersAllowed, apdu_decision, asker_of, incoming_decision, request_decision, unconfirmed_decision};
 ghost use Rattle.bvlc_npdu.specs.Reading.{incoming_at};
 
 use crate::Decision;
 use crate::acknowledging::acknowledge;
+use crate::answering::{answer_decision, named_answer_decision};
 use crate::reading::read_property;
 use crate::replies::{Asker, abort_to};
 use crate::who_is::who_is;
@@ -14,6 +15,18 @@ use apdu_frame::{Apdu, read_apdu};
 use bac_values::{NoMemory, Peer};
 use bvlc_npdu::unwrap;
 use std::alloc::Global;
+
+// The numbers of the PDUs that answer a request without a result: of a SimpleACK (ANSI/ASHRAE 135-2020, 20.1.4),
+const SIMPLE_ACK: u8 = 2;
+
+// an Error (20.1.7),
+const ERROR: u8 = 5;
+
+// a Reject (20.1.8),
+const REJECT: u8 = 6;
+
+// and an Abort (20.1.9).
+const ABORT: u8 = 7;
 
 // A confirmed request, by its service.
 fn request_decision(
@@ -54,6 +67,17 @@ fn unconfirmed_decision(
     }
 }
 
+fn asker_of(peer: Peer, max_apdu: u16, invoke: u8, service: u8) -> Asker
+    ensures asker { result ≡ asker_of peer max_apdu invoke service }
+{
+    Asker {
+        peer,
+        max_apdu,
+        invoke,
+        service,
+    }
+}
+
 // An APDU of a peer.
 fn apdu_decision(
     alloc: Global,
@@ -72,12 +96,7 @@ fn apdu_decision(
             service,
             start,
         } => {
-            let asker = Asker {
-                peer,
-                max_apdu,
-                invoke,
-                service,
-            };
+            let asker = asker_of(peer, max_apdu, invoke, service);
             request_decision(alloc, core, moment, &asker, &octets[start..])
         }
         Apdu::Segmented { invoke } => Ok(Decision::Reply {
@@ -86,7 +105,15 @@ fn apdu_decision(
         Apdu::Unconfirmed { service, start } => {
             unconfirmed_decision(alloc, core, peer, service, &octets[start..])
         }
-        _ => Ok(Decision::Ignore),
+        Apdu::SimpleAck { invoke, service } => Ok(named_answer_decision(
+            core, moment, peer, invoke, service, SIMPLE_ACK,
+        )),
+        Apdu::Error { invoke, service } => Ok(named_answer_decision(
+            core, moment, peer, invoke, service, ERROR,
+        )),
+        Apdu::Reject { invoke } => Ok(answer_decision(core, moment, peer, invoke, REJECT)),
+        Apdu::Abort { invoke } => Ok(answer_decision(core, moment, peer, invoke, ABORT)),
+        Apdu::Other => Ok(Decision::Ignore),
     }
 }
 

@@ -3,7 +3,7 @@ ghost use Rattle.bac_values.specs.Moments.{IsMoment};
 ghost use Rattle.bac_values.specs.declared.input.SetFault.{SetFault as Fault};
 ghost use Rattle.object_table.specs.declared.change.Change.{Change as Changed};
 ghost use Rattle.object_table.specs.Verdicts.{checked_fault, checked_set};
-ghost use Rattle.service_desk.specs.Decisions.{EntersAllowed, by_kind, decision_on, field_decision, has_no_value, tick_decision};
+ghost use Rattle.service_desk.specs.Decisions.{EntersAllowed, by_kind, decision_on, field_decision, has_no_value, pump_decision, tick_decision};
 
 use crate::Decision;
 use crate::datagrams::datagram_decision;
@@ -80,6 +80,24 @@ fn tick_decision(core: &Core, moment: u64) -> Decision
     }
 }
 
+fn pump_decision(core: &Core, moment: u64) -> Decision
+    requires moment { IsMoment moment }
+    ensures decision { result ≡ pump_decision core.now moment }
+    ensures allowed { EntersAllowed core.now moment result }
+{
+    if core.idle_pump(moment) {
+        return Decision::Idle;
+    }
+    Decision::Enter {
+        event: Event {
+            moment,
+            act: Act::Pump,
+        },
+        reply: None,
+        full: None,
+    }
+}
+
 /// What becomes of an input at a moment.
 pub fn decide(alloc: Global, core: &Core, input: &Input, moment: u64) -> Result<Decision, NoMemory>
     requires moment { IsMoment moment }
@@ -88,7 +106,7 @@ pub fn decide(alloc: Global, core: &Core, input: &Input, moment: u64) -> Result<
 {
     match input {
         Input::Tick => Ok(tick_decision(core, moment)),
-        Input::Pump => Ok(Decision::Idle),
+        Input::Pump => Ok(pump_decision(core, moment)),
         Input::Set { object, value } => set_decision(core, moment, *object, value),
         Input::Fault {
             object,

@@ -4,6 +4,7 @@
 #![tactic(auto)]
 
 mod acknowledging;
+mod answering;
 mod datagrams;
 mod deciding;
 mod decision;

@@ -1,4 +1,4 @@
-use Rattle.std.proofs.Common.{◌≡◌, ◌<◌, [], length, map, IsTrue, false, true, ap, ◌∙◌, subst, sym, rules, arith}
+use Rattle.std.proofs.Common.{◌≡◌, ◌<◌, [], length, IsTrue, false, true, ap, ◌∙◌, subst, arith}
 use Rattle.std.specs.List.{flat_map}
 use Rattle.alarm_core.specs.Moves.{moved_as, moved_at}
 use Rattle.alarm_core.specs.Next.{change_at}

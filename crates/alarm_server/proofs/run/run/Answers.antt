@@ -1,5 +1,4 @@
 use Rattle.std.proofs.Common.{◌≡◌, Some, Err, ap, ◌∙◌, map, string_bytes, rules}
-use Rattle.alarm_server.specs.declared.status.Status.TheVariants.{ScriptRefused}
 use Rattle.alarm_server.specs.Commands.{command_of}
 use Rattle.alarm_server.proofs.Outcomes.{nothing_out, refused_as}
 use Rattle.alarm_server.proofs.run.run.Goals as goal

@@ -1,19 +1,28 @@
-use Rattle.std.proofs.Common.{◌≡◌, ◌+◌, ◌++◌, ◌∷◌, [], map, ap, ◌∙◌, rules}
+use Rattle.std.proofs.Common.{◌≡◌, ◌+◌, ◌++◌, ◌∷◌, [], Ok, map, ◌∙◌, rules}
 use Rattle.bac_values.specs.declared.report.ReportLine.TheVariants.{Entered, Change}
 use Rattle.alarm_core.specs.History.{moved_by, raised}
-use Rattle.alarm_core.specs.Next.{next_transitions}
-use Rattle.alarm_server.specs.Session.{reply_lines}
-use Rattle.alarm_server.proofs.PieceLines.{entered_is}
+use Rattle.alarm_core.specs.Next.{next_sends, next_transitions}
+use Rattle.alarm_core.specs.Verdicts.{step_verdict}
+use Rattle.alarm_server.specs.Session.{reply_lines, send_line}
+use Rattle.alarm_server.proofs.PieceLines.{fits_is}
 use Rattle.alarm_server.proofs.session.enter.Goals as goal
 
 pub returns-clause-piece : goal.returns-clause-piece
 returns-clause-piece c =
     let state = c.args.core.now in
     let event = raised state.last_moment c.args.event.now in
-    let outcome = c.in_ok-outcome.outcome in
+    let moment = c.in-Ok.outcome.moment in
+    let moved = c.as_slice.result.now in
+    let gone = c.into_vec.result.items in
     let number = c.args.number in
-    let events : c.events.result ≡ state.events + 1 = search rules in
-    let moment : outcome.moment ≡ event.moment = search rules in
-    let moves : outcome.moves ≡ map moved_by (next_transitions event state) = search rules in
-    let lines : c.add_reply.new.piece.items ≡ ((Entered number c.events.result outcome.moment ∷ []) ++ map (λ moved. Change number moved) outcome.moves) ++ reply_lines number c.args.reply = search rules in
-    lines ∙ entered_is number state event c.args.reply outcome.moves c.events.result outcome.moment events moment moves
+    let same_events : c.events.result ≡ state.events + 1 = search rules in
+    let same_moment : moment ≡ event.moment = search rules in
+    let same_moves : moved ≡ map moved_by (next_transitions event state) = search rules in
+    let same_sends : gone ≡ next_sends event state = search rules in
+    let fits : step_verdict event state ≡ Ok tt = search rules in
+    let first : c.in_ok-piece.piece.items ≡ Entered number c.events.result moment ∷ [] = c.in_ok-piece.ensures.single in
+    let changes : c.add_changes.new.piece.items ≡ c.in_ok-piece.piece.items ++ map (λ moved. Change number moved) moved = c.in_ok-add_changes.ensures.changes in
+    let sends : c.add_sends.new.piece.items ≡ c.add_changes.new.piece.items ++ map (send_line number) gone = c.in_ok-add_sends.ensures.sends in
+    let reply : c.add_reply.new.piece.items ≡ c.add_sends.new.piece.items ++ reply_lines number c.args.reply = c.in_ok-add_reply.ensures.reply in
+    let lines : c.add_reply.new.piece.items ≡ (((Entered number c.events.result moment ∷ []) ++ map (λ moved. Change number moved) moved) ++ map (send_line number) gone) ++ reply_lines number c.args.reply = cc in
+    lines ∙ fits_is number state event c.args.reply c.args.full (step_verdict event state) moved gone c.events.result moment fits same_events same_moment same_moves same_sends

@@ -1,13 +1,12 @@
-use Rattle.std.proofs.Common.{◌≡◌, ◌≤◌, ◌+◌, ◌∷◌, [], Err, ap, subst, ◌∙◌, arith, refl, sym}
+use Rattle.std.proofs.Common.{◌≡◌, Err, ap, subst, ◌∙◌, arith, refl}
 use Rattle.std.proofs.lemmas.Result.{err_from_is_err_and}
-use Rattle.ground_io.specs.Trace.{Adds, WhereTold}
+use Rattle.ground_io.specs.Trace.{WhereTold}
 use Rattle.script_lines.specs.declared.line.Grammar.TheVariants.{Session}
 use Rattle.script_lines.specs.Reading.{octets_to_come}
 use Rattle.script_lines.specs.Script.{ReadsLine}
 use Rattle.alarm_core.specs.Next.{first_state}
 use Rattle.alarm_server.specs.declared.status.Status.TheVariants.{Done, NoMemory, ScriptRefused, ReadFault}
-use Rattle.alarm_server.specs.Emission.{SendsUpTo, sent}
-use Rattle.alarm_server.specs.Session.{end_piece, piece_of, piece_text, state_with}
+use Rattle.alarm_server.specs.Session.{end_piece, piece_of}
 use Rattle.alarm_server.specs.Status.{of_line_fault, of_unsent}
 use Rattle.alarm_server.proofs.Progress.{grammar_fault, read_fault}
 use Rattle.alarm_server.proofs.Played.{line_adds}

@@ -1,8 +1,7 @@
-use Rattle.std.proofs.Common.{◌≡◌, ◌↔◌, ◌∙◌, [], sym, rules, max, ap, IsTrue}
-use Rattle.std.specs.List.{flat_map}
+use Rattle.std.proofs.Common.{◌≡◌, ◌↔◌, [], rules, max, IsTrue}
 use Rattle.alarm_core.specs.declared.event.Act.TheVariants.{Tick}
 use Rattle.alarm_core.specs.History.{raised, tick_at}
-use Rattle.alarm_core.specs.Moves.{moved_at, moved_with}
+use Rattle.alarm_core.specs.Moves.{moved_with}
 use Rattle.alarm_core.specs.Sights.{site_stamp}
 use Rattle.alarm_core.proofs.Moved.{none_moved}
 use Rattle.alarm_core.proofs.Standing.{idle-adds_none}

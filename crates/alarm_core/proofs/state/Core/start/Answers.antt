@@ -1,10 +1,36 @@
-use Rattle.std.proofs.Common.{◌≡◌, List, ℕ, map, filter, ap, ◌∙◌, rules}
+use Rattle.std.proofs.Common.{◌≡◌, ◌∙◌, List, [], map, filter, sym, ap, subst, rules}
 use Rattle.bac_values.specs.declared.stamp.Stamp.{Stamp}
 use Rattle.object_table.specs.declared.row.Row.{Row}
-use Rattle.alarm_core.specs.Next.{first_state, first_with}
+use Rattle.outbox.specs.Outboxes.{new_outbox, peers_of}
+use Rattle.outbox.proofs.Making.{peers_empty}
+use Rattle.alarm_core.specs.declared.site.ClassSite.{ClassSite}
+use Rattle.alarm_core.specs.Classes.{first_classes, known_peers_of, peers_in, peers_with}
+use Rattle.alarm_core.specs.Next.{first_with}
 use Rattle.alarm_core.specs.Sights.{ack_required_of, first_rows, is_detecting, site_stamp}
+use Rattle.alarm_core.specs.Sites.{IsSite}
+use Rattle.alarm_core.proofs.Acted.{started}
 use Rattle.alarm_core.proofs.Standing.{represents_first}
+use Rattle.alarm_core.proofs.ToldKnown.{first_known}
 use Rattle.alarm_core.proofs.state.Core.start.Goals as goal
+
+pub invariant_of-result : goal.invariant_of-result
+invariant_of-result c =
+    let site = c.args.site.now in
+    let same : c.in_ok-site.site ≡ site = search rules in
+    let sites : c.as_slice-2.result.now ≡ site.classes = c.as_slice-2.ensures.same in
+    let classes : c.in_ok-classes.classes.items ≡ first_classes site = c.in_ok-classes.ensures.classes ∙ ap (map (λ (listed : ClassSite). listed.class)) sites in
+    let listed : c.in_ok-peers_in.field-0.items ≡ peers_in c.in_ok-classes.classes.items = search rules in
+    let peers : c.in_ok-peers.peers.items ≡ peers_with c.in_ok-peers_in.field-0.items [] = search rules in
+    let known : c.in_ok-peers.peers.items ≡ known_peers_of site [] = peers ∙ ap (λ ps. peers_with ps []) (listed ∙ ap peers_in classes) in
+    let outbox : c.in_ok-outbox.outbox ≡ new_outbox c.in_ok-peers.peers.items site.device.outbox site.device.apdu_timeout site.device.retries = search rules in
+    record {
+      site = subst IsSite (sym same) c.requires.site;
+      zone = c.zone_of-zone.ensures.zone ∙ sym (ap (λ s. s.device.zone_minutes) same);
+      moment = c.requires.site.start;
+      limit = ap (λ o. o.limit) outbox ∙ sym (ap (λ s. s.device.outbox) same);
+      peers = sym (ap (λ o. peers_of o.posts) outbox ∙ peers_empty c.in_ok-peers.peers.items);
+      known = first_known site c.in_ok-peers.peers.items c.in_ok-classes.classes.items known classes;
+    }
 
 pub returns-clause-starts : goal.returns-clause-starts
 returns-clause-starts c =
@@ -16,9 +42,14 @@ returns-clause-starts c =
     let seen : c.rows.result.now ≡ first_rows site = search rules in
     let stamp : c.stamp_of.result ≡ site_stamp site start = search rules in
     let alarms = c.in_ok-alarms.ensures.alarms ∙ (ap (tracked c.stamp_of.result) seen ∙ ap (λ s. tracked s (first_rows site)) stamp) in
-    ap (λ s. record { site = s; events = 0; last_moment = start; rows = c.in_ok-table.table; alarms = c.in_ok-alarms.alarms.items }) same
-    ∙ (ap (λ rs. record { site = site; events = 0; last_moment = start; rows = rs; alarms = c.in_ok-alarms.alarms.items }) rows
-    ∙ ap (λ xs. record { site = site; events = 0; last_moment = start; rows = first_rows site; alarms = xs }) alarms)
+    let sites : c.as_slice-2.result.now ≡ site.classes = c.as_slice-2.ensures.same in
+    let classes : c.in_ok-classes.classes.items ≡ first_classes site = c.in_ok-classes.ensures.classes ∙ ap (map (λ (listed : ClassSite). listed.class)) sites in
+    let listed : c.in_ok-peers_in.field-0.items ≡ peers_in c.in_ok-classes.classes.items = search rules in
+    let peers : c.in_ok-peers.peers.items ≡ peers_with c.in_ok-peers_in.field-0.items [] = search rules in
+    let known : c.in_ok-peers.peers.items ≡ known_peers_of site [] = peers ∙ ap (λ ps. peers_with ps []) (listed ∙ ap peers_in classes) in
+    let outbox : c.in_ok-outbox.outbox ≡ new_outbox c.in_ok-peers.peers.items site.device.outbox site.device.apdu_timeout site.device.retries = search rules in
+    started site c.in_ok-site.site c.in_ok-table.table c.in_ok-alarms.alarms.items c.in_ok-classes.classes.items c.in_ok-outbox.outbox
+    same rows alarms classes (outbox ∙ ap (λ ps. new_outbox ps site.device.outbox site.device.apdu_timeout site.device.retries) known)
 
 pub returns-clause-represents : goal.returns-clause-represents
 returns-clause-represents c = represents_first c.args.site.now _ (returns-clause-starts c)

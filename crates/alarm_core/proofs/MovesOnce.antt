@@ -1,0 +1,146 @@
+-- An object that is in FAULT only where its reliability shows a fault moves at most once as it is looked at.
+use Rattle.std.proofs.Common.{◌≡◌, ◌≤◌, Bool, true, false, true≢false, ◌==◌, ◌&&◌, if◌then◌else◌, Option, Some, None, [], length, refl, sym, ap, subst, inl, inr, arith}
+use Rattle.std.specs.List.{All}
+use Rattle.std.specs.Option.{IfSome}
+use Rattle.std.proofs.lemmas.Bool.{cases_Bool}
+use Rattle.std.proofs.lemmas.List.Elements.{All-from_recursion, All-nil}
+use Rattle.bac_values.specs.Reliabilities.{number_of_reliability}
+use Rattle.bac_values.specs.declared.event_state.EventState.{EventState}
+use Rattle.bac_values.specs.declared.event_state.EventState.TheVariants.{Normal, Fault, Offnormal, HighLimit, LowLimit}
+use Rattle.bac_values.specs.declared.reliability.Reliability.{Reliability}
+use Rattle.algorithm_rules.specs.Rules.{command_rules, limit_rules, match_rules, range_rules, rules_of}
+use Rattle.algorithm_rules.specs.declared.table.Algorithm.{Algorithm}
+use Rattle.algorithm_rules.specs.declared.table.Algorithm.TheVariants.{ChangeOfBitstring, ChangeOfState, CommandFailure, UnsignedRange, SignedOutOfRange, UnsignedOutOfRange, ChangeOfCharacterstring}
+use Rattle.algorithm_rules.specs.declared.table.Rule.{Rule}
+use Rattle.event_machine.specs.Detection.{Detection, and_then, enters, fault_by, fault_target, inhibited_step, is_fault, is_normal, later_step, look_step, rule_by, rule_held, sees, stays}
+use Rattle.event_machine.specs.Held.{is_held}
+use Rattle.event_machine.specs.Points.{Point}
+use Rattle.alarm_core.proofs.NotesGo.{found}
+
+-- ---- no rule leads to FAULT
+
+IsNotFault : Rule → Type 0
+IsNotFault rule = is_fault rule.target ≡ false
+
+match_leads : (state : EventState) → All IsNotFault (match_rules state)
+unfolding IsNotFault
+match_leads Normal = All-from_recursion IsNotFault (match_rules Normal) (refl, tt)
+match_leads Offnormal = All-from_recursion IsNotFault (match_rules Offnormal) (refl, (refl, tt))
+match_leads _ = All-nil IsNotFault
+
+command_leads : (state : EventState) → All IsNotFault (command_rules state)
+unfolding IsNotFault
+command_leads Normal = All-from_recursion IsNotFault (command_rules Normal) (refl, tt)
+command_leads Offnormal = All-from_recursion IsNotFault (command_rules Offnormal) (refl, tt)
+command_leads _ = All-nil IsNotFault
+
+limit_leads : (state : EventState) → All IsNotFault (limit_rules state)
+unfolding IsNotFault
+limit_leads Normal = All-from_recursion IsNotFault (limit_rules Normal) (refl, (refl, tt))
+limit_leads HighLimit = All-from_recursion IsNotFault (limit_rules HighLimit) (refl, (refl, (refl, tt)))
+limit_leads LowLimit = All-from_recursion IsNotFault (limit_rules LowLimit) (refl, (refl, (refl, tt)))
+limit_leads _ = All-nil IsNotFault
+
+range_leads : (state : EventState) → All IsNotFault (range_rules state)
+unfolding IsNotFault
+range_leads Normal = All-from_recursion IsNotFault (range_rules Normal) (refl, (refl, tt))
+range_leads HighLimit = All-from_recursion IsNotFault (range_rules HighLimit) (refl, (refl, tt))
+range_leads LowLimit = All-from_recursion IsNotFault (range_rules LowLimit) (refl, (refl, tt))
+range_leads _ = All-nil IsNotFault
+
+rules_lead : (algorithm : Algorithm) (state : EventState) → All IsNotFault (rules_of algorithm state)
+rules_lead ChangeOfState state = match_leads state
+rules_lead ChangeOfBitstring state = match_leads state
+rules_lead ChangeOfCharacterstring state = match_leads state
+rules_lead CommandFailure state = command_leads state
+rules_lead SignedOutOfRange state = limit_leads state
+rules_lead UnsignedOutOfRange state = limit_leads state
+rules_lead UnsignedRange state = range_leads state
+
+held_leads : (algorithm : Algorithm) (d : Detection) → IfSome (rule_held algorithm d) IsNotFault
+held_leads algorithm d = found IsNotFault (λ rule. is_held rule d.cause d.newest d.older) (rules_of algorithm d.state) (rules_lead algorithm d.state)
+
+-- ---- behind the fault step
+
+rule_few : (held : Option Rule) (d : Detection) → length (rule_by held d).moves ≤ 1
+rule_few None d = omega arith
+rule_few (Some rule) d = omega arith
+
+inhibited_few : (normal : Bool) (d : Detection) → length (if normal then stays (record d { older = [] }) else enters Normal false d).moves ≤ 1
+inhibited_few true d = omega arith
+inhibited_few false d = omega arith
+
+free_few : (inhibited : Bool) (held : Option Rule) (d : Detection) → length (if inhibited then inhibited_step d else rule_by held d).moves ≤ 1
+free_few true held d = inhibited_few (is_normal d.state) d
+free_few false held d = rule_few held d
+
+later_few : (fault : Bool) (held : Option Rule) (d : Detection) → length (if fault then stays d else (if d.newest.inhibited then inhibited_step d else rule_by held d)).moves ≤ 1
+later_few true held d = omega arith
+later_few false held d = free_few d.newest.inhibited held d
+
+rule_free : (held : Option Rule) (d : Detection) → IfSome held IsNotFault → is_fault d.state ≡ false → is_fault (rule_by held d).detection.state ≡ false
+unfolding IsNotFault
+rule_free None d leads free = free
+rule_free (Some rule) d leads free = leads
+
+inhibited_free : (normal : Bool) (d : Detection) → is_fault d.state ≡ false → is_fault (if normal then stays (record d { older = [] }) else enters Normal false d).detection.state ≡ false
+inhibited_free true d free = free
+inhibited_free false d free = refl
+
+free_free : (inhibited : Bool) (held : Option Rule) (d : Detection) → IfSome held IsNotFault → is_fault d.state ≡ false → is_fault (if inhibited then inhibited_step d else rule_by held d).detection.state ≡ false
+free_free true held d leads free = inhibited_free (is_normal d.state) d free
+free_free false held d leads free = rule_free held d leads free
+
+later_free : (fault : Bool) (held : Option Rule) (d : Detection) → IfSome held IsNotFault → is_fault d.state ≡ false →
+    is_fault (if fault then stays d else (if d.newest.inhibited then inhibited_step d else rule_by held d)).detection.state ≡ false
+later_free true held d leads free = free
+later_free false held d leads free = free_free d.newest.inhibited held d leads free
+
+-- ---- the whole look
+
+-- an object is in FAULT only where its reliability shows a fault
+abbrev pub FaultShows : EventState → Reliability → Type 0
+FaultShows state reliability = is_fault state ≡ true → (number_of_reliability reliability == 0) ≡ false
+
+OnlyFault : Option EventState → Type 0
+OnlyFault to = IfSome to (λ state. state ≡ Fault)
+
+target_by : (none fault same : Bool) → (fault ≡ true → none ≡ false) → OnlyFault (if none then (if fault then Some Normal else None) else (if fault && same then None else Some Fault))
+unfolding OnlyFault
+target_by true true same shows = absurd (true≢false (shows refl))
+target_by true false same shows = tt
+target_by false true true shows = tt
+target_by false true false shows = refl
+target_by false false same shows = refl
+
+fault_or_none : (now last : Reliability) (state : EventState) → FaultShows state now → OnlyFault (fault_target now last state)
+fault_or_none now last state shows = target_by (number_of_reliability now == 0) (is_fault state) (number_of_reliability now == number_of_reliability last) shows
+
+once_by : (to : Option EventState) → OnlyFault to → (algorithm : Algorithm) (d : Detection) → length (and_then (fault_by to d) (later_step algorithm)).moves ≤ 1
+unfolding OnlyFault
+once_by None only algorithm d = later_few (is_fault d.state) (rule_held algorithm d) d
+once_by (Some to) only algorithm d = subst (λ state. length (and_then (fault_by (Some state) d) (later_step algorithm)).moves ≤ 1) (sym only) (omega arith)
+
+pub moves_once : (algorithm : Algorithm) (point : Point) (d : Detection) → FaultShows d.state point.reliability → length (look_step algorithm point d).moves ≤ 1
+moves_once algorithm point d shows =
+    once_by (fault_target point.reliability d.reliability d.state) (fault_or_none point.reliability d.reliability d.state shows) algorithm (sees point d)
+
+-- where there is no fault, the fault step ends FAULT
+sound_free : (fault : Bool) (d : Detection) → is_fault d.state ≡ fault → is_fault (fault_by (if fault then Some Normal else None) d).detection.state ≡ false
+sound_free true d is = refl
+sound_free false d is = is
+
+look_free : (algorithm : Algorithm) (point : Point) (d : Detection) → (number_of_reliability point.reliability == 0) ≡ true → is_fault (look_step algorithm point d).detection.state ≡ false
+look_free algorithm point d none =
+    let to : fault_target point.reliability d.reliability d.state ≡ (if is_fault d.state then Some Normal else None) =
+    ap (λ b. if b then (if is_fault d.state then Some Normal else None) else (if is_fault d.state && number_of_reliability point.reliability == number_of_reliability d.reliability then None else Some Fault)) none in
+    let before = (fault_by (fault_target point.reliability d.reliability d.state) (sees point d)).detection in
+    let free : is_fault before.state ≡ false =
+    subst (λ target. is_fault (fault_by target (sees point d)).detection.state ≡ false) (sym to) (sound_free (is_fault d.state) (sees point d) refl) in
+    later_free (is_fault before.state) (rule_held algorithm before) before (held_leads algorithm before) free
+
+pub look_shows : (algorithm : Algorithm) (point : Point) (d : Detection) → FaultShows (look_step algorithm point d).detection.state point.reliability
+look_shows algorithm point d in_fault = elim (cases_Bool (number_of_reliability point.reliability == 0)) [
+  | inl none ↦ let free = look_free algorithm point d none in absurd cc
+  | inr shows ↦ shows
+]

@@ -1,0 +1,63 @@
+-- The notification classes of a site after a history (ANSI/ASHRAE 135-2020, 12.21), and the peers that it knows.
+use Rattle.std.specs.Prelude.{ℕ, ◌==◌, Bool, false, if◌then◌else◌, Option, Some, None, List, [], ◌∷◌, ◌++◌, map, filter, find}
+use Rattle.std.specs.List.{flat_map, list_any}
+use Rattle.std.specs.Ordering.{is_lt}
+use Rattle.bac_values.specs.Address.{Address}
+use Rattle.notify_class.specs.declared.class.Class.{Class}
+use Rattle.notify_class.specs.Edits.{peers_of}
+use Rattle.notify_class.specs.Recipients.{ListedRecipient}
+use Rattle.outbox.specs.Peers.{is_same, peer_order}
+use Rattle.alarm_core.specs.declared.event.Act.{Act}
+use Rattle.alarm_core.specs.declared.event.Act.TheVariants.{Edit}
+use Rattle.alarm_core.specs.declared.event.Event.{Event}
+use Rattle.alarm_core.specs.declared.site.ClassSite.{ClassSite}
+use Rattle.alarm_core.specs.declared.site.Site.{Site}
+
+abbrev pub first_classes : Site → List Class
+first_classes site = map (λ (listed : ClassSite). listed.class) site.classes
+
+-- a class with another Recipient_List, where it is the one that is edited
+abbrev pub edited : ℕ → List ListedRecipient → Class → Class
+edited number recipients class = if class.instance == number then record class { destinations = recipients } else class
+
+abbrev pub classes_with : Act → List Class → List Class
+classes_with (Edit number recipients) classes = map (edited number recipients) classes
+classes_with act classes = classes
+
+-- the classes: the site's, each with the list of its last edit
+abbrev pub classes_after : Site → List Event → List Class
+classes_after site [] = first_classes site
+classes_after site (event ∷ older) = classes_with event.act (classes_after site older)
+
+-- whether a class that an object may have is the one with a number
+abbrev pub is_member : Option ℕ → ℕ → Bool
+is_member (Some class) number = class == number
+is_member None number = false
+
+-- the class with a number
+abbrev pub class_in : ℕ → List Class → Option Class
+class_in number classes = find (λ (class : Class). class.instance == number) classes
+
+-- the peers of the lists of some classes
+abbrev pub peers_in : List Class → List Address
+peers_in classes = flat_map (λ (class : Class). peers_of class.destinations) classes
+
+-- some peers that ascend, and one more at its place
+abbrev pub peer_with : Address → List Address → List Address
+peer_with peer known =
+    if list_any (λ other. is_same other peer) known then known
+    else filter (λ other. is_lt (peer_order other peer)) known ++ peer ∷ filter (λ other. is_lt (peer_order peer other)) known
+
+-- and others, one after the other
+abbrev pub peers_with : List Address → List Address → List Address
+peers_with [] known = known
+peers_with (peer ∷ others) known = peers_with others (peer_with peer known)
+
+abbrev pub learned_with : Act → List Address → List Address
+learned_with (Edit number recipients) known = peers_with (peers_of recipients) known
+learned_with act known = known
+
+-- the known peers, ascending: those of the site's lists, and those of every edit
+abbrev pub known_peers_of : Site → List Event → List Address
+known_peers_of site [] = peers_with (peers_in (first_classes site)) []
+known_peers_of site (event ∷ older) = learned_with event.act (known_peers_of site older)

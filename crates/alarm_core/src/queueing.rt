@@ -1,0 +1,42 @@
+ghost use Rattle.std.specs.Prelude.{◌≡◌, All, OnErr, OnOk};
+ghost use Rattle.outbox.specs.Outboxes.{AreKnown, peers_of, queued};
+ghost use Rattle.alarm_core.specs.Notes.{IsShort};
+ghost use Rattle.alarm_core.specs.Verdicts.{Answers, queue_verdict, refusal_of};
+
+use crate::StepFault;
+use bac_values::Note;
+use outbox::{Outbox, QueueFault};
+use std::alloc::Global;
+
+// Why an event isn't taken whose notes aren't queued.
+fn refusal_of(fault: QueueFault) -> StepFault
+    ensures refusal { result ≡ refusal_of fault }
+{
+    match fault {
+        QueueFault::Full { would, limit, .. } => StepFault::Full { would, limit },
+        QueueFault::NoMemory { .. } => StepFault::NoMemory,
+    }
+}
+
+/// Queues the notes of an event, all of them or none.
+pub(crate) fn queue_all(
+    alloc: Global,
+    outbox: &mut Outbox,
+    notes: Vec<Note>,
+) -> Result<(), StepFault>
+    requires known { AreKnown notes.items outbox.old.posts }
+    requires short { All IsShort notes.items }
+    ensures queued { OnOk result (outbox.new ≡ queued notes.items outbox.old) }
+    ensures same { OnErr result (outbox.new ≡ outbox.old) }
+    ensures peers { peers_of outbox.new.posts ≡ peers_of outbox.old.posts }
+    ensures verdict { Answers result (queue_verdict notes.items outbox.old) }
+{
+    // No site has objects and recipients for so many; an outbox couldn't count them.
+    if notes.len() >= 1 << 31 {
+        return Err(StepFault::NoMemory);
+    }
+    match outbox.queue(alloc, notes) {
+        Ok(()) => Ok(()),
+        Err(fault) => Err(refusal_of(fault)),
+    }
+}
