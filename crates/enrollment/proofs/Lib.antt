@@ -1,0 +1,5 @@
+pub mod Ordered
+pub mod Watched
+pub mod Places
+pub mod Taking
+pub mod Seen

@@ -1,0 +1,9 @@
+pub mod Enrollments
+pub mod Properties
+pub mod Verdicts
+pub mod Writes
+pub mod Watchers
+pub mod References
+pub mod Reliabilities
+pub mod Snapshots
+pub mod Laws

@@ -1,0 +1,167 @@
+ghost use Rattle.std.specs.Prelude.{◌≡◌, ◌↔◌, ◌≤◌, All, IfErr, IfOk, IfSome, IsNone, None, OnErr, length};
+ghost use Rattle.std.specs.Option.{option_copied, option_map};
+ghost use Rattle.algorithm_rules.specs.Facts.{facts_of};
+ghost use Rattle.object_table.specs.Rows.{Ascends, row_of};
+ghost use Rattle.enrollment.specs.Enrollments.{AscendById, IsEnrollment, StandsAt, site_of};
+ghost use Rattle.enrollment.specs.Reliabilities.{reliability_with};
+ghost use Rattle.enrollment.specs.Snapshots.{Holds, algorithm_with, facts_with};
+ghost use Rattle.enrollment.specs.Verdicts.{IsError, checked_write};
+ghost use Rattle.enrollment.specs.Watchers.{watchers};
+ghost use Rattle.enrollment.specs.Writes.{IsTaken, written};
+
+use crate::EnrollmentSite;
+use crate::references::References;
+use crate::reliabilities::reliability_of_enrollment;
+use crate::settings::put;
+use crate::snapshots::{snapshot_of_enrollment, snapshot_of_object};
+use crate::verdicts::{check_property, copy_of};
+use algorithm_rules::Snapshot;
+use bac_values::{NoMemory, ObjectId, PropertyId, Reliability, Value};
+use object_table::{Change, Table, What, WriteFault};
+use reliability_eval::reliability;
+use std::alloc::Global;
+use std::marker::Model;
+
+/// The event enrollments of a site, ascending by identifier, as the writes have left them. Contracts see their list. Only
+/// `new` takes memory.
+#[derive(Debug, Drop)]
+pub struct Enrollments {
+    rows: Vec<EnrollmentSite>,
+    references: References,
+}
+
+impl Model for Enrollments {
+    ghost use Rattle.std.specs.Prelude.{List};
+    ghost use Rattle.enrollment.specs.declared.enrollment_site.EnrollmentSite.{EnrollmentSite};
+    ghost use Rattle.enrollment.specs.References.{AreEnrollments};
+
+    ghost Value = { List EnrollmentSite };
+
+    ghost view = { λ enrollments. enrollments.rows.items };
+
+    ghost invariant = { λ enrollments. AreEnrollments enrollments.rows.items enrollments.references };
+}
+
+impl Enrollments {
+    /// The enrollments of a site.
+    pub fn new(alloc: Global, site: Vec<EnrollmentSite>) -> Result<Enrollments, NoMemory>
+        requires ascending { AscendById site.items }
+        requires allowed { All IsEnrollment site.items }
+        ensures rows { IfOk result (λ enrollments. enrollments ≡ site.items) }
+    {
+        let references = References::of(alloc, &site)?;
+        Ok(Enrollments {
+            rows: site,
+            references,
+        })
+    }
+
+    /// The enrollments, ascending.
+    pub fn rows(&self) -> &[EnrollmentSite]
+        ensures rows { result.now ≡ self.now }
+        ensures ascending { AscendById self.now }
+        ensures allowed { All IsEnrollment self.now }
+    {
+        self.rows.as_slice()
+    }
+
+    /// The enrollment with an identifier, if there is one. It takes as many looks as the number of enrollments has binary
+    /// digits.
+    pub fn row(&self, object: ObjectId) -> Option<&EnrollmentSite>
+        ensures row { option_copied result ≡ site_of object self.now }
+        ensures allowed { IfSome result (λ site. IsEnrollment site.now) }
+    {
+        match self.place_of(object) {
+            Ok(place) => Some(&self.rows[place]),
+            Err(_) => None,
+        }
+    }
+
+    /// The change that a write of a property makes, or the first error that applies to it: no such enrollment or property,
+    /// an index where there is no array or above its length, a property that can't be written, another type, and a value
+    /// that the property can't be.
+    pub fn check_write(
+        &self,
+        object: ObjectId,
+        property: PropertyId,
+        index: Option<u32>,
+        value: &Value,
+    ) -> Result<Change, WriteFault>
+        ensures verdict { result ≡ checked_write self.now object property.0 index value.now }
+        ensures error { IfErr result IsError }
+        ensures takes { IfOk result (λ change. IsTaken change self.now) }
+    {
+        if self.row(object).is_none() {
+            return Err(WriteFault::UNKNOWN_OBJECT);
+        }
+        check_property(property, index, value)?;
+        Ok(Change {
+            object,
+            what: What::Property {
+                property,
+                value: copy_of(value),
+            },
+        })
+    }
+
+    /// Makes a change that an enrollment takes, and gives the change that takes it back.
+    pub fn apply(&mut self, change: Change) -> Change
+        requires taken { IsTaken change self.old }
+        ensures rows { self.new ≡ written change self.old }
+        ensures undo { written result self.new ≡ self.old }
+        ensures takes { IsTaken result self.new }
+        ensures object { result.object ≡ change.object }
+    {
+        let Change { object, what } = change;
+        match self.place_of(object) {
+            Ok(place) => Change {
+                object,
+                what: put(&mut self.rows[place], what),
+            },
+            Err(_) => unreachable!(),
+        }
+    }
+
+    /// What the event algorithm of an enrollment or a value object looks at. There is nothing where the identifier is that of
+    /// neither, or the table lacks the object that the enrollment monitors.
+    pub fn snapshot_of<'a>(&self, table: &'a Table, object: ObjectId) -> Option<Snapshot<'a>>
+        ensures algorithm { IfSome result (λ snapshot. snapshot.algorithm ≡ algorithm_with object self.now) }
+        ensures facts { option_map facts_of result ≡ facts_with object self.now table.now }
+        ensures few { IfSome result (λ snapshot. length snapshot.alarm_values.now ≤ 32) }
+        ensures absent { Holds table.now self.now → IsNone result ↔ (site_of object self.now ≡ None) × (row_of object table.now ≡ None) }
+    {
+        match self.row(object) {
+            Some(site) => snapshot_of_enrollment(table, site),
+            None => match table.row(object) {
+                Some(row) => Some(snapshot_of_object(object, &row.site)),
+                None => None,
+            },
+        }
+    }
+
+    /// The reliability of an enrollment or a value object: that of a value object is its own, and an enrollment has a fault
+    /// where its monitored object or its feedback has one. There is no fault where the identifier is that of neither.
+    pub fn reliability_of(&self, table: &Table, object: ObjectId) -> Reliability
+        ensures reliability { result ≡ reliability_with object self.now table.now }
+    {
+        match self.row(object) {
+            Some(site) => reliability_of_enrollment(table, site),
+            None => reliability(table, object),
+        }
+    }
+
+    /// The enrollments that monitor an object or have it as their feedback, ascending, each once.
+    pub fn watchers_of(&self, object: ObjectId) -> &[ObjectId]
+        ensures watchers { result.now ≡ watchers object self.now }
+        ensures ascending { Ascends result.now }
+    {
+        self.references.watchers_of(object)
+    }
+
+    fn place_of(&self, object: ObjectId) -> Result<usize, usize>
+        ensures found { IfOk result (StandsAt object self.now) }
+        ensures absent { OnErr result (site_of object self.now ≡ None) }
+    {
+        self.rows.binary_search_by_key(&object, |site| site.object)
+    }
+}

@@ -1,0 +1,24 @@
+//! Event enrollments: the detection of events for the present values of other objects (ANSI/ASHRAE 135-2020, 12.12).
+//!
+//! An enrollment refers to one value object that it monitors, and under COMMAND_FAILURE to a second one, its feedback. What
+//! its algorithm looks at and how reliable it is come from a table of the value objects. The references never change, so
+//! the enrollments that refer to an object are found in an index.
+#![tactic(auto)]
+
+mod enrollment_property;
+mod enrollment_site;
+mod enrollments;
+mod flags;
+mod laws;
+mod references;
+mod reliabilities;
+mod settings;
+mod snapshots;
+#[cfg(test)]
+mod tests;
+mod verdicts;
+
+pub use enrollment_property::EnrollmentProperty;
+pub use enrollment_site::EnrollmentSite;
+pub use enrollments::Enrollments;
+pub use laws::takes_what_writes_make;
