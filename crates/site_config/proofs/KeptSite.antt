@@ -1,0 +1,217 @@
+-- The site of a text keeps to what a site keeps to.
+use Rattle.std.proofs.Common.{◌≡◌, ◌≤◌, ℕ, ℤ, pos, List, [], ◌∷◌, length, true, false, Bool, Option, Some, None, Ok, Err, if◌then◌else◌, ap, ◌∙◌, arith}
+use Rattle.std.specs.Prelude.{codes, Result, neg_ℤ, nat_lt, IfOk}
+use Rattle.std.specs.List.{AllByRecursion}
+use Rattle.std.specs.declared.cmp.Ordering.TheVariants.{Equal}
+use Rattle.std.proofs.lemmas.Bool.Decides.{nat_tests}
+use Rattle.std.proofs.lemmas.List.Elements.{All-nil, All-map}
+use Rattle.toml.specs.Data.{Members, as_bool, get_member, Items, no_items, item, table, array, string, integer, float, boolean, datetime}
+use Rattle.bac_values.specs.Identifier.{Identifier}
+use Rattle.bac_values.specs.Moments.{IsMoment}
+use Rattle.bac_values.specs.declared.object_kind.ObjectKind.TheVariants as kinds
+use Rattle.civil_stamp.specs.LocalTime.{IsZone}
+use Rattle.object_table.specs.declared.object_site.ObjectSite.{ObjectSite}
+use Rattle.object_table.specs.Objects.{IsObject}
+use Rattle.object_table.specs.Rows.{identifier_order}
+use Rattle.object_table.proofs.Order.{order_is_total}
+use Rattle.outbox.specs.Outboxes.{AreSettings}
+use Rattle.alarm_core.specs.declared.site.DeviceSite.{DeviceSite}
+use Rattle.alarm_core.specs.declared.site.Site.{Site}
+use Rattle.alarm_core.specs.Sites.{HasInstance, IsSite}
+use Rattle.site_config.specs.declared.class.ClassItem.{ClassItem}
+use Rattle.site_config.specs.Classes.{class_of}
+use Rattle.site_config.specs.declared.draft.Draft.{Draft}
+use Rattle.site_config.specs.declared.fault.Section.{Section}
+use Rattle.site_config.specs.declared.fault.Section.TheVariants.{Device, Class, Destination, Object, Enrollment, Log}
+use Rattle.site_config.specs.declared.fault.SiteFault.{SiteFault}
+use Rattle.site_config.specs.declared.fault.SiteFault.TheVariants.{TooLong, NoMemory}
+use Rattle.site_config.specs.declared.item_fault.ItemFault.{ItemFault}
+use Rattle.site_config.specs.declared.keys.Keys.TheVariants as keys
+use Rattle.site_config.specs.Answers.{Gives}
+use Rattle.site_config.specs.Devices.{device_of, object_with, name_of}
+use Rattle.site_config.specs.Drafts.{draft_of}
+use Rattle.site_config.specs.Identifiers.{id_of_class, id_of_object}
+use Rattle.site_config.specs.Items.{class_item, destination_item, object_item, enrollment_item, log_item}
+use Rattle.site_config.specs.Keys.{has_key}
+use Rattle.site_config.specs.Members.{required, or_else, first_unknown, refused_key}
+use Rattle.site_config.specs.Objects.{keys_of_object, object_of}
+use Rattle.site_config.specs.Sections.{placed, device_item, device_from, device_table, device_section, lesser_key, items_of, next_number, section_from, section_of, section_name, tables_at}
+use Rattle.site_config.specs.Sites.{document_of, site_or_no_toml, site_of_document, site_of_draft, site_of, verdict_on, in_order, with_destinations}
+use Rattle.site_config.specs.Values.{instance_in, moment_in, three_in, unsigned_in, whole_in}
+use Rattle.site_config.proofs.Ascending.{fold_ascends, fold_keeps}
+use Rattle.site_config.proofs.KeptObjects.{object_kept}
+use Rattle.site_config.proofs.Numbers.{instance_kept, moment_kept, unsigned_kept, whole_kept}
+use Rattle.site_config.proofs.Steps.{after, ok_is, required_keeps, or_else_keeps}
+
+-- identifiers of one place in the order are one
+same_ids : (a b : Identifier) → identifier_order a b ≡ Equal → a ≡ b
+same_ids a b h =
+    let numbers : a.number ≡ b.number = grind (arith, nat_tests) in
+    let instances : a.instance ≡ b.instance = grind (arith, nat_tests) in
+    ap (λ (n : ℕ). let made : Identifier = record { number = n; instance = a.instance } in made) numbers
+    ∙ ap (λ (i : ℕ). let made : Identifier = record { number = b.number; instance = i } in made) instances
+
+-- an item without its place
+unplaced : {A : Type 0} (section : Section) (number : ℕ) (read : Result A ItemFault) (x : A) → placed section number read ≡ Ok x → read ≡ Ok x
+unplaced section number (Ok y) x h = cc
+unplaced section number (Err fault) x h = absurd cc
+
+-- ---- items
+
+module _ {A : Type 0} (P : A → Type 0) (read : Members → Result A ItemFault) (each : (ms : Members) (x : A) → read ms ≡ Ok x → P x) (section : Section) where
+  items_kept : (number : ℕ) (ds : Items) (xs : List A) → items_of read section number ds ≡ Ok xs → AllByRecursion P xs
+  items_kept number no_items xs h = let none : [] ≡ xs = cc in rw (← none) tt
+  items_kept number (item (table ms) ds) xs h =
+      let first = after (placed section number (read ms)) _ xs h in
+      let rest = after (items_of read section (next_number number) ds) _ xs first.next_is in
+      let is : first.value ∷ rest.value ≡ xs = cc in
+      rw (← is) (each ms first.value (unplaced section number (read ms) first.value first.first_is), items_kept (next_number number) ds rest.value rest.first_is)
+  items_kept number (item (string s) ds) xs h = items_kept number ds xs h
+  items_kept number (item (integer s) ds) xs h = items_kept number ds xs h
+  items_kept number (item (float s) ds) xs h = items_kept number ds xs h
+  items_kept number (item (boolean s) ds) xs h = items_kept number ds xs h
+  items_kept number (item (datetime s) ds) xs h = items_kept number ds xs h
+  items_kept number (item (array s) ds) xs h = items_kept number ds xs h
+
+  from_kept : (found : Option Items) (xs : List A) → section_from read section found ≡ Ok xs → AllByRecursion P xs
+  from_kept None xs h = absurd cc
+  from_kept (Some ds) xs h = items_kept 1 ds xs h
+
+  section_kept : (document : Members) (xs : List A) → section_of read section document ≡ Ok xs → AllByRecursion P xs
+  section_kept document xs h = from_kept (tables_at (get_member (section_name section) document)) xs h
+
+item_kept : (ms : Members) (site : ObjectSite) → object_item ms ≡ Ok site → IsObject site
+item_kept ms site h =
+    let known = after (refused_key (first_unknown (has_key (keys_of_object ms)) ms)) (λ _. object_of ms) site h in
+    object_kept ms site known.next_is
+
+-- ---- the classes
+
+HasGoodInstance : ClassItem → Type 0
+HasGoodInstance made = made.object.instance ≤ 4194302
+
+class_part_kept : (ms : Members) (made : ClassItem) → class_of ms ≡ Ok made → HasGoodInstance made
+unfolding class_of HasGoodInstance
+class_part_kept ms made h =
+    let instance = after (required instance_in (codes "instance") ms) _ made h in
+    let name = after (name_of (object_with kinds.NotificationClass instance.value) ms) _ made instance.next_is in
+    let priority = after (required (three_in (unsigned_in 0 255)) (codes "priority") ms) _ made name.next_is in
+    let ack_required = after (or_else (false ∷ false ∷ false ∷ []) (three_in as_bool) (codes "ack_required") ms) _ made priority.next_is in
+    let whole : ClassItem = record { object = object_with kinds.NotificationClass instance.value; name = name.value; priority = priority.value; ack_required = ack_required.value } in
+    let is : whole ≡ made = ok_is whole made ack_required.next_is in
+    let I : ℕ → Type 0 = λ n. n ≤ 4194302 in
+    rw (← is) (required_keeps I instance_in instance_kept (codes "instance") ms instance.value instance.first_is)
+
+class_kept : (ms : Members) (made : ClassItem) → class_item ms ≡ Ok made → HasGoodInstance made
+class_kept ms made h =
+    let known = after (refused_key (first_unknown (has_key keys.Class) ms)) (λ _. class_of ms) made h in
+    class_part_kept ms made known.next_is
+
+-- ---- the device
+
+record IsDevice (device : DeviceSite) : Type 0 where
+  instance : device.instance ≤ 4194302
+  start : IsMoment device.start
+  zone : IsZone device.zone_minutes
+  settings : AreSettings device.outbox device.apdu_timeout device.retries
+
+device_kept : (ms : Members) (device : DeviceSite) → device_of ms ≡ Ok device → IsDevice device
+unfolding device_of
+device_kept ms device h =
+    let instance = after (required instance_in (codes "instance") ms) _ device h in
+    let name = after (name_of (object_with kinds.Device instance.value) ms) _ device instance.next_is in
+    let vendor = after (or_else 0 (unsigned_in 0 65535) (codes "vendor") ms) _ device name.next_is in
+    let start = after (required moment_in (codes "start") ms) _ device vendor.next_is in
+    let zone = after (or_else (pos 0) (whole_in (neg_ℤ (pos 840)) (pos 840)) (codes "zone_minutes") ms) _ device start.next_is in
+    let timeout = after (or_else 3000 (unsigned_in 1 3600000) (codes "apdu_timeout") ms) _ device zone.next_is in
+    let retries = after (or_else 3 (unsigned_in 0 15) (codes "retries") ms) _ device timeout.next_is in
+    let outbox = after (or_else 256 (unsigned_in 64 16384) (codes "outbox") ms) _ device retries.next_is in
+    let whole : DeviceSite = record { instance = instance.value; name = name.value; vendor = vendor.value; start = start.value; zone_minutes = zone.value; apdu_timeout = timeout.value; retries = retries.value; outbox = outbox.value } in
+    let is : whole ≡ device = ok_is whole device outbox.next_is in
+    let M : ℕ → Type 0 = IsMoment in
+    let Z : ℤ → Type 0 = IsZone in
+    let I : ℕ → Type 0 = λ n. n ≤ 4194302 in
+    let usual : IsZone (pos 0) = (record { le = tt }, record { le = tt }) in
+    let Limit : ℕ → Type 0 = λ n. n ≤ 16384 in
+    let Timeout : ℕ → Type 0 = λ n. n ≤ 3600000 in
+    let Retries : ℕ → Type 0 = λ n. n ≤ 15 in
+    rw (← is) (record {
+      instance = required_keeps I instance_in instance_kept (codes "instance") ms instance.value instance.first_is;
+      start = required_keeps M moment_in moment_kept (codes "start") ms start.value start.first_is;
+      zone = or_else_keeps Z (whole_in (neg_ℤ (pos 840)) (pos 840)) (whole_kept (neg_ℤ (pos 840)) (pos 840)) (codes "zone_minutes") (pos 0) usual ms zone.value zone.first_is;
+      settings = record {
+        fits = or_else_keeps Limit (unsigned_in 64 16384) (λ d n e. (unsigned_kept 64 16384 d n e).1) (codes "outbox") 256 (omega arith) ms outbox.value outbox.first_is;
+        ends = or_else_keeps Timeout (unsigned_in 1 3600000) (λ d n e. (unsigned_kept 1 3600000 d n e).1) (codes "apdu_timeout") 3000 (omega arith) ms timeout.value timeout.first_is;
+        stops = or_else_keeps Retries (unsigned_in 0 15) (λ d n e. (unsigned_kept 0 15 d n e).1) (codes "retries") 3 (omega arith) ms retries.value retries.first_is;
+      };
+    })
+
+device_from_kept : (document : Members) (found : Option Members) (device : DeviceSite) → device_from document found ≡ Ok device → IsDevice device
+device_from_kept document None device h = absurd cc
+device_from_kept document (Some ms) device h =
+    let read = unplaced Device 0 (device_item document ms) device h in
+    let known = after (refused_key (lesser_key (first_unknown (has_key keys.Device) ms) (first_unknown (has_key keys.Top) document))) (λ _. device_of ms) device read in
+    device_kept ms device known.next_is
+
+-- ---- what the sections say
+
+record IsDraft (draft : Draft) : Type 0 where
+  device : IsDevice draft.device
+  classes : AllByRecursion HasGoodInstance draft.classes
+  objects : AllByRecursion IsObject draft.objects
+
+draft_kept : (document : Members) (draft : Draft) → draft_of document ≡ Ok draft → IsDraft draft
+unfolding draft_of
+draft_kept document draft h =
+    let device = after (device_section document) _ draft h in
+    let classes = after (section_of class_item Class document) _ draft device.next_is in
+    let destinations = after (section_of destination_item Destination document) _ draft classes.next_is in
+    let objects = after (section_of object_item Object document) _ draft destinations.next_is in
+    let enrollments = after (section_of enrollment_item Enrollment document) _ draft objects.next_is in
+    let logs = after (section_of log_item Log document) _ draft enrollments.next_is in
+    let is : record { device = device.value; classes = classes.value; destinations = destinations.value; objects = objects.value; enrollments = enrollments.value; logs = logs.value } ≡ draft = cc in
+    rw (← is) (record {
+      device = device_from_kept document (device_table (get_member (codes "device") document)) device.value device.first_is;
+      classes = section_kept HasGoodInstance class_item class_kept Class document classes.value classes.first_is;
+      objects = section_kept IsObject object_item item_kept Object document objects.value objects.first_is;
+    })
+
+-- ---- the site
+
+of_draft_kept : (draft : Draft) → IsDraft draft → IsSite (site_of_draft draft)
+unfolding HasGoodInstance
+of_draft_kept draft kept = record {
+  start = kept.device.start;
+  zone = kept.device.zone;
+  instance = kept.device.instance;
+  settings = kept.device.settings;
+  classes = All-map HasInstance (with_destinations draft.destinations) (in_order id_of_class draft.classes)
+      (fold_keeps order_is_total same_ids id_of_class HasGoodInstance [] draft.classes (All-nil HasGoodInstance) kept.classes);
+  ascending = fold_ascends order_is_total same_ids id_of_object draft.objects;
+  objects = fold_keeps order_is_total same_ids id_of_object IsObject [] draft.objects (All-nil IsObject) kept.objects;
+}
+
+document_kept : (document : Members) (site : Site) → site_of_document document ≡ Ok site → IsSite site
+unfolding site_of_document
+document_kept document site h =
+    let draft = after (draft_of document) _ site h in
+    let verdict = after (verdict_on draft.value) (λ _. Ok (site_of_draft draft.value)) site draft.next_is in
+    let is : site_of_draft draft.value ≡ site = cc in
+    rw (← is) (of_draft_kept draft.value (draft_kept document draft.value draft.first_is))
+
+found_kept : (found : Option Members) (site : Site) → site_or_no_toml found ≡ Ok site → IsSite site
+found_kept None site h = absurd cc
+found_kept (Some document) site h = document_kept document site h
+
+pub site_kept : (text : List ℕ) (site : Site) → site_of text ≡ Ok site → IsSite site
+unfolding site_of
+site_kept text site h = by (nat_lt 1048576 (length text)) h
+  where
+    by : (long : Bool) → (if long then Err TooLong else site_or_no_toml (document_of text)) ≡ Ok site → IsSite site
+    by true e = absurd cc
+    by false e = found_kept (document_of text) site e
+
+-- what is given where memory isn't refused
+pub gives_kept : (answer : Result Site SiteFault) (text : List ℕ) → Gives NoMemory answer (site_of text) → IfOk answer IsSite
+gives_kept (Ok site) text h = site_kept text site h
+gives_kept (Err fault) text h = tt

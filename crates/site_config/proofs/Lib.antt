@@ -1,0 +1,11 @@
+pub mod Unknown
+pub mod Fronts
+pub mod Tables
+pub mod Named
+pub mod Steps
+pub mod Numbers
+pub mod Ascending
+pub mod KeptFaults
+pub mod KeptAlarms
+pub mod KeptObjects
+pub mod KeptSite

@@ -1,0 +1,35 @@
+-- How much a site may have.
+use Rattle.std.specs.Prelude.{ℕ, ◌+◌, ◌==◌, nat_lt, Bool, List, length, count_by, sum_by, Result, Ok, Err, if◌then◌else◌}
+use Rattle.std.specs.List.{list_any}
+use Rattle.alarm_core.specs.declared.site.LogSite.{LogSite}
+use Rattle.site_config.specs.declared.destination.DestinationSite.{DestinationSite}
+use Rattle.site_config.specs.declared.draft.Draft.{Draft}
+use Rattle.site_config.specs.declared.fault.Counted.TheVariants.{Records}
+use Rattle.site_config.specs.declared.fault.Counted.TheVariants as counted
+use Rattle.site_config.specs.declared.fault.Section.TheVariants.{Class, Destination, Object, Enrollment, Log}
+use Rattle.site_config.specs.declared.fault.SiteFault.{SiteFault}
+use Rattle.site_config.specs.declared.fault.SiteFault.TheVariants.{TooMany}
+
+-- the destinations of a class
+abbrev pub names_class : ℕ → DestinationSite → Bool
+names_class class destination = destination.class.instance == class
+
+abbrev pub count_of : ℕ → List DestinationSite → ℕ
+count_of class destinations = count_by (names_class class) destinations
+
+-- more than 32 destinations name one class
+abbrev pub are_crowded : List DestinationSite → Bool
+are_crowded destinations = list_any (λ destination. nat_lt 32 (count_of destination.class.instance destinations)) destinations
+
+abbrev pub size_of : LogSite → ℕ
+size_of log = log.size
+
+-- by section, and then the records of all logs
+abbrev pub limits_of : Draft → Result (Unit {0}) SiteFault
+limits_of draft =
+    if nat_lt 256 (length draft.classes) then Err (TooMany (counted.Section Class)) else
+    (if are_crowded draft.destinations then Err (TooMany (counted.Section Destination)) else
+    (if nat_lt 2048 (length draft.objects) then Err (TooMany (counted.Section Object)) else
+    (if nat_lt 2048 (length draft.objects + length draft.enrollments) then Err (TooMany (counted.Section Enrollment)) else
+    (if nat_lt 16 (length draft.logs) then Err (TooMany (counted.Section Log)) else
+    (if nat_lt 16384 (sum_by size_of draft.logs) then Err (TooMany Records) else Ok tt)))))

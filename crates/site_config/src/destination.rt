@@ -1,0 +1,61 @@
+ghost use Rattle.toml.specs.View.{table_view};
+ghost use Rattle.std.specs.Prelude.{codes};
+ghost use Rattle.site_config.specs.Answers.{Gives};
+ghost use Rattle.site_config.specs.Destinations.{destination_of};
+ghost use Rattle.site_config.specs.Members.{required};
+ghost use Rattle.site_config.specs.Values.{peer_in};
+
+use crate::item_fault::ItemFault;
+use crate::members::{
+    days_or_all, good, there, three_flags_or_all, time_or, truth_or, unsigned, unsigned_or,
+};
+use crate::objects::identifier;
+use crate::values::{LAST_INSTANCE, peer_in};
+use bac_values::{ObjectId, ObjectKind, Peer};
+use notify_class::Destination;
+use std::alloc::Global;
+use toml::Table;
+
+/// A destination, and the class to which it belongs.
+#[derive(Clone, Copy, Debug, PartialEq, Eq)]
+pub struct DestinationSite {
+    /// The class.
+    pub class: ObjectId,
+    /// The destination.
+    pub destination: Destination,
+}
+
+/// The peer at the key `address`.
+fn address(alloc: Global, table: &Table) -> Result<Peer, ItemFault>
+    ensures answer { Gives ItemFault.NoMemory result (required peer_in (codes "address") (table_view table.now)) }
+{
+    let value = there(alloc, table, "address")?;
+    good(alloc, "address", peer_in(value))
+}
+
+/// The destination of a table, whose keys are all known.
+#[tactic(auto, unfolding(crate::specs::Destinations::destination_of))]
+pub fn destination_of(alloc: Global, table: &Table) -> Result<DestinationSite, ItemFault>
+    ensures answer { Gives ItemFault.NoMemory result (destination_of (table_view table.now)) }
+{
+    let class = unsigned(alloc, table, "class", 0, LAST_INSTANCE)?;
+    let peer = address(alloc, table)?;
+    let process = unsigned_or(alloc, table, "process", 0, u32::MAX, 0)?;
+    let days = days_or_all(alloc, table, "days")?;
+    let from = time_or(alloc, table, "from", 0)?;
+    let to = time_or(alloc, table, "to", 8_639_999)?;
+    let confirmed = truth_or(alloc, table, "confirmed", false)?;
+    let transitions = three_flags_or_all(alloc, table, "transitions")?;
+    Ok(DestinationSite {
+        class: identifier(ObjectKind::NotificationClass, class),
+        destination: Destination {
+            days,
+            from,
+            to,
+            peer,
+            process,
+            confirmed,
+            transitions,
+        },
+    })
+}

@@ -1,0 +1,38 @@
+//! The text of a site: read, and refused by its first fault (`docs/SITE.md` has its keys).
+//!
+//! `specs/` says which site a text is: section by section, and in a section key by key, in the order in which faults are
+//! looked for.
+#![tactic(auto)]
+
+mod alarm_keys;
+mod class;
+mod destination;
+mod device;
+mod draft;
+mod enrollment;
+mod fault;
+mod fault_keys;
+mod fault_text;
+mod growing;
+mod identifiers;
+mod item;
+mod item_fault;
+mod keys;
+mod kind_keys;
+mod limits;
+mod lists;
+mod log;
+mod members;
+mod notes;
+mod object;
+mod objects;
+mod order;
+mod references;
+mod sections;
+mod site;
+#[cfg(test)]
+mod tests;
+mod values;
+
+pub use fault::{Counted, Section, SiteFault, SitePlace};
+pub use site::read_site;

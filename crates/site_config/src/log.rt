@@ -1,0 +1,47 @@
+ghost use Rattle.std.specs.Prelude.{codes};
+ghost use Rattle.toml.specs.View.{table_view};
+ghost use Rattle.site_config.specs.Answers.{Gives};
+ghost use Rattle.site_config.specs.Logs.{log_of};
+ghost use Rattle.site_config.specs.Members.{required};
+ghost use Rattle.site_config.specs.Values.{list_in, instance_in};
+
+use crate::item_fault::ItemFault;
+use crate::lists::instances_in;
+use crate::members::{good, name_or, there, truth_or, unsigned};
+use crate::objects::identifier;
+use crate::values::LAST_INSTANCE;
+use alarm_core::LogSite;
+use bac_values::{Items, ObjectKind};
+use std::alloc::Global;
+use toml::Table;
+
+/// The classes whose notifications are recorded.
+fn classes(alloc: Global, table: &Table) -> Result<Items<u32>, ItemFault>
+    ensures answer { Gives ItemFault.NoMemory result (required (list_in 1 256 instance_in) (codes "classes") (table_view table.now)) }
+{
+    let value = there(alloc, table, "classes")?;
+    let found = instances_in(alloc, value)?;
+    good(alloc, "classes", found)
+}
+
+/// The log of a table, whose keys are all known.
+#[tactic(auto, unfolding(crate::specs::Logs::log_of))]
+pub fn log_of(alloc: Global, table: &Table) -> Result<LogSite, ItemFault>
+    ensures answer { Gives ItemFault.NoMemory result (log_of (table_view table.now)) }
+{
+    let instance = unsigned(alloc, table, "instance", 0, LAST_INSTANCE)?;
+    let object = identifier(ObjectKind::EventLog, instance);
+    let name = name_or(alloc, table, object)?;
+    let size = unsigned(alloc, table, "size", 1, 16_384)?;
+    let stop_when_full = truth_or(alloc, table, "stop_when_full", false)?;
+    let enable = truth_or(alloc, table, "enable", true)?;
+    let classes = classes(alloc, table)?;
+    Ok(LogSite {
+        object,
+        name,
+        size,
+        stop_when_full,
+        enable,
+        classes,
+    })
+}
