@@ -6,10 +6,12 @@ ghost use Rattle.service_parameters.specs.Refusals.{invalid_tag, too_many_argume
 ghost use Rattle.event_services.specs.Notifications.{written_enclosed};
 ghost use Rattle.event_services.specs.Information.{SpellsInformationRequest, HasMoreThanObject, HasNoObject, information_request_of, string_of_bits, written_moment, written_state, written_notifying, written_summary, written_information};
 
-use crate::write_note::{write_closing, write_enclosed_stamp, write_opening};
+use crate::write_note::write_enclosed_stamp;
 use bac_tags::{write_bits, write_bool, write_object, write_unsigned};
 use bac_values::{Bits, EventState, NoMemory, ObjectId, Stamp};
-use service_parameters::{Malformed, nothing_follows, optional_object};
+use service_parameters::{
+    Malformed, nothing_follows, optional_object, write_closing, write_opening,
+};
 use std::alloc::Global;
 
 /// What is told of one object in answer to a GetEventInformation (BACnetEventSummary). Lists of three are in the order

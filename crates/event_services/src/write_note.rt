@@ -1,7 +1,6 @@
 ghost use Rattle.std.specs.Prelude.{◌≡◌, ◌++◌, List, ◌<◌, ◌≤◌, ◌^◌, length, OnOk, IfOk, MatchOption};
-ghost use Rattle.bac_tags.specs.Writing.{written_tag, written_unsigned, written_boolean, written_stamp, written_value};
+ghost use Rattle.bac_tags.specs.Writing.{written_unsigned, written_boolean, written_stamp, written_value};
 ghost use Rattle.bac_values.specs.EventStates.{number_of_state};
-ghost use Rattle.service_parameters.specs.Tags.{opening, closing};
 ghost use Rattle.event_services.specs.Notifications.{IsOneValue, IsOneOrNone, HasOneValues, IsTold, type_of_values, written_enclosed, written_text_in, bits_of_flags, written_flags, written_property, written_told, written_if, written_values, written_source, written_kind, written_event, written_states, written_notification, told_to};
 ghost use Rattle.event_services.specs.NoteLengths.{most_octets, IsShort, AreShort, HasShortText};
 ghost use Rattle.event_services.specs.NoteRanges.{IfAny};
@@ -12,38 +11,11 @@ use bac_tags::{
     write_unsigned, write_value,
 };
 use bac_values::{Bits, EventState, NoMemory, Reliability, Stamp, StatusFlags, Text, Value};
+use service_parameters::{write_closing, write_opening};
 use std::alloc::Global;
 
 /// The number of Present_Value (BACnetPropertyIdentifier).
 const PRESENT_VALUE: u32 = 85;
-
-/// Appends the tag that opens what stands between the tags of a number.
-pub(crate) fn write_opening(out: &mut Vec<u8>, number: u8) -> Result<(), NoMemory>
-    ensures { OnOk result (out.new.items ≡ out.old.items ++ written_tag (opening number)) }
-{
-    write_tag(
-        out,
-        Tag {
-            number,
-            context: true,
-            shape: Shape::Opening,
-        },
-    )
-}
-
-/// Appends the tag that closes what stands between the tags of a number.
-pub(crate) fn write_closing(out: &mut Vec<u8>, number: u8) -> Result<(), NoMemory>
-    ensures { OnOk result (out.new.items ≡ out.old.items ++ written_tag (closing number)) }
-{
-    write_tag(
-        out,
-        Tag {
-            number,
-            context: true,
-            shape: Shape::Closing,
-        },
-    )
-}
 
 /// Appends a text with that number in a context.
 fn write_text(out: &mut Vec<u8>, number: u8, text: &Text) -> Result<(), NoMemory>

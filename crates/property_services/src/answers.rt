@@ -1,10 +1,10 @@
 ghost use Rattle.std.specs.Prelude.{◌≡◌, ◌++◌, ◌∷◌, [], IfOk, OnOk};
-ghost use Rattle.service_parameters.specs.Tags.{opening, closing};
 ghost use Rattle.property_services.specs.Writing.{written_list, written_if_given, written_reference, written_read_ack, string_of_flags, written_range_ack, written_i_am};
 
 use crate::{RangeRequest, ReadRequest};
-use bac_tags::{Shape, Tag, write_bits, write_object, write_tag, write_unsigned, write_value};
+use bac_tags::{write_bits, write_object, write_unsigned, write_value};
 use bac_values::{Bits, NoMemory, ObjectId, PropertyId, Value};
+use service_parameters::{write_closing, write_opening};
 use std::alloc::Global;
 
 /// The longest APDU that the server takes, in octets.
@@ -13,35 +13,13 @@ const MAX_APDU: u32 = 1476;
 /// The number of no-segmentation (BACnetSegmentation).
 const NO_SEGMENTATION: u32 = 3;
 
-/// A tag that opens a list.
-fn opening_tag(number: u8) -> Tag
-    ensures { result ≡ opening number }
-{
-    Tag {
-        number,
-        context: true,
-        shape: Shape::Opening,
-    }
-}
-
-/// A tag that closes a list.
-fn closing_tag(number: u8) -> Tag
-    ensures { result ≡ closing number }
-{
-    Tag {
-        number,
-        context: true,
-        shape: Shape::Closing,
-    }
-}
-
 /// Appends elements between an opening and a closing tag.
 fn write_list(out: &mut Vec<u8>, number: u8, elements: &[u8]) -> Result<(), NoMemory>
     ensures written { OnOk result (out.new.items ≡ out.old.items ++ written_list number elements.now) }
 {
-    write_tag(out, opening_tag(number))?;
+    write_opening(out, number)?;
     out.extend_from_slice(elements)?;
-    write_tag(out, closing_tag(number))
+    write_closing(out, number)
 }
 
 /// Appends a number, if it is given.

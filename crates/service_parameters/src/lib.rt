@@ -12,9 +12,11 @@ mod parameter;
 mod tags;
 #[cfg(test)]
 mod tests;
+mod writing;
 
 pub use balanced::read_elements;
 pub use elements::{optional_object, optional_unsigned, required_object, required_unsigned};
 pub use malformed::{Malformed, invalid_tag, missing_parameter, too_many_arguments};
 pub use parameter::{nothing_follows, optional, required};
 pub use tags::{read_closing, read_octets, read_opening};
+pub use writing::{write_closing, write_opening};

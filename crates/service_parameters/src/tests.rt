@@ -64,3 +64,16 @@ fn tags_open_and_close(rt: HostRuntime) {
         Err(TagFault::BadLength { at: 2 })
     );
 }
+
+#[test]
+fn tags_are_written(rt: HostRuntime) -> Result<(), Fail> {
+    let mut out = Vec::new(rt.alloc());
+    write_opening(&mut out, 3)?;
+    write_closing(&mut out, 3)?;
+    // A number above 14 has an octet of its own.
+    write_opening(&mut out, 19)?;
+    write_closing(&mut out, 19)?;
+    let octets: &[u8] = &[0x3e, 0x3f, 0xfe, 0x13, 0xff, 0x13];
+    assert!(rt; out.as_slice() == octets);
+    Ok(())
+}
