@@ -2,32 +2,34 @@
 use Rattle.std.proofs.Common.{◌≡◌, ◌+◌, List, ap, ◌∙◌, sym}
 use Rattle.bac_values.specs.declared.note.Note.{Note}
 use Rattle.notify_class.specs.declared.class.Class.{Class}
-use Rattle.object_table.specs.declared.row.Row.{Row}
 use Rattle.outbox.specs.Outboxes.{OutboxState}
 use Rattle.alarm_core.specs.declared.event.Event.{Event}
 use Rattle.alarm_core.specs.declared.site.Site.{Site}
 use Rattle.alarm_core.specs.Classes.{classes_with}
-use Rattle.alarm_core.specs.History.{rows_with}
+use Rattle.alarm_core.specs.History.{values_with}
+use Rattle.alarm_core.specs.Logs.{KeptLog}
 use Rattle.alarm_core.specs.Moves.{acted, told_with}
-use Rattle.alarm_core.specs.Next.{alarms_with, first_state, next_notes, next_state, outbox_with}
+use Rattle.alarm_core.specs.Next.{alarms_with, first_state, logs_with, next_notes, next_state, outbox_with}
 use Rattle.alarm_core.specs.Sights.{site_stamp}
 use Rattle.alarm_core.specs.State.{State, Tracked}
+use Rattle.alarm_core.specs.Values.{Values}
 use Rattle.alarm_core.specs.Verdicts.{queue_verdict, step_verdict}
 use Rattle.alarm_core.proofs.Told.{told_is}
 
 module _ (event : Event) (state : State) where
-  same_notes : next_notes event state ≡ told_with state.site state.classes event.moment (site_stamp state.site event.moment) event.act state.rows state.alarms
-  same_notes = told_is state.site state.classes event.moment (site_stamp state.site event.moment) event.act state.rows state.alarms
+  same_notes : next_notes event state ≡ told_with state.site state.classes event.moment (site_stamp state.site event.moment) event.act state.values state.alarms
+  same_notes = told_is state.site state.classes event.moment (site_stamp state.site event.moment) event.act state.values state.alarms
 
   -- a state after an event that adds these notes
   with_told : List Note → State
   with_told notes = record state {
     events = state.events + 1;
     last_moment = event.moment;
-    rows = rows_with event.act state.rows;
-    alarms = alarms_with event.moment (site_stamp state.site event.moment) event.act state.rows state.alarms;
+    values = values_with event.act state.values;
+    alarms = alarms_with event.moment (site_stamp state.site event.moment) event.act state.values state.alarms;
     classes = classes_with event.act state.classes;
     outbox = outbox_with event.moment event.act notes state.outbox;
+    logs = logs_with state.site state.classes event.moment (site_stamp state.site event.moment) event.act state.values state.alarms state.logs;
   }
 
   counted : State → State
@@ -38,12 +40,12 @@ module _ (event : Event) (state : State) where
   unfolding with_told counted
   stepped after new e n = n ∙ (ap counted e ∙ ap with_told (sym same_notes))
 
-  pub stepped_verdict : step_verdict event state ≡ queue_verdict (told_with state.site state.classes event.moment (site_stamp state.site event.moment) event.act state.rows state.alarms) state.outbox
+  pub stepped_verdict : step_verdict event state ≡ queue_verdict (told_with state.site state.classes event.moment (site_stamp state.site event.moment) event.act state.values state.alarms) state.outbox
   stepped_verdict = ap (λ notes. queue_verdict notes state.outbox) same_notes
 
 -- the parts of a state at its start
-pub started : (site copy : Site) (rows : List Row) (alarms : List Tracked) (classes : List Class) (outbox : OutboxState) →
-    copy ≡ site → rows ≡ (first_state site).rows → alarms ≡ (first_state site).alarms → classes ≡ (first_state site).classes → outbox ≡ (first_state site).outbox →
-    record { site = copy; events = 0; last_moment = site.device.start; rows = rows; alarms = alarms; classes = classes; outbox = outbox } ≡ first_state site
-started site copy rows alarms classes outbox p q r s t =
-    λ k. record { site = p k; events = 0; last_moment = site.device.start; rows = q k; alarms = r k; classes = s k; outbox = t k }
+pub started : (site copy : Site) (values : Values) (alarms : List Tracked) (classes : List Class) (outbox : OutboxState) (logs : List KeptLog) →
+    copy ≡ site → values ≡ (first_state site).values → alarms ≡ (first_state site).alarms → classes ≡ (first_state site).classes → outbox ≡ (first_state site).outbox → logs ≡ (first_state site).logs →
+    record { site = copy; events = 0; last_moment = site.device.start; values = values; alarms = alarms; classes = classes; outbox = outbox; logs = logs } ≡ first_state site
+started site copy values alarms classes outbox logs p q r s t u =
+    λ k. record { site = p k; events = 0; last_moment = site.device.start; values = q k; alarms = r k; classes = s k; outbox = t k; logs = u k }

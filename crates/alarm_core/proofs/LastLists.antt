@@ -1,58 +1,39 @@
 -- The Recipient_List that is read of a class is that of its last edit.
-use Rattle.std.proofs.Common.{◌≡◌, ℕ, ◌==◌, Bool, true, false, cond, ◌&&◌, if◌then◌else◌, Option, Some, None, Ok, List, [], ◌∷◌, map, refl, ap, ◌∙◌, sym, subst, All, IsTrue}
-use Rattle.std.proofs.Math.Path.{fun_ext}
-use Rattle.std.proofs.lemmas.Bool.{eqb-true}
+use Rattle.std.proofs.Common.{◌≡◌, ℕ, ◌==◌, Bool, true, false, cond, ◌&&◌, if◌then◌else◌, Some, None, Ok, List, [], ◌∷◌, map, refl, ap, ◌∙◌, sym, subst, All, IsTrue, get_or}
+use Rattle.std.proofs.lemmas.Bool.{eqb-true, ne_eqb}
 use Rattle.std.proofs.lemmas.List.Elements.{All-head, All-tail}
-use Rattle.std.proofs.lemmas.Simd.{map-map}
 use Rattle.std.specs.List.{find, flat_map}
 use Rattle.std.specs.Option.{option_map}
 use Rattle.bac_values.specs.Identifier.{Identifier, kind_of}
 use Rattle.notify_class.specs.declared.class.Class.{Class}
 use Rattle.notify_class.specs.Recipients.{ListedRecipient}
 use Rattle.object_table.specs.declared.object_site.ObjectSite.{ObjectSite}
-use Rattle.object_table.specs.declared.row.Row.{Row}
 use Rattle.object_table.specs.Objects.{IsObject}
-use Rattle.object_table.specs.Rows.{first_row, is_object, object_in, object_of, row_of}
+use Rattle.object_table.specs.Rows.{is_object, object_in, object_of, row_of}
 use Rattle.object_table.specs.Values.{is_present_value}
+use Rattle.object_table.proofs.Places.{find_none}
+use Rattle.enrollment.specs.declared.enrollment_site.EnrollmentSite.{EnrollmentSite}
+use Rattle.enrollment.specs.Enrollments.{IsEnrollment, identifier_of, site_of}
 use Rattle.alarm_core.specs.declared.event.Act.{Act}
-use Rattle.alarm_core.specs.declared.event.Act.TheVariants.{Edit, Write}
+use Rattle.alarm_core.specs.declared.event.Act.TheVariants.{Edit}
 use Rattle.alarm_core.specs.declared.event.Event.{Event}
 use Rattle.alarm_core.specs.declared.site.ClassSite.{ClassSite}
+use Rattle.alarm_core.specs.declared.site.LogSite.{LogSite}
 use Rattle.alarm_core.specs.declared.site.Site.{Site}
 use Rattle.alarm_core.specs.ClassProperties.{class_content, listed_class, recipients_of, written_recipient}
 use Rattle.alarm_core.specs.Classes.{class_in, classes_after, classes_with, edited, first_classes}
 use Rattle.alarm_core.specs.Contents.{class_or_other, content_by}
 use Rattle.alarm_core.specs.Devices.{class_object, device_object}
-use Rattle.alarm_core.specs.History.{rows_after, rows_with}
+use Rattle.alarm_core.specs.History.{values_after}
 use Rattle.alarm_core.specs.LastLists.{ReadsTheLastList, last_list, list_with}
+use Rattle.alarm_core.specs.Logs.{KeptLog, kept_log, kept_log_of, logs_after}
 use Rattle.alarm_core.specs.Properties.{device_content}
 use Rattle.alarm_core.specs.Reading.{part_in, read_of}
-use Rattle.alarm_core.specs.Sites.{IsSite}
+use Rattle.alarm_core.specs.Sites.{IsLogSite, IsSite}
 use Rattle.alarm_core.specs.State.{state_of}
-use Rattle.alarm_core.proofs.Runs.{written_keeps, written_row}
-
--- ---- what is found in a list
-
-found_in_image : {X Y : Type 0} (f : X → Y) (x : X) (b : Bool) (image : Option Y) (rest : Option X) → image ≡ option_map f rest →
-    cond b (Some (f x)) image ≡ option_map f (cond b (Some x) rest)
-found_in_image f x true image rest e = refl
-found_in_image f x false image rest e = e
-
-find_map : {X Y : Type 0} (f : X → Y) (test : Y → Bool) (xs : List X) → find test (map f xs) ≡ option_map f (find (λ x. test (f x)) xs)
-find_map f test [] = refl
-find_map f test (x ∷ xs) = found_in_image f x (test (f x)) (find test (map f xs)) (find (λ y. test (f y)) xs) (find_map f test xs)
-
-find_same : {X : Type 0} (first second : X → Bool) → ((x : X) → first x ≡ second x) → (xs : List X) → find first xs ≡ find second xs
-find_same first second same xs = λ k. find (λ x. same x k) xs
-
-passes_by : {X : Type 0} (test : X → Bool) (x y : X) (rest : Option X) → (rest ≡ Some y → test y ≡ true) → (b : Bool) → test x ≡ b → cond b (Some x) rest ≡ Some y → test y ≡ true
-passes_by test x y rest later true passed e = cc
-passes_by test x y rest later false failed e = later e
-
--- what is found passes the test
-passes : {X : Type 0} (test : X → Bool) (y : X) (xs : List X) → find test xs ≡ Some y → test y ≡ true
-passes test y [] e = cc
-passes test y (x ∷ xs) e = passes_by test x y (find test xs) (passes test y xs) (test x) refl e
+use Rattle.alarm_core.proofs.OwnSubjects.{no_site}
+use Rattle.alarm_core.proofs.Searches.{find_map, find_same, is_none, passes}
+use Rattle.alarm_core.proofs.Stays.{row_objects_after, site_objects_after}
 
 -- ---- the class of a site
 
@@ -123,10 +104,6 @@ class_after site object listed e (event ∷ older) = class_with event.act listed
 
 -- ---- no value object is a class
 
-is_none : {X Y : Type 0} (f : X → Y) (found : Option X) → option_map f found ≡ None → found ≡ None
-is_none f None e = refl
-is_none f (Some x) e = cc
-
 no_class_value : (number : ℕ) (site : ObjectSite) → IsTrue (is_present_value (kind_of number) site site.value) → number ≡ 15 → ⊥
 no_class_value number site value is = let wrong : IsTrue false = subst (λ n. IsTrue (is_present_value (kind_of n) site site.value)) is value in cc
 
@@ -142,18 +119,33 @@ no_value_object object is (first ∷ objects) h =
     ap (λ b. cond (b && (first.object.instance == object.instance)) (Some first.object) (find (is_object object) (map object_of objects))) (ap (λ n. first.object.number == n) is ∙ other)
     ∙ no_value_object object is objects (All-tail IsObject first objects h)
 
-objects_with : (act : Act) (rows : List Row) → map object_in (rows_with act rows) ≡ map object_in rows
-objects_with (Write change) rows = map-map object_in (written_row change) rows ∙ ap (λ f. map f rows) (fun_ext (λ row. (written_keeps change row).object))
-objects_with _ rows = refl
-
-objects_after : (site : Site) (history : List Event) → map object_in (rows_after site history) ≡ map object_of site.objects
-objects_after site [] = map-map object_in first_row site.objects
-objects_after site (event ∷ older) = objects_with event.act (rows_after site older) ∙ objects_after site older
-
-no_row : (site : Site) → All IsObject site.objects → (history : List Event) (object : Identifier) → object.number ≡ 15 → row_of object (rows_after site history) ≡ None
+no_row : (site : Site) → All IsObject site.objects → (history : List Event) (object : Identifier) → object.number ≡ 15 → row_of object (values_after site history).rows ≡ None
 no_row site allowed history object is =
-    is_none object_in (row_of object (rows_after site history))
-    (sym (find_map object_in (is_object object) (rows_after site history)) ∙ ap (find (is_object object)) (objects_after site history) ∙ no_value_object object is site.objects allowed)
+    is_none object_in (row_of object (values_after site history).rows)
+    (sym (find_map object_in (is_object object) (values_after site history).rows) ∙ ap (find (is_object object)) (row_objects_after site history) ∙ no_value_object object is site.objects allowed)
+
+-- ---- no enrollment is a class
+
+no_listed : (object : Identifier) → object.number ≡ 15 → (sites : List EnrollmentSite) → All IsEnrollment sites → find (is_object object) (map identifier_of sites) ≡ None
+no_listed object is sites allowed =
+    find_map identifier_of (is_object object) sites ∙ ap (option_map identifier_of) (no_site object (λ nine. let wrong : 15 ≡ 9 = sym is ∙ nine in cc) sites allowed)
+
+no_enrollment : (site : Site) → All IsEnrollment site.enrollments → (history : List Event) (object : Identifier) → object.number ≡ 15 → site_of object (values_after site history).enrollments ≡ None
+no_enrollment site allowed history object is =
+    is_none identifier_of (site_of object (values_after site history).enrollments)
+    (sym (find_map identifier_of (is_object object) (values_after site history).enrollments) ∙ ap (find (is_object object)) (site_objects_after site history) ∙ no_listed object is site.enrollments allowed)
+
+-- ---- no log is a class
+
+other_log : (object : Identifier) → object.number ≡ 15 → (listed : LogSite) → IsLogSite listed → is_object object listed.object ≡ false
+other_log object is listed allowed =
+    ap (λ b. b && (listed.object.instance == object.instance)) (ne_eqb listed.object.number object.number (λ same. let wrong : 25 ≡ 15 = sym allowed.number ∙ (same ∙ is) in cc))
+
+no_log : (site : Site) → All IsLogSite site.logs → (history : List Event) (object : Identifier) → object.number ≡ 15 → kept_log object (logs_after site history) ≡ None
+no_log site allowed history object is =
+    find_map (kept_log_of site history) (λ (kept : KeptLog). is_object object kept.site.object) site.logs
+    ∙ ap (option_map (kept_log_of site history))
+    (find_none (λ (listed : LogSite). is_object object listed.object) site.logs (λ k d low. other_log object is (get_or site.logs k d) (allowed k d low)))
 
 -- ---- what is read
 
@@ -167,7 +159,10 @@ module _ (site : Site) (keeps : IsSite site) (history : List Event) (object : Id
   reads : read_of (state_of site history) object 102 None ≡ Ok (flat_map written_recipient (last_list listed history))
   reads =
       let classes = classes_after site history in
-      ap (λ row. part_in (content_by (state_of site history) object 102 row) None) (no_row site keeps.objects history object number)
+      let values = values_after site history in
+      ap (λ enrollment. part_in (content_by (state_of site history) object 102 enrollment (row_of object values.rows) (kept_log object (logs_after site history))) None) (no_enrollment site keeps.enrollments history object number)
+      ∙ ap (λ row. part_in (content_by (state_of site history) object 102 None row (kept_log object (logs_after site history))) None) (no_row site keeps.objects history object number)
+      ∙ ap (λ kept. part_in (content_by (state_of site history) object 102 None None kept) None) (no_log site keeps.logs history object number)
       ∙ ap (λ b. part_in (if b then device_content site 102 else class_or_other site classes object 102 (listed_class object site.classes)) None) (no_device object site listed is_class)
       ∙ ap (λ one. part_in (class_or_other site classes object 102 one) None) found
       ∙ ap (λ class. part_in (class_content listed (recipients_of class) 102) None) (class_after site object listed found history)

@@ -1,3 +1,8 @@
+pub mod Searches
+pub mod Flattened
+pub mod Stays
+pub mod OwnSubjects
+pub mod SubjectOrder
 pub mod KnownPeers
 pub mod NotesGo
 pub mod Delivering
@@ -8,10 +13,16 @@ pub mod Settled
 pub mod Shares
 pub mod FewTold
 pub mod Room
+pub mod Logging
+pub mod Entering
 pub mod Standing
 pub mod Moved
 pub mod Told
 pub mod ToldBy
+pub mod RecordedBy
+pub mod Apart
+pub mod Parted
+pub mod AllTurned
 pub mod Queued
 pub mod ToldKnown
 pub mod Acted

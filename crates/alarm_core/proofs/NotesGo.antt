@@ -17,18 +17,18 @@ use Rattle.notify_class.specs.Chosen.{chosen_destinations}
 use Rattle.notify_class.specs.Recipients.{ListedRecipient}
 use Rattle.notify_class.specs.Windows.{is_in_window}
 use Rattle.notify_class.specs.declared.class.Class.{Class}
-use Rattle.object_table.specs.declared.object_site.ObjectSite.{ObjectSite}
-use Rattle.object_table.specs.declared.row.Row.{Row}
-use Rattle.object_table.specs.Rows.{row_of}
 use Rattle.alarm_core.specs.declared.event.Act.{Act}
 use Rattle.alarm_core.specs.declared.event.Act.TheVariants.{Tick, Write, Ack, Pump, Answer, Edit}
 use Rattle.alarm_core.specs.declared.event.Event.{Event}
 use Rattle.alarm_core.specs.declared.site.Site.{Site}
 use Rattle.alarm_core.specs.Classes.{class_in, classes_after, known_peers_of}
 use Rattle.alarm_core.specs.Deliveries.{event_notes, notes_by}
-use Rattle.alarm_core.specs.History.{StateTransition, event_transitions, occurrences_of, rows_after}
+use Rattle.alarm_core.specs.History.{StateTransition, event_transitions, occurrences_of, values_after}
 use Rattle.alarm_core.specs.Notes.{acknowledged_by, acknowledged_of, class_for, is_enabled, move_of, notes_of_transition, source_of, told_in, told_of, values_of}
 use Rattle.alarm_core.specs.Sights.{site_stamp}
+use Rattle.alarm_core.specs.declared.subject.Subject.{Subject}
+use Rattle.alarm_core.specs.Subjects.{subject_in}
+use Rattle.alarm_core.specs.Values.{Values}
 use Rattle.alarm_core.specs.Known.{Knows, KnowsClass}
 use Rattle.alarm_core.proofs.KnownPeers.{classes_known}
 
@@ -61,47 +61,47 @@ class_known known classes h None = tt
 class_known known classes h (Some n) = found (KnowsClass known) (λ (class : Class). class.instance == n) classes h
 
 module _ (site : Site) (known : List Address) (classes : List Class) (h : All (KnowsClass known) classes) where
-  told_go : (transition : StateTransition) (row : Row) (class : Option Class) → IfSome class (KnowsClass known) → All (GoesTo known) (told_in site transition row class)
-  told_go transition row None k = All-nil (GoesTo known)
-  told_go transition row (Some class) k =
-      notes_go known (transition_notification (source_of site row.site) class (move_of transition) (site_stamp site transition.moment) (values_of transition row))
+  told_go : (transition : StateTransition) (subject : Subject) (class : Option Class) → IfSome class (KnowsClass known) → All (GoesTo known) (told_in site transition subject class)
+  told_go transition subject None k = All-nil (GoesTo known)
+  told_go transition subject (Some class) k =
+      notes_go known (transition_notification (source_of site subject) class (move_of transition) (site_stamp site transition.moment) (values_of transition))
       class.destinations (transition_to transition.to) transition.moment site.device.zone_minutes k
 
   enabled_go : (b : Bool) (notes : List Note) → All (GoesTo known) notes → All (GoesTo known) (if b then notes else [])
   enabled_go true notes k = k
   enabled_go false notes k = All-nil (GoesTo known)
 
-  transition_go : (transition : StateTransition) (row : Option Row) → All (GoesTo known) (told_of site classes transition row)
+  transition_go : (transition : StateTransition) (subject : Option Subject) → All (GoesTo known) (told_of site classes transition subject)
   transition_go transition None = All-nil (GoesTo known)
-  transition_go transition (Some row) =
-      enabled_go (is_enabled (transition_to transition.to) row.site) (told_in site transition row (class_for row.site classes))
-      (told_go transition row (class_for row.site classes) (class_known known classes h row.site.class))
+  transition_go transition (Some subject) =
+      enabled_go (is_enabled (transition_to transition.to) subject) (told_in site transition subject (class_for subject classes))
+      (told_go transition subject (class_for subject classes) (class_known known classes h subject.class))
 
   transitions_go : (transitions : List StateTransition) → All (GoesTo known) (flat_map (notes_of_transition site classes) transitions)
   transitions_go [] = All-nil (GoesTo known)
   transitions_go (transition ∷ transitions) =
       All-append (GoesTo known) (notes_of_transition site classes transition) (flat_map (notes_of_transition site classes) transitions)
-      (transition_go transition (row_of transition.object transition.rows)) (transitions_go transitions)
+      (transition_go transition (subject_in transition.object transition.values)) (transitions_go transitions)
 
-  acknowledged_go : (object : ObjectSite) (moment : ℕ) (transition : Transition) (named : EventState) (class : Option Class) → IfSome class (KnowsClass known) →
-      All (GoesTo known) (acknowledged_by site object moment transition named class)
-  acknowledged_go object moment transition named None k = All-nil (GoesTo known)
-  acknowledged_go object moment transition named (Some class) k =
-      notes_go known (acknowledgement_notification (source_of site object) class named (site_stamp site moment)) class.destinations transition moment site.device.zone_minutes k
+  acknowledged_go : (subject : Subject) (moment : ℕ) (transition : Transition) (named : EventState) (class : Option Class) → IfSome class (KnowsClass known) →
+      All (GoesTo known) (acknowledged_by site subject moment transition named class)
+  acknowledged_go subject moment transition named None k = All-nil (GoesTo known)
+  acknowledged_go subject moment transition named (Some class) k =
+      notes_go known (acknowledgement_notification (source_of site subject) class named (site_stamp site moment)) class.destinations transition moment site.device.zone_minutes k
 
-  acknowledgement_go : (moment : ℕ) (transition : Transition) (named : EventState) (row : Option Row) → All (GoesTo known) (acknowledged_of site classes moment transition named row)
+  acknowledgement_go : (moment : ℕ) (transition : Transition) (named : EventState) (subject : Option Subject) → All (GoesTo known) (acknowledged_of site classes moment transition named subject)
   acknowledgement_go moment transition named None = All-nil (GoesTo known)
-  acknowledgement_go moment transition named (Some row) = acknowledged_go row.site moment transition named (class_for row.site classes) (class_known known classes h row.site.class)
+  acknowledgement_go moment transition named (Some subject) = acknowledged_go subject moment transition named (class_for subject classes) (class_known known classes h subject.class)
 
-  pub notes_go_by : (rows : List Row) (moment : ℕ) (act : Act) (transitions : List StateTransition) → All (GoesTo known) (notes_by site classes rows moment act transitions)
-  notes_go_by rows moment (Ack object transition named) transitions = acknowledgement_go moment transition named (row_of object rows)
-  notes_go_by rows moment Tick transitions = transitions_go transitions
-  notes_go_by rows moment (Write change) transitions = transitions_go transitions
-  notes_go_by rows moment Pump transitions = transitions_go transitions
-  notes_go_by rows moment (Answer peer invoke kind) transitions = transitions_go transitions
-  notes_go_by rows moment (Edit number recipients) transitions = transitions_go transitions
+  pub notes_go_by : (values : Values) (moment : ℕ) (act : Act) (transitions : List StateTransition) → All (GoesTo known) (notes_by site classes values moment act transitions)
+  notes_go_by values moment (Ack object transition named) transitions = acknowledgement_go moment transition named (subject_in object values)
+  notes_go_by values moment Tick transitions = transitions_go transitions
+  notes_go_by values moment (Write change) transitions = transitions_go transitions
+  notes_go_by values moment Pump transitions = transitions_go transitions
+  notes_go_by values moment (Answer peer invoke kind) transitions = transitions_go transitions
+  notes_go_by values moment (Edit number recipients) transitions = transitions_go transitions
 
 pub notes_known : (site : Site) (event : Event) (older : List Event) → All (GoesTo (known_peers_of site older)) (event_notes site event older)
 notes_known site event older =
-    notes_go_by site (known_peers_of site older) (classes_after site older) (classes_known site older) (rows_after site older) event.moment event.act
-    (event_transitions site event.moment event.act (rows_after site older) (occurrences_of site older))
+    notes_go_by site (known_peers_of site older) (classes_after site older) (classes_known site older) (values_after site older) event.moment event.act
+    (event_transitions site event.moment event.act (values_after site older) (occurrences_of site older))

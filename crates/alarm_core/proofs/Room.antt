@@ -1,11 +1,12 @@
 -- The room that a site's classes leave in its outbox is kept, and the notifications of a tick are within it.
-use Rattle.std.proofs.Common.{◌≡◌, ℕ, ◌+◌, ◌-◌, ◌*◌, ◌≤◌, ◌==◌, nat_lt, Bool, true, false, not, if◌then◌else◌, List, [], ◌∷◌, length, map, Result, Ok, Err, refl, sym, ap, ◌∙◌, subst, arith}
+use Rattle.std.proofs.Common.{◌≡◌, ℕ, ◌+◌, ◌-◌, ◌*◌, ◌≤◌, ◌==◌, nat_lt, Bool, true, false, not, if◌then◌else◌, List, [], ◌∷◌, ◌++◌, length, map, Result, Ok, Err, refl, sym, ap, ◌∙◌, subst, arith}
 use Rattle.std.proofs.Math.Path.{fun_ext}
 use Rattle.std.proofs.Math.Nat.{mul-le-mul_right}
 use Rattle.std.specs.List.{AllPairs, count_by, filter, sum_by}
 use Rattle.std.proofs.lemmas.Bool.{ltb-false}
 use Rattle.std.proofs.lemmas.List.Folds.{fold-map}
-use Rattle.std.proofs.lemmas.List.Sums.{sum_by-le-sum_by}
+use Rattle.std.proofs.lemmas.List.Sums.{sum_by-append, sum_by-le-sum_by}
+use Rattle.std.proofs.lemmas.List.Filters.{sum_by-filter_both}
 use Rattle.std.proofs.lemmas.Simd.{map-map}
 use Rattle.bac_values.specs.Address.{Address}
 use Rattle.notify_class.specs.Edits.{edit_verdict, known_with, most_destinations, most_peers, peers_of as peers_in_list}
@@ -13,24 +14,28 @@ use Rattle.notify_class.specs.Recipients.{ListedRecipient}
 use Rattle.notify_class.specs.declared.class.Class.{Class}
 use Rattle.notify_class.specs.declared.edit.EditFault.{EditFault}
 use Rattle.notify_class.specs.declared.edit.EditFault.TheVariants.{TooMany, TooManyPeers, TooManyNotes}
+use Rattle.object_table.specs.declared.object_site.ObjectSite.{ObjectSite}
 use Rattle.object_table.specs.declared.row.Row.{Row}
+use Rattle.object_table.specs.Rows.{first_row, rows_of}
+use Rattle.enrollment.specs.declared.enrollment_site.EnrollmentSite.{EnrollmentSite}
 use Rattle.outbox.specs.Outboxes.{peers_of}
 use Rattle.alarm_core.specs.declared.event.Act.{Act}
 use Rattle.alarm_core.specs.declared.event.Act.TheVariants.{Tick, Write, Ack, Pump, Answer, Edit}
 use Rattle.alarm_core.specs.declared.event.Event.{Event}
 use Rattle.alarm_core.specs.declared.site.ClassSite.{ClassSite}
-use Rattle.alarm_core.specs.declared.site.EnrollmentSite.{EnrollmentSite}
 use Rattle.alarm_core.specs.declared.site.Site.{Site}
 use Rattle.alarm_core.specs.Allowed.{IsAllowed, IsHistory, members_of, room_beside, share_of}
 use Rattle.alarm_core.specs.Classes.{classes_after, classes_with, edited, is_member}
 use Rattle.alarm_core.specs.Deliveries.{event_notes}
-use Rattle.alarm_core.specs.History.{rows_after, rows_with, tick_at}
+use Rattle.alarm_core.specs.History.{tick_at, values_after, values_with}
 use Rattle.alarm_core.specs.Room.{HasRoom, instance_of}
-use Rattle.alarm_core.specs.Sights.{first_rows}
+use Rattle.alarm_core.specs.declared.subject.Subject.{Subject}
 use Rattle.alarm_core.specs.Sites.{IsSite}
 use Rattle.alarm_core.specs.State.{state_of}
+use Rattle.alarm_core.specs.Subjects.{is_before_enrollments, is_behind_enrollments, subject_of_enrollment, subject_of_object, subjects_of}
+use Rattle.alarm_core.specs.Values.{Values, first_values}
 use Rattle.alarm_core.proofs.FewTold.{tick_told}
-use Rattle.alarm_core.proofs.Runs.{written_keeps, written_row}
+use Rattle.alarm_core.proofs.Stays.{written_keeps, written_row}
 use Rattle.alarm_core.proofs.Shares.{IsBelow, by_class, edit_within, instances, members_in, sum_of_some}
 
 -- ---- the instances stay
@@ -55,23 +60,55 @@ instances_stay site (event ∷ older) = instances_with event.act (classes_after 
 
 -- ---- the members stay
 
-members_with : (act : Act) (rows : List Row) (number : ℕ) → members_in (rows_with act rows) number ≡ members_in rows number
-members_with (Write change) rows number =
-    fold-map (λ n (row : Row). n + (if is_member row.site.class number then 1 else 0)) (written_row change) 0 rows
-    ∙ ap (λ (test : Row → Bool). count_by test rows) (fun_ext (λ row. ap (λ class. is_member class number) (written_keeps change row).class))
-members_with Tick rows number = refl
-members_with (Ack object transition named) rows number = refl
-members_with Pump rows number = refl
-members_with (Answer peer invoke kind) rows number = refl
-members_with (Edit edited_class recipients) rows number = refl
+-- how many rows, and how many enrollments, have a class
+abbrev rows_in : List Row → ℕ → ℕ
+rows_in table number = count_by (λ (row : Row). is_member row.site.class number) table
 
-rows_members : (site : Site) (history : List Event) (number : ℕ) → members_in (rows_after site history) number ≡ members_in (first_rows site) number
+abbrev sites_in : List EnrollmentSite → ℕ → ℕ
+sites_in sites number = count_by (λ (enrollment : EnrollmentSite). enrollment.class == number) sites
+
+members_with : (act : Act) (values : Values) (number : ℕ) → rows_in (values_with act values).rows number ≡ rows_in values.rows number
+members_with (Write change) values number =
+    fold-map (λ n (row : Row). n + (if is_member row.site.class number then 1 else 0)) (written_row change) 0 values.rows
+    ∙ ap (λ (test : Row → Bool). count_by test values.rows) (fun_ext (λ row. ap (λ class. is_member class number) (written_keeps change row).class))
+members_with Tick values number = refl
+members_with (Ack object transition named) values number = refl
+members_with Pump values number = refl
+members_with (Answer peer invoke kind) values number = refl
+members_with (Edit edited_class recipients) values number = refl
+
+rows_members : (site : Site) (history : List Event) (number : ℕ) → rows_in (values_after site history).rows number ≡ rows_in (first_values site).rows number
 rows_members site [] number = refl
-rows_members site (event ∷ older) number = members_with event.act (rows_after site older) number ∙ rows_members site older number
+rows_members site (event ∷ older) number = members_with event.act (values_after site older) number ∙ rows_members site older number
 
 members_stay : (site : Site) (history : List Event) → members_of (state_of site history) ≡ members_of (state_of site [])
 members_stay site history =
-    fun_ext (λ number. ap (λ n. n + count_by (λ (enrollment : EnrollmentSite). enrollment.class == number) site.enrollments) (rows_members site history number))
+    fun_ext (λ number. ap (λ n. n + sites_in site.enrollments number) (rows_members site history number))
+
+-- ---- the members at the start are the subjects
+
+module _ (number : ℕ) where
+  object_members : (objects : List ObjectSite) → members_in (map subject_of_object objects) number ≡ count_by (λ (object : ObjectSite). is_member object.class number) objects
+  object_members objects = fold-map (λ n (subject : Subject). n + (if is_member subject.class number then 1 else 0)) subject_of_object 0 objects
+
+  row_members : (objects : List ObjectSite) → rows_in (rows_of objects) number ≡ count_by (λ (object : ObjectSite). is_member object.class number) objects
+  row_members objects = fold-map (λ n (row : Row). n + (if is_member row.site.class number then 1 else 0)) first_row 0 objects
+
+  site_members : (sites : List EnrollmentSite) → members_in (map subject_of_enrollment sites) number ≡ sites_in sites number
+  site_members sites = fold-map (λ n (subject : Subject). n + (if is_member subject.class number then 1 else 0)) subject_of_enrollment 0 sites
+
+  pub subject_members : (site : Site) → members_in (subjects_of site) number ≡ members_of (state_of site []) number
+  subject_members site =
+      let one : Subject → ℕ = λ subject. if is_member subject.class number then 1 else 0 in
+      let before = map subject_of_object (filter is_before_enrollments site.objects) in
+      let between = map subject_of_enrollment site.enrollments in
+      let behind = map subject_of_object (filter is_behind_enrollments site.objects) in
+      let parted : count_by (λ (object : ObjectSite). is_member object.class number) (filter is_before_enrollments site.objects) + count_by (λ (object : ObjectSite). is_member object.class number) (filter is_behind_enrollments site.objects)
+      ≡ count_by (λ (object : ObjectSite). is_member object.class number) site.objects =
+      sum_by-filter_both is_before_enrollments is_behind_enrollments (λ object. refl) (λ (object : ObjectSite). if is_member object.class number then 1 else 0) site.objects in
+      let whole : members_in (before ++ (between ++ behind)) number ≡ members_in before number + members_in (between ++ behind) number = sum_by-append one before (between ++ behind) in
+      let later : members_in (between ++ behind) number ≡ members_in between number + members_in behind number = sum_by-append one between behind in
+      omega (arith, whole, later, parted, object_members (filter is_before_enrollments site.objects), object_members (filter is_behind_enrollments site.objects), site_members site.enrollments, row_members site.objects)
 
 -- ---- the room is kept
 
@@ -125,12 +162,13 @@ module _ (site : Site) (room : HasRoom site) where
   shares_fit [] is = room.fits
   shares_fit (event ∷ older) is = shares_with older (shares_fit older is.4) event.act is.2
 
-  members_share : (class : Class) → members_in (first_rows site) class.instance * length class.destinations ≤ share_of (state_of site []) class
-  members_share class = mul-le-mul_right (length class.destinations) (omega arith)
+  members_share : (class : Class) → members_in (subjects_of site) class.instance * length class.destinations ≤ share_of (state_of site []) class
+  members_share class =
+      mul-le-mul_right (length class.destinations) (let same : members_in (subjects_of site) class.instance ≡ members_of (state_of site []) class.instance = subject_members class.instance site in omega (arith, same))
 
   pub tick_fits : IsSite site → (history : List Event) → IsHistory site history → (moment : ℕ) → length (event_notes site (tick_at moment) history) ≤ site.device.outbox
   unfolding shares
   tick_fits is history is_history moment =
       let classes = classes_after site history in
-      let share : Class → ℕ = λ class. members_in (first_rows site) class.instance * length class.destinations in
-      omega (arith, tick_told site is history moment, by_class classes (first_rows site), sum_by-le-sum_by share (share_of (state_of site [])) classes members_share, shares_fit history is_history)
+      let share : Class → ℕ = λ class. members_in (subjects_of site) class.instance * length class.destinations in
+      omega (arith, tick_told site is history moment, by_class classes (subjects_of site), sum_by-le-sum_by share (share_of (state_of site [])) classes members_share, shares_fit history is_history)

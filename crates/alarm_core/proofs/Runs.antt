@@ -1,17 +1,13 @@
 -- The run starts that a state has are those of looking back.
-use Rattle.std.proofs.Common.{◌≡◌, ℕ, ◌<◌, Bool, true, false, cond, if◌then◌else◌, Option, Some, None, List, [], ◌∷◌, length, map, get_or, refl, ap, ◌∙◌, sym, arith}
+use Rattle.std.proofs.Common.{◌≡◌, ℕ, Bool, true, false, cond, if◌then◌else◌, Option, Some, None, is_some, List, [], ◌∷◌, map, refl, ap, ◌∙◌, sym}
 use Rattle.std.specs.List.{All, fold, slice_get, take_while}
-use Rattle.std.specs.Option.{option_and_then}
-use Rattle.std.proofs.lemmas.Bool.Decides.{nat_tests}
-use Rattle.std.proofs.lemmas.List.{get_or-map, length-map}
-use Rattle.std.proofs.lemmas.List.Elements.{All-filter, All-head, All-tail}
+use Rattle.std.specs.Option.{option_and_then, option_map}
+use Rattle.std.proofs.lemmas.List.Elements.{All-head, All-tail}
 use Rattle.std.proofs.lemmas.List.Sums.{take_while-cons}
-use Rattle.bac_values.specs.Identifier.{Identifier}
 use Rattle.bac_values.specs.declared.event_state.EventState.{EventState}
 use Rattle.bac_values.specs.declared.event_state.EventState.TheVariants.{Normal}
 use Rattle.bac_values.specs.declared.transition.Transition.{Transition}
-use Rattle.bac_values.specs.declared.value.Value.{Value}
-use Rattle.bac_values.specs.declared.value.Value.TheVariants.{Bool as Truth, Unsigned, Signed, Bits}
+use Rattle.algorithm_rules.specs.Facts.{Facts}
 use Rattle.algorithm_rules.specs.declared.table.Algorithm.{Algorithm}
 use Rattle.algorithm_rules.specs.declared.table.Rule.{Rule}
 use Rattle.algorithm_rules.specs.Rules.{rules_of}
@@ -21,27 +17,21 @@ use Rattle.event_machine.specs.Detection.{Detection, detection_at, enters, fault
 use Rattle.event_machine.specs.Runs.{RunStart, run_start_of, run_with}
 use Rattle.event_machine.specs.Summary.{key_at, points_with, seen_at}
 use Rattle.event_machine.specs.Next.{key_seen}
-use Rattle.object_table.specs.declared.change.Change.{Change}
-use Rattle.object_table.specs.declared.change.What.{What}
-use Rattle.object_table.specs.declared.change.What.TheVariants.{Property, FieldFault}
-use Rattle.object_table.specs.declared.object_property.ObjectProperty.{ObjectProperty}
-use Rattle.object_table.specs.declared.object_property.ObjectProperty.TheVariants.{PresentValue, OutOfService, ReliabilityEvaluationInhibit, TimeDelay, TimeDelayNormal, HighLimit, LowLimit, Deadband, LimitEnable, AlarmValue, EventEnable, EventAlgorithmInhibit}
-use Rattle.object_table.specs.declared.object_site.ObjectSite.{ObjectSite}
-use Rattle.object_table.specs.declared.row.Row.{Row}
-use Rattle.object_table.specs.Properties.{property_of}
-use Rattle.object_table.specs.Rows.{RowsAscend, is_object, object_in, row_of}
-use Rattle.object_table.specs.Writes.{changed, set_by, set_known, written}
-use Rattle.object_table.proofs.Order.{less_is_other}
-use Rattle.object_table.proofs.Places.{find_at, table_of}
+use Rattle.object_table.specs.Rows.{is_object}
 use Rattle.alarm_core.specs.declared.event.Act.{Act}
 use Rattle.alarm_core.specs.declared.event.Act.TheVariants.{Tick, Write, Ack, Pump, Answer, Edit}
 use Rattle.alarm_core.specs.declared.event.Event.{Event}
 use Rattle.alarm_core.specs.declared.site.Site.{Site}
-use Rattle.alarm_core.specs.Sights.{algorithm_for, detecting_rows, first_rows, is_detecting}
-use Rattle.alarm_core.specs.History.{Occurrence, AllLooked, detection_of, first_point, incidents_of, looked_with, occurrences_of, occurrences_with, rows_after, rows_with}
+use Rattle.alarm_core.specs.declared.subject.Subject.{Subject}
+use Rattle.alarm_core.specs.Subjects.{ack_required_of, detecting_subjects}
+use Rattle.alarm_core.specs.Values.{Values, written}
+use Rattle.alarm_core.specs.Sights.{facts_at, first_point, is_inhibited, point_with, site_stamp}
+use Rattle.alarm_core.specs.History.{Occurrence, AllLooked, detection_of, incidents_of, looked_with, occurrences_of, occurrences_with, values_after, values_with}
 use Rattle.alarm_core.specs.State.{state_of, tracked_of}
 use Rattle.alarm_core.specs.Sites.{IsSite}
-use Rattle.alarm_core.specs.RunStarts.{at_places, is_inhibited, run_at, run_in, run_by_key, run_starts_in, run_starts_of, runs_in, runs_of}
+use Rattle.alarm_core.specs.RunStarts.{at_places, run_at, run_in, run_by_key, run_starts_in, run_starts_of, runs_in, runs_of}
+use Rattle.alarm_core.proofs.OwnSubjects.{IsOwn, own_detecting}
+use Rattle.alarm_core.proofs.Stays.{facts_after}
 
 -- the last of a run over mapped elements, by tests that agree
 fold_same : {X Y : Type 0} (f : X → Y) (p : Y → Bool) (r : X → Bool) (m : Y → ℕ) → ((x : X) → p (f x) ≡ r x) → (xs : List X) (start : ℕ) →
@@ -152,131 +142,53 @@ newest_is algorithm first (Looked point ∷ older) =
     later_newest (is_fault d.state) (rule_held algorithm d) d ∙ fault_newest to point before
 newest_is algorithm first (Acknowledged transition ∷ older) = newest_is algorithm first older
 
--- a write keeps the identifiers and the classes
-pub record Keeps (before after : ObjectSite) : Type 0 where
-  pub object : after.object ≡ before.object
-  pub class : after.class ≡ before.class
+-- after a history an object is inhibited exactly as its newest point is
+abbrev newest_inhibited : Site → Subject → List Incident → Bool
+newest_inhibited site subject incidents = (newest_of (first_point site subject) incidents).inhibited
 
-known_keeps : (property : ObjectProperty) (value : Value) (site : ObjectSite) → Keeps site (set_known property value site)
-known_keeps PresentValue value site = record { object = refl; class = refl }
-known_keeps OutOfService (Truth truth) site = record { object = refl; class = refl }
-known_keeps ReliabilityEvaluationInhibit (Truth truth) site = record { object = refl; class = refl }
-known_keeps TimeDelay (Unsigned seconds) site = record { object = refl; class = refl }
-known_keeps TimeDelayNormal (Unsigned seconds) site = record { object = refl; class = refl }
-known_keeps HighLimit (Signed limit) site = record { object = refl; class = refl }
-known_keeps HighLimit (Unsigned limit) site = record { object = refl; class = refl }
-known_keeps LowLimit (Signed limit) site = record { object = refl; class = refl }
-known_keeps LowLimit (Unsigned limit) site = record { object = refl; class = refl }
-known_keeps Deadband (Unsigned deadband) site = record { object = refl; class = refl }
-known_keeps LimitEnable (Bits flags) site = record { object = refl; class = refl }
-known_keeps AlarmValue value site = record { object = refl; class = refl }
-known_keeps EventEnable (Bits flags) site = record { object = refl; class = refl }
-known_keeps EventAlgorithmInhibit (Truth truth) site = record { object = refl; class = refl }
-known_keeps _ _ site = record { object = refl; class = refl }
+abbrev IsShown : Site → Subject → Values → List Occurrence → Type 0
+IsShown site subject values w = is_inhibited subject.object values ≡ newest_inhibited site subject (incidents_of site subject w)
 
-set_keeps : (property : Option ObjectProperty) (value : Value) (site : ObjectSite) → Keeps site (set_by property value site)
-set_keeps None value site = record { object = refl; class = refl }
-set_keeps (Some property) value site = known_keeps property value site
+shown_by : (site : Site) (subject : Subject) (moment : ℕ) (values : Values) (w : List Occurrence) (facts : Option Facts) → is_some facts ≡ true →
+    is_inhibited subject.object values
+    ≡ newest_inhibited site subject (looked_with (option_map (point_with moment (site_stamp site moment) (ack_required_of site subject) subject.object values) facts) (incidents_of site subject w))
+shown_by site subject moment values w (Some facts) there = refl
+shown_by site subject moment values w None there = cc
 
-changed_keeps : (what : What) (row : Row) → Keeps row.site (changed what row).site
-changed_keeps (Property property value) row = set_keeps (property_of property.0) value row.site
-changed_keeps (FieldFault reliability) row = record { object = refl; class = refl }
+shown_looked : (site : Site) (subject : Subject) (moment : ℕ) (values : Values) (w : List Occurrence) → is_some (facts_at subject.object values) ≡ true → IsShown site subject values (AllLooked moment values ∷ w)
+shown_looked site subject moment values w there = shown_by site subject moment values w (facts_at subject.object values) there
 
-abbrev pub written_row : Change → Row → Row
-written_row change row = if is_object change.object row.site.object then changed change.what row else row
+acknowledged_same : (same : Bool) (site : Site) (subject : Subject) (transition : Transition) (incidents : List Incident) →
+    newest_inhibited site subject incidents ≡ newest_inhibited site subject (if same then Acknowledged transition ∷ incidents else incidents)
+acknowledged_same true site subject transition incidents = refl
+acknowledged_same false site subject transition incidents = refl
 
-pub written_keeps : (change : Change) (row : Row) → Keeps row.site (written_row change row).site
-written_keeps change row =
-    elim (is_object change.object row.site.object) as (λ b. Keeps row.site (if b then changed change.what row else row).site) [
-      | true ↦ changed_keeps change.what row
-      | false ↦ record { object = refl; class = refl }
-    ]
+shown_more : (site : Site) (subject : Subject) (moment : ℕ) (act : Act) (values : Values) (w : List Occurrence) → is_some (facts_at subject.object (values_with act values)) ≡ true →
+    IsShown site subject values w → IsShown site subject (values_with act values) (occurrences_with moment act values w)
+shown_more site subject moment Tick values w there shown = shown_looked site subject moment values w there
+shown_more site subject moment (Write change) values w there shown = shown_looked site subject moment (written change values) (AllLooked moment values ∷ w) there
+shown_more site subject moment (Ack object transition state) values w there shown =
+    shown ∙ acknowledged_same (is_object object subject.object) site subject transition (incidents_of site subject w)
+shown_more site subject moment Pump values w there shown = shown
+shown_more site subject moment (Answer peer invoke kind) values w there shown = shown
+shown_more site subject moment (Edit number recipients) values w there shown = shown
 
--- so the row of an object is found behind it too
-abbrev over_row : (Row → Row) → Option Row → Option Row
-over_row f None = None
-over_row f (Some row) = Some (f row)
+-- there is always something to look at
+pub own_facts : (site : Site) (subject : Subject) → IsOwn site subject → (history : List Event) → is_some (facts_at subject.object (values_after site history)) ≡ true
+own_facts site subject own history = facts_after site subject.object history ∙ own.facts
 
-row_of-map : (object : Identifier) (f : Row → Row) → ((row : Row) → (f row).site.object ≡ row.site.object) → (rows : List Row) → row_of object (map f rows) ≡ over_row f (row_of object rows)
-row_of-map object f keeps [] = refl
-row_of-map object f keeps (row ∷ rows) =
-    ap (λ other. if is_object object other then Some (f row) else row_of object (map f rows)) (keeps row)
-    ∙ elim (is_object object row.site.object) as (λ b. (if b then Some (f row) else row_of object (map f rows)) ≡ over_row f (if b then Some row else row_of object rows)) [
-      | true ↦ refl
-      | false ↦ row_of-map object f keeps rows
-    ]
-
-pub row_of-written : (object : Identifier) (change : Change) (rows : List Row) (row : Row) → row_of object rows ≡ Some row → row_of object (written change rows) ≡ Some (written_row change row)
-row_of-written object change rows row is = row_of-map object (written_row change) (λ r. (written_keeps change r).object) rows ∙ ap (over_row (written_row change)) is
-
--- after a history an object has a row, which is inhibited exactly as the object's newest point is
-abbrev newest_inhibited : Site → Row → List Incident → Bool
-newest_inhibited site first incidents = (newest_of (first_point site first) incidents).inhibited
-
-record IsShown (site : Site) (first : Row) (rows : List Row) (w : List Occurrence) : Type 0 where
-  row : Row
-  found : row_of first.site.object rows ≡ Some row
-  inhibited : row.site.inhibit ≡ newest_inhibited site first (incidents_of site first w)
-
-shown_looked : (site : Site) (first : Row) (moment : ℕ) (rows : List Row) (w : List Occurrence) (row : Row) → row_of first.site.object rows ≡ Some row → IsShown site first rows (AllLooked moment rows ∷ w)
-shown_looked site first moment rows w row is = record {
-  row = row;
-  found = is;
-  inhibited = ap (λ found. newest_inhibited site first (looked_with site first moment found (incidents_of site first w))) (sym is);
-}
-
-acknowledged_same : (same : Bool) (site : Site) (first : Row) (transition : Transition) (incidents : List Incident) →
-    newest_inhibited site first incidents ≡ newest_inhibited site first (if same then Acknowledged transition ∷ incidents else incidents)
-acknowledged_same true site first transition incidents = refl
-acknowledged_same false site first transition incidents = refl
-
-shown_more : (site : Site) (first : Row) (moment : ℕ) (act : Act) (rows : List Row) (w : List Occurrence) → IsShown site first rows w → IsShown site first (rows_with act rows) (occurrences_with moment act rows w)
-shown_more site first moment Tick rows w shown = shown_looked site first moment rows w shown.row shown.found
-shown_more site first moment (Write change) rows w shown =
-    shown_looked site first moment (written change rows) (AllLooked moment rows ∷ w) (written_row change shown.row) (row_of-written first.site.object change rows shown.row shown.found)
-shown_more site first moment (Ack object transition state) rows w shown = record {
-  row = shown.row;
-  found = shown.found;
-  inhibited = shown.inhibited ∙ acknowledged_same (is_object object first.site.object) site first transition (incidents_of site first w);
-}
-shown_more site first moment Pump rows w shown = shown
-shown_more site first moment (Answer peer invoke kind) rows w shown = shown
-shown_more site first moment (Edit number recipients) rows w shown = shown
-
-abbrev pub IsFirst : Site → Row → Type 0
-IsFirst site first = row_of first.site.object (first_rows site) ≡ Some first
-
-shown_after : (site : Site) (first : Row) → IsFirst site first → (history : List Event) → IsShown site first (rows_after site history) (occurrences_of site history)
-shown_after site first is [] = record { row = first; found = is; inhibited = refl }
-shown_after site first is (event ∷ older) = shown_more site first event.moment event.act (rows_after site older) (occurrences_of site older) (shown_after site first is older)
-
--- at the start each object is found at its own row
-is_itself : (object : Identifier) → is_object object object ≡ true
-is_itself object = grind (arith, nat_tests)
-
-earlier_is_other : (rows : List Row) → RowsAscend rows → (j k : ℕ) (d : Row) → j < k → k < length rows → is_object (get_or rows k d).site.object (get_or rows j d).site.object ≡ false
-earlier_is_other rows ascending j k d before low =
-    let in_range : k < length (map object_in rows) = rw (length-map rows object_in) low in
-    let high : j < length rows = omega (arith, before, low) in
-    let below = ascending j k (object_in d) before in_range in
-    less_is_other (get_or rows j d).site.object (get_or rows k d).site.object
-    (rw (← get_or-map object_in rows j d (object_in d) high, ← get_or-map object_in rows k d (object_in d) low) below)
-
-pub own_rows : (site : Site) → IsSite site → All (IsFirst site) (first_rows site)
-own_rows site is k d low =
-    let rows = first_rows site in
-    let ascending = (table_of site.objects is.ascending is.objects).ascending in
-    find_at (λ row. is_object (get_or rows k d).site.object row.site.object) rows k d low (is_itself (get_or rows k d).site.object)
-    (λ j before. earlier_is_other rows ascending j k d before low)
+shown_after : (site : Site) (subject : Subject) → IsOwn site subject → (history : List Event) → IsShown site subject (values_after site history) (occurrences_of site history)
+shown_after site subject own [] = refl
+shown_after site subject own (event ∷ older) =
+    shown_more site subject event.moment event.act (values_after site older) (occurrences_of site older) (own_facts site subject own (event ∷ older)) (shown_after site subject own older)
 
 -- the run starts of all objects
-runs_same : (site : Site) (history : List Event) (first : Row) → IsFirst site first → runs_in (rows_after site history) (tracked_of site (occurrences_of site history) first) ≡ runs_of site history first
-runs_same site history first is =
+runs_same : (site : Site) (history : List Event) (subject : Subject) → IsOwn site subject → runs_in (values_after site history) (tracked_of site (occurrences_of site history) subject) ≡ runs_of site history subject
+runs_same site history subject own =
     let w = occurrences_of site history in
-    let shown = shown_after site first is history in
-    let inhibited = ap is_inhibited shown.found ∙ (shown.inhibited ∙ ap (λ (p : Point). p.inhibited) (sym (newest_is (algorithm_for first.site.object) (first_point site first) (incidents_of site first w)))) in
-    ap (λ runs. record { object = first.site.object; runs = runs })
-    (object_same (algorithm_for first.site.object) (detection_of site first w) (is_inhibited (row_of first.site.object (rows_after site history))) inhibited)
+    let inhibited = shown_after site subject own history ∙ ap (λ (p : Point). p.inhibited) (sym (newest_is subject.algorithm (first_point site subject) (incidents_of site subject w))) in
+    ap (λ runs. record { object = subject.object; runs = runs })
+    (object_same subject.algorithm (detection_of site subject w) (is_inhibited subject.object (values_after site history)) inhibited)
 
 map_same : {X Y Z : Type 0} (f : Y → Z) (g : X → Y) (h : X → Z) (P : X → Type 0) → ((x : X) → P x → f (g x) ≡ h x) → (xs : List X) → All P xs → map f (map g xs) ≡ map h xs
 map_same f g h P same [] all = refl
@@ -285,5 +197,5 @@ map_same f g h P same (x ∷ xs) all =
 
 pub run_starts_stand : (site : Site) → IsSite site → (history : List Event) → run_starts_in (state_of site history) ≡ run_starts_of site history
 run_starts_stand site is history =
-    map_same (runs_in (rows_after site history)) (tracked_of site (occurrences_of site history)) (runs_of site history) (IsFirst site)
-    (runs_same site history) (detecting_rows site) (All-filter is_detecting (IsFirst site) (first_rows site) (own_rows site is))
+    map_same (runs_in (values_after site history)) (tracked_of site (occurrences_of site history)) (runs_of site history) (IsOwn site)
+    (runs_same site history) (detecting_subjects site) (own_detecting site is)

@@ -9,8 +9,8 @@ use Rattle.std.proofs.lemmas.List.Filters.{sum_by-filter_both}
 use Rattle.std.proofs.lemmas.List.Sums.{sum_by-cons}
 use Rattle.notify_class.specs.Recipients.{ListedRecipient}
 use Rattle.notify_class.specs.declared.class.Class.{Class}
-use Rattle.object_table.specs.declared.row.Row.{Row}
 use Rattle.alarm_core.specs.Classes.{class_in, edited, is_member}
+use Rattle.alarm_core.specs.declared.subject.Subject.{Subject}
 
 -- ---- sums
 
@@ -32,12 +32,12 @@ recipients_in None = 0
 recipients_in (Some class) = length class.destinations
 
 -- to how many recipients one transition of an object goes at most
-abbrev pub weight : List Class → Row → ℕ
-weight classes row = recipients_in (option_and_then (λ number. class_in number classes) row.site.class)
+abbrev pub weight : List Class → Subject → ℕ
+weight classes subject = recipients_in (option_and_then (λ number. class_in number classes) subject.class)
 
 -- how many objects have a class
-abbrev pub members_in : List Row → ℕ → ℕ
-members_in rows number = count_by (λ (row : Row). is_member row.site.class number) rows
+abbrev pub members_in : List Subject → ℕ → ℕ
+members_in subjects number = count_by (λ (subject : Subject). is_member subject.class number) subjects
 
 weight_by : (same : Bool) (class : Class) (rest : Option Class) → recipients_in (cond same (Some class) rest) ≤ cond same 1 0 * length class.destinations + recipients_in rest
 weight_by true class rest = omega arith
@@ -55,30 +55,30 @@ weight_with class classes (Some n) =
     (same_either_way class.instance n) (weight_by (class.instance == n) class (class_in n classes))
 
 -- the objects of one class, and those of the others
-one_class : (class : Class) (classes : List Class) (rows : List Row) →
-    sum_by (weight (class ∷ classes)) rows ≤ members_in rows class.instance * length class.destinations + sum_by (weight classes) rows
+one_class : (class : Class) (classes : List Class) (subjects : List Subject) →
+    sum_by (weight (class ∷ classes)) subjects ≤ members_in subjects class.instance * length class.destinations + sum_by (weight classes) subjects
 one_class class classes [] = omega arith
-one_class class classes (row ∷ rows) =
+one_class class classes (subject ∷ subjects) =
     let count = length class.destinations in
-    let mine = cond (is_member row.site.class class.instance) 1 0 in
-    let head : weight (class ∷ classes) row ≤ mine * count + weight classes row = weight_with class classes row.site.class in
-    let members : members_in (row ∷ rows) class.instance ≡ mine + members_in rows class.instance = sum_by-cons (λ (r : Row). cond (is_member r.site.class class.instance) 1 0) row rows in
-    let product : members_in (row ∷ rows) class.instance * count ≡ mine * count + members_in rows class.instance * count =
-    ap (λ n. n * count) members ∙ add-mul mine (members_in rows class.instance) count in
-    omega (arith, head, product, one_class class classes rows, sum_by-cons (weight (class ∷ classes)) row rows, sum_by-cons (weight classes) row rows)
+    let mine = cond (is_member subject.class class.instance) 1 0 in
+    let head : weight (class ∷ classes) subject ≤ mine * count + weight classes subject = weight_with class classes subject.class in
+    let members : members_in (subject ∷ subjects) class.instance ≡ mine + members_in subjects class.instance = sum_by-cons (λ (s : Subject). cond (is_member s.class class.instance) 1 0) subject subjects in
+    let product : members_in (subject ∷ subjects) class.instance * count ≡ mine * count + members_in subjects class.instance * count =
+    ap (λ n. n * count) members ∙ add-mul mine (members_in subjects class.instance) count in
+    omega (arith, head, product, one_class class classes subjects, sum_by-cons (weight (class ∷ classes)) subject subjects, sum_by-cons (weight classes) subject subjects)
 
 classless : (number : Option ℕ) → recipients_in (option_and_then (λ n. class_in n []) number) ≡ 0
 classless None = refl
 classless (Some n) = refl
 
-no_class : (rows : List Row) → sum_by (weight []) rows ≡ 0
+no_class : (subjects : List Subject) → sum_by (weight []) subjects ≡ 0
 no_class [] = refl
-no_class (row ∷ rows) = let head : weight [] row ≡ 0 = classless row.site.class in omega (arith, head, no_class rows, sum_by-cons (weight []) row rows)
+no_class (subject ∷ subjects) = let head : weight [] subject ≡ 0 = classless subject.class in omega (arith, head, no_class subjects, sum_by-cons (weight []) subject subjects)
 
-pub by_class : (classes : List Class) (rows : List Row) → sum_by (weight classes) rows ≤ sum_by (λ (class : Class). members_in rows class.instance * length class.destinations) classes
-by_class [] rows = omega (arith, no_class rows)
-by_class (class ∷ classes) rows =
-    omega (arith, one_class class classes rows, by_class classes rows, sum_by-cons (λ (c : Class). members_in rows c.instance * length c.destinations) class classes)
+pub by_class : (classes : List Class) (subjects : List Subject) → sum_by (weight classes) subjects ≤ sum_by (λ (class : Class). members_in subjects class.instance * length class.destinations) classes
+by_class [] subjects = omega (arith, no_class subjects)
+by_class (class ∷ classes) subjects =
+    omega (arith, one_class class classes subjects, by_class classes subjects, sum_by-cons (λ (c : Class). members_in subjects c.instance * length c.destinations) class classes)
 
 -- ---- an edit of one class
 

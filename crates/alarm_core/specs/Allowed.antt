@@ -1,22 +1,23 @@
 -- Which events may come after a state, and what it means that a state represents a history.
-use Rattle.std.specs.Prelude.{◌≡◌, ◌≤◌, ℕ, ◌+◌, ◌*◌, ◌-◌, ◌==◌, ◌||◌, not, IsTrue, IsSome, Ok, List, [], ◌∷◌, length, filter, count_by, sum_by}
+use Rattle.std.specs.Prelude.{◌≡◌, ◌⊎◌, ◌≤◌, ℕ, ◌+◌, ◌*◌, ◌-◌, ◌==◌, ◌||◌, not, IsTrue, IsSome, Ok, List, [], ◌∷◌, length, filter, count_by, sum_by}
 use Rattle.bac_values.specs.Moments.{IsMoment}
 use Rattle.event_machine.specs.Finding.{MayAcknowledge}
 use Rattle.notify_class.specs.Edits.{edit_verdict}
 use Rattle.notify_class.specs.declared.class.Class.{Class}
 use Rattle.object_table.specs.declared.row.Row.{Row}
-use Rattle.object_table.specs.Writes.{IsTaken}
 use Rattle.outbox.specs.Outboxes.{has_in_flight, peers_of, unfinished_in}
 use Rattle.alarm_core.specs.declared.event.Act.{Act}
 use Rattle.alarm_core.specs.declared.event.Act.TheVariants.{Tick, Write, Ack, Pump, Answer, Edit}
 use Rattle.alarm_core.specs.declared.event.Event.{Event}
-use Rattle.alarm_core.specs.declared.site.EnrollmentSite.{EnrollmentSite}
+use Rattle.enrollment.specs.declared.enrollment_site.EnrollmentSite.{EnrollmentSite}
 use Rattle.alarm_core.specs.declared.site.Site.{Site}
 use Rattle.alarm_core.specs.Classes.{class_in, is_member}
 use Rattle.alarm_core.specs.Deliveries.{outbox_after}
 use Rattle.alarm_core.specs.History.{last_moment_of}
 use Rattle.alarm_core.specs.State.{State, state_of}
 use Rattle.alarm_core.specs.Found.{found_in}
+use Rattle.alarm_core.specs.Logs.{IsTakenByLog}
+use Rattle.alarm_core.specs.Values.{IsTaken}
 
 -- the kinds of PDU by which a confirmed request is answered (20.1.2): SimpleACK, Error, Reject and Abort
 abbrev pub IsAnswer : ℕ → Type 0
@@ -25,7 +26,7 @@ IsAnswer kind = IsTrue (kind == 2 || (kind == 5 || (kind == 6 || kind == 7)))
 -- how many objects have a class
 abbrev pub members_of : State → ℕ → ℕ
 members_of state number =
-    count_by (λ (row : Row). is_member row.site.class number) state.rows + count_by (λ (enrollment : EnrollmentSite). enrollment.class == number) state.site.enrollments
+    count_by (λ (row : Row). is_member row.site.class number) state.values.rows + count_by (λ (enrollment : EnrollmentSite). enrollment.class == number) state.site.enrollments
 
 -- how many notifications one transition of each of its objects gives at most
 abbrev pub share_of : State → Class → ℕ
@@ -35,10 +36,10 @@ share_of state class = members_of state class.instance * length class.destinatio
 abbrev pub room_beside : State → ℕ → ℕ
 room_beside state number = state.site.device.outbox - sum_by (share_of state) (filter (λ (class : Class). not (class.instance == number)) state.classes)
 
--- a write that the properties take; an acknowledgement of a transition that came and isn't acknowledged; an answer to a notification in flight; and an edit of a class that keeps to the limits
+-- a write that the properties or a log take; an acknowledgement of a transition that came and isn't acknowledged; an answer to a notification in flight; and an edit of a class that keeps to the limits
 abbrev pub IsAllowed : State → Act → Type 0
 IsAllowed state Tick = Unit {0}
-IsAllowed state (Write change) = IsTaken change state.rows
+IsAllowed state (Write change) = IsTaken change state.values ⊎ IsTakenByLog change state.logs
 IsAllowed state (Ack object transition named) = MayAcknowledge (found_in state object) transition named
 IsAllowed state Pump = Unit {0}
 IsAllowed state (Answer peer invoke kind) = IsAnswer kind × IsTrue (has_in_flight peer invoke state.outbox)

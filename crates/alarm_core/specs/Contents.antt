@@ -4,12 +4,17 @@ use Rattle.bac_values.specs.Identifier.{Identifier}
 use Rattle.notify_class.specs.declared.class.Class.{Class}
 use Rattle.object_table.specs.declared.row.Row.{Row}
 use Rattle.object_table.specs.Rows.{is_object, row_of}
+use Rattle.enrollment.specs.declared.enrollment_site.EnrollmentSite.{EnrollmentSite}
+use Rattle.enrollment.specs.Enrollments.{site_of}
 use Rattle.alarm_core.specs.declared.content.Content.{Content}
 use Rattle.alarm_core.specs.declared.content.ReadFault.{ReadFault}
 use Rattle.alarm_core.specs.declared.site.ClassSite.{ClassSite}
 use Rattle.alarm_core.specs.declared.site.Site.{Site}
 use Rattle.alarm_core.specs.Classes.{class_in}
 use Rattle.alarm_core.specs.ClassProperties.{class_content, listed_class, recipients_of}
+use Rattle.alarm_core.specs.EnrollmentProperties.{enrollment_content}
+use Rattle.alarm_core.specs.LogProperties.{log_content}
+use Rattle.alarm_core.specs.Logs.{KeptLog, kept_log}
 use Rattle.alarm_core.specs.Found.{device_object, is_other_object}
 use Rattle.alarm_core.specs.Properties.{alarm_in, device_content, row_content, unknown_object, unknown_property}
 use Rattle.alarm_core.specs.State.{State}
@@ -19,16 +24,18 @@ abbrev pub class_or_other : Site → List Class → Identifier → ℕ → Optio
 class_or_other site classes object number (Some listed) = class_content listed (recipients_of (class_in listed.class.instance classes)) number
 class_or_other site classes object number None = if is_other_object site object then Err unknown_property else Err unknown_object
 
--- a property of an object beside the value objects
+-- a property of an object beside the value objects, the enrollments and the logs
 abbrev pub other_content : Site → List Class → Identifier → ℕ → Result Content ReadFault
 other_content site classes object number =
     if is_object object (device_object site) then device_content site number
     else class_or_other site classes object number (listed_class object site.classes)
 
-abbrev pub content_by : State → Identifier → ℕ → Option Row → Result Content ReadFault
-content_by state object number (Some row) = row_content (alarm_in state object) row number
-content_by state object number None = other_content state.site state.classes object number
+abbrev pub content_by : State → Identifier → ℕ → Option EnrollmentSite → Option Row → Option KeptLog → Result Content ReadFault
+content_by state object number (Some site) row kept = enrollment_content (alarm_in state object) site state.values.rows number
+content_by state object number None (Some row) kept = row_content (alarm_in state object) row number
+content_by state object number None None (Some kept) = log_content kept number
+content_by state object number None None None = other_content state.site state.classes object number
 
 -- what a property of an object is, or why there is none
 abbrev pub content_of : State → Identifier → ℕ → Result Content ReadFault
-content_of state object number = content_by state object number (row_of object state.rows)
+content_of state object number = content_by state object number (site_of object state.values.enrollments) (row_of object state.values.rows) (kept_log object state.logs)

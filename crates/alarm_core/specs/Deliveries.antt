@@ -9,25 +9,25 @@ use Rattle.outbox.specs.Delivery.{Timing, delivery_after, sent_at}
 use Rattle.outbox.specs.Following.{Operations, after_answer, after_pump, after_queue, no_operations}
 use Rattle.outbox.specs.Outboxes.{OutboxState}
 use Rattle.outbox.specs.Posts.{post_after}
-use Rattle.object_table.specs.declared.row.Row.{Row}
 use Rattle.alarm_core.specs.declared.event.Act.{Act}
 use Rattle.alarm_core.specs.declared.event.Act.TheVariants.{Ack, Pump, Answer, Edit}
 use Rattle.alarm_core.specs.declared.event.Event.{Event}
 use Rattle.alarm_core.specs.declared.site.Site.{Site}
 use Rattle.alarm_core.specs.Classes.{classes_after, known_peers_of}
-use Rattle.alarm_core.specs.History.{StateTransition, event_transitions, occurrences_of, rows_after}
+use Rattle.alarm_core.specs.History.{StateTransition, event_transitions, occurrences_of, values_after}
 use Rattle.alarm_core.specs.Notes.{notes_of_acknowledgement, notes_of_transition}
+use Rattle.alarm_core.specs.Values.{Values}
 
 -- the notifications that an act gives: of each of its event-state transitions, or of its acknowledgement
-abbrev pub notes_by : Site → List Class → List Row → ℕ → Act → List StateTransition → List Note
-notes_by site classes rows moment (Ack object transition named) transitions = notes_of_acknowledgement site classes rows moment object transition named
-notes_by site classes rows moment act transitions = flat_map (notes_of_transition site classes) transitions
+abbrev pub notes_by : Site → List Class → Values → ℕ → Act → List StateTransition → List Note
+notes_by site classes values moment (Ack object transition named) transitions = notes_of_acknowledgement site classes values moment object transition named
+notes_by site classes values moment act transitions = flat_map (notes_of_transition site classes) transitions
 
 -- those of an event behind a history
 abbrev pub event_notes : Site → Event → List Event → List Note
 event_notes site event older =
-    notes_by site (classes_after site older) (rows_after site older) event.moment event.act
-    (event_transitions site event.moment event.act (rows_after site older) (occurrences_of site older))
+    notes_by site (classes_after site older) (values_after site older) event.moment event.act
+    (event_transitions site event.moment event.act (values_after site older) (occurrences_of site older))
 
 -- all notifications of a history, in their order
 abbrev pub notifications_of : Site → List Event → List Note

@@ -5,7 +5,7 @@ use Rattle.bac_values.specs.Identifier.{Identifier}
 use Rattle.event_machine.specs.Finding.{Finding, NoSuchObject, WithoutAlarm, WithAlarm}
 use Rattle.object_table.specs.Rows.{is_object, row_of}
 use Rattle.alarm_core.specs.declared.site.ClassSite.{ClassSite}
-use Rattle.alarm_core.specs.declared.site.EnrollmentSite.{EnrollmentSite}
+use Rattle.enrollment.specs.declared.enrollment_site.EnrollmentSite.{EnrollmentSite}
 use Rattle.alarm_core.specs.declared.site.LogSite.{LogSite}
 use Rattle.alarm_core.specs.declared.site.Site.{Site}
 pub use Rattle.alarm_core.specs.Devices.{device_object, class_object}
@@ -20,7 +20,7 @@ is_other_object site object =
     || list_any (λ (listed : LogSite). is_object object listed.object) site.logs))
 
 abbrev pub has_object : State → Identifier → Bool
-has_object state object = is_some (row_of object state.rows) || is_other_object state.site object
+has_object state object = is_some (row_of object state.values.rows) || is_other_object state.site object
 
 abbrev pub tracked_in : Identifier → List Tracked → Option Tracked
 tracked_in object alarms = find (λ tracked. is_object object tracked.object) alarms

@@ -1,4 +1,6 @@
+pub mod Values
 pub mod Sites
+pub mod Subjects
 pub mod Sights
 pub mod History
 pub mod Classes
@@ -6,6 +8,7 @@ pub mod Known
 pub mod Devices
 pub mod Notes
 pub mod Deliveries
+pub mod Logs
 pub mod State
 pub mod Found
 pub mod Allowed
@@ -15,8 +18,12 @@ pub mod Moves
 pub mod RunStarts
 pub mod Laws
 pub mod Properties
+pub mod EnrollmentProperties
+pub mod LogProperties
 pub mod ClassProperties
 pub mod Contents
 pub mod Reading
+pub mod Information
 pub mod LastLists
 pub mod Verdicts
+pub mod Turns

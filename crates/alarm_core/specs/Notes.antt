@@ -1,84 +1,120 @@
 -- What is told of an event-state transition and of an acknowledgement, and to whom (ANSI/ASHRAE 135-2020, 13.2.5 and 13.5).
-use Rattle.std.specs.Prelude.{ℕ, ◌≤◌, length, Bool, false, if◌then◌else◌, Option, Some, None, option_and_then, List, [], slice_index_or}
+use Rattle.std.specs.Prelude.{ℕ, ◌≤◌, length, Bool, false, if◌then◌else◌, Option, Some, None, List, [], slice_index_or}
+use Rattle.std.specs.Option.{option_and_then}
 use Rattle.bac_values.specs.EventStates.{place_of_transition, transition_to}
 use Rattle.bac_values.specs.Identifier.{Identifier}
 use Rattle.bac_values.specs.declared.event_state.EventState.{EventState}
 use Rattle.bac_values.specs.declared.note.Note.{Note}
+use Rattle.bac_values.specs.declared.status_flags.StatusFlags.{StatusFlags}
 use Rattle.bac_values.specs.declared.transition.Transition.{Transition}
+use Rattle.bac_values.specs.declared.value.Value.{Value}
 use Rattle.event_machine.specs.declared.moves.Move.{Move}
 use Rattle.event_services.specs.declared.notification.EventValues.{EventValues}
+use Rattle.event_services.specs.declared.notification.Notification.{Notification}
 use Rattle.note_maker.specs.declared.source.Source.{Source}
 use Rattle.note_maker.specs.Notes.{notes_for}
 use Rattle.note_maker.specs.Shapes.{acknowledgement_notification, transition_notification}
 use Rattle.note_maker.specs.Told.{flags_in, values_at}
 use Rattle.notify_class.specs.declared.class.Class.{Class}
-use Rattle.object_table.specs.declared.object_site.ObjectSite.{ObjectSite}
 use Rattle.object_table.specs.declared.row.Row.{Row}
 use Rattle.object_table.specs.Rows.{row_of}
 use Rattle.outbox.specs.Posts.{most_octets}
-use Rattle.reliability_eval.specs.Reliability.{reliability_of}
+use Rattle.reliability_eval.specs.Reliability.{reliability_in}
+use Rattle.enrollment.specs.declared.enrollment_site.EnrollmentSite.{EnrollmentSite}
+use Rattle.enrollment.specs.Enrollments.{site_of}
+use Rattle.enrollment.specs.Snapshots.{algorithm_with, value_in}
 use Rattle.alarm_core.specs.declared.site.Site.{Site}
 use Rattle.alarm_core.specs.Classes.{class_in}
 use Rattle.alarm_core.specs.Devices.{device_object}
-use Rattle.alarm_core.specs.History.{StateTransition, transition_with}
-use Rattle.alarm_core.specs.Sights.{algorithm_for, facts_of_object, site_stamp}
+use Rattle.alarm_core.specs.History.{ObjectState, StateTransition, state_in, transition_with}
+use Rattle.alarm_core.specs.Sights.{facts_at, reliability_at, site_stamp}
+use Rattle.alarm_core.specs.declared.subject.Subject.{Subject}
+use Rattle.alarm_core.specs.Subjects.{subject_in}
+use Rattle.alarm_core.specs.Values.{Values}
 
 -- an object's notification class
-abbrev pub class_for : ObjectSite → List Class → Option Class
-class_for object classes = option_and_then (λ number. class_in number classes) object.class
+abbrev pub class_for : Subject → List Class → Option Class
+class_for subject classes = option_and_then (λ number. class_in number classes) subject.class
 
 -- whether transitions of a kind are told of (Event_Enable)
-abbrev pub is_enabled : Transition → ObjectSite → Bool
-is_enabled transition object = slice_index_or object.enable (place_of_transition transition) false
+abbrev pub is_enabled : Transition → Subject → Bool
+is_enabled transition subject = slice_index_or subject.enable (place_of_transition transition) false
 
 -- who tells of what
-abbrev pub source_of : Site → ObjectSite → Source
-source_of site object = record {
+abbrev pub source_of : Site → Subject → Source
+source_of site subject = record {
   device = device_object site;
-  object = object.object;
-  algorithm = algorithm_for object.object;
-  notify = object.notify;
+  object = subject.object;
+  algorithm = subject.algorithm;
+  notify = subject.notify;
 }
 
 abbrev pub move_of : StateTransition → Move
 move_of transition = record { from = transition.from; to = transition.to; by_fault = transition.by_fault }
 
+-- Out_Of_Service of an object; one that has no such property is in service
+abbrev pub out_of_service_in : Option Row → Bool
+out_of_service_in (Some row) = row.site.out_of_service
+out_of_service_in None = false
+
+-- Status_Flags of a value object in an event state
+abbrev pub flags_at : EventState → Identifier → List Row → StatusFlags
+flags_at state object rows = flags_in state (reliability_in object rows) (out_of_service_in (row_of object rows))
+
+-- The flags that are told: of a value object those of the state that it enters. An enrollment tells those of its monitored object after the whole point; where its own reliability made the transition it tells its own.
+abbrev pub told_flags : Option EnrollmentSite → StateTransition → StatusFlags
+told_flags None transition = flags_at transition.to transition.object transition.values.rows
+told_flags (Some site) transition =
+    if transition.by_fault then flags_in transition.to (reliability_at transition.object transition.values) false
+    else flags_at (state_in site.monitored transition.states) site.monitored transition.values.rows
+
+-- the Present_Value that is told with a reliability: an enrollment has none
+abbrev pub told_value : Option EnrollmentSite → StateTransition → Option Value
+told_value None transition = value_in transition.values.rows transition.object
+told_value (Some site) transition = None
+
 -- what is told of a transition at its point
-abbrev pub values_of : StateTransition → Row → Option EventValues
-values_of transition row =
-    values_at (algorithm_for row.site.object) (facts_of_object row.site) (move_of transition) transition.cause (reliability_of row)
-    (flags_in transition.to (reliability_of row) row.site.out_of_service) (Some row.site.value)
+abbrev pub values_of : StateTransition → Option EventValues
+values_of transition =
+    let listed = site_of transition.object transition.values.enrollments in
+    option_and_then
+    (λ facts. values_at (algorithm_with transition.object transition.values.enrollments) facts (move_of transition) transition.cause (reliability_at transition.object transition.values) (told_flags listed transition) (told_value listed transition))
+    (facts_at transition.object transition.values)
 
-abbrev pub told_in : Site → StateTransition → Row → Option Class → List Note
-told_in site transition row None = []
-told_in site transition row (Some class) =
-    notes_for (transition_notification (source_of site row.site) class (move_of transition) (site_stamp site transition.moment) (values_of transition row))
-    class.destinations (transition_to transition.to) transition.moment site.device.zone_minutes
+-- the notification of a transition, before it is told to a process
+abbrev pub notification_of : Site → StateTransition → Subject → Class → Notification
+notification_of site transition subject class = transition_notification (source_of site subject) class (move_of transition) (site_stamp site transition.moment) (values_of transition)
 
-abbrev pub told_of : Site → List Class → StateTransition → Option Row → List Note
+abbrev pub told_in : Site → StateTransition → Subject → Option Class → List Note
+told_in site transition subject None = []
+told_in site transition subject (Some class) =
+    notes_for (notification_of site transition subject class) class.destinations (transition_to transition.to) transition.moment site.device.zone_minutes
+
+abbrev pub told_of : Site → List Class → StateTransition → Option Subject → List Note
 told_of site classes transition None = []
-told_of site classes transition (Some row) = if is_enabled (transition_to transition.to) row.site then told_in site transition row (class_for row.site classes) else []
+told_of site classes transition (Some subject) =
+    if is_enabled (transition_to transition.to) subject then told_in site transition subject (class_for subject classes) else []
 
 -- the notes of a transition: where its kind is enabled, to the recipients of the object's class
 abbrev pub notes_of_transition : Site → List Class → StateTransition → List Note
-notes_of_transition site classes transition = told_of site classes transition (row_of transition.object transition.rows)
+notes_of_transition site classes transition = told_of site classes transition (subject_in transition.object transition.values)
 
-abbrev pub acknowledged_by : Site → ObjectSite → ℕ → Transition → EventState → Option Class → List Note
-acknowledged_by site object moment transition named None = []
-acknowledged_by site object moment transition named (Some class) =
-    notes_for (acknowledgement_notification (source_of site object) class named (site_stamp site moment)) class.destinations transition moment site.device.zone_minutes
+abbrev pub acknowledged_by : Site → Subject → ℕ → Transition → EventState → Option Class → List Note
+acknowledged_by site subject moment transition named None = []
+acknowledged_by site subject moment transition named (Some class) =
+    notes_for (acknowledgement_notification (source_of site subject) class named (site_stamp site moment)) class.destinations transition moment site.device.zone_minutes
 
-abbrev pub acknowledged_of : Site → List Class → ℕ → Transition → EventState → Option Row → List Note
+abbrev pub acknowledged_of : Site → List Class → ℕ → Transition → EventState → Option Subject → List Note
 acknowledged_of site classes moment transition named None = []
-acknowledged_of site classes moment transition named (Some row) = acknowledged_by site row.site moment transition named (class_for row.site classes)
+acknowledged_of site classes moment transition named (Some subject) = acknowledged_by site subject moment transition named (class_for subject classes)
 
 -- the notes of an acknowledgement: to the recipients of the object's class, whatever is enabled
-abbrev pub notes_of_acknowledgement : Site → List Class → List Row → ℕ → Identifier → Transition → EventState → List Note
-notes_of_acknowledgement site classes rows moment object transition named = acknowledged_of site classes moment transition named (row_of object rows)
+abbrev pub notes_of_acknowledgement : Site → List Class → Values → ℕ → Identifier → Transition → EventState → List Note
+notes_of_acknowledgement site classes values moment object transition named = acknowledged_of site classes moment transition named (subject_in object values)
 
 -- the notes of a move of an object at a point
-abbrev pub told_by : Site → List Class → ℕ → Identifier → List Row → Option ℕ → Option Row → Move → List Note
-told_by site classes moment object rows cause row made = told_of site classes (transition_with object moment rows cause made) row
+abbrev pub told_by : Site → List Class → ℕ → Identifier → Values → List ObjectState → Option ℕ → Move → List Note
+told_by site classes moment object values states cause made = notes_of_transition site classes (transition_with object moment values states cause made)
 
 -- as the outbox has notes
 abbrev pub IsShort : Note → Type 0

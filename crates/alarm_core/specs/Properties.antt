@@ -19,14 +19,16 @@ use Rattle.object_table.specs.declared.object_property.ObjectProperty.{ObjectPro
 use Rattle.object_table.specs.declared.object_property.ObjectProperty.TheVariants.{ObjectIdentifier, ObjectName, ObjectType, PresentValue, StatusFlags, EventState, Reliability, OutOfService, ReliabilityEvaluationInhibit, NumberOfStates, TimeDelay, TimeDelayNormal, HighLimit, LowLimit, Deadband, LimitEnable, AlarmValue, AlarmValues, FaultValues, EventEnable, EventAlgorithmInhibit, AckedTransitions, NotifyType, EventDetectionEnable, NotificationClass, EventTimeStamps}
 use Rattle.object_table.specs.declared.object_site.ObjectSite.{ObjectSite}
 use Rattle.object_table.specs.declared.row.Row.{Row}
+use Rattle.object_table.specs.declared.faults.WriteFault.{WriteFault}
+use Rattle.object_table.specs.declared.faults.WriteFault.TheVariants as write_faults
 use Rattle.object_table.specs.Flags.{string_of}
 use Rattle.object_table.specs.Properties.{has, kind_in, property_of}
 use Rattle.reliability_eval.specs.Reliability.{reliability_of}
 use Rattle.alarm_core.specs.declared.content.Content.{Content}
 use Rattle.alarm_core.specs.declared.content.Content.TheVariants.{Whole, Elements}
 use Rattle.alarm_core.specs.declared.content.ReadFault.{ReadFault}
-use Rattle.alarm_core.specs.declared.content.ReadFault.TheVariants.{Error}
-use Rattle.alarm_core.specs.declared.site.EnrollmentSite.{EnrollmentSite}
+use Rattle.alarm_core.specs.declared.content.ReadFault.TheVariants.{Error, NoMemory}
+use Rattle.enrollment.specs.declared.enrollment_site.EnrollmentSite.{EnrollmentSite}
 use Rattle.alarm_core.specs.declared.site.LogSite.{LogSite}
 use Rattle.alarm_core.specs.declared.site.Site.{Site}
 use Rattle.alarm_core.specs.Found.{class_object, device_object, tracked_in}
@@ -105,6 +107,11 @@ object_content kind alarm row NotifyType = one (values.Enumerated row.site.notif
 object_content kind alarm row EventDetectionEnable = one (values.Bool row.site.detection)
 object_content kind alarm row NotificationClass = one (values.Unsigned (or_zero row.site.class))
 object_content kind alarm row EventTimeStamps = Elements (map written_time_stamp alarm.stamps)
+
+-- a fault of reading, as a write is answered with it
+abbrev pub as_write_fault : ReadFault → WriteFault
+as_write_fault (Error class code) = write_faults.Error class code
+as_write_fault NoMemory = write_faults.NoMemory
 
 -- the errors, by class and code (clause 18)
 abbrev pub unknown_object : ReadFault

@@ -11,11 +11,17 @@ use Rattle.object_table.specs.declared.faults.WriteFault.TheVariants as write_fa
 use Rattle.object_table.specs.declared.row.Row.{Row}
 use Rattle.object_table.specs.Rows.{row_of}
 use Rattle.object_table.specs.Verdicts.{index_verdict, write_access_denied, write_by_row}
+use Rattle.enrollment.specs.declared.enrollment_site.EnrollmentSite.{EnrollmentSite}
+use Rattle.enrollment.specs.Enrollments.{site_of}
+use Rattle.enrollment.specs.Verdicts.{write_by_site}
 use Rattle.alarm_core.specs.declared.content.Content.{Content}
 use Rattle.alarm_core.specs.declared.content.Content.TheVariants.{Whole, Elements}
 use Rattle.alarm_core.specs.declared.content.ReadFault.{ReadFault}
 use Rattle.alarm_core.specs.declared.content.ReadFault.TheVariants.{Error, NoMemory}
 use Rattle.alarm_core.specs.Contents.{content_of, other_content}
+pub use Rattle.alarm_core.specs.Properties.{as_write_fault}
+use Rattle.alarm_core.specs.LogProperties.{log_write}
+use Rattle.alarm_core.specs.Logs.{KeptLog, kept_log}
 use Rattle.alarm_core.specs.Properties.{invalid_array_index, property_is_not_an_array}
 use Rattle.alarm_core.specs.State.{State}
 
@@ -57,10 +63,6 @@ abbrev pub size_of : Content → Option ℕ
 size_of (Whole octets) = None
 size_of (Elements elements) = Some (length elements)
 
-abbrev pub as_write_fault : ReadFault → WriteFault
-as_write_fault (Error class code) = write_faults.Error class code
-as_write_fault NoMemory = write_faults.NoMemory
-
 -- no property of such an object can be written
 abbrev pub denied_by : Result (Unit {0}) WriteFault → Result Change WriteFault
 denied_by (Err fault) = Err fault
@@ -70,13 +72,15 @@ abbrev pub denied : Result Content ReadFault → Option ℕ → Result Change Wr
 denied (Err fault) index = Err (as_write_fault fault)
 denied (Ok content) index = denied_by (index_verdict (size_of content) index)
 
-abbrev pub write_by : State → Option Row → Identifier → ℕ → Option ℕ → Value → Result Change WriteFault
-write_by state (Some row) object number index value = write_by_row (Some row) object number index value
-write_by state None object number index value = denied (other_content state.site state.classes object number) index
+abbrev pub write_by : State → Option EnrollmentSite → Option Row → Option KeptLog → Identifier → ℕ → Option ℕ → Value → Result Change WriteFault
+write_by state (Some site) row kept object number index value = write_by_site (Some site) object number index value
+write_by state None (Some row) kept object number index value = write_by_row (Some row) object number index value
+write_by state None None (Some kept) object number index value = log_write kept number index value
+write_by state None None None object number index value = denied (other_content state.site state.classes object number) index
 
 -- the change that a write of a property makes, or the first error that applies to it
 abbrev pub write_of : State → Identifier → ℕ → Option ℕ → Value → Result Change WriteFault
-write_of state object number index value = write_by state (row_of object state.rows) object number index value
+write_of state object number index value = write_by state (site_of object state.values.enrollments) (row_of object state.values.rows) (kept_log object state.logs) object number index value
 
 -- the answer is that one, unless memory is refused
 abbrev pub AnswersWrite : Result Change WriteFault → Result Change WriteFault → Type 0

@@ -1,5 +1,5 @@
 -- Since when the conditions of rules have held, as a state has it and by looking back.
-use Rattle.std.specs.Prelude.{ℕ, Bool, false, if◌then◌else◌, Option, Some, None, List, [], ◌∷◌, map, slice_get}
+use Rattle.std.specs.Prelude.{ℕ, if◌then◌else◌, Option, Some, None, List, [], ◌∷◌, map, slice_get}
 use Rattle.std.specs.List.{fold}
 use Rattle.std.specs.Option.{option_and_then}
 use Rattle.bac_values.specs.Identifier.{Identifier}
@@ -9,11 +9,12 @@ use Rattle.event_machine.specs.declared.seen.Seen.{Seen}
 use Rattle.event_machine.specs.Detection.{Detection}
 use Rattle.event_machine.specs.Next.{key_seen, run_seen}
 use Rattle.event_machine.specs.Runs.{RunStart, run_start_of}
-use Rattle.object_table.specs.declared.row.Row.{Row}
-use Rattle.object_table.specs.Rows.{row_of}
 use Rattle.alarm_core.specs.declared.event.Event.{Event}
 use Rattle.alarm_core.specs.declared.site.Site.{Site}
-use Rattle.alarm_core.specs.Sights.{algorithm_for, detecting_rows}
+use Rattle.alarm_core.specs.Sights.{is_inhibited}
+use Rattle.alarm_core.specs.declared.subject.Subject.{Subject}
+use Rattle.alarm_core.specs.Subjects.{detecting_subjects}
+use Rattle.alarm_core.specs.Values.{Values}
 use Rattle.alarm_core.specs.History.{detection_of, occurrences_of}
 use Rattle.alarm_core.specs.State.{State, Tracked}
 
@@ -39,31 +40,27 @@ abbrev pub run_in : ℕ → List Seen → Option RunStart
 run_in place [] = None
 run_in place (newest ∷ older) = run_by_key place newest older (key_seen place newest)
 
-abbrev pub is_inhibited : Option Row → Bool
-is_inhibited None = false
-is_inhibited (Some row) = row.site.inhibit
-
 -- by the properties of all objects and what is kept of one: no run start where it is inhibited
-abbrev pub runs_in : List Row → Tracked → ObjectRuns
-runs_in rows tracked = record {
+abbrev pub runs_in : Values → Tracked → ObjectRuns
+runs_in values tracked = record {
   object = tracked.object;
-  runs = at_places (λ place. if is_inhibited (row_of tracked.object rows) then None else run_in place tracked.points);
+  runs = at_places (λ place. if is_inhibited tracked.object values then None else run_in place tracked.points);
 }
 
 -- the run starts that a state has
 abbrev pub run_starts_in : State → List ObjectRuns
-run_starts_in state = map (runs_in state.rows) state.alarms
+run_starts_in state = map (runs_in state.values) state.alarms
 
 -- by a detection: the run start of the rule at a place, if there is one
 abbrev pub run_at : Algorithm → Detection → ℕ → Option RunStart
 run_at algorithm d place = option_and_then (λ rule. run_start_of rule d) (slice_get (rules_of algorithm d.state) place)
 
-abbrev pub runs_of : Site → List Event → Row → ObjectRuns
-runs_of site history first = record {
-  object = first.site.object;
-  runs = at_places (run_at (algorithm_for first.site.object) (detection_of site first (occurrences_of site history)));
+abbrev pub runs_of : Site → List Event → Subject → ObjectRuns
+runs_of site history subject = record {
+  object = subject.object;
+  runs = at_places (run_at subject.algorithm (detection_of site subject (occurrences_of site history)));
 }
 
 -- the run starts of a history: of each object whose event detection is enabled, by looking back over its course
 abbrev pub run_starts_of : Site → List Event → List ObjectRuns
-run_starts_of site history = map (runs_of site history) (detecting_rows site)
+run_starts_of site history = map (runs_of site history) (detecting_subjects site)

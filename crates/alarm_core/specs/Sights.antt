@@ -1,84 +1,83 @@
--- What the event-state detection of an object sees of its properties (ANSI/ASHRAE 135-2020, 13.2 and 13.3).
-use Rattle.std.specs.Prelude.{ℕ, ◌==◌, ◌&&◌, Bool, false, Option, Some, None, List, filter, find, is_some, replicate, slice_index_or, option_and_then}
-use Rattle.bac_values.specs.Identifier.{Identifier, kind_of}
-use Rattle.bac_values.specs.declared.object_kind.ObjectKind.{ObjectKind}
-use Rattle.bac_values.specs.declared.object_kind.ObjectKind.TheVariants.{BitStringValue, CharacterStringValue, IntegerValue, PositiveIntegerValue}
+-- What the event-state detection of an object sees (ANSI/ASHRAE 135-2020, 13.2 and 13.3).
+use Rattle.std.specs.Prelude.{ℕ, Bool, false, pos, Option, Some, None, List, []}
+use Rattle.std.specs.Option.{option_map}
+use Rattle.bac_values.specs.Identifier.{Identifier}
+use Rattle.bac_values.specs.declared.reliability.Reliability.{Reliability}
 use Rattle.bac_values.specs.declared.stamp.Stamp.{Stamp}
-use Rattle.algorithm_rules.specs.declared.table.Algorithm.{Algorithm}
-use Rattle.algorithm_rules.specs.declared.table.Algorithm.TheVariants.{ChangeOfBitstring, ChangeOfState, SignedOutOfRange, UnsignedOutOfRange, ChangeOfCharacterstring}
+use Rattle.bac_values.specs.declared.value.Value.TheVariants.{Null}
 use Rattle.algorithm_rules.specs.Facts.{Facts}
 use Rattle.civil_stamp.specs.LocalTime.{local_stamp}
 use Rattle.event_machine.specs.Points.{Point}
-use Rattle.object_table.specs.declared.object_site.ObjectSite.{ObjectSite}
-use Rattle.object_table.specs.declared.row.Row.{Row}
-use Rattle.object_table.specs.Rows.{rows_of}
-use Rattle.reliability_eval.specs.Reliability.{reliability_of}
-use Rattle.alarm_core.specs.declared.site.ClassSite.{ClassSite}
+use Rattle.enrollment.specs.Reliabilities.{reliability_with}
+use Rattle.enrollment.specs.Snapshots.{facts_with}
 use Rattle.alarm_core.specs.declared.site.Site.{Site}
+use Rattle.alarm_core.specs.declared.subject.Subject.{Subject}
+use Rattle.alarm_core.specs.Subjects.{ack_required_of, subject_in}
+use Rattle.alarm_core.specs.Values.{Values, first_values}
 
--- the event algorithm that each type of object applies to its own Present_Value
-abbrev pub algorithm_of : Option ObjectKind → Algorithm
-algorithm_of (Some BitStringValue) = ChangeOfBitstring
-algorithm_of (Some CharacterStringValue) = ChangeOfCharacterstring
-algorithm_of (Some IntegerValue) = SignedOutOfRange
-algorithm_of (Some PositiveIntegerValue) = UnsignedOutOfRange
-algorithm_of _ = ChangeOfState
+abbrev pub inhibit_of : Option Subject → Bool
+inhibit_of (Some subject) = subject.inhibit
+inhibit_of None = false
 
-abbrev pub algorithm_for : Identifier → Algorithm
-algorithm_for object = algorithm_of (kind_of object.number)
+-- Event_Algorithm_Inhibit of an object
+abbrev pub is_inhibited : Identifier → Values → Bool
+is_inhibited object values = inhibit_of (subject_in object values)
 
--- what the algorithm of an object looks at
-abbrev pub facts_of_object : ObjectSite → Facts
-facts_of_object object = record {
-  value = object.value;
-  feedback = None;
-  alarm_value = object.alarm_value;
-  alarm_values = object.alarm_values;
-  mask = object.mask;
-  low = object.low;
-  high = object.high;
-  low_enabled = slice_index_or object.limit_enable 0 false;
-  high_enabled = slice_index_or object.limit_enable 1 false;
-  deadband = object.deadband;
-  time_delay = object.time_delay;
-  time_delay_normal = object.time_delay_normal;
-}
+-- its reliability: an enrollment's is that of what it refers to
+abbrev pub reliability_at : Identifier → Values → Reliability
+reliability_at object values = reliability_with object values.enrollments values.rows
 
--- the point of an object at a moment with its local date and time, where its class wants these transitions acknowledged
-abbrev pub point_with : ℕ → Stamp → List Bool → Row → Point
-point_with moment stamp ack_required row = record {
+-- what its event algorithm looks at, if it is there
+abbrev pub facts_at : Identifier → Values → Option Facts
+facts_at object values = facts_with object values.enrollments values.rows
+
+-- the point of an object that sees these facts, where its class wants these transitions acknowledged
+abbrev pub point_with : ℕ → Stamp → List Bool → Identifier → Values → Facts → Point
+point_with moment stamp ack_required object values facts = record {
   moment = moment;
   stamp = stamp;
-  facts = facts_of_object row.site;
-  reliability = reliability_of row;
-  inhibited = row.site.inhibit;
+  facts = facts;
+  reliability = reliability_at object values;
+  inhibited = is_inhibited object values;
   ack_required = ack_required;
 }
 
-abbrev pub ack_required_in : Option ClassSite → List Bool
-ack_required_in None = replicate 3 false
-ack_required_in (Some site) = site.class.ack_required
-
--- Ack_Required of an object's notification class
-abbrev pub ack_required_of : Site → ObjectSite → List Bool
-ack_required_of site object = ack_required_in (option_and_then (λ instance. find (λ (listed : ClassSite). listed.class.instance == instance) site.classes) object.class)
-
--- whether an object has event detection, and it is enabled (Event_Detection_Enable)
-abbrev pub is_detecting : Row → Bool
-is_detecting row = is_some row.site.class && row.site.detection
-
--- the objects of a site as they are at its start
-abbrev pub first_rows : Site → List Row
-first_rows site = rows_of site.objects
-
--- those of them whose event detection is enabled, ascending
-abbrev pub detecting_rows : Site → List Row
-detecting_rows site = filter is_detecting (first_rows site)
+-- the point of an object, if it is there
+abbrev pub point_in : ℕ → Stamp → List Bool → Identifier → Values → Option Point
+point_in moment stamp ack_required object values = option_map (point_with moment stamp ack_required object values) (facts_at object values)
 
 -- the local date and time of a moment at a site
 abbrev pub site_stamp : Site → ℕ → Stamp
 site_stamp site moment = local_stamp site.device.zone_minutes moment
 
--- the point of an object, from how the site has it and how it is then
-abbrev pub point_of : Site → Row → ℕ → Row → Point
-point_of site first moment row = point_with moment (site_stamp site moment) (ack_required_of site first.site) row
+-- the point of a subject of a site
+abbrev pub point_of : Site → Subject → ℕ → Values → Option Point
+point_of site subject moment values = point_in moment (site_stamp site moment) (ack_required_of site subject) subject.object values
+
+-- nothing to look at; each subject of a site is there
+abbrev pub no_facts : Facts
+no_facts = record {
+  value = Null;
+  feedback = None;
+  alarm_value = None;
+  alarm_values = [];
+  mask = None;
+  low = pos 0;
+  high = pos 0;
+  low_enabled = false;
+  high_enabled = false;
+  deadband = 0;
+  time_delay = 0;
+  time_delay_normal = None;
+}
+
+abbrev pub facts_or_none : Option Facts → Facts
+facts_or_none (Some facts) = facts
+facts_or_none None = no_facts
+
+-- the point of an object at the start
+abbrev pub start_point : ℕ → Stamp → List Bool → Identifier → Values → Point
+start_point start stamp ack_required object values = point_with start stamp ack_required object values (facts_or_none (facts_at object values))
+
+abbrev pub first_point : Site → Subject → Point
+first_point site subject = start_point site.device.start (site_stamp site site.device.start) (ack_required_of site subject) subject.object (first_values site)

@@ -1,18 +1,28 @@
 -- What a site keeps to.
-use Rattle.std.specs.Prelude.{◌≤◌, All}
+use Rattle.std.specs.Prelude.{◌≡◌, ◌≤◌, All}
 use Rattle.bac_values.specs.Moments.{IsMoment}
 use Rattle.civil_stamp.specs.LocalTime.{IsZone}
 use Rattle.object_table.specs.Objects.{IsObject}
-use Rattle.object_table.specs.Rows.{AscendsById}
+use Rattle.object_table.specs.Rows.{AscendsById, rows_of}
 use Rattle.outbox.specs.Outboxes.{AreSettings}
+use Rattle.enrollment.specs.Enrollments.{AscendById, IsEnrollment}
+use Rattle.enrollment.specs.Snapshots.{Holds}
 use Rattle.alarm_core.specs.declared.site.ClassSite.{ClassSite}
+use Rattle.alarm_core.specs.declared.site.LogSite.{LogSite}
 use Rattle.alarm_core.specs.declared.site.Site.{Site}
 
 -- the instance of a class is one that an object can have
 abbrev pub HasInstance : ClassSite → Type 0
 HasInstance listed = listed.class.instance ≤ 4194302
 
--- it starts at a moment in range, its local time is at most fourteen hours from UTC, its device and its classes have instances that objects can have, its outbox has the settings of one, and its value objects ascend and have the properties of their types
+-- an event log that a site may have: its type is 25, and it holds from 1 to 16,384 records
+pub record IsLogSite (listed : LogSite) : Type 0 where
+  pub number : listed.object.number ≡ 25
+  pub instance : listed.object.instance ≤ 4194302
+  pub least : 1 ≤ listed.size
+  pub most : listed.size ≤ 16384
+
+-- it starts at a moment in range, its local time is at most fourteen hours from UTC, its device and its classes have instances that objects can have, its outbox has the settings of one, its value objects and its enrollments ascend and have the properties of their types, the objects to which its enrollments refer are there, and its logs are such as a site may have
 pub record IsSite (site : Site) : Type 0 where
   pub start : IsMoment site.device.start
   pub zone : IsZone site.device.zone_minutes
@@ -21,3 +31,7 @@ pub record IsSite (site : Site) : Type 0 where
   pub settings : AreSettings site.device.outbox site.device.apdu_timeout site.device.retries
   pub ascending : AscendsById site.objects
   pub objects : All IsObject site.objects
+  pub enrollments_ascend : AscendById site.enrollments
+  pub enrollments : All IsEnrollment site.enrollments
+  pub referred : Holds (rows_of site.objects) site.enrollments
+  pub logs : All IsLogSite site.logs

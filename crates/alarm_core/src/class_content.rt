@@ -1,4 +1,4 @@
-ghost use Rattle.std.specs.Prelude.{◌≡◌, ◌≤◌, ◌<◌, ◌++◌, IfOk, None, OnOk, length, true};
+ghost use Rattle.std.specs.Prelude.{◌≡◌, ◌≤◌, ◌<◌, ◌++◌, IfOk, None, OnOk, length};
 ghost use Rattle.bac_tags.specs.Writing.{written_element, written_unsigned};
 ghost use Rattle.alarm_core.specs.ClassProperties.{array_of_numbers, class_content, clock_of, days_of, list_of_recipients, written_address, written_peer, written_recipient, written_station, written_time};
 ghost use Rattle.alarm_core.specs.Reading.{AnswersContent};
@@ -13,6 +13,7 @@ use crate::{ClassSite, Content, ReadFault};
 use bac_tags::{Shape, Tag, write_bits, write_bool, write_tag, write_unsigned};
 use bac_values::{Bits, Items, NoMemory, Peer, PropertyId};
 use notify_class::Destination;
+use service_parameters::{write_closing, write_opening};
 use std::alloc::Global;
 
 // The numbers of the types of a station's address and of a Time (20.2.1.4).
@@ -81,23 +82,15 @@ fn write_address(out: &mut Vec<u8>, peer: Peer) -> Result<(), NoMemory>
     write_station(out, peer)
 }
 
-// The tag that opens or closes an address.
-fn address_tag(shape: Shape) -> Tag
-    ensures tag { result ≡ record { number = 1; context = true; shape = shape } }
-{
-    Tag {
-        number: 1,
-        context: true,
-        shape,
-    }
-}
+// The number of the tags round an address.
+const ADDRESS: u8 = 1;
 
 fn write_peer(out: &mut Vec<u8>, peer: Peer) -> Result<(), NoMemory>
     ensures written { OnOk result (out.new.items ≡ out.old.items ++ written_peer peer) }
 {
-    write_tag(out, address_tag(Shape::Opening))?;
+    write_opening(out, ADDRESS)?;
     write_address(out, peer)?;
-    write_tag(out, address_tag(Shape::Closing))
+    write_closing(out, ADDRESS)
 }
 
 // The valid days, Monday first.

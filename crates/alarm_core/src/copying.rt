@@ -109,20 +109,22 @@ fn copy_of_enrollment(site: &EnrollmentSite) -> Result<EnrollmentSite, NoMemory>
     Ok(site.clone()?)
 }
 
-fn copy_of_enrollments(
+/// The same enrollments once more.
+pub(crate) fn copy_of_enrollments(
     alloc: Global,
     sites: &[EnrollmentSite],
-) -> Result<Items<EnrollmentSite>, NoMemory>
-    ensures same { IfOk result (λ copy. copy ≡ sites.now) }
+) -> Result<Vec<EnrollmentSite>, NoMemory>
+    ensures same { IfOk result (λ copy. copy.items ≡ sites.now) }
 {
     let mut copy = Vec::new(alloc);
     for site in sites {
         add(&mut copy, copy_of_enrollment(site)?)?;
     }
-    Ok(Items::of(copy))
+    Ok(copy)
 }
 
-fn copy_of_log(alloc: Global, site: &LogSite) -> Result<LogSite, NoMemory>
+/// The same log once more.
+pub(crate) fn copy_of_log(alloc: Global, site: &LogSite) -> Result<LogSite, NoMemory>
     ensures same { IfOk result (λ copy. copy ≡ site.now) }
 {
     let name = site.name.clone()?;
@@ -161,7 +163,7 @@ pub(crate) fn copy_of_site(alloc: Global, site: &Site) -> Result<Site, NoMemory>
         device: copy_of_device(&site.device)?,
         classes: copy_of_classes(alloc, site.classes.as_slice())?,
         objects: Items::of(copy_of_objects(alloc, site.objects.as_slice())?),
-        enrollments: copy_of_enrollments(alloc, site.enrollments.as_slice())?,
+        enrollments: Items::of(copy_of_enrollments(alloc, site.enrollments.as_slice())?),
         logs: copy_of_logs(alloc, site.logs.as_slice())?,
     })
 }

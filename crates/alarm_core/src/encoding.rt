@@ -1,17 +1,18 @@
-ghost use Rattle.std.specs.Prelude.{◌≡◌, ◌++◌, All, IfOk, if◌then◌else◌, map, true};
+ghost use Rattle.std.specs.Prelude.{◌≡◌, ◌++◌, All, IfOk, if◌then◌else◌, map};
 ghost use Rattle.std.specs.List.{flat_map};
 ghost use Rattle.bac_values.specs.BitString.{IsBitString};
 ghost use Rattle.bac_values.specs.declared.value.Value.TheVariants as values;
 ghost use Rattle.bac_tags.specs.Values.{IsWritable};
-ghost use Rattle.bac_tags.specs.Writing.{written_object, written_tag, written_value};
+ghost use Rattle.bac_tags.specs.Writing.{written_object, written_value};
 ghost use Rattle.object_table.specs.Flags.{string_of};
 ghost use Rattle.alarm_core.specs.declared.content.Content.TheVariants.{Elements};
 ghost use Rattle.alarm_core.specs.Properties.{array_of_values, flags, list_of_values, one, written_time_stamp};
 
 use crate::Content;
 use crate::growing::add;
-use bac_tags::{Shape, Tag, write_object, write_stamp, write_tag, write_value};
+use bac_tags::{write_object, write_stamp, write_value};
 use bac_values::{Bits, Items, NoMemory, ObjectId, Stamp, Text, Value};
+use service_parameters::{write_closing, write_opening};
 use std::alloc::Global;
 
 fn octets_of(alloc: Global, value: &Value) -> Result<Items<u8>, NoMemory>
@@ -158,24 +159,16 @@ pub(crate) fn array_of_values(alloc: Global, values: &[Value]) -> Result<Content
     })
 }
 
-// The tag that opens or closes a date and a time in a time stamp.
-fn date_and_time(shape: Shape) -> Tag
-    ensures tag { result ≡ record { number = 2; context = true; shape = shape } }
-{
-    Tag {
-        number: 2,
-        context: true,
-        shape,
-    }
-}
+// The number of the tags round a date and a time in a time stamp.
+const DATE_AND_TIME: u8 = 2;
 
 fn time_stamp(alloc: Global, stamp: Stamp) -> Result<Items<u8>, NoMemory>
     ensures octets { IfOk result (λ octets. octets ≡ written_time_stamp stamp) }
 {
     let mut octets = Vec::new(alloc);
-    write_tag(&mut octets, date_and_time(Shape::Opening))?;
+    write_opening(&mut octets, DATE_AND_TIME)?;
     write_stamp(&mut octets, None, stamp)?;
-    write_tag(&mut octets, date_and_time(Shape::Closing))?;
+    write_closing(&mut octets, DATE_AND_TIME)?;
     Ok(Items::of(octets))
 }
 

@@ -2,7 +2,6 @@ ghost use Rattle.std.specs.Prelude.{◌≡◌, IfErr, IfOk, IsErr, None};
 ghost use Rattle.std.specs.List.{flat_map};
 ghost use Rattle.bac_tags.specs.Writing.{written_unsigned};
 ghost use Rattle.object_table.specs.Objects.{IsObject};
-ghost use Rattle.object_table.specs.Writes.{IsTaken};
 ghost use Rattle.alarm_core.specs.declared.content.Content.TheVariants.{Elements};
 ghost use Rattle.alarm_core.specs.declared.content.ReadFault.TheVariants as faults;
 ghost use Rattle.alarm_core.specs.Classes.{class_in};
@@ -11,10 +10,15 @@ ghost use Rattle.alarm_core.specs.Contents.{content_of, other_content};
 ghost use Rattle.alarm_core.specs.Properties.{row_content};
 ghost use Rattle.alarm_core.specs.Reading.{AnswersContent, AnswersRead, AnswersWrite, denied, part_of, read_of, size_of, write_of};
 ghost use Rattle.alarm_core.specs.Sites.{IsSite};
+ghost use Rattle.alarm_core.specs.declared.event.Act.TheVariants.{Write};
+ghost use Rattle.alarm_core.specs.Allowed.{IsAllowed};
 
 use crate::class_content::class_content;
 use crate::device_content::device_content;
+use crate::enrollment_content::enrollment_content;
 use crate::finding::{is_device, is_other_object, listed_class};
+use crate::log_content::{log_content, log_write};
+use crate::logs::kept_log;
 use crate::object_content::object_content;
 use crate::telling::class_in;
 use crate::{Content, Core, ReadFault, Site};
@@ -55,7 +59,7 @@ fn recipients_of(classes: &[Class], instance: u32) -> &[Destination]
     }
 }
 
-// What a property of an object beside the value objects is, or why there is none.
+// What a property of an object beside the value objects and the enrollments is, or why there is none.
 fn other_content(
     alloc: Global,
     site: &Site,
@@ -153,7 +157,7 @@ fn size_of(content: &Content) -> Result<Option<u32>, ReadFault>
     }
 }
 
-// No property of an object beside the value objects can be written.
+// No property of an object beside the value objects and the enrollments can be written.
 fn denied(
     alloc: Global,
     site: &Site,
@@ -181,8 +185,16 @@ impl Core {
     ) -> Result<Content, ReadFault>
         ensures content { AnswersContent result (content_of self.now object property.0) }
     {
-        match self.table().row(object) {
-            Some(row) => row_content(alloc, &self.alarm_of(object), row, property),
+        let (enrollments, table) = (self.objects.enrollments(), self.objects.table());
+        if let Some(site) = enrollments.row(object) {
+            let reliability = enrollments.reliability_of(table, object);
+            return enrollment_content(alloc, &self.alarm_of(object), reliability, site, property);
+        }
+        if let Some(row) = table.row(object) {
+            return row_content(alloc, &self.alarm_of(object), row, property);
+        }
+        match kept_log(&self.logs, object) {
+            Some(kept) => log_content(alloc, kept, property),
             None => other_content(alloc, self.site(), self.classes(), object, property),
         }
     }
@@ -214,12 +226,18 @@ impl Core {
         value: &Value,
     ) -> Result<Change, WriteFault>
         ensures answer { AnswersWrite result (write_of self.now object property.0 index value.now) }
-        ensures takes { IfOk result (λ change. IsTaken change self.now.rows) }
+        ensures takes { IfOk result (λ change. IsAllowed self.now (Write change)) }
     {
-        if self.table().row(object).is_some() {
-            self.table().check_write(object, property, index, value)
-        } else {
-            denied(alloc, self.site(), self.classes(), object, property, index)
+        let (enrollments, table) = (self.objects.enrollments(), self.objects.table());
+        if enrollments.row(object).is_some() {
+            return enrollments.check_write(object, property, index, value);
+        }
+        if table.row(object).is_some() {
+            return table.check_write(object, property, index, value);
+        }
+        match kept_log(&self.logs, object) {
+            Some(kept) => log_write(kept, property, index, value),
+            None => denied(alloc, self.site(), self.classes(), object, property, index),
         }
     }
 }

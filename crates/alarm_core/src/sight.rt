@@ -1,82 +1,121 @@
-ghost use Rattle.std.specs.Prelude.{◌≡◌, ◌≤◌, length};
+ghost use Rattle.std.specs.Prelude.{◌≡◌, ◌≤◌, IfSome, length};
+ghost use Rattle.std.specs.Option.{option_map};
 ghost use Rattle.algorithm_rules.specs.Facts.{facts_of};
-ghost use Rattle.bac_values.specs.Moments.{IsMoment};
-ghost use Rattle.civil_stamp.specs.LocalTime.{local_stamp};
+ghost use Rattle.bac_values.specs.declared.value.Value.TheVariants.{Null};
 ghost use Rattle.event_machine.specs.Given.{point_of};
-ghost use Rattle.alarm_core.specs.Sights.{algorithm_for, algorithm_of, facts_of_object, is_detecting, point_with};
+ghost use Rattle.alarm_core.specs.Sights.{is_inhibited, no_facts, point_in, reliability_at, start_point};
 
+use crate::objects::Objects;
 use algorithm_rules::{Algorithm, Snapshot};
-use bac_values::{ObjectId, ObjectKind, Stamp};
+use bac_values::{ObjectId, Stamp, Value};
 use event_machine::PointFacts;
-use object_table::{ObjectSite, Row};
-use reliability_eval::reliability_of_row;
 
-fn algorithm_of(kind: Option<ObjectKind>) -> Algorithm
-    ensures algorithm { result ≡ algorithm_of kind }
-{
-    match kind {
-        Some(ObjectKind::BitStringValue) => Algorithm::ChangeOfBitstring,
-        Some(ObjectKind::CharacterStringValue) => Algorithm::ChangeOfCharacterstring,
-        Some(ObjectKind::IntegerValue) => Algorithm::SignedOutOfRange,
-        Some(ObjectKind::PositiveIntegerValue) => Algorithm::UnsignedOutOfRange,
-        _ => Algorithm::ChangeOfState,
-    }
+/// What the event detection of an object sees.
+#[derive(Clone, Copy)]
+pub(crate) struct Sight<'a> {
+    pub(crate) snapshot: Snapshot<'a>,
+    pub(crate) point: PointFacts,
 }
 
-/// The event algorithm that an object of this type applies.
-pub(crate) fn algorithm_for(object: ObjectId) -> Algorithm
-    ensures algorithm { result ≡ algorithm_for object }
-{
-    algorithm_of(object.kind())
-}
-
-/// What the algorithm of an object looks at.
-pub(crate) fn snapshot_of<'a>(object: ObjectId, site: &'a ObjectSite) -> Snapshot<'a>
-    ensures algorithm { result.algorithm ≡ algorithm_for object }
-    ensures facts { facts_of result ≡ facts_of_object site.now }
-    ensures values { result.alarm_values.now ≡ site.now.alarm_values }
-{
-    Snapshot {
-        algorithm: algorithm_for(object),
-        value: &site.value,
-        feedback: None,
-        alarm_value: site.alarm_value.as_ref(),
-        alarm_values: site.alarm_values.as_slice(),
-        mask: site.mask,
-        low: site.low,
-        high: site.high,
-        limit_enable: site.limit_enable,
-        deadband: site.deadband,
-        time_delay: site.time_delay,
-        time_delay_normal: site.time_delay_normal,
-    }
-}
-
-/// What else is seen of an object at a moment with its local date and time.
-pub(crate) fn point_facts(
+// What is seen of an object beside what its event algorithm looks at.
+fn point_facts(
+    objects: &Objects,
+    object: ObjectId,
     moment: u64,
     stamp: Stamp,
     ack_required: [bool; 3],
-    row: &Row,
 ) -> PointFacts
     ensures moment { result.moment ≡ moment }
     ensures stamp { result.stamp ≡ stamp }
-    ensures reliability { result.reliability ≡ (point_with moment stamp ack_required row.now).reliability }
-    ensures inhibited { result.inhibited ≡ row.now.site.inhibit }
+    ensures reliability { result.reliability ≡ reliability_at object objects.now }
+    ensures inhibited { result.inhibited ≡ is_inhibited object objects.now }
     ensures ack_required { result.ack_required ≡ ack_required }
 {
     PointFacts {
         moment,
         stamp,
-        reliability: reliability_of_row(row),
-        inhibited: row.site.inhibit,
+        reliability: objects.reliability(object),
+        inhibited: objects.is_inhibited(object),
         ack_required,
     }
 }
 
-/// Whether the object has event detection, and it is enabled.
-pub(crate) fn is_detecting(row: &Row) -> bool
-    ensures detecting { result ≡ is_detecting row.now }
+// Nothing to look at.
+fn blank(algorithm: Algorithm, null: &Value) -> Snapshot<'_>
+    requires null { null.now ≡ Null }
+    ensures algorithm { result.algorithm ≡ algorithm }
+    ensures facts { facts_of result ≡ no_facts }
+    ensures few { length result.alarm_values.now ≤ 32 }
 {
-    row.site.class.is_some() && row.site.detection
+    Snapshot {
+        algorithm,
+        value: null,
+        feedback: None,
+        alarm_value: None,
+        alarm_values: &[],
+        mask: None,
+        low: 0,
+        high: 0,
+        limit_enable: [false, false],
+        deadband: 0,
+        time_delay: 0,
+        time_delay_normal: None,
+    }
+}
+
+/// What is seen of an object under its algorithm, if it is there.
+pub(crate) fn sight_of<'a>(
+    objects: &'a Objects,
+    algorithm: Algorithm,
+    object: ObjectId,
+    moment: u64,
+    stamp: Stamp,
+    ack_required: [bool; 3],
+) -> Option<Sight<'a>>
+    ensures algorithm { IfSome result (λ sight. sight.snapshot.algorithm ≡ algorithm) }
+    ensures point { option_map (λ sight. point_of sight.snapshot sight.point) result ≡ point_in moment stamp ack_required object objects.now }
+    ensures few { IfSome result (λ sight. length sight.snapshot.alarm_values.now ≤ 32) }
+{
+    let point = point_facts(objects, object, moment, stamp, ack_required);
+    match objects.snapshot(object) {
+        Some(snapshot) => Some(Sight {
+            snapshot: Snapshot {
+                algorithm,
+                ..snapshot
+            },
+            point,
+        }),
+        None => None,
+    }
+}
+
+/// What is seen of an object under its algorithm at the start: nothing where it isn't there.
+pub(crate) fn first_sight<'a>(
+    objects: &'a Objects,
+    algorithm: Algorithm,
+    object: ObjectId,
+    start: u64,
+    stamp: Stamp,
+    ack_required: [bool; 3],
+    null: &'a Value,
+) -> Sight<'a>
+    requires null { null.now ≡ Null }
+    ensures algorithm { result.snapshot.algorithm ≡ algorithm }
+    ensures point { point_of result.snapshot result.point ≡ start_point start stamp ack_required object objects.now }
+    ensures few { length result.snapshot.alarm_values.now ≤ 32 }
+{
+    let point = point_facts(objects, object, start, stamp, ack_required);
+    match objects.snapshot(object) {
+        Some(snapshot) => Sight {
+            snapshot: Snapshot {
+                algorithm,
+                ..snapshot
+            },
+            point,
+        },
+        None => Sight {
+            snapshot: blank(algorithm, null),
+            point,
+        },
+    }
 }

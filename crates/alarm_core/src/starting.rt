@@ -1,16 +1,18 @@
-ghost use Rattle.std.specs.Prelude.{◌≡◌, ◌==◌, All, IfOk, filter, find, map, option_and_then};
+ghost use Rattle.std.specs.Prelude.{◌≡◌, ◌==◌, ◌++◌, ◌∷◌, [], IfOk, OnOk, filter, find, if◌then◌else◌, map};
 ghost use Rattle.std.specs.Option.{option_copied};
-ghost use Rattle.object_table.specs.Objects.{IsRow};
 ghost use Rattle.alarm_core.specs.declared.site.ClassSite.{ClassSite as Listed};
 ghost use Rattle.alarm_core.specs.Next.{first_with};
-ghost use Rattle.alarm_core.specs.Sights.{ack_required_in, ack_required_of, is_detecting};
+ghost use Rattle.alarm_core.specs.Subjects.{ack_required_of, detecting_subjects, is_before_enrollments, is_behind_enrollments, is_detecting, site_class_of, subject_of_enrollment, subject_of_object, subjects_of};
 
 use crate::growing::add;
-use crate::sight::is_detecting;
+use crate::objects::Objects;
+use crate::subjects::{
+    is_before_enrollments, is_detecting, subject_of_enrollment, subject_of_object,
+};
 use crate::watched::Watched;
-use crate::{ClassSite, Site};
+use crate::{ClassSite, EnrollmentSite, Site, Subject};
 use bac_values::{NoMemory, Stamp};
-use object_table::{ObjectSite, Row};
+use object_table::ObjectSite;
 use std::alloc::Global;
 
 fn has_instance(listed: &ClassSite, instance: u32) -> bool
@@ -25,11 +27,11 @@ fn class_of(classes: &[ClassSite], instance: u32) -> Option<&ClassSite>
     classes.iter().find(|listed| has_instance(listed, instance))
 }
 
-// Ack_Required of an object's notification class.
-fn ack_required_of(site: &Site, object: &ObjectSite) -> [bool; 3]
-    ensures ack_required { result ≡ ack_required_of site.now object.now }
+// Ack_Required of a subject's notification class.
+fn ack_required_of(site: &Site, subject: &Subject) -> [bool; 3]
+    ensures ack_required { result ≡ ack_required_of site.now subject.now }
 {
-    let Some(instance) = object.class else {
+    let Some(instance) = subject.class else {
         return [false; 3];
     };
     match class_of(site.classes.as_slice(), instance) {
@@ -38,26 +40,110 @@ fn ack_required_of(site: &Site, object: &ObjectSite) -> [bool; 3]
     }
 }
 
+// One more, where it is to be there.
+fn add_if(subjects: &mut Vec<Subject>, subject: Subject, is_there: bool) -> Result<(), NoMemory>
+    ensures added { OnOk result (subjects.new.items ≡ subjects.old.items ++ (if is_there then subject ∷ [] else [])) }
+{
+    if is_there {
+        add(subjects, subject)?;
+    }
+    Ok(())
+}
+
+// The value objects whose types have lower numbers than enrollments.
+fn add_before(subjects: &mut Vec<Subject>, sites: &[ObjectSite]) -> Result<(), NoMemory>
+    ensures added { OnOk result (subjects.new.items ≡ subjects.old.items ++ map subject_of_object (filter is_before_enrollments sites.now)) }
+{
+    for site in sites {
+        add_if(
+            subjects,
+            subject_of_object(site),
+            is_before_enrollments(site),
+        )?;
+    }
+    Ok(())
+}
+
+fn add_enrollments(subjects: &mut Vec<Subject>, sites: &[EnrollmentSite]) -> Result<(), NoMemory>
+    ensures added { OnOk result (subjects.new.items ≡ subjects.old.items ++ map subject_of_enrollment sites.now) }
+{
+    for site in sites {
+        add(subjects, subject_of_enrollment(site))?;
+    }
+    Ok(())
+}
+
+// The other value objects.
+fn add_behind(subjects: &mut Vec<Subject>, sites: &[ObjectSite]) -> Result<(), NoMemory>
+    ensures added { OnOk result (subjects.new.items ≡ subjects.old.items ++ map subject_of_object (filter is_behind_enrollments sites.now)) }
+{
+    for site in sites {
+        add_if(
+            subjects,
+            subject_of_object(site),
+            !is_before_enrollments(site),
+        )?;
+    }
+    Ok(())
+}
+
+// The value objects and the enrollments of a site by ascending identifier.
+fn subjects_of(alloc: Global, site: &Site) -> Result<Vec<Subject>, NoMemory>
+    ensures subjects { IfOk result (λ subjects. subjects.items ≡ subjects_of site.now) }
+{
+    let mut subjects = Vec::new(alloc);
+    add_before(&mut subjects, site.objects.as_slice())?;
+    add_enrollments(&mut subjects, site.enrollments.as_slice())?;
+    add_behind(&mut subjects, site.objects.as_slice())?;
+    Ok(subjects)
+}
+
+// One more, if its event detection is enabled.
+fn add_first(
+    alloc: Global,
+    site: &Site,
+    objects: &Objects,
+    subject: &Subject,
+    stamp: Stamp,
+    alarms: &mut Vec<Watched>,
+) -> Result<(), NoMemory>
+    ensures added { OnOk result (alarms.new.items ≡ alarms.old.items ++
+        (if is_detecting subject.now then first_with site.now.device.start stamp (ack_required_of site.now subject.now) objects.now subject.now ∷ [] else [])) }
+{
+    if !is_detecting(subject) {
+        return Ok(());
+    }
+    let ack_required = ack_required_of(site, subject);
+    let start = site.device.start;
+    let first = Watched::first(alloc, subject, ack_required, objects, start, stamp)?;
+    add(alarms, first)
+}
+
+fn alarms_of(
+    alloc: Global,
+    site: &Site,
+    objects: &Objects,
+    subjects: &[Subject],
+    stamp: Stamp,
+) -> Result<Vec<Watched>, NoMemory>
+    ensures alarms { IfOk result (λ alarms. alarms.items ≡ map (λ subject. first_with site.now.device.start stamp (ack_required_of site.now subject) objects.now subject) (filter is_detecting subjects.now)) }
+{
+    let mut alarms = Vec::new(alloc);
+    for subject in subjects {
+        add_first(alloc, site, objects, subject, stamp, &mut alarms)?;
+    }
+    Ok(alarms)
+}
+
 /// The objects whose event detection is enabled, at the start.
 pub(crate) fn first_alarms(
     alloc: Global,
     site: &Site,
-    rows: &[Row],
+    objects: &Objects,
     stamp: Stamp,
 ) -> Result<Vec<Watched>, NoMemory>
-    requires allowed { All IsRow rows.now }
-    ensures alarms { IfOk result (λ alarms. alarms.items ≡ map (λ row. first_with site.now.device.start stamp (ack_required_of site.now row.site) row) (filter is_detecting rows.now)) }
+    ensures alarms { IfOk result (λ alarms. alarms.items ≡ map (λ subject. first_with site.now.device.start stamp (ack_required_of site.now subject) objects.now subject) (detecting_subjects site.now)) }
 {
-    let start = site.device.start;
-    let mut alarms = Vec::new(alloc);
-    for row in rows {
-        if is_detecting(row) {
-            let ack_required = ack_required_of(site, &row.site);
-            add(
-                &mut alarms,
-                Watched::first(alloc, row, ack_required, start, stamp)?,
-            )?;
-        }
-    }
-    Ok(alarms)
+    let subjects = subjects_of(alloc, site)?;
+    alarms_of(alloc, site, objects, &subjects, stamp)
 }

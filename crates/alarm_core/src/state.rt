@@ -1,8 +1,6 @@
-ghost use Rattle.std.specs.Prelude.{◌≡◌, ◌↔◌, ◌<◌, ◌^◌, ◌∷◌, ◌++◌, [], All, List, Ok, max, map, IfOk, IsTrue, OnErr, OnOk};
-ghost use Rattle.std.specs.List.{flat_map};
+ghost use Rattle.std.specs.Prelude.{◌≡◌, ◌↔◌, ◌<◌, ◌^◌, ◌∷◌, ◌++◌, [], All, List, None, Ok, max, map, IfOk, IsFalse, IsTrue, OnErr, OnOk};
 ghost use Rattle.bac_values.specs.Moments.{IsMoment};
 ghost use Rattle.notify_class.specs.Edits.{peers_of};
-ghost use Rattle.object_table.specs.Writes.{IsTaken};
 ghost use Rattle.outbox.specs.Outboxes.{AreKnown, answered, has_in_flight, is_idle, learned, new_outbox, peers_of as peers_of_posts, pumped, queued, sends_of, unfinished_in};
 ghost use Rattle.outbox.specs.Peers.{IsAscending};
 ghost use Rattle.alarm_core.specs.declared.event.Act.TheVariants.{Tick, Write, Ack};
@@ -11,23 +9,30 @@ ghost use Rattle.alarm_core.specs.Allowed.{IsAllowed, Represents};
 ghost use Rattle.event_machine.specs.Finding.{as_finding};
 ghost use Rattle.alarm_core.specs.Classes.{edited};
 ghost use Rattle.alarm_core.specs.Deliveries.{notifications_of};
-ghost use Rattle.alarm_core.specs.Found.{device_object, found_in, is_other_object};
+ghost use Rattle.alarm_core.specs.declared.site.LogSite.{LogSite as LogPlace};
+ghost use Rattle.event_log.specs.History.{Call};
+ghost use Rattle.alarm_core.specs.Found.{device_object, found_in, has_object, is_other_object};
 ghost use Rattle.alarm_core.specs.History.{moved_by, raised, tick_at, transitions_of};
-ghost use Rattle.alarm_core.specs.Moves.{acted, moved_at, moved_with, told_at, told_with};
-ghost use Rattle.alarm_core.specs.Next.{first_state, looked, next_notes, next_sends, next_state, next_transitions, sends_with};
+ghost use Rattle.alarm_core.specs.Moves.{acted, moved_all, moved_with, told_all, told_with};
+ghost use Rattle.alarm_core.specs.Logs.{KeptLog, call_of_change, kept_log, log_in, records_of};
+ghost use Rattle.alarm_core.specs.Next.{after_calls, first_state, looked_all, next_notes, next_sends, next_state, next_transitions, sends_with, transitions_all};
 ghost use Rattle.alarm_core.specs.Notes.{IsShort};
 ghost use Rattle.alarm_core.specs.Properties.{alarm_in};
 ghost use Rattle.alarm_core.specs.Room.{HasRoom};
 ghost use Rattle.alarm_core.specs.Sights.{site_stamp};
 ghost use Rattle.alarm_core.specs.Sites.{IsSite};
+ghost use Rattle.alarm_core.specs.Values.{IsTaken, written};
+ghost use Rattle.std.specs.Option.{option_copied};
 ghost use Rattle.alarm_core.specs.Verdicts.{Answers, queue_verdict, step_verdict};
 
 use crate::classes::{classes_of, edited_classes};
-use crate::copying::{copy_of_change, copy_of_objects, copy_of_site};
+use crate::copying::{copy_of_change, copy_of_site};
 use crate::device_content::device_object;
 use crate::finding::{is_other_object, watched_in};
 use crate::knowing::{peers_in, peers_of, peers_with};
-use crate::looking::{acknowledge_in, are_still, look_at_all};
+use crate::logs::{SiteLog, change_all, enter_all, first_logs, kept_log};
+use crate::looking::{Looked, acknowledge_in, are_still, look_at_all};
+use crate::objects::Objects;
 use crate::queueing::queue_all;
 use crate::starting::first_alarms;
 use crate::telling::notes_of_acknowledgement;
@@ -37,6 +42,8 @@ use bac_values::{
     EventState, Items, Moved, NoMemory, Note, ObjectId, Peer, Send, Stamp, Transition,
 };
 use civil_stamp::{Zone, stamp_of};
+use enrollment::Enrollments;
+use event_log::EventLog;
 use event_machine::{Alarm, Found};
 use notify_class::{Class, Destination};
 use object_table::{Change, Table};
@@ -53,11 +60,12 @@ pub struct Core {
     pub(crate) zone: Zone,
     events: u64,
     last_moment: u64,
-    pub(crate) table: Table,
+    pub(crate) objects: Objects,
     pub(crate) alarms: Vec<Watched>,
     pub(crate) classes: Vec<Class>,
     pub(crate) peers: Vec<Peer>,
     pub(crate) outbox: Outbox,
+    pub(crate) logs: Vec<SiteLog>,
 }
 
 impl Model for Core {
@@ -74,10 +82,11 @@ impl Model for Core {
       site = core.site;
       events = core.events;
       last_moment = core.last_moment;
-      rows = core.table;
+      values = core.objects;
       alarms = core.alarms.items;
       classes = core.classes.items;
       outbox = core.outbox;
+      logs = core.logs.items;
     } };
 
     ghost invariant = { λ core. record {
@@ -131,11 +140,12 @@ impl Core {
     {
         let zone = zone_of(site);
         let start = site.device.start;
-        let table = Table::new(alloc, copy_of_objects(alloc, site.objects.as_slice())?)?;
-        let alarms = first_alarms(alloc, site, table.rows(), stamp_of(start, &zone))?;
+        let objects = Objects::first(alloc, site)?;
+        let alarms = first_alarms(alloc, site, &objects, stamp_of(start, &zone))?;
         let classes = classes_of(alloc, site.classes.as_slice())?;
         let peers = peers_with(alloc, &[], &peers_in(alloc, &classes)?)?;
         let outbox = first_outbox(alloc, site, &peers)?;
+        let logs = first_logs(alloc, site)?;
         let site = copy_of_site(alloc, site)?;
         Ok(Core {
             alloc,
@@ -143,11 +153,12 @@ impl Core {
             zone,
             events: 0,
             last_moment: start,
-            table,
+            objects,
             alarms,
             classes,
             peers,
             outbox,
+            logs,
         })
     }
 
@@ -193,9 +204,16 @@ impl Core {
 
     /// The value objects, ascending, as the writes have left them.
     pub fn table(&self) -> &Table
-        ensures table { result.now ≡ self.now.rows }
+        ensures table { result.now ≡ self.now.values.rows }
     {
-        &self.table
+        self.objects.table()
+    }
+
+    /// The event enrollments, ascending, as the writes have left them.
+    pub fn enrollments(&self) -> &Enrollments
+        ensures enrollments { result.now ≡ self.now.values.enrollments }
+    {
+        self.objects.enrollments()
     }
 
     /// The notification classes, ascending, with their lists as the edits have left them.
@@ -217,6 +235,16 @@ impl Core {
         ensures outbox { result.now ≡ self.now.outbox }
     {
         &self.outbox
+    }
+
+    /// The event log with an identifier, if there is one.
+    pub fn log(&self, object: ObjectId) -> Option<&EventLog>
+        ensures log { option_copied result ≡ log_in object self.now.logs }
+    {
+        match kept_log(&self.logs, object) {
+            Some(kept) => Some(kept.log()),
+            None => None,
+        }
     }
 
     /// Whether a pump at a moment, raised to the last one, would send nothing and finish nothing.
@@ -249,13 +277,15 @@ impl Core {
         stamp: Stamp,
         moves: &mut Vec<Moved>,
         notes: &mut Vec<Note>,
-    ) -> Result<Vec<Watched>, NoMemory>
+    ) -> Result<Looked, NoMemory>
         requires moment { IsMoment moment }
         requires stamp { stamp ≡ site_stamp self.now.site moment }
         requires short { All IsShort notes.old.items }
-        ensures alarms { IfOk result (λ next. next.items ≡ map (looked moment stamp self.now.rows) alarms.now) }
-        ensures moves { OnOk result (moves.new.items ≡ moves.old.items ++ flat_map (moved_at moment stamp self.now.rows) alarms.now) }
-        ensures notes { OnOk result (notes.new.items ≡ notes.old.items ++ flat_map (told_at self.now.site self.now.classes moment stamp self.now.rows) alarms.now) }
+        ensures alarms { IfOk result (λ looked. looked.alarms.items ≡ looked_all moment stamp self.now.values alarms.now) }
+        ensures entries { IfOk result (λ looked. map (λ list. list.items) looked.entries.items
+            ≡ map (λ (kept : KeptLog). records_of self.now.site self.now.classes kept.site (transitions_all moment stamp self.now.values alarms.now)) self.now.logs) }
+        ensures moves { OnOk result (moves.new.items ≡ moves.old.items ++ moved_all moment stamp self.now.values alarms.now) }
+        ensures notes { OnOk result (notes.new.items ≡ notes.old.items ++ told_all self.now.site self.now.classes moment stamp self.now.values alarms.now) }
         ensures short { OnOk result (All IsShort notes.new.items) }
     {
         look_at_all(
@@ -264,7 +294,8 @@ impl Core {
             &self.zone,
             &self.classes,
             alarms,
-            &self.table,
+            &self.objects,
+            &self.logs,
             moment,
             stamp,
             moves,
@@ -276,23 +307,26 @@ impl Core {
         requires moment { IsMoment moment }
         requires stamp { stamp ≡ site_stamp self.old.site moment }
         ensures state { OnOk result (self.new ≡ acted moment stamp Tick self.old) }
-        ensures moves { IfOk result (λ done. done.moves.items ≡ moved_with moment stamp Tick self.old.rows self.old.alarms) }
+        ensures moves { IfOk result (λ done. done.moves.items ≡ moved_with moment stamp Tick self.old.values self.old.alarms) }
         ensures sends { IfOk result (λ done. done.sends.items ≡ []) }
         ensures same { OnErr result (self.new ≡ self.old) }
-        ensures verdict { Answers result (queue_verdict (told_with self.old.site self.old.classes moment stamp Tick self.old.rows self.old.alarms) self.old.outbox) }
+        ensures verdict { Answers result (queue_verdict (told_with self.old.site self.old.classes moment stamp Tick self.old.values self.old.alarms) self.old.outbox) }
     {
         let (mut moves, mut notes) = (Vec::new(self.alloc), Vec::new(self.alloc));
-        let alarms = self.look(&self.alarms, moment, stamp, &mut moves, &mut notes)?;
+        let looked = self.look(&self.alarms, moment, stamp, &mut moves, &mut notes)?;
         queue_all(self.alloc, &mut self.outbox, notes)?;
-        self.alarms = alarms;
+        self.alarms = looked.alarms;
+        enter_all(&mut self.logs, looked.entries);
         let sends = Vec::new(self.alloc);
         Ok(Done { moves, sends })
     }
 
-    // After a change of the table: all objects are looked at once more, and the notes of both looks are queued.
+    // After a change of an object or before one of a log: all objects are looked at once more, the notes of both looks are
+    // queued, and the logs are given what they record of both, with the change between.
     fn finish_write(
         &mut self,
-        before: &[Watched],
+        before: Looked,
+        change: &Change,
         moment: u64,
         stamp: Stamp,
         mut moves: Vec<Moved>,
@@ -303,41 +337,102 @@ impl Core {
         requires short { All IsShort notes.items }
         requires known { AreKnown notes.items self.old.outbox.posts }
         ensures state { OnOk result (self.new ≡ record self.old {
-          alarms = map (looked moment stamp self.old.rows) before.now;
-          outbox = queued (notes.items ++ flat_map (told_at self.old.site self.old.classes moment stamp self.old.rows) before.now) self.old.outbox;
+          alarms = looked_all moment stamp self.old.values before.alarms.items;
+          outbox = queued (notes.items ++ told_all self.old.site self.old.classes moment stamp self.old.values before.alarms.items) self.old.outbox;
+          logs = self.new.logs;
         }) }
-        ensures moves { IfOk result (λ done. done.moves.items ≡ moves.items ++ flat_map (moved_at moment stamp self.old.rows) before.now) }
+        ensures logs { (first : LogPlace → List Call) → map (λ list. list.items) before.entries.items ≡ map (λ (kept : KeptLog). first kept.site) self.old.logs →
+            OnOk result (self.new.logs ≡ map (λ (kept : KeptLog). record kept {
+              log = after_calls (first kept.site ++ (call_of_change kept.site change.now
+                  ++ records_of self.old.site self.old.classes kept.site (transitions_all moment stamp self.old.values before.alarms.items))) kept.log;
+            }) self.old.logs) }
+        ensures moves { IfOk result (λ done. done.moves.items ≡ moves.items ++ moved_all moment stamp self.old.values before.alarms.items) }
         ensures sends { IfOk result (λ done. done.sends.items ≡ []) }
         ensures same { OnErr result (self.new ≡ self.old) }
-        ensures verdict { Answers result (queue_verdict (notes.items ++ flat_map (told_at self.old.site self.old.classes moment stamp self.old.rows) before.now) self.old.outbox) }
+        ensures verdict { Answers result (queue_verdict (notes.items ++ told_all self.old.site self.old.classes moment stamp self.old.values before.alarms.items) self.old.outbox) }
     {
-        let after = self.look(before, moment, stamp, &mut moves, &mut notes)?;
+        let after = self.look(&before.alarms, moment, stamp, &mut moves, &mut notes)?;
         queue_all(self.alloc, &mut self.outbox, notes)?;
-        self.alarms = after;
+        self.alarms = after.alarms;
+        enter_all(&mut self.logs, before.entries);
+        change_all(&mut self.logs, change);
+        enter_all(&mut self.logs, after.entries);
         let sends = Vec::new(self.alloc);
         Ok(Done { moves, sends })
     }
 
-    fn write(&mut self, moment: u64, stamp: Stamp, change: Change) -> Result<Done, StepFault>
+    // A change of an object that was looked at before it.
+    fn write_object(
+        &mut self,
+        before: Looked,
+        change: &Change,
+        moment: u64,
+        stamp: Stamp,
+        moves: Vec<Moved>,
+        notes: Vec<Note>,
+    ) -> Result<Done, StepFault>
         requires moment { IsMoment moment }
         requires stamp { stamp ≡ site_stamp self.old.site moment }
-        requires taken { IsTaken change self.old.rows }
-        ensures state { OnOk result (self.new ≡ acted moment stamp (Write change) self.old) }
-        ensures moves { IfOk result (λ done. done.moves.items ≡ moved_with moment stamp (Write change) self.old.rows self.old.alarms) }
+        requires taken { IsTaken change.now self.old.values }
+        requires short { All IsShort notes.items }
+        requires known { AreKnown notes.items self.old.outbox.posts }
+        ensures state { let values = written change.now self.old.values in OnOk result (self.new ≡ record self.old {
+          values = values;
+          alarms = looked_all moment stamp values before.alarms.items;
+          outbox = queued (notes.items ++ told_all self.old.site self.old.classes moment stamp values before.alarms.items) self.old.outbox;
+          logs = self.new.logs;
+        }) }
+        ensures logs { (first : LogPlace → List Call) → map (λ list. list.items) before.entries.items ≡ map (λ (kept : KeptLog). first kept.site) self.old.logs →
+            OnOk result (self.new.logs ≡ map (λ (kept : KeptLog). record kept {
+              log = after_calls (first kept.site ++ (call_of_change kept.site change.now
+                  ++ records_of self.old.site self.old.classes kept.site (transitions_all moment stamp (written change.now self.old.values) before.alarms.items))) kept.log;
+            }) self.old.logs) }
+        ensures moves { IfOk result (λ done. done.moves.items ≡ moves.items ++ moved_all moment stamp (written change.now self.old.values) before.alarms.items) }
         ensures sends { IfOk result (λ done. done.sends.items ≡ []) }
         ensures same { OnErr result (self.new ≡ self.old) }
-        ensures verdict { Answers result (queue_verdict (told_with self.old.site self.old.classes moment stamp (Write change) self.old.rows self.old.alarms) self.old.outbox) }
+        ensures verdict { Answers result (queue_verdict (notes.items ++ told_all self.old.site self.old.classes moment stamp (written change.now self.old.values) before.alarms.items) self.old.outbox) }
     {
-        let (mut moves, mut notes) = (Vec::new(self.alloc), Vec::new(self.alloc));
-        let before = self.look(&self.alarms, moment, stamp, &mut moves, &mut notes)?;
-        let undo = self.table.apply(change);
-        match self.finish_write(&before, moment, stamp, moves, notes) {
+        let undo = self.objects.apply(copy_of_change(change)?);
+        match self.finish_write(before, change, moment, stamp, moves, notes) {
             Ok(done) => Ok(done),
             Err(fault) => {
-                let _redo = self.table.apply(undo);
+                let _redo = self.objects.apply(undo);
                 Err(fault)
             }
         }
+    }
+
+    // Whether a change is one of an event log, which passes the objects by.
+    fn is_of_log(&self, change: &Change) -> bool
+        ensures log { IsTrue result → written change.now self.now.values ≡ self.now.values }
+        ensures none { IsFalse result → kept_log change.now.object self.now.logs ≡ None }
+    {
+        match kept_log(&self.logs, change.object) {
+            Some(kept) => {
+                let _log = kept.site();
+                self.objects.passes_by(change);
+                true
+            }
+            None => false,
+        }
+    }
+
+    fn write(&mut self, moment: u64, stamp: Stamp, change: &Change) -> Result<Done, StepFault>
+        requires moment { IsMoment moment }
+        requires stamp { stamp ≡ site_stamp self.old.site moment }
+        requires allowed { IsAllowed self.old (Write change.now) }
+        ensures state { OnOk result (self.new ≡ acted moment stamp (Write change.now) self.old) }
+        ensures moves { IfOk result (λ done. done.moves.items ≡ moved_with moment stamp (Write change.now) self.old.values self.old.alarms) }
+        ensures sends { IfOk result (λ done. done.sends.items ≡ []) }
+        ensures same { OnErr result (self.new ≡ self.old) }
+        ensures verdict { Answers result (queue_verdict (told_with self.old.site self.old.classes moment stamp (Write change.now) self.old.values self.old.alarms) self.old.outbox) }
+    {
+        let (mut moves, mut notes) = (Vec::new(self.alloc), Vec::new(self.alloc));
+        let before = self.look(&self.alarms, moment, stamp, &mut moves, &mut notes)?;
+        if self.is_of_log(change) {
+            return self.finish_write(before, change, moment, stamp, moves, notes);
+        }
+        self.write_object(before, change, moment, stamp, moves, notes)
     }
 
     fn acknowledge(
@@ -354,15 +449,15 @@ impl Core {
         ensures moves { IfOk result (λ done. done.moves.items ≡ []) }
         ensures sends { IfOk result (λ done. done.sends.items ≡ []) }
         ensures same { OnErr result (self.new ≡ self.old) }
-        ensures verdict { Answers result (queue_verdict (told_with self.old.site self.old.classes moment stamp (Ack object transition named) self.old.rows self.old.alarms) self.old.outbox) }
+        ensures verdict { Answers result (queue_verdict (told_with self.old.site self.old.classes moment stamp (Ack object transition named) self.old.values self.old.alarms) self.old.outbox) }
     {
-        let row = self.table.row(object);
         let told = notes_of_acknowledgement(
             self.alloc,
             &self.site,
             &self.zone,
             &self.classes,
-            row,
+            &self.objects,
+            object,
             transition,
             named,
             moment,
@@ -431,17 +526,14 @@ impl Core {
         requires stamp { stamp ≡ site_stamp self.old.site moment }
         requires allowed { IsAllowed self.old act.now }
         ensures state { OnOk result (self.new ≡ acted moment stamp act.now self.old) }
-        ensures moves { IfOk result (λ done. done.moves.items ≡ moved_with moment stamp act.now self.old.rows self.old.alarms) }
+        ensures moves { IfOk result (λ done. done.moves.items ≡ moved_with moment stamp act.now self.old.values self.old.alarms) }
         ensures sends { IfOk result (λ done. done.sends.items ≡ sends_with moment act.now self.old.outbox) }
         ensures same { OnErr result (self.new ≡ self.old) }
-        ensures verdict { Answers result (queue_verdict (told_with self.old.site self.old.classes moment stamp act.now self.old.rows self.old.alarms) self.old.outbox) }
+        ensures verdict { Answers result (queue_verdict (told_with self.old.site self.old.classes moment stamp act.now self.old.values self.old.alarms) self.old.outbox) }
     {
         match act {
             Act::Tick => self.tick(moment, stamp),
-            Act::Write { change } => {
-                let change = copy_of_change(change)?;
-                self.write(moment, stamp, change)
-            }
+            Act::Write { change } => self.write(moment, stamp, change),
             Act::Ack {
                 object,
                 transition,
@@ -502,7 +594,7 @@ impl Core {
             (IsTrue result ↔ (transitions_of self.now.site (raised self.now.last_moment (tick_at moment) ∷ history) ≡ transitions_of self.now.site history)) }
     {
         let moment = moment.max(self.last_moment);
-        are_still(&self.alarms, &self.table, moment, self.stamp_at(moment))
+        are_still(&self.alarms, &self.objects, moment, self.stamp_at(moment))
     }
 
     /// What there is under an identifier.
@@ -512,11 +604,18 @@ impl Core {
         if let Some(watched) = watched_in(&self.alarms, object) {
             return Found::Has(watched.alarm());
         }
-        if self.table.row(object).is_some() || is_other_object(&self.site, object) {
+        if self.has_object(object) {
             Found::NoAlarm
         } else {
             Found::NoObject
         }
+    }
+
+    /// Whether the site has the object, of whatever type.
+    pub fn has_object(&self, object: ObjectId) -> bool
+        ensures there { result ≡ has_object self.now object }
+    {
+        self.objects.table().row(object).is_some() || is_other_object(&self.site, object)
     }
 
     /// Whether the site has the object beside its value objects: as its device, a class, an enrollment or a log.

@@ -1,54 +1,55 @@
-ghost use Rattle.std.specs.Prelude.{◌≡◌, ◌==◌, ◌++◌, All, List, Some, IfOk, IfSome, OnOk};
+ghost use Rattle.std.specs.Prelude.{◌≡◌, ◌==◌, ◌++◌, ℕ, All, List, Option, Some, IfOk, OnOk};
 ghost use Rattle.std.specs.List.{flat_map};
 ghost use Rattle.std.specs.Option.{option_copied, option_to_list};
-ghost use Rattle.bac_values.specs.Identifier.{Identifier};
 ghost use Rattle.bac_values.specs.Moments.{IsMoment};
-ghost use Rattle.event_machine.specs.Given.{moves_in};
+ghost use Rattle.event_machine.specs.declared.moves.Move.{Move as Moving};
 ghost use Rattle.event_services.specs.Notifications.{IsTold};
 ghost use Rattle.note_maker.specs.EventTypes.{transition_type};
-ghost use Rattle.note_maker.specs.Told.{flags_in, values_at};
-ghost use Rattle.notify_class.specs.declared.class.Class.{Class as Listed};
-ghost use Rattle.object_table.specs.Objects.{IsObject};
-ghost use Rattle.object_table.specs.declared.row.Row.{Row as Kept};
-ghost use Rattle.reliability_eval.specs.Reliability.{reliability_of};
+ghost use Rattle.enrollment.specs.Enrollments.{site_of};
+ghost use Rattle.enrollment.specs.Snapshots.{algorithm_with};
 ghost use Rattle.alarm_core.specs.Classes.{class_in};
-ghost use Rattle.alarm_core.specs.History.{transition_with};
-ghost use Rattle.alarm_core.specs.Notes.{IsShort, acknowledged_of, class_for, is_enabled, source_of, told_by, told_of};
-ghost use Rattle.alarm_core.specs.Sights.{algorithm_for, facts_of_object, site_stamp};
+ghost use Rattle.alarm_core.specs.History.{ObjectState, state_in, transition_with};
+ghost use Rattle.alarm_core.specs.Next.{states_of};
+ghost use Rattle.alarm_core.specs.Notes.{IsShort, class_for, flags_at, is_enabled, notes_of_acknowledgement, notification_of, out_of_service_in, source_of, told_by, told_flags, told_value, values_of};
+ghost use Rattle.alarm_core.specs.Sights.{site_stamp};
 ghost use Rattle.alarm_core.specs.Sites.{IsSite};
+ghost use Rattle.alarm_core.specs.Turns.{told_turn};
 
-use crate::Site;
 use crate::device_content::device_object;
-use crate::sight::{algorithm_for, snapshot_of};
-use bac_values::{EventState, NoMemory, Note, Stamp, Transition};
+use crate::finding::watched_in;
+use crate::objects::Objects;
+use crate::watched::{Turned, Watched};
+use crate::{EnrollmentSite, Site, Subject};
+use bac_values::{EventState, NoMemory, Note, ObjectId, Stamp, StatusFlags, Transition, Value};
 use civil_stamp::Zone;
-use event_machine::{Changed, Move};
-use event_services::EventValues;
+use event_machine::Move;
+use event_services::{EventValues, Notification};
 use note_maker::{
     Source, acknowledgement_notification, notes_of, status_flags, transition_notification,
     values_of,
 };
 use notify_class::Class;
-use object_table::{ObjectSite, Row};
-use reliability_eval::reliability_of_row;
+use object_table::{Row, Table};
+use reliability_eval::reliability;
 use std::alloc::Global;
 
-fn source_of(site: &Site, object: &ObjectSite) -> Source
+fn source_of(site: &Site, subject: &Subject) -> Source
     requires site { IsSite site.now }
-    ensures source { result ≡ source_of site.now object.now }
+    ensures source { result ≡ source_of site.now subject.now }
 {
     Source {
         device: device_object(site),
-        object: object.object,
-        algorithm: algorithm_for(object.object),
-        notify: object.notify,
+        object: subject.object,
+        algorithm: subject.algorithm,
+        notify: subject.notify,
     }
 }
 
-fn is_enabled(object: &ObjectSite, transition: Transition) -> bool
-    ensures enabled { result ≡ is_enabled transition object.now }
+/// Whether transitions of a kind are told of (Event_Enable).
+pub(crate) fn is_enabled(subject: &Subject, transition: Transition) -> bool
+    ensures enabled { result ≡ is_enabled transition subject.now }
 {
-    object.enable[transition.place()]
+    subject.enable[transition.place()]
 }
 
 fn has_instance(class: &Class, instance: u32) -> bool
@@ -64,42 +65,134 @@ pub(crate) fn class_in(instance: u32, classes: &[Class]) -> Option<&Class>
     classes.iter().find(|class| has_instance(class, instance))
 }
 
-fn class_for<'a>(object: &ObjectSite, classes: &'a [Class]) -> Option<&'a Class>
-    ensures class { option_copied result ≡ class_for object.now classes.now }
+/// The notification class of an object.
+pub(crate) fn class_for<'a>(subject: &Subject, classes: &'a [Class]) -> Option<&'a Class>
+    ensures class { option_copied result ≡ class_for subject.now classes.now }
 {
-    match object.class {
+    match subject.class {
         Some(instance) => class_in(instance, classes),
         None => None,
     }
 }
 
-// What is told of a move of an object.
-fn values_at(row: &Row, cause: Option<u32>, made: Move) -> Result<Option<EventValues>, NoMemory>
-    requires allowed { IsObject row.now.site }
-    ensures values { IfOk result (λ values. values ≡ values_at (algorithm_for row.now.site.object) (facts_of_object row.now.site) made cause (reliability_of row.now)
-        (flags_in made.to (reliability_of row.now) row.now.site.out_of_service) (Some row.now.site.value)) }
-    ensures told { IfOk result (λ values. IsTold (transition_type (algorithm_for row.now.site.object) made) values) }
+/// The event state of an object, which is NORMAL where its detection isn't enabled.
+pub(crate) fn state_of(alarms: &[Watched], object: ObjectId) -> EventState
+    ensures state { result ≡ state_in object (states_of alarms.now) }
 {
-    let snapshot = snapshot_of(row.site.object, &row.site);
-    let reliability = reliability_of_row(row);
-    let flags = status_flags(made.to, reliability, row.site.out_of_service);
-    values_of(
-        &snapshot,
-        made,
-        cause,
-        reliability,
-        flags,
-        Some(&row.site.value),
-    )
+    match watched_in(alarms, object) {
+        Some(watched) => watched.alarm().state(),
+        None => EventState::Normal,
+    }
 }
 
-/// The notes of one move of an object at a moment.
+fn is_out_of_service(row: Option<&Row>) -> bool
+    ensures out_of_service { result ≡ out_of_service_in (option_copied row.entry) }
+{
+    match row {
+        Some(row) => row.site.out_of_service,
+        None => false,
+    }
+}
+
+// Status_Flags of a value object in an event state.
+fn flags_at(table: &Table, state: EventState, object: ObjectId) -> StatusFlags
+    ensures flags { result ≡ flags_at state object table.now }
+{
+    let out_of_service = is_out_of_service(table.row(object));
+    status_flags(state, reliability(table, object), out_of_service)
+}
+
+// The flags that an enrollment tells, where these are the alarms after the point.
+fn enrollment_flags(
+    objects: &Objects,
+    alarms: &[Watched],
+    site: &EnrollmentSite,
+    object: ObjectId,
+    made: Move,
+) -> StatusFlags
+    ensures flags { (moment : ℕ) (cause : Option ℕ) → result ≡ told_flags (Some site.now) (transition_with object moment objects.now (states_of alarms.now) cause made) }
+{
+    if made.by_fault {
+        return status_flags(made.to, objects.reliability(object), false);
+    }
+    let state = state_of(alarms, site.monitored);
+    flags_at(objects.table(), state, site.monitored)
+}
+
+// The flags that are told of a move of an object.
+fn told_flags(objects: &Objects, alarms: &[Watched], object: ObjectId, made: Move) -> StatusFlags
+    ensures flags { (moment : ℕ) (cause : Option ℕ) →
+        result ≡ told_flags (site_of object objects.now.enrollments) (transition_with object moment objects.now (states_of alarms.now) cause made) }
+{
+    match objects.enrollments().row(object) {
+        Some(site) => enrollment_flags(objects, alarms, site, object, made),
+        None => flags_at(objects.table(), made.to, object),
+    }
+}
+
+// The present value that is told: an enrollment has none.
+fn told_value(objects: &Objects, object: ObjectId) -> Option<&Value>
+    ensures value { (moment : ℕ) (states : List ObjectState) (cause : Option ℕ) (made : Moving) →
+        option_copied result ≡ told_value (site_of object objects.now.enrollments) (transition_with object moment objects.now states cause made) }
+{
+    match objects.enrollments().row(object) {
+        Some(_site) => None,
+        None => objects.table().value_of(object),
+    }
+}
+
+// What is told of a move of an object.
+fn told_values(
+    objects: &Objects,
+    alarms: &[Watched],
+    object: ObjectId,
+    cause: Option<u32>,
+    made: Move,
+) -> Result<Option<EventValues>, NoMemory>
+    ensures values { IfOk result (λ values. (moment : ℕ) → values ≡ values_of (transition_with object moment objects.now (states_of alarms.now) cause made)) }
+    ensures told { IfOk result (λ values. IsTold (transition_type (algorithm_with object objects.now.enrollments) made) values) }
+{
+    let Some(snapshot) = objects.snapshot(object) else {
+        return Ok(None);
+    };
+    let reliability = objects.reliability(object);
+    let flags = told_flags(objects, alarms, object, made);
+    let value = told_value(objects, object);
+    values_of(&snapshot, made, cause, reliability, flags, value)
+}
+
+/// The notification of a move of an object, before it is told to a process, where these are the alarms after the point.
+pub(crate) fn notification_of_move(
+    site: &Site,
+    objects: &Objects,
+    alarms: &[Watched],
+    subject: &Subject,
+    class: &Class,
+    object: ObjectId,
+    cause: Option<u32>,
+    made: Move,
+    stamp: Stamp,
+) -> Result<Notification, NoMemory>
+    requires site { IsSite site.now }
+    requires algorithm { subject.now.algorithm ≡ algorithm_with object objects.now.enrollments }
+    ensures notification { IfOk result (λ facts. (moment : ℕ) → stamp ≡ site_stamp site.now moment →
+        facts ≡ notification_of site.now (transition_with object moment objects.now (states_of alarms.now) cause made) subject.now class.now) }
+    ensures told { IfOk result (λ facts. IsTold facts.event_type facts.values) }
+{
+    let values = told_values(objects, alarms, object, cause, made)?;
+    let source = source_of(site, subject);
+    Ok(transition_notification(&source, class, made, stamp, values))
+}
+
+/// The notes of one move of an object at a moment, where these are the alarms after the point.
 pub(crate) fn notes_of_move(
     alloc: Global,
     site: &Site,
     zone: &Zone,
     classes: &[Class],
-    row: &Row,
+    objects: &Objects,
+    alarms: &[Watched],
+    object: ObjectId,
     cause: Option<u32>,
     made: Move,
     moment: u64,
@@ -109,21 +202,22 @@ pub(crate) fn notes_of_move(
     requires zone { zone.now ≡ site.now.device.zone_minutes }
     requires moment { IsMoment moment }
     requires stamp { stamp ≡ site_stamp site.now moment }
-    requires allowed { IsObject row.now.site }
-    ensures notes { IfOk result (λ notes. (object : Identifier) (rows : List Kept) →
-        notes.items ≡ told_of site.now classes.now (transition_with object moment rows cause made) (Some row.now)) }
+    ensures notes { IfOk result (λ notes. notes.items ≡ told_by site.now classes.now moment object objects.now (states_of alarms.now) cause made) }
     ensures short { IfOk result (λ notes. All IsShort notes.items) }
 {
     let kind = made.to.transition();
-    if !is_enabled(&row.site, kind) {
-        return Ok(Vec::new(alloc));
-    }
-    let Some(class) = class_for(&row.site, classes) else {
+    let Some(subject) = objects.subject(object) else {
         return Ok(Vec::new(alloc));
     };
-    let values = values_at(row, cause, made)?;
-    let source = source_of(site, &row.site);
-    let facts = transition_notification(&source, class, made, stamp, values);
+    if !is_enabled(&subject, kind) {
+        return Ok(Vec::new(alloc));
+    }
+    let Some(class) = class_for(&subject, classes) else {
+        return Ok(Vec::new(alloc));
+    };
+    let facts = notification_of_move(
+        site, objects, alarms, &subject, class, object, cause, made, stamp,
+    )?;
     notes_of(alloc, &facts, class, kind, moment, zone)
 }
 
@@ -133,7 +227,8 @@ pub(crate) fn notes_of_acknowledgement(
     site: &Site,
     zone: &Zone,
     classes: &[Class],
-    row: Option<&Row>,
+    objects: &Objects,
+    object: ObjectId,
     transition: Transition,
     named: EventState,
     moment: u64,
@@ -143,16 +238,16 @@ pub(crate) fn notes_of_acknowledgement(
     requires zone { zone.now ≡ site.now.device.zone_minutes }
     requires moment { IsMoment moment }
     requires stamp { stamp ≡ site_stamp site.now moment }
-    ensures notes { IfOk result (λ notes. notes.items ≡ acknowledged_of site.now classes.now moment transition named (option_copied row.entry)) }
+    ensures notes { IfOk result (λ notes. notes.items ≡ notes_of_acknowledgement site.now classes.now objects.now moment object transition named) }
     ensures short { IfOk result (λ notes. All IsShort notes.items) }
 {
-    let Some(row) = row else {
+    let Some(subject) = objects.subject(object) else {
         return Ok(Vec::new(alloc));
     };
-    let Some(class) = class_for(&row.site, classes) else {
+    let Some(class) = class_for(&subject, classes) else {
         return Ok(Vec::new(alloc));
     };
-    let source = source_of(site, &row.site);
+    let source = source_of(site, &subject);
     let facts = acknowledgement_notification(&source, class, named, stamp);
     notes_of(alloc, &facts, class, transition, moment, zone)
 }
@@ -175,7 +270,9 @@ fn add_move(
     site: &Site,
     zone: &Zone,
     classes: &[Class],
-    row: &Row,
+    objects: &Objects,
+    alarms: &[Watched],
+    object: ObjectId,
     cause: Option<u32>,
     made: Option<Move>,
     moment: u64,
@@ -186,28 +283,29 @@ fn add_move(
     requires zone { zone.now ≡ site.now.device.zone_minutes }
     requires moment { IsMoment moment }
     requires stamp { stamp ≡ site_stamp site.now moment }
-    requires allowed { IsObject row.now.site }
     requires short { All IsShort notes.old.items }
-    ensures notes { OnOk result ((object : Identifier) (rows : List Kept) → notes.new.items ≡ notes.old.items ++
-        flat_map (told_by site.now classes.now moment object rows cause (Some row.now)) (option_to_list made)) }
+    ensures notes { OnOk result (notes.new.items ≡ notes.old.items ++
+        flat_map (told_by site.now classes.now moment object objects.now (states_of alarms.now) cause) (option_to_list made)) }
     ensures short { OnOk result (All IsShort notes.new.items) }
 {
     let Some(made) = made else {
         return Ok(());
     };
-    let more = notes_of_move(alloc, site, zone, classes, row, cause, made, moment, stamp)?;
+    let more = notes_of_move(
+        alloc, site, zone, classes, objects, alarms, object, cause, made, moment, stamp,
+    )?;
     append(notes, more)
 }
 
-/// The notes of an object's moves at a point go behind the others.
+/// The notes of an object's moves at a point go behind the others, where these are the alarms after the point.
 pub(crate) fn add_notes(
     alloc: Global,
     site: &Site,
     zone: &Zone,
     classes: &[Class],
-    row: Option<&Row>,
-    cause: Option<u32>,
-    changed: Changed,
+    objects: &Objects,
+    alarms: &[Watched],
+    turned: &Turned,
     moment: u64,
     stamp: Stamp,
     notes: &mut Vec<Note>,
@@ -216,20 +314,16 @@ pub(crate) fn add_notes(
     requires zone { zone.now ≡ site.now.device.zone_minutes }
     requires moment { IsMoment moment }
     requires stamp { stamp ≡ site_stamp site.now moment }
-    requires allowed { IfSome row (λ row. IsObject row.now.site) }
     requires short { All IsShort notes.old.items }
-    ensures notes { OnOk result ((object : Identifier) (rows : List Kept) → notes.new.items ≡ notes.old.items ++
-        flat_map (told_by site.now classes.now moment object rows cause (option_copied row.entry)) (moves_in changed)) }
+    ensures notes { OnOk result (notes.new.items ≡ notes.old.items ++ told_turn site.now classes.now moment objects.now (states_of alarms.now) turned.now) }
     ensures short { OnOk result (All IsShort notes.new.items) }
 {
-    let Some(row) = row else {
-        return Ok(());
-    };
-    let (first, second) = (changed.first, changed.second);
+    let (object, cause) = (turned.object, turned.cause);
+    let (first, second) = (turned.changed.first, turned.changed.second);
     add_move(
-        alloc, site, zone, classes, row, cause, first, moment, stamp, notes,
+        alloc, site, zone, classes, objects, alarms, object, cause, first, moment, stamp, notes,
     )?;
     add_move(
-        alloc, site, zone, classes, row, cause, second, moment, stamp, notes,
+        alloc, site, zone, classes, objects, alarms, object, cause, second, moment, stamp, notes,
     )
 }

@@ -18,6 +18,7 @@ use Rattle.apdu_frame.specs.Writing.{written_unconfirmed}
 use Rattle.service_parameters.specs.declared.malformed.Malformed.{Malformed}
 use Rattle.event_services.specs.declared.acknowledge.AckRequest.{AckRequest}
 use Rattle.event_services.specs.Acknowledgements.{acknowledge_request_of}
+use Rattle.event_services.specs.Information.{information_request_of}
 use Rattle.property_services.specs.declared.requests.ReadRequest.{ReadRequest}
 use Rattle.property_services.specs.declared.requests.WriteRequest.{WriteRequest}
 use Rattle.property_services.specs.Reading.{read_property_of, who_is_of, write_property_of}
@@ -37,14 +38,18 @@ use Rattle.alarm_core.specs.declared.event.Act.TheVariants.{Write, Ack, Pump as 
 use Rattle.alarm_core.specs.declared.event.Event.{Event}
 use Rattle.alarm_core.specs.Allowed.{IsAllowed}
 use Rattle.alarm_core.specs.declared.site.Site.{Site}
-use Rattle.alarm_core.specs.Found.{device_object, found_in, is_other_object}
+use Rattle.alarm_core.specs.Found.{device_object, found_in, has_object, is_other_object}
 use Rattle.alarm_core.specs.History.{StateTransition, raised, tick_at}
+use Rattle.alarm_core.specs.Information.{has_more, summaries_of}
+use Rattle.alarm_core.specs.Logs.{log_in}
 use Rattle.alarm_core.specs.Next.{next_transitions}
 use Rattle.alarm_core.specs.Reading.{read_of, write_of}
 use Rattle.alarm_core.specs.State.{State}
 use Rattle.service_desk.specs.declared.decision.Decision.{Decision}
 use Rattle.service_desk.specs.declared.decision.Decision.TheVariants.{Ignore, Idle, Refuse, Reply, Enter}
 use Rattle.service_desk.specs.declared.replies.Asker.{Asker}
+use Rattle.service_desk.specs.Information.{information_reply, information_room}
+use Rattle.service_desk.specs.Ranges.{range_decided}
 use Rattle.service_desk.specs.Replies.{abort_to, aborted, acknowledged, answered, other, refused, rejected, reply_to, segmentation_not_supported}
 
 -- the reason of a Reject
@@ -76,7 +81,7 @@ field_decision moment (Ok change) = Enter (write_at moment change) None None
 
 -- whether an object is of the site and has no value
 abbrev pub has_no_value : State → Identifier → Bool
-has_no_value state object = is_none (row_of object state.rows) && is_other_object state.site object
+has_no_value state object = is_none (row_of object state.values.rows) && is_other_object state.site object
 
 -- such an object is of the wrong kind
 abbrev pub by_kind : State → Identifier → Result Change SetFault → Result Change SetFault
@@ -127,13 +132,27 @@ write_with state moment asker (Ok request) = change_decision moment asker (write
 abbrev pub write_decision : State → ℕ → Asker → List ℕ → Decision
 write_decision state moment asker parameters = write_with state moment asker (write_property_of parameters)
 
+-- ReadRange (15.8): whether there is such an object, and its log, where it is one
+abbrev pub range_decision : State → Asker → List ℕ → Decision
+range_decision state asker parameters = Reply (range_decided asker (has_object state) (λ object. log_in object state.logs) parameters)
+
+-- GetEventInformation (13.12)
+abbrev pub information_with : State → Asker → Result (Option Identifier) Malformed → Decision
+information_with state asker (Err refusal) = Reply (rejected asker refusal.reject)
+information_with state asker (Ok last) = Reply (information_reply asker (summaries_of last (information_room asker) state) (has_more last (information_room asker) state))
+
+abbrev pub information_decision : State → Asker → List ℕ → Decision
+information_decision state asker parameters = information_with state asker (information_request_of parameters)
+
 -- a confirmed request, by its service
 abbrev pub request_decision : State → ℕ → Asker → List ℕ → Decision
 request_decision state moment asker parameters =
     if asker.service == 0 then acknowledge_decision state moment asker parameters
     else (if asker.service == 12 then read_decision state asker parameters
     else (if asker.service == 15 then write_decision state moment asker parameters
-    else Reply (rejected asker unrecognized_service)))
+    else (if asker.service == 26 then range_decision state asker parameters
+    else (if asker.service == 29 then information_decision state asker parameters
+    else Reply (rejected asker unrecognized_service)))))
 
 -- whether the devices that are asked include the site's
 abbrev pub asks : Result (Option (ℕ × ℕ)) Malformed → ℕ → Bool
@@ -205,8 +224,8 @@ incoming_decision state moment octets (Some incoming) =
 abbrev pub decision_on : State → Input → ℕ → Decision
 decision_on state Tick moment = tick_decision state moment
 decision_on state Pump moment = pump_decision state moment
-decision_on state (Set object value) moment = field_decision moment (by_kind state object (checked_set state.rows object value))
-decision_on state (Fault object reliability) moment = field_decision moment (by_kind state object (checked_fault state.rows object reliability))
+decision_on state (Set object value) moment = field_decision moment (by_kind state object (checked_set state.values.rows object value))
+decision_on state (Fault object reliability) moment = field_decision moment (by_kind state object (checked_fault state.values.rows object reliability))
 decision_on state (Datagram peer octets) moment = incoming_decision state moment octets (incoming_at peer octets)
 
 -- an event that a decision enters may come after the state, at the moment

@@ -4,7 +4,7 @@ ghost use Rattle.alarm_core.specs.Found.{found_in};
 ghost use Rattle.service_desk.specs.Decisions.{EntersAllowed, acknowledge_decision, verdict_decision};
 
 use crate::Decision;
-use crate::replies::Asker;
+use crate::replies::{Asker, OTHER};
 use ack_alarm::{Verdict, judge};
 use alarm_core::{Act, Core, Event};
 use bac_values::{NoMemory, ObjectId};
@@ -29,7 +29,7 @@ fn verdict_decision(
                 state,
             };
             let reply = asker.acknowledged(alloc)?;
-            let full = asker.aborted(alloc, 0)?;
+            let full = asker.aborted(alloc, OTHER)?;
             Ok(Decision::Enter {
                 event: Event { moment, act },
                 reply: Some(reply),

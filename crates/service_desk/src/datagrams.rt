@@ -6,8 +6,10 @@ ghost use Rattle.bvlc_npdu.specs.Reading.{incoming_at};
 use crate::Decision;
 use crate::acknowledging::acknowledge;
 use crate::answering::{answer_decision, named_answer_decision};
+use crate::informing::event_information;
+use crate::ranging::read_range;
 use crate::reading::read_property;
-use crate::replies::{Asker, abort_to};
+use crate::replies::{Asker, SEGMENTATION_NOT_SUPPORTED, abort_to};
 use crate::who_is::who_is;
 use crate::writing::write_property;
 use alarm_core::Core;
@@ -44,6 +46,8 @@ fn request_decision(
         0 => acknowledge(alloc, core, moment, asker, parameters),
         12 => read_property(alloc, core, asker, parameters),
         15 => write_property(alloc, core, moment, asker, parameters),
+        26 => read_range(alloc, core, asker, parameters),
+        29 => event_information(alloc, core, asker, parameters),
         _ => Ok(Decision::Reply {
             send: asker.rejected(alloc, 9)?,
         }),
@@ -100,7 +104,7 @@ fn apdu_decision(
             request_decision(alloc, core, moment, &asker, &octets[start..])
         }
         Apdu::Segmented { invoke } => Ok(Decision::Reply {
-            send: abort_to(alloc, peer, invoke, 4)?,
+            send: abort_to(alloc, peer, invoke, SEGMENTATION_NOT_SUPPORTED)?,
         }),
         Apdu::Unconfirmed { service, start } => {
             unconfirmed_decision(alloc, core, peer, service, &octets[start..])

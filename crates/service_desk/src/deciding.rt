@@ -42,7 +42,7 @@ fn set_decision(
     object: ObjectId,
     value: &Value,
 ) -> Result<Decision, NoMemory>
-    ensures decision { IfOk result (λ decision. decision ≡ field_decision moment (by_kind core.now object (checked_set core.now.rows object value.now))) }
+    ensures decision { IfOk result (λ decision. decision ≡ field_decision moment (by_kind core.now object (checked_set core.now.values.rows object value.now))) }
     ensures allowed { IfOk result (EntersAllowed core.now moment) }
 {
     if has_no_value(core, object) {
@@ -53,7 +53,7 @@ fn set_decision(
 }
 
 fn fault_decision(core: &Core, moment: u64, object: ObjectId, reliability: u32) -> Decision
-    ensures decision { result ≡ field_decision moment (by_kind core.now object (checked_fault core.now.rows object reliability)) }
+    ensures decision { result ≡ field_decision moment (by_kind core.now object (checked_fault core.now.values.rows object reliability)) }
     ensures allowed { EntersAllowed core.now moment result }
 {
     if has_no_value(core, object) {

@@ -5,10 +5,18 @@
 
 mod acknowledging;
 mod answering;
+#[cfg(test)]
+mod core_note_tests;
+#[cfg(test)]
+mod core_tests;
 mod datagrams;
 mod deciding;
 mod decision;
+mod informing;
 mod laws;
+mod ranging;
+#[cfg(test)]
+mod ranging_tests;
 mod reading;
 mod replies;
 mod who_is;

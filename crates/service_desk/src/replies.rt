@@ -6,6 +6,12 @@ use bac_values::{Items, NoMemory, Peer, Send};
 use bvlc_npdu::wrap;
 use std::alloc::Global;
 
+/// The reason of an Abort (ANSI/ASHRAE 135-2020, clause 18.10) for which there is no other.
+pub(crate) const OTHER: u8 = 0;
+
+/// The reason of an Abort: the device would have to send segments, or to take them.
+pub(crate) const SEGMENTATION_NOT_SUPPORTED: u8 = 4;
+
 /// Who asks by a confirmed request, the most octets that it takes in an answer, the number of the request, and the
 /// service.
 #[derive(Clone, Copy, Debug)]
@@ -75,7 +81,7 @@ impl Asker {
         ensures reply { IfOk result (λ send. send ≡ fitting self.now apdu.now) }
     {
         if apdu.len() > usize::from(self.max_apdu) {
-            return self.aborted(alloc, 4);
+            return self.aborted(alloc, SEGMENTATION_NOT_SUPPORTED);
         }
         reply_to(alloc, self.peer, apdu)
     }

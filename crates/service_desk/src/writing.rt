@@ -1,11 +1,12 @@
 ghost use Rattle.std.specs.Prelude.{◌≡◌, IfOk};
-ghost use Rattle.object_table.specs.Writes.{IsTaken};
+ghost use Rattle.alarm_core.specs.declared.event.Act.TheVariants.{Write};
+ghost use Rattle.alarm_core.specs.Allowed.{IsAllowed};
 ghost use Rattle.alarm_core.specs.Reading.{write_of};
 ghost use Rattle.alarm_core.specs.State.{State};
 ghost use Rattle.service_desk.specs.Decisions.{EntersAllowed, change_decision, write_decision};
 
 use crate::Decision;
-use crate::replies::Asker;
+use crate::replies::{Asker, OTHER};
 use alarm_core::{Act, Core, Event};
 use bac_values::NoMemory;
 use object_table::{Change, WriteFault};
@@ -20,10 +21,10 @@ fn enter_change(
     change: Change,
 ) -> Result<Decision, NoMemory>
     ensures decision { IfOk result (λ decision. decision ≡ change_decision moment asker.now (Ok change)) }
-    ensures allowed { (state : State) → IsTaken change state.rows → IfOk result (EntersAllowed state moment) }
+    ensures allowed { (state : State) → IsAllowed state (Write change) → IfOk result (EntersAllowed state moment) }
 {
     let reply = asker.acknowledged(alloc)?;
-    let full = asker.aborted(alloc, 0)?;
+    let full = asker.aborted(alloc, OTHER)?;
     let act = Act::Write { change };
     Ok(Decision::Enter {
         event: Event { moment, act },

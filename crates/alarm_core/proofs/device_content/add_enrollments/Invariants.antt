@@ -1,5 +1,5 @@
 use Rattle.std.proofs.Common.{◌≡◌, ◌++◌, map, take}
-use Rattle.alarm_core.specs.declared.site.EnrollmentSite.{EnrollmentSite}
+use Rattle.enrollment.specs.declared.enrollment_site.EnrollmentSite.{EnrollmentSite}
 use Rattle.alarm_core.proofs.device_content.add_enrollments.Given as goal
 
 abbrev pub invariant-loop-enrollment : goal.invariant-loop-enrollment

@@ -1,7 +1,7 @@
 use Rattle.std.proofs.Common.{◌≡◌, List, [], ◌∷◌, ◌++◌, map, append_assoc, rules}
 use Rattle.bac_values.specs.Identifier.{Identifier}
 use Rattle.object_table.specs.declared.object_site.ObjectSite.{ObjectSite}
-use Rattle.alarm_core.specs.declared.site.EnrollmentSite.{EnrollmentSite}
+use Rattle.enrollment.specs.declared.enrollment_site.EnrollmentSite.{EnrollmentSite}
 use Rattle.alarm_core.specs.declared.site.LogSite.{LogSite}
 use Rattle.alarm_core.specs.Found.{class_object, device_object}
 use Rattle.alarm_core.proofs.device_content.identifiers_of.Goals as goal

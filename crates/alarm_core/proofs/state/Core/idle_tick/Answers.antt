@@ -12,8 +12,8 @@ returns-clause-still c =
     let state = c.args.self.now in
     let moment = max c.args.moment state.last_moment in
     let stamp = site_stamp state.site moment in
-    let none = none_moved moment stamp Tick state.rows state.alarms in
-    let still : IsTrue c.are_still.result ↔ (moved_with moment stamp Tick state.rows state.alarms ≡ []) = search rules in
+    let none = none_moved moment stamp Tick state.values state.alarms in
+    let still : IsTrue c.are_still.result ↔ (moved_with moment stamp Tick state.values state.alarms ≡ []) = search rules in
     (λ t. none.0 (still.0 t), λ e. still.1 (none.1 e))
 
 pub returns-clause-history : goal.returns-clause-history

@@ -1,13 +1,14 @@
-use Rattle.std.proofs.Common.{◌≡◌, ◌∙◌, List, [], map, filter, sym, ap, subst, rules}
+use Rattle.std.proofs.Common.{◌≡◌, ◌∙◌, [], map, sym, ap, subst, rules}
 use Rattle.bac_values.specs.declared.stamp.Stamp.{Stamp}
-use Rattle.object_table.specs.declared.row.Row.{Row}
 use Rattle.outbox.specs.Outboxes.{new_outbox, peers_of}
 use Rattle.outbox.proofs.Making.{peers_empty}
 use Rattle.alarm_core.specs.declared.site.ClassSite.{ClassSite}
 use Rattle.alarm_core.specs.Classes.{first_classes, known_peers_of, peers_in, peers_with}
-use Rattle.alarm_core.specs.Next.{first_with}
-use Rattle.alarm_core.specs.Sights.{ack_required_of, first_rows, is_detecting, site_stamp}
+use Rattle.alarm_core.specs.Next.{first_kept, first_with}
+use Rattle.alarm_core.specs.Sights.{site_stamp}
 use Rattle.alarm_core.specs.Sites.{IsSite}
+use Rattle.alarm_core.specs.Subjects.{ack_required_of, detecting_subjects}
+use Rattle.alarm_core.specs.Values.{Values, first_values}
 use Rattle.alarm_core.proofs.Acted.{started}
 use Rattle.alarm_core.proofs.Standing.{represents_first}
 use Rattle.alarm_core.proofs.ToldKnown.{first_known}
@@ -17,7 +18,7 @@ pub invariant_of-result : goal.invariant_of-result
 invariant_of-result c =
     let site = c.args.site.now in
     let same : c.in_ok-site.site ≡ site = search rules in
-    let sites : c.as_slice-2.result.now ≡ site.classes = c.as_slice-2.ensures.same in
+    let sites : c.as_slice.result.now ≡ site.classes = c.as_slice.ensures.same in
     let classes : c.in_ok-classes.classes.items ≡ first_classes site = c.in_ok-classes.ensures.classes ∙ ap (map (λ (listed : ClassSite). listed.class)) sites in
     let listed : c.in_ok-peers_in.field-0.items ≡ peers_in c.in_ok-classes.classes.items = search rules in
     let peers : c.in_ok-peers.peers.items ≡ peers_with c.in_ok-peers_in.field-0.items [] = search rules in
@@ -36,20 +37,20 @@ pub returns-clause-starts : goal.returns-clause-starts
 returns-clause-starts c =
     let site = c.args.site.now in
     let start = site.device.start in
-    let tracked = λ (stamp : Stamp) (rows : List Row). map (λ row. first_with start stamp (ack_required_of site row.site) row) (filter is_detecting rows) in
+    let tracked = λ (stamp : Stamp) (values : Values). map (λ subject. first_with start stamp (ack_required_of site subject) values subject) (detecting_subjects site) in
     let same : c.in_ok-site.site ≡ site = search rules in
-    let rows : c.in_ok-table.table ≡ first_rows site = search rules in
-    let seen : c.rows.result.now ≡ first_rows site = search rules in
+    let values : c.in_ok-objects.objects ≡ first_values site = search rules in
     let stamp : c.stamp_of.result ≡ site_stamp site start = search rules in
-    let alarms = c.in_ok-alarms.ensures.alarms ∙ (ap (tracked c.stamp_of.result) seen ∙ ap (λ s. tracked s (first_rows site)) stamp) in
-    let sites : c.as_slice-2.result.now ≡ site.classes = c.as_slice-2.ensures.same in
+    let alarms = c.in_ok-alarms.ensures.alarms ∙ (ap (tracked c.stamp_of.result) values ∙ ap (λ s. tracked s (first_values site)) stamp) in
+    let sites : c.as_slice.result.now ≡ site.classes = c.as_slice.ensures.same in
     let classes : c.in_ok-classes.classes.items ≡ first_classes site = c.in_ok-classes.ensures.classes ∙ ap (map (λ (listed : ClassSite). listed.class)) sites in
     let listed : c.in_ok-peers_in.field-0.items ≡ peers_in c.in_ok-classes.classes.items = search rules in
     let peers : c.in_ok-peers.peers.items ≡ peers_with c.in_ok-peers_in.field-0.items [] = search rules in
     let known : c.in_ok-peers.peers.items ≡ known_peers_of site [] = peers ∙ ap (λ ps. peers_with ps []) (listed ∙ ap peers_in classes) in
     let outbox : c.in_ok-outbox.outbox ≡ new_outbox c.in_ok-peers.peers.items site.device.outbox site.device.apdu_timeout site.device.retries = search rules in
-    started site c.in_ok-site.site c.in_ok-table.table c.in_ok-alarms.alarms.items c.in_ok-classes.classes.items c.in_ok-outbox.outbox
-    same rows alarms classes (outbox ∙ ap (λ ps. new_outbox ps site.device.outbox site.device.apdu_timeout site.device.retries) known)
+    let logs : c.in_ok-logs.logs.items ≡ map first_kept site.logs = search rules in
+    started site c.in_ok-site.site c.in_ok-objects.objects c.in_ok-alarms.alarms.items c.in_ok-classes.classes.items c.in_ok-outbox.outbox c.in_ok-logs.logs.items
+    same values alarms classes (outbox ∙ ap (λ ps. new_outbox ps site.device.outbox site.device.apdu_timeout site.device.retries) known) logs
 
 pub returns-clause-represents : goal.returns-clause-represents
 returns-clause-represents c = represents_first c.args.site.now _ (returns-clause-starts c)

@@ -15,7 +15,7 @@ pub returns-in_err-done-clause-verdict : goal.returns-in_err-done-clause-verdict
 returns-in_err-done-clause-verdict c =
     let state = c.args.self.now in
     let event = raised state.last_moment c.args.event.now in
-    let told : Answers c.from_residual.result (queue_verdict (told_with state.site state.classes event.moment (site_stamp state.site event.moment) event.act state.rows state.alarms) state.outbox) = search rules in
+    let told : Answers c.from_residual.result (queue_verdict (told_with state.site state.classes event.moment (site_stamp state.site event.moment) event.act state.values state.alarms) state.outbox) = search rules in
     subst (Answers c.from_residual.result) (sym (stepped_verdict event state)) told
 
 pub returns-in_err-done-clause-transitions : goal.returns-in_err-done-clause-transitions
@@ -40,14 +40,14 @@ pub returns-clause-moves : goal.returns-clause-moves
 returns-clause-moves c =
     let state = c.args.self.now in
     let event = raised state.last_moment c.args.event.now in
-    let moved : c.of.result ≡ moved_with event.moment (site_stamp state.site event.moment) event.act state.rows state.alarms = search rules in
-    moved ∙ sym (moved_is event.moment (site_stamp state.site event.moment) event.act state.rows state.alarms)
+    let moved : c.of.result ≡ moved_with event.moment (site_stamp state.site event.moment) event.act state.values state.alarms = search rules in
+    moved ∙ sym (moved_is event.moment (site_stamp state.site event.moment) event.act state.values state.alarms)
 
 pub returns-clause-verdict : goal.returns-clause-verdict
 returns-clause-verdict c =
     let state = c.args.self.now in
     let event = raised state.last_moment c.args.event.now in
-    let told : queue_verdict (told_with state.site state.classes event.moment (site_stamp state.site event.moment) event.act state.rows state.alarms) state.outbox ≡ Ok tt = search rules in
+    let told : queue_verdict (told_with state.site state.classes event.moment (site_stamp state.site event.moment) event.act state.values state.alarms) state.outbox ≡ Ok tt = search rules in
     stepped_verdict event state ∙ told
 
 pub returns-clause-represents : goal.returns-clause-represents

@@ -1,53 +1,81 @@
-use Rattle.std.proofs.Common.{◌≡◌, ◌∙◌, map, sym, subst, Err, rules}
-use Rattle.std.specs.List.{flat_map}
-use Rattle.object_table.specs.Writes.{written}
+use Rattle.std.proofs.Common.{◌≡◌, List, Vec, Global, map, refl, sym, subst, rules}
+use Rattle.event_log.specs.History.{Call}
 use Rattle.outbox.specs.Outboxes.{AreKnown}
-use Rattle.alarm_core.specs.Moves.{moved_at, told_at}
-use Rattle.alarm_core.specs.Next.{looked}
-use Rattle.alarm_core.specs.declared.state.Done.{Done}
+use Rattle.alarm_core.specs.declared.site.LogSite.{LogSite}
+use Rattle.alarm_core.specs.Logs.{KeptLog, records_of}
+use Rattle.alarm_core.specs.Moves.{told_all}
+use Rattle.alarm_core.specs.Next.{looked_all, transitions_all}
+use Rattle.alarm_core.specs.State.{State, Tracked}
+use Rattle.alarm_core.specs.Values.{written}
 use Rattle.alarm_core.specs.Verdicts.{Answers}
 use Rattle.alarm_core.proofs.ToldKnown.{look_known}
-use Rattle.alarm_core.proofs.Written.{written_moves, written_state, written_verdict}
+use Rattle.alarm_core.proofs.Written.{on_both, written_state, written_verdict}
 use Rattle.alarm_core.proofs.state.Core.write.Goals as goal
 
 pub finish_write-requires-clause-known : goal.finish_write-requires-clause-known
 finish_write-requires-clause-known c =
     let core = c.self.inside in
-    let told : c.look.new.notes.items ≡ flat_map (told_at core.site core.classes.items c.args.moment c.args.stamp core.table) core.alarms.items = search rules in
-    subst (λ notes. AreKnown notes core.outbox.posts) (sym told)
+    let old = c.args.self.now in
+    let told : c.look.new.notes.items ≡ told_all old.site old.classes c.args.moment c.args.stamp old.values old.alarms = search rules in
+    subst (λ notes. AreKnown notes old.outbox.posts) (sym told)
+    (subst (λ (s : State). AreKnown (told_all s.site s.classes c.args.moment c.args.stamp s.values s.alarms) s.outbox.posts) c.self.view_is
     (look_known core.site core.classes.items core.peers.items core.outbox.posts (record { peers_are = c.self.invariant.peers; knows = c.self.invariant.known })
-    c.args.moment c.args.stamp core.table core.alarms.items)
+    c.args.moment c.args.stamp core.objects core.alarms.items))
 
-pub returns-in-Ok-clause-state : goal.returns-in-Ok-clause-state
-returns-in-Ok-clause-state c =
+pub returns-then-is_of_log-clause-state : goal.returns-then-is_of_log-clause-state
+returns-then-is_of_log-clause-state c =
     let old = c.args.self.now in
-    let table : c.apply-undo.new.self ≡ written c.args.change old.rows = search rules in
-    let before : c.deref-2.result.now ≡ map (looked c.args.moment c.args.stamp old.rows) old.alarms = search rules in
-    let notes : c.look.new.notes.items ≡ flat_map (told_at old.site old.classes c.args.moment c.args.stamp old.rows) old.alarms = search rules in
-    written_state old c.args.moment c.args.stamp c.args.change _ c.self.view_is c.apply-undo.new.self table c.deref-2.result.now before c.look.new.notes.items notes c.finish_write.new.self c.in-Ok.ensures.state
+    let before : c.in_ok-before.before.alarms.items ≡ looked_all c.args.moment c.args.stamp old.values old.alarms = search rules in
+    let notes : c.look.new.notes.items ≡ told_all old.site old.classes c.args.moment c.args.stamp old.values old.alarms = search rules in
+    let first = λ (listed : LogSite). records_of old.site old.classes listed (transitions_all c.args.moment c.args.stamp old.values old.alarms) in
+    let seen : c.deref.result.now ≡ old.alarms = search rules in
+    let made = λ (alarms : List Tracked). map (λ (list : Vec Call Global). list.items) c.in_ok-before.before.entries.items
+    ≡ map (λ (kept : KeptLog). records_of old.site old.classes kept.site (transitions_all c.args.moment c.args.stamp old.values alarms)) old.logs in
+    let entries : map (λ (list : Vec Call Global). list.items) c.in_ok-before.before.entries.items ≡ map (λ (kept : KeptLog). first kept.site) old.logs =
+    subst made seen c.in_ok-before.ensures.entries in
+    let same : old.values ≡ written c.args.change.now old.values = sym (c.is_of_log.ensures.log (search rules)) in
+    on_both c.finish_write.result
+    (written_state old c.args.moment c.args.stamp c.args.change.now old.values same c.in_ok-before.before.alarms.items before c.look.new.notes.items notes c.finish_write.new.self c.finish_write.new.self.logs)
+    c.finish_write.ensures.state (c.finish_write.ensures.logs first entries)
 
-pub returns-in-Ok-clause-verdict : goal.returns-in-Ok-clause-verdict
-returns-in-Ok-clause-verdict c =
+pub returns-then-is_of_log-clause-verdict : goal.returns-then-is_of_log-clause-verdict
+returns-then-is_of_log-clause-verdict c =
     let old = c.args.self.now in
-    let table : c.apply-undo.new.self ≡ written c.args.change old.rows = search rules in
-    let before : c.deref-2.result.now ≡ map (looked c.args.moment c.args.stamp old.rows) old.alarms = search rules in
-    let notes : c.look.new.notes.items ≡ flat_map (told_at old.site old.classes c.args.moment c.args.stamp old.rows) old.alarms = search rules in
-    sym (written_verdict old c.args.moment c.args.stamp c.args.change _ c.self.view_is c.apply-undo.new.self table c.deref-2.result.now before c.look.new.notes.items notes) ∙ c.in-Ok.ensures.verdict
+    let before : c.in_ok-before.before.alarms.items ≡ looked_all c.args.moment c.args.stamp old.values old.alarms = search rules in
+    let notes : c.look.new.notes.items ≡ told_all old.site old.classes c.args.moment c.args.stamp old.values old.alarms = search rules in
+    let same : old.values ≡ written c.args.change.now old.values = sym (c.is_of_log.ensures.log (search rules)) in
+    subst (Answers c.finish_write.result)
+    (written_verdict old c.args.moment c.args.stamp c.args.change.now old.values same c.in_ok-before.before.alarms.items before c.look.new.notes.items notes) c.finish_write.ensures.verdict
 
-pub returns-in-Ok-clause-moves : goal.returns-in-Ok-clause-moves
-returns-in-Ok-clause-moves c =
+pub write_object-requires-clause-known : goal.write_object-requires-clause-known
+write_object-requires-clause-known c =
+    let core = c.self.inside in
     let old = c.args.self.now in
-    let table : c.apply-undo.new.self ≡ written c.args.change old.rows = search rules in
-    let before : c.deref-2.result.now ≡ map (looked c.args.moment c.args.stamp old.rows) old.alarms = search rules in
-    let notes : c.look.new.notes.items ≡ flat_map (told_at old.site old.classes c.args.moment c.args.stamp old.rows) old.alarms = search rules in
-    let moves : c.look.new.moves.items ≡ flat_map (moved_at c.args.moment c.args.stamp old.rows) old.alarms = search rules in
-    written_moves old c.args.moment c.args.stamp c.args.change _ c.self.view_is c.apply-undo.new.self table c.deref-2.result.now before c.look.new.notes.items notes c.look.new.moves.items c.in-Ok.done.moves.items moves c.in-Ok.ensures.moves
+    let told : c.look.new.notes.items ≡ told_all old.site old.classes c.args.moment c.args.stamp old.values old.alarms = search rules in
+    subst (λ notes. AreKnown notes old.outbox.posts) (sym told)
+    (subst (λ (s : State). AreKnown (told_all s.site s.classes c.args.moment c.args.stamp s.values s.alarms) s.outbox.posts) c.self.view_is
+    (look_known core.site core.classes.items core.peers.items core.outbox.posts (record { peers_are = c.self.invariant.peers; knows = c.self.invariant.known })
+    c.args.moment c.args.stamp core.objects core.alarms.items))
+
+pub returns-clause-state : goal.returns-clause-state
+returns-clause-state c =
+    let old = c.args.self.now in
+    let before : c.in_ok-before.before.alarms.items ≡ looked_all c.args.moment c.args.stamp old.values old.alarms = search rules in
+    let notes : c.look.new.notes.items ≡ told_all old.site old.classes c.args.moment c.args.stamp old.values old.alarms = search rules in
+    let first = λ (listed : LogSite). records_of old.site old.classes listed (transitions_all c.args.moment c.args.stamp old.values old.alarms) in
+    let seen : c.deref.result.now ≡ old.alarms = search rules in
+    let made = λ (alarms : List Tracked). map (λ (list : Vec Call Global). list.items) c.in_ok-before.before.entries.items
+    ≡ map (λ (kept : KeptLog). records_of old.site old.classes kept.site (transitions_all c.args.moment c.args.stamp old.values alarms)) old.logs in
+    let entries : map (λ (list : Vec Call Global). list.items) c.in_ok-before.before.entries.items ≡ map (λ (kept : KeptLog). first kept.site) old.logs =
+    subst made seen c.in_ok-before.ensures.entries in
+    on_both c.write_object.result
+    (written_state old c.args.moment c.args.stamp c.args.change.now (written c.args.change.now old.values) refl c.in_ok-before.before.alarms.items before c.look.new.notes.items notes c.write_object.new.self c.write_object.new.self.logs)
+    c.write_object.ensures.state (c.write_object.ensures.logs first entries)
 
 pub returns-clause-verdict : goal.returns-clause-verdict
 returns-clause-verdict c =
     let old = c.args.self.now in
-    let table : c.apply-undo.new.self ≡ written c.args.change old.rows = search rules in
-    let before : c.deref-2.result.now ≡ map (looked c.args.moment c.args.stamp old.rows) old.alarms = search rules in
-    let notes : c.look.new.notes.items ≡ flat_map (told_at old.site old.classes c.args.moment c.args.stamp old.rows) old.alarms = search rules in
-    subst (λ verdict. Answers {A = Done} (Err c.in-Err.fault) verdict)
-    (written_verdict old c.args.moment c.args.stamp c.args.change _ c.self.view_is c.apply-undo.new.self table c.deref-2.result.now before c.look.new.notes.items notes) c.in-Err.ensures.verdict
+    let before : c.in_ok-before.before.alarms.items ≡ looked_all c.args.moment c.args.stamp old.values old.alarms = search rules in
+    let notes : c.look.new.notes.items ≡ told_all old.site old.classes c.args.moment c.args.stamp old.values old.alarms = search rules in
+    subst (Answers c.write_object.result)
+    (written_verdict old c.args.moment c.args.stamp c.args.change.now (written c.args.change.now old.values) refl c.in_ok-before.before.alarms.items before c.look.new.notes.items notes) c.write_object.ensures.verdict

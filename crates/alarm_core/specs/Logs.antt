@@ -1,0 +1,140 @@
+-- The event logs of a site after a history (ANSI/ASHRAE 135-2020, 12.27).
+use Rattle.std.specs.Prelude.{ℕ, zero, ◌==◌, Bool, false, IsTrue, IsSomeAnd, if◌then◌else◌, Option, Some, None, List, [], ◌∷◌, ◌++◌, map, find}
+use Rattle.std.specs.List.{flat_map, list_any}
+use Rattle.std.specs.Option.{option_map}
+use Rattle.bac_values.specs.EventStates.{transition_to}
+use Rattle.bac_values.specs.Identifier.{Identifier}
+use Rattle.bac_values.specs.declared.value.Value.{Value}
+use Rattle.bac_values.specs.declared.value.Value.TheVariants.{Bool as Truth, Unsigned}
+use Rattle.event_log.specs.History.{Call, Cleared, Recorded, Switched, log_after}
+use Rattle.event_log.specs.Log.{Log, new_log}
+use Rattle.event_services.specs.Notifications.{written_notification}
+use Rattle.notify_class.specs.declared.class.Class.{Class}
+use Rattle.object_table.specs.declared.change.Change.{Change}
+use Rattle.object_table.specs.declared.change.What.{What}
+use Rattle.object_table.specs.declared.change.What.TheVariants.{Property, FieldFault}
+use Rattle.object_table.specs.Rows.{is_object}
+use Rattle.alarm_core.specs.declared.event.Act.{Act}
+use Rattle.alarm_core.specs.declared.event.Act.TheVariants.{Tick, Write}
+use Rattle.alarm_core.specs.declared.event.Event.{Event}
+use Rattle.alarm_core.specs.declared.site.LogSite.{LogSite}
+use Rattle.alarm_core.specs.declared.site.Site.{Site}
+use Rattle.alarm_core.specs.declared.subject.Subject.{Subject}
+use Rattle.alarm_core.specs.Classes.{classes_after}
+use Rattle.alarm_core.specs.History.{AllLooked, Occurrence, StateTransition, look_transitions, occurrences_of, values_after}
+use Rattle.alarm_core.specs.Notes.{class_for, is_enabled, notification_of}
+use Rattle.alarm_core.specs.Sights.{site_stamp}
+use Rattle.alarm_core.specs.Subjects.{subject_in}
+use Rattle.alarm_core.specs.Values.{Values, written}
+
+-- a log of a site, and what it holds
+pub record KeptLog : Type 0 where
+  pub site : LogSite
+  pub log : Log
+
+-- a log at the start
+abbrev pub first_log : LogSite → Log
+first_log listed = new_log listed.size listed.stop_when_full listed.enable
+
+-- ---- what is recorded
+
+-- whether a log records the notifications of a class
+abbrev pub records_class : LogSite → Class → Bool
+records_class listed class = list_any (λ instance. instance == class.instance) listed.classes
+
+abbrev pub recorded_in : Site → LogSite → StateTransition → Subject → Option Class → List Call
+recorded_in site listed transition subject None = []
+recorded_in site listed transition subject (Some class) =
+    if records_class listed class
+    then Recorded (site_stamp site transition.moment) (written_notification (notification_of site transition subject class)) ∷ []
+    else []
+
+abbrev pub recorded_of : Site → List Class → LogSite → StateTransition → Option Subject → List Call
+recorded_of site classes listed transition None = []
+recorded_of site classes listed transition (Some subject) =
+    if is_enabled (transition_to transition.to) subject then recorded_in site listed transition subject (class_for subject classes) else []
+
+-- what a log is given of a transition: where its kind is enabled and the log records its class, the notification with process identifier 0, at the local date and time of its point
+abbrev pub record_of_transition : Site → List Class → LogSite → StateTransition → List Call
+record_of_transition site classes listed transition = recorded_of site classes listed transition (subject_in transition.object transition.values)
+
+-- those of some transitions, in their order
+abbrev pub records_of : Site → List Class → LogSite → List StateTransition → List Call
+records_of site classes listed transitions = flat_map (record_of_transition site classes listed) transitions
+
+-- ---- what is written
+
+-- Enable and Record_Count
+abbrev pub enable_property : ℕ
+enable_property = 133
+
+abbrev pub record_count_property : ℕ
+record_count_property = 141
+
+-- a value of Enable turns a log on or off, and a Record_Count of 0 clears it
+abbrev pub call_of_value : ℕ → Value → List Call
+call_of_value number (Truth on) = if number == enable_property then Switched on ∷ [] else []
+call_of_value number (Unsigned zero) = if number == record_count_property then Cleared ∷ [] else []
+call_of_value number _ = []
+
+abbrev pub call_of_what : What → List Call
+call_of_what (Property property value) = call_of_value property.0 value
+call_of_what (FieldFault reliability) = []
+
+-- what a write does to a log
+abbrev pub call_of_change : LogSite → Change → List Call
+call_of_change listed change = if is_object change.object listed.object then call_of_what change.what else []
+
+-- ---- over a history
+
+-- what an act does to a log, in this order: the records of a look; a write stands between its two looks, so that the first sees the old properties of the log and the second its new ones; acknowledgements aren't recorded
+abbrev pub calls_by : Site → List Class → LogSite → ℕ → Act → Values → List Occurrence → List Call
+calls_by site classes listed moment Tick values older = records_of site classes listed (look_transitions site moment values older)
+calls_by site classes listed moment (Write change) values older =
+    records_of site classes listed (look_transitions site moment values older)
+    ++ (call_of_change listed change
+    ++ records_of site classes listed (look_transitions site moment (written change values) (AllLooked moment values ∷ older)))
+calls_by site classes listed moment act values older = []
+
+-- some calls in their order, behind older ones, of which the newest is the first
+abbrev pub behind : List Call → List Call → List Call
+behind [] older = older
+behind (call ∷ later) older = behind later (call ∷ older)
+
+-- all that a history does to a log, the newest first
+abbrev pub calls_of : Site → LogSite → List Event → List Call
+calls_of site listed [] = []
+calls_of site listed (event ∷ older) =
+    behind (calls_by site (classes_after site older) listed event.moment event.act (values_after site older) (occurrences_of site older)) (calls_of site listed older)
+
+abbrev pub kept_log_of : Site → List Event → LogSite → KeptLog
+kept_log_of site history listed = record { site = listed; log = log_after (first_log listed) (calls_of site listed history) }
+
+-- the logs of a history
+abbrev pub logs_after : Site → List Event → List KeptLog
+logs_after site history = map (kept_log_of site history) site.logs
+
+-- ---- one log
+
+-- the log with an identifier
+abbrev pub kept_log : Identifier → List KeptLog → Option KeptLog
+kept_log object logs = find (λ (kept : KeptLog). is_object object kept.site.object) logs
+
+abbrev pub log_of : KeptLog → Log
+log_of kept = kept.log
+
+abbrev pub log_in : Identifier → List KeptLog → Option Log
+log_in object logs = option_map log_of (kept_log object logs)
+
+abbrev pub takes_value : ℕ → Value → Bool
+takes_value number (Truth on) = number == enable_property
+takes_value number (Unsigned zero) = number == record_count_property
+takes_value number _ = false
+
+abbrev pub takes : What → Bool
+takes (Property property value) = takes_value property.0 value
+takes (FieldFault reliability) = false
+
+-- there is the log, and it takes the change
+abbrev pub IsTakenByLog : Change → List KeptLog → Type 0
+IsTakenByLog change logs = IsSomeAnd (kept_log change.object logs) (λ kept. IsTrue (takes change.what))

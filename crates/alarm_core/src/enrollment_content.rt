@@ -1,0 +1,83 @@
+ghost use Rattle.std.specs.Prelude.{◌≡◌, IfOk};
+ghost use Rattle.enrollment.specs.Properties.{property_of};
+ghost use Rattle.note_maker.specs.EventTypes.{algorithm_type};
+ghost use Rattle.alarm_core.specs.EnrollmentProperties.{enrollment_property, enrollment_status, known_enrollment_content};
+ghost use Rattle.alarm_core.specs.Reading.{AnswersContent};
+
+use crate::encoding::{
+    array_of_stamps, boolean, enumerated, four_flags, object, text, three_flags, unsigned,
+};
+use crate::{Content, ReadFault};
+use algorithm_rules::Algorithm;
+use bac_values::{EventState, NoMemory, PropertyId, Reliability};
+use enrollment::{EnrollmentProperty, EnrollmentSite};
+use event_machine::Alarm;
+use std::alloc::Global;
+
+// The number of an algorithm's event type (BACnetEventType).
+fn algorithm_type(algorithm: Algorithm) -> u32
+    ensures number { result ≡ algorithm_type algorithm }
+{
+    match algorithm {
+        Algorithm::ChangeOfBitstring => 0,
+        Algorithm::ChangeOfState => 1,
+        Algorithm::CommandFailure => 3,
+        Algorithm::UnsignedRange => 11,
+        Algorithm::SignedOutOfRange => 15,
+        Algorithm::UnsignedOutOfRange => 16,
+        Algorithm::ChangeOfCharacterstring => 17,
+    }
+}
+
+// Status_Flags: in alarm, in fault, overridden, out of service.
+fn enrollment_status(alarm: &Alarm, reliability: Reliability) -> [bool; 4]
+    ensures status { result ≡ enrollment_status alarm.now.state reliability }
+{
+    let in_alarm = !matches!(alarm.state(), EventState::Normal);
+    let in_fault = reliability.number() != 0;
+    [in_alarm, in_fault, false, false]
+}
+
+// What a property that enrollments have is.
+fn enrollment_property(
+    alloc: Global,
+    alarm: &Alarm,
+    reliability: Reliability,
+    site: &EnrollmentSite,
+    property: EnrollmentProperty,
+) -> Result<Content, NoMemory>
+    ensures content { IfOk result (λ content. content ≡ enrollment_property alarm.now reliability site.now property) }
+{
+    match property {
+        EnrollmentProperty::ObjectIdentifier => object(alloc, site.object),
+        EnrollmentProperty::ObjectName => text(alloc, &site.name),
+        EnrollmentProperty::ObjectType => enumerated(alloc, u32::from(site.object.number())),
+        EnrollmentProperty::StatusFlags => four_flags(alloc, enrollment_status(alarm, reliability)),
+        EnrollmentProperty::EventState => enumerated(alloc, u32::from(alarm.state().number())),
+        EnrollmentProperty::Reliability => enumerated(alloc, u32::from(reliability.number())),
+        EnrollmentProperty::EventEnable => three_flags(alloc, site.enable),
+        EnrollmentProperty::EventAlgorithmInhibit => boolean(alloc, site.inhibit),
+        EnrollmentProperty::AckedTransitions => three_flags(alloc, alarm.acked()),
+        EnrollmentProperty::NotifyType => enumerated(alloc, u32::from(site.notify)),
+        EnrollmentProperty::EventDetectionEnable => boolean(alloc, site.detection),
+        EnrollmentProperty::NotificationClass => unsigned(alloc, site.class),
+        EnrollmentProperty::EventTimeStamps => array_of_stamps(alloc, &alarm.stamps()),
+        EnrollmentProperty::EventType => enumerated(alloc, algorithm_type(site.algorithm)),
+    }
+}
+
+/// What a property of an event enrollment is, by the enrollment's alarm and its reliability, or that there is none.
+pub(crate) fn enrollment_content(
+    alloc: Global,
+    alarm: &Alarm,
+    reliability: Reliability,
+    site: &EnrollmentSite,
+    property: PropertyId,
+) -> Result<Content, ReadFault>
+    ensures content { AnswersContent result (known_enrollment_content alarm.now reliability site.now (property_of property.0)) }
+{
+    let Some(known) = EnrollmentProperty::of_number(property.0) else {
+        return Err(ReadFault::UNKNOWN_PROPERTY);
+    };
+    Ok(enrollment_property(alloc, alarm, reliability, site, known)?)
+}

@@ -1,0 +1,194 @@
+ghost use Rattle.std.specs.Prelude.{◌≡◌, ◌==◌, ◌∷◌, All, List, IfOk, map, Vec as Records};
+ghost use Rattle.std.specs.declared.alloc.Global.{Global};
+ghost use Rattle.std.specs.List.{list_any};
+ghost use Rattle.std.specs.Option.{option_map};
+ghost use Rattle.event_log.specs.History.{Call};
+ghost use Rattle.object_table.specs.Rows.{is_object};
+ghost use Rattle.alarm_core.specs.Logs.{KeptLog, call_of_change, call_of_value, call_of_what, kept_log, records_class};
+ghost use Rattle.alarm_core.specs.Next.{after_calls, first_kept};
+ghost use Rattle.alarm_core.specs.Sites.{IsLogSite};
+
+use crate::copying::copy_of_log;
+use crate::growing::add;
+use crate::{LogSite, Site};
+use bac_values::{NoMemory, ObjectId, Stamp, Value};
+use event_log::EventLog;
+use notify_class::Class;
+use object_table::{Change, What};
+use std::alloc::Global;
+use std::marker::Model;
+use std::vec::IntoIter;
+
+/// The number of Enable (ANSI/ASHRAE 135-2020, 12.27).
+pub(crate) const ENABLE: u32 = 133;
+
+/// The number of Record_Count.
+pub(crate) const RECORD_COUNT: u32 = 141;
+
+/// A record that a log is to be given: its local date and time, and the octets of the notification.
+#[derive(Drop)]
+pub(crate) struct Entry {
+    pub(crate) stamp: Stamp,
+    pub(crate) body: Vec<u8>,
+}
+
+impl Model for Entry {
+    ghost use Rattle.event_log.specs.History.{Call, Recorded};
+
+    ghost Value = { Call };
+
+    ghost view = { λ entry. Recorded entry.stamp entry.body.items };
+}
+
+// Whether the instance of a class is among some.
+fn lists_class(instances: &[u32], class: &Class) -> bool
+    ensures same { result ≡ list_any (λ instance. instance == class.now.instance) instances.now }
+{
+    instances.iter().any(|instance| *instance == class.instance)
+}
+
+/// A log of a site, and what it holds.
+#[derive(Drop)]
+pub(crate) struct SiteLog {
+    site: LogSite,
+    log: EventLog,
+}
+
+impl Model for SiteLog {
+    ghost use Rattle.std.specs.Prelude.{◌≡◌};
+    ghost use Rattle.alarm_core.specs.Logs.{KeptLog};
+
+    ghost Value = { KeptLog };
+
+    ghost view = { λ kept. record { site = kept.site; log = kept.log } };
+
+    ghost invariant = { λ kept. kept.site.object.number ≡ 25 };
+}
+
+impl SiteLog {
+    /// A log of a site, at the start.
+    pub(crate) fn first(alloc: Global, site: &LogSite) -> Result<SiteLog, NoMemory>
+        requires listed { IsLogSite site.now }
+        ensures first { IfOk result (λ kept. kept ≡ first_kept site.now) }
+    {
+        Ok(SiteLog {
+            site: copy_of_log(alloc, site)?,
+            log: EventLog::new(alloc, site.size, site.stop_when_full, site.enable)?,
+        })
+    }
+
+    /// What the site says of it.
+    pub(crate) fn site(&self) -> &LogSite
+        ensures site { result.now ≡ self.now.site }
+        ensures number { self.now.site.object.number ≡ 25 }
+    {
+        &self.site
+    }
+
+    /// What it holds.
+    pub(crate) fn log(&self) -> &EventLog
+        ensures log { result.now ≡ self.now.log }
+    {
+        &self.log
+    }
+
+    /// Whether it records the notifications of a class.
+    pub(crate) fn records_class(&self, class: &Class) -> bool
+        ensures same { result ≡ records_class self.now.site class.now }
+    {
+        lists_class(self.site.classes.as_slice(), class)
+    }
+
+    /// Takes these records, one after the other. No memory is taken.
+    pub(crate) fn enter(&mut self, entries: Vec<Entry>)
+        ensures log { self.new ≡ record self.old { log = after_calls entries.items self.old.log } }
+    {
+        for entry in entries {
+            self.log.record(entry.stamp, entry.body);
+        }
+    }
+
+    // Turns it on or off, or clears it.
+    fn take(&mut self, property: u32, value: &Value)
+        ensures log { self.new ≡ record self.old { log = after_calls (call_of_value property value.now) self.old.log } }
+    {
+        match value {
+            Value::Bool(on) if property == ENABLE => self.log.set_enabled(*on),
+            Value::Unsigned(0) if property == RECORD_COUNT => self.log.clear(),
+            _ => {}
+        }
+    }
+
+    fn take_what(&mut self, what: &What)
+        ensures log { self.new ≡ record self.old { log = after_calls (call_of_what what.now) self.old.log } }
+    {
+        match what {
+            What::Property { property, value } => self.take(property.0, value),
+            What::FieldFault { .. } => {}
+        }
+    }
+
+    /// Takes a change, if it is one of this log. No memory is taken.
+    pub(crate) fn change(&mut self, change: &Change)
+        ensures log { self.new ≡ record self.old { log = after_calls (call_of_change self.old.site change.now) self.old.log } }
+    {
+        if change.object == self.site.object {
+            self.take_what(&change.what);
+        }
+    }
+}
+
+/// The logs of a site, at the start.
+pub(crate) fn first_logs(alloc: Global, site: &Site) -> Result<Vec<SiteLog>, NoMemory>
+    requires listed { All IsLogSite site.now.logs }
+    ensures first { IfOk result (λ logs. logs.items ≡ map first_kept site.now.logs) }
+{
+    let mut logs = Vec::new(alloc);
+    for listed in site.logs.as_slice() {
+        add(&mut logs, SiteLog::first(alloc, listed)?)?;
+    }
+    Ok(logs)
+}
+
+fn is_log(kept: &SiteLog, object: ObjectId) -> bool
+    ensures same { result ≡ is_object object kept.now.site.object }
+{
+    kept.site().object == object
+}
+
+/// The log with this identifier.
+pub(crate) fn kept_log(logs: &[SiteLog], object: ObjectId) -> Option<&SiteLog>
+    ensures found { option_map (λ kept. kept.now) result ≡ kept_log object logs.now }
+{
+    logs.iter().find(|kept| is_log(kept, object))
+}
+
+// A log takes the next records.
+fn enter_next(kept: &mut SiteLog, lists: &mut IntoIter<Vec<Entry>>)
+    ensures entered { (list : Records Call Global) (later : List (Records Call Global)) → lists.old.rest.items ≡ list ∷ later →
+        (kept.new ≡ record kept.old { log = after_calls list.items kept.old.log }) × (lists.new.rest.items ≡ later) }
+{
+    if let Some(list) = lists.next() {
+        kept.enter(list);
+    }
+}
+
+/// Each log takes its records. No memory is taken.
+pub(crate) fn enter_all(logs: &mut Vec<SiteLog>, entries: Vec<Vec<Entry>>)
+    ensures logs { (calls : KeptLog → List Call) → map (λ list. list.items) entries.items ≡ map calls logs.old.items →
+        logs.new.items ≡ map (λ (kept : KeptLog). record kept { log = after_calls (calls kept) kept.log }) logs.old.items }
+{
+    let mut lists = entries.into_iter();
+    for kept in logs.iter_mut() {
+        enter_next(kept, &mut lists);
+    }
+}
+
+/// A change comes to each log.
+pub(crate) fn change_all(logs: &mut Vec<SiteLog>, change: &Change)
+    ensures logs { logs.new.items ≡ map (λ (kept : KeptLog). record kept { log = after_calls (call_of_change kept.site change.now) kept.log }) logs.old.items }
+{
+    for kept in logs.iter_mut() {
+        kept.change(change);
+    }
+}

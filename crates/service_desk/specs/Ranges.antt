@@ -1,0 +1,145 @@
+-- Ranges of a log, as they are answered (ANSI/ASHRAE 135-2020, 15.8).
+use Rattle.std.specs.Prelude.{ℕ, zero, suc, ◌+◌, ◌==◌, ◌&&◌, nat_lt, nat_le, Bool, true, false, ℤ, pos, negsuc, if◌then◌else◌, Option, Some, None, is_some, Result, Ok, Err, List, [], ◌∷◌, ◌++◌, length, take, drop, flat_map, slice_get}
+use Rattle.bac_values.specs.Identifier.{Identifier}
+use Rattle.bac_values.specs.declared.note.Send.{Send}
+use Rattle.bac_tags.specs.Writing.{written_stamp, written_tag}
+use Rattle.apdu_frame.specs.Writing.{written_complex_ack}
+use Rattle.service_parameters.specs.declared.malformed.Malformed.{Malformed}
+use Rattle.service_parameters.specs.Tags.{closing, opening}
+use Rattle.property_services.specs.declared.requests.RangeBy.{RangeBy}
+use Rattle.property_services.specs.declared.requests.RangeBy.TheVariants.{All, Position, Sequence, Time}
+use Rattle.property_services.specs.declared.requests.RangeRequest.{RangeRequest}
+use Rattle.property_services.specs.Reading.{read_range_of}
+use Rattle.property_services.specs.Writing.{written_range_ack}
+use Rattle.event_log.specs.declared.log_range.LogRange.{LogRange}
+use Rattle.event_log.specs.declared.log_record.LogRecord.{LogRecord}
+use Rattle.event_log.specs.Log.{Log}
+use Rattle.event_log.specs.Ranges.{place_by_time, place_of_position, place_of_sequence, range_from, range_of}
+use Rattle.service_desk.specs.declared.replies.Asker.{Asker}
+use Rattle.service_desk.specs.Replies.{aborted, answered, refused, rejected, segmentation_not_supported}
+
+-- the octets of a log record (BACnetEventLogRecord, 12.27.13): [0] its date and time, [1] the notification that it records
+unfoldable pub written_item : LogRecord → List ℕ
+written_item entry =
+    written_tag (opening 0) ++ written_stamp entry.stamp ++ written_tag (closing 0) ++ written_tag (opening 1) ++ written_tag (opening 1) ++ entry.body ++ written_tag (closing 1) ++ written_tag (closing 1)
+
+-- the records that a request asks for
+abbrev pub wanted : RangeBy → Log → LogRange
+wanted All log = range_of 0 (length log.records)
+wanted (Position reference count) log = range_from count (length log.records) (place_of_position reference (length log.records))
+wanted (Sequence reference count) log = range_from count (length log.records) (place_of_sequence reference log.records)
+wanted (Time reference count) log = range_from count (length log.records) (place_by_time count reference log.records)
+
+-- so many records from a place on
+abbrev pub items_from : ℕ → ℕ → Log → List LogRecord
+items_from first count log = take count (drop first log.records)
+
+-- First Item, Last Item, More Items (BACnetResultFlags), where so many of the records are sent; of no records none is set
+abbrev pub range_flags : Log → LogRange → ℕ → List Bool
+range_flags log range sent =
+    if sent == 0 then false ∷ false ∷ false ∷ [] else ((range.first == 0) ∷ (range.first + sent == length log.records) ∷ nat_lt sent range.count ∷ [])
+
+-- whether the first sequence number is told: in ranges by sequence number and by time
+abbrev pub names_sequence : RangeBy → Bool
+names_sequence All = false
+names_sequence (Position reference count) = false
+names_sequence (Sequence reference count) = true
+names_sequence (Time reference count) = true
+
+abbrev pub sequence_of : Option LogRecord → Option ℕ
+sequence_of None = None
+sequence_of (Some entry) = Some entry.sequence
+
+-- the sequence number of the first record that is sent, where it is told
+abbrev pub first_sequence : RangeRequest → Log → LogRange → ℕ → Option ℕ
+first_sequence request log range sent = if sent == 0 then None else (if names_sequence request.range then sequence_of (slice_get log.records range.first) else None)
+
+-- the result with so many leading records
+abbrev pub range_body : RangeRequest → Log → LogRange → ℕ → List ℕ
+range_body request log range sent =
+    written_range_ack request (range_flags log range sent) sent (flat_map written_item (items_from range.first sent log)) (first_sequence request log range sent)
+
+-- whether an asker takes the answer with so many leading records
+abbrev pub range_fits : Asker → RangeRequest → Log → LogRange → ℕ → Bool
+range_fits asker request log range sent = nat_le (length (written_complex_ack asker.invoke asker.service (range_body request log range sent))) asker.max_apdu
+
+-- the greatest number up to a count for which a test passes, or 0
+unfoldable pub greatest : (ℕ → Bool) → ℕ → ℕ
+greatest test zero = 0
+greatest test (suc n) = if test (suc n) then suc n else greatest test n
+
+-- how many leading records are sent: as many as fit
+abbrev pub sent_of : Asker → RangeRequest → Log → LogRange → ℕ
+sent_of asker request log range = greatest (range_fits asker request log range) range.count
+
+-- a range, where so many of its records are sent; where there are some and none fits, the device would have to send segments
+abbrev pub range_sent : Asker → RangeRequest → Log → LogRange → ℕ → Send
+range_sent asker request log range sent =
+    if nat_lt 0 range.count && sent == 0 then aborted asker segmentation_not_supported else answered asker (range_body request log range sent)
+
+-- a range, as it is answered
+abbrev pub range_reply : Asker → RangeRequest → Log → LogRange → Send
+range_reply asker request log range = range_sent asker request log range (sent_of asker request log range)
+
+-- the classes and the codes of the errors (clause 18)
+abbrev pub object_class : ℕ
+object_class = 1
+
+abbrev pub property_class : ℕ
+property_class = 2
+
+abbrev pub unknown_object : ℕ
+unknown_object = 31
+
+abbrev pub unknown_property : ℕ
+unknown_property = 32
+
+abbrev pub value_out_of_range : ℕ
+value_out_of_range = 37
+
+abbrev pub property_is_not_an_array : ℕ
+property_is_not_an_array = 50
+
+-- the number of the property Log_Buffer
+abbrev pub log_buffer : ℕ
+log_buffer = 131
+
+-- how many records a request asks for, where it says so
+abbrev pub count_of : RangeBy → Option ℤ
+count_of All = None
+count_of (Position reference count) = Some count
+count_of (Sequence reference count) = Some count
+count_of (Time reference count) = Some count
+
+abbrev pub is_zero_count : Option ℤ → Bool
+is_zero_count None = false
+is_zero_count (Some (pos zero)) = true
+is_zero_count (Some (pos (suc n))) = false
+is_zero_count (Some (negsuc n)) = false
+
+abbrev pub has_zero_count : RangeBy → Bool
+has_zero_count range = is_zero_count (count_of range)
+
+-- of a log: Log_Buffer is no array, and a count isn't 0
+abbrev pub buffer_answer : Asker → RangeRequest → Log → Send
+buffer_answer asker request log =
+    if is_some request.index then refused asker property_class property_is_not_an_array
+    else (if has_zero_count request.range then refused asker property_class value_out_of_range
+    else range_reply asker request log (wanted request.range log))
+
+-- of an object: only the Log_Buffer of a log has a range
+abbrev pub object_answer : Asker → RangeRequest → Option Log → Send
+object_answer asker request None = refused asker property_class unknown_property
+object_answer asker request (Some log) = if request.property.0 == log_buffer then buffer_answer asker request log else refused asker property_class unknown_property
+
+-- by whether there is such an object, and its log, where it is one
+abbrev pub range_answer : Asker → RangeRequest → Bool → Option Log → Send
+range_answer asker request there log = if there then object_answer asker request log else refused asker object_class unknown_object
+
+-- ReadRange (15.8), by which objects there are, and their logs
+abbrev pub range_with : Asker → (Identifier → Bool) → (Identifier → Option Log) → Result RangeRequest Malformed → Send
+range_with asker is_there log_of (Err refusal) = rejected asker refusal.reject
+range_with asker is_there log_of (Ok request) = range_answer asker request (is_there request.object) (log_of request.object)
+
+abbrev pub range_decided : Asker → (Identifier → Bool) → (Identifier → Option Log) → List ℕ → Send
+range_decided asker is_there log_of parameters = range_with asker is_there log_of (read_range_of parameters)
