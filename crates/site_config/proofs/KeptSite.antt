@@ -1,9 +1,7 @@
 -- The site of a text keeps to what a site keeps to.
-use Rattle.std.proofs.Common.{◌≡◌, ◌≤◌, ℕ, ℤ, pos, List, [], ◌∷◌, length, true, false, Bool, Option, Some, None, Ok, Err, if◌then◌else◌, ap, ◌∙◌, arith}
+use Rattle.std.proofs.Common.{◌≡◌, ◌≤◌, ℕ, ℤ, pos, List, [], ◌∷◌, length, true, false, Bool, Option, Some, None, Ok, Err, if◌then◌else◌, refl, arith}
 use Rattle.std.specs.Prelude.{codes, Result, neg_ℤ, nat_lt, IfOk}
 use Rattle.std.specs.List.{AllByRecursion}
-use Rattle.std.specs.declared.cmp.Ordering.TheVariants.{Equal}
-use Rattle.std.proofs.lemmas.Bool.Decides.{nat_tests}
 use Rattle.std.proofs.lemmas.List.Elements.{All-nil, All-map}
 use Rattle.toml.specs.Data.{Members, as_bool, get_member, Items, no_items, item, table, array, string, integer, float, boolean, datetime}
 use Rattle.bac_values.specs.Identifier.{Identifier}
@@ -12,12 +10,14 @@ use Rattle.bac_values.specs.declared.object_kind.ObjectKind.TheVariants as kinds
 use Rattle.civil_stamp.specs.LocalTime.{IsZone}
 use Rattle.object_table.specs.declared.object_site.ObjectSite.{ObjectSite}
 use Rattle.object_table.specs.Objects.{IsObject}
-use Rattle.object_table.specs.Rows.{identifier_order}
+use Rattle.object_table.specs.Rows.{rows_of}
 use Rattle.object_table.proofs.Order.{order_is_total}
 use Rattle.outbox.specs.Outboxes.{AreSettings}
 use Rattle.alarm_core.specs.declared.site.DeviceSite.{DeviceSite}
 use Rattle.alarm_core.specs.declared.site.Site.{Site}
-use Rattle.alarm_core.specs.Sites.{HasInstance, IsSite}
+use Rattle.alarm_core.specs.Sites.{HasInstance, IsLogSite, IsSite}
+use Rattle.enrollment.specs.Enrollments.{IsEnrollment}
+use Rattle.enrollment.specs.Snapshots.{HasObjects}
 use Rattle.site_config.specs.declared.class.ClassItem.{ClassItem}
 use Rattle.site_config.specs.Classes.{class_of}
 use Rattle.site_config.specs.declared.draft.Draft.{Draft}
@@ -30,26 +30,22 @@ use Rattle.site_config.specs.declared.keys.Keys.TheVariants as keys
 use Rattle.site_config.specs.Answers.{Gives}
 use Rattle.site_config.specs.Devices.{device_of, object_with, name_of}
 use Rattle.site_config.specs.Drafts.{draft_of}
-use Rattle.site_config.specs.Identifiers.{id_of_class, id_of_object}
+use Rattle.site_config.specs.Identifiers.{id_of_class, id_of_object, id_of_enrollment, id_of_log, identifiers, least_twice}
 use Rattle.site_config.specs.Items.{class_item, destination_item, object_item, enrollment_item, log_item}
 use Rattle.site_config.specs.Keys.{has_key}
+use Rattle.site_config.specs.Limits.{limits_of}
 use Rattle.site_config.specs.Members.{required, or_else, first_unknown, refused_key}
 use Rattle.site_config.specs.Objects.{keys_of_object, object_of}
+use Rattle.site_config.specs.References.{enrollment_dangles, least_dangling}
 use Rattle.site_config.specs.Sections.{placed, device_item, device_from, device_table, device_section, lesser_key, items_of, next_number, section_from, section_of, section_name, tables_at}
-use Rattle.site_config.specs.Sites.{document_of, site_or_no_toml, site_of_document, site_of_draft, site_of, verdict_on, in_order, with_destinations}
+use Rattle.site_config.specs.Sites.{document_of, site_or_no_toml, site_of_document, site_of_draft, site_of, duplicate_of, dangling_of, notes_fit, verdict_on, in_order, with_destinations}
 use Rattle.site_config.specs.Values.{instance_in, moment_in, three_in, unsigned_in, whole_in}
 use Rattle.site_config.proofs.Ascending.{fold_ascends, fold_keeps}
+use Rattle.site_config.proofs.KeptEnrollments.{KeepsKeys, enrollment_kept, log_kept}
 use Rattle.site_config.proofs.KeptObjects.{object_kept}
+use Rattle.site_config.proofs.KeptReferences.{same_ids, none_dangles, are_enrollments, have_objects}
 use Rattle.site_config.proofs.Numbers.{instance_kept, moment_kept, unsigned_kept, whole_kept}
 use Rattle.site_config.proofs.Steps.{after, ok_is, required_keeps, or_else_keeps}
-
--- identifiers of one place in the order are one
-same_ids : (a b : Identifier) → identifier_order a b ≡ Equal → a ≡ b
-same_ids a b h =
-    let numbers : a.number ≡ b.number = grind (arith, nat_tests) in
-    let instances : a.instance ≡ b.instance = grind (arith, nat_tests) in
-    ap (λ (n : ℕ). let made : Identifier = record { number = n; instance = a.instance } in made) numbers
-    ∙ ap (λ (i : ℕ). let made : Identifier = record { number = b.number; instance = i } in made) instances
 
 -- an item without its place
 unplaced : {A : Type 0} (section : Section) (number : ℕ) (read : Result A ItemFault) (x : A) → placed section number read ≡ Ok x → read ≡ Ok x
@@ -159,6 +155,8 @@ record IsDraft (draft : Draft) : Type 0 where
   device : IsDevice draft.device
   classes : AllByRecursion HasGoodInstance draft.classes
   objects : AllByRecursion IsObject draft.objects
+  enrollments : AllByRecursion KeepsKeys draft.enrollments
+  logs : AllByRecursion IsLogSite draft.logs
 
 draft_kept : (document : Members) (draft : Draft) → draft_of document ≡ Ok draft → IsDraft draft
 unfolding draft_of
@@ -174,13 +172,28 @@ draft_kept document draft h =
       device = device_from_kept document (device_table (get_member (codes "device") document)) device.value device.first_is;
       classes = section_kept HasGoodInstance class_item class_kept Class document classes.value classes.first_is;
       objects = section_kept IsObject object_item item_kept Object document objects.value objects.first_is;
+      enrollments = section_kept KeepsKeys enrollment_item enrollment_kept Enrollment document enrollments.value enrollments.first_is;
+      logs = section_kept IsLogSite log_item log_kept Log document logs.value logs.first_is;
     })
+
+-- no reference of a draft dangles that passes
+nothing_dangles : (found : Option Identifier) (verdict : Unit {0}) → dangling_of found ≡ Ok verdict → found ≡ None
+nothing_dangles None verdict h = refl
+nothing_dangles (Some object) verdict h = absurd cc
+
+verdict_kept : (draft : Draft) (verdict : Unit {0}) → verdict_on draft ≡ Ok verdict → least_dangling draft ≡ None
+unfolding verdict_on
+verdict_kept draft verdict h =
+    let limits = after (limits_of draft) _ verdict h in
+    let identifiers = after (duplicate_of (least_twice (identifiers draft))) _ verdict limits.next_is in
+    let references = after (dangling_of (least_dangling draft)) (λ _. notes_fit draft) verdict identifiers.next_is in
+    nothing_dangles (least_dangling draft) references.value references.first_is
 
 -- ---- the site
 
-of_draft_kept : (draft : Draft) → IsDraft draft → IsSite (site_of_draft draft)
+of_draft_kept : (draft : Draft) → IsDraft draft → AllByRecursion (λ site. enrollment_dangles draft.classes draft.objects site ≡ false) draft.enrollments → IsSite (site_of_draft draft)
 unfolding HasGoodInstance
-of_draft_kept draft kept = record {
+of_draft_kept draft kept refer = record {
   start = kept.device.start;
   zone = kept.device.zone;
   instance = kept.device.instance;
@@ -189,6 +202,12 @@ of_draft_kept draft kept = record {
       (fold_keeps order_is_total same_ids id_of_class HasGoodInstance [] draft.classes (All-nil HasGoodInstance) kept.classes);
   ascending = fold_ascends order_is_total same_ids id_of_object draft.objects;
   objects = fold_keeps order_is_total same_ids id_of_object IsObject [] draft.objects (All-nil IsObject) kept.objects;
+  enrollments_ascend = fold_ascends order_is_total same_ids id_of_enrollment draft.enrollments;
+  enrollments = fold_keeps order_is_total same_ids id_of_enrollment IsEnrollment [] draft.enrollments (All-nil IsEnrollment)
+      (are_enrollments draft.classes draft.objects draft.enrollments kept.objects kept.enrollments refer);
+  referred = fold_keeps order_is_total same_ids id_of_enrollment (HasObjects (rows_of (in_order id_of_object draft.objects))) [] draft.enrollments (All-nil (HasObjects (rows_of (in_order id_of_object draft.objects))))
+      (have_objects draft.classes draft.objects draft.enrollments refer);
+  logs = fold_keeps order_is_total same_ids id_of_log IsLogSite [] draft.logs (All-nil IsLogSite) kept.logs;
 }
 
 document_kept : (document : Members) (site : Site) → site_of_document document ≡ Ok site → IsSite site
@@ -197,7 +216,8 @@ document_kept document site h =
     let draft = after (draft_of document) _ site h in
     let verdict = after (verdict_on draft.value) (λ _. Ok (site_of_draft draft.value)) site draft.next_is in
     let is : site_of_draft draft.value ≡ site = cc in
-    rw (← is) (of_draft_kept draft.value (draft_kept document draft.value draft.first_is))
+    let nothing = verdict_kept draft.value verdict.value verdict.first_is in
+    rw (← is) (of_draft_kept draft.value (draft_kept document draft.value draft.first_is) (none_dangles draft.value nothing))
 
 found_kept : (found : Option Members) (site : Site) → site_or_no_toml found ≡ Ok site → IsSite site
 found_kept None site h = absurd cc

@@ -5,7 +5,10 @@ pub mod Named
 pub mod Steps
 pub mod Numbers
 pub mod Ascending
+pub mod Present
 pub mod KeptFaults
 pub mod KeptAlarms
 pub mod KeptObjects
+pub mod KeptEnrollments
+pub mod KeptReferences
 pub mod KeptSite

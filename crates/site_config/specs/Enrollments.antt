@@ -5,8 +5,8 @@ use Rattle.algorithm_rules.specs.declared.table.Algorithm.{Algorithm}
 use Rattle.algorithm_rules.specs.declared.table.Algorithm.TheVariants.{CommandFailure, UnsignedRange}
 use Rattle.bac_values.specs.Identifier.{Identifier}
 use Rattle.bac_values.specs.declared.object_kind.ObjectKind.TheVariants as kinds
-use Rattle.alarm_core.specs.declared.site.EnrollmentSite.{EnrollmentSite}
-use Rattle.site_config.specs.declared.enrollment.Watch.{Watch}
+use Rattle.enrollment.specs.declared.enrollment_site.EnrollmentSite.{EnrollmentSite}
+use Rattle.site_config.specs.declared.enrollment_item.Watch.{Watch}
 use Rattle.site_config.specs.declared.item_fault.ItemFault.{ItemFault}
 use Rattle.site_config.specs.declared.keys.Keys.{Keys}
 use Rattle.site_config.specs.declared.keys.Keys.TheVariants.{Enrollment}

@@ -1,7 +1,7 @@
 -- The items of the sections: a key that an item doesn't have is its first fault.
 use Rattle.std.specs.Prelude.{Result}
 use Rattle.toml.specs.Data.{Members}
-use Rattle.alarm_core.specs.declared.site.EnrollmentSite.{EnrollmentSite}
+use Rattle.enrollment.specs.declared.enrollment_site.EnrollmentSite.{EnrollmentSite}
 use Rattle.alarm_core.specs.declared.site.LogSite.{LogSite}
 use Rattle.object_table.specs.declared.object_site.ObjectSite.{ObjectSite}
 use Rattle.site_config.specs.declared.class.ClassItem.{ClassItem}

@@ -1,7 +1,7 @@
 -- How many notifications one tick may bring: one of each object and enrollment with a class to each destination of the class.
 use Rattle.std.specs.Prelude.{ℕ, Option, List, ◌++◌, map, sum_by}
 use Rattle.std.specs.List.{filter_map}
-use Rattle.alarm_core.specs.declared.site.EnrollmentSite.{EnrollmentSite}
+use Rattle.enrollment.specs.declared.enrollment_site.EnrollmentSite.{EnrollmentSite}
 use Rattle.object_table.specs.declared.object_site.ObjectSite.{ObjectSite}
 use Rattle.site_config.specs.declared.destination.DestinationSite.{DestinationSite}
 use Rattle.site_config.specs.declared.draft.Draft.{Draft}

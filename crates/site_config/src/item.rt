@@ -4,7 +4,7 @@ ghost use Rattle.site_config.specs.Items.{class_item, destination_item, object_i
 
 use crate::class::{ClassItem, class_of};
 use crate::destination::{DestinationSite, destination_of};
-use crate::enrollment::{enrollment_of, keys_of_enrollment};
+use crate::enrollment_item::{enrollment_of, keys_of_enrollment};
 use crate::item_fault::ItemFault;
 use crate::keys::{Keys, check_keys};
 use crate::log::log_of;

@@ -9,7 +9,7 @@ mod class;
 mod destination;
 mod device;
 mod draft;
-mod enrollment;
+mod enrollment_item;
 mod fault;
 mod fault_keys;
 mod fault_text;
