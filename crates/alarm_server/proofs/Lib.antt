@@ -7,4 +7,5 @@ pub mod PieceLines
 pub mod Played
 pub mod SessionProgress
 pub mod Outcomes
+mod OfUnsent
 mod SixKinds

@@ -3,13 +3,16 @@ use Rattle.std.specs.Prelude.{ℕ, pos, Bool, true, false, Option, Some, None, L
 use Rattle.std.specs.Str.{bytes_eq}
 use Rattle.bac_values.specs.Identifier.{Identifier, number_of_kind}
 use Rattle.bac_values.specs.declared.object_kind.ObjectKind.{ObjectKind}
-use Rattle.bac_values.specs.declared.object_kind.ObjectKind.TheVariants.{BinaryValue, BitStringValue, CharacterStringValue, IntegerValue, MultiStateValue, PositiveIntegerValue}
+use Rattle.bac_values.specs.declared.object_kind.ObjectKind.TheVariants.{BinaryValue, BitStringValue, CharacterStringValue, EventEnrollment, EventLog, IntegerValue, MultiStateValue, PositiveIntegerValue}
 use Rattle.bac_values.specs.declared.value.Value.{Value}
 use Rattle.bac_values.specs.declared.value.Value.TheVariants.{Bits, Enumerated, Signed, Text, Unsigned}
+use Rattle.algorithm_rules.specs.declared.table.Algorithm.TheVariants.{UnsignedRange}
+use Rattle.enrollment.specs.declared.enrollment_site.EnrollmentSite.{EnrollmentSite}
 use Rattle.notify_class.specs.Recipients.{ListedRecipient}
 use Rattle.object_table.specs.declared.object_site.ObjectSite.{ObjectSite}
 use Rattle.alarm_core.specs.declared.site.ClassSite.{ClassSite}
 use Rattle.alarm_core.specs.declared.site.DeviceSite.{DeviceSite}
+use Rattle.alarm_core.specs.declared.site.LogSite.{LogSite}
 use Rattle.alarm_core.specs.declared.site.Site.{Site}
 
 -- the device of each bench: 1001, which starts on 2023-11-14 at 22:13:20 UTC, with room for so many notifications
@@ -185,25 +188,71 @@ plain_flow = plain (first_of PositiveIntegerValue) (codes "Flow") (Unsigned 50) 
 abbrev pub six_kinds : List ObjectSite
 six_kinds = plain_pump ∷ plain_mode ∷ plain_bits ∷ plain_note ∷ tank 1 10 ∷ plain_flow ∷ []
 
--- the plant with room for so many notifications, these classes and these objects
-abbrev pub plant_with : ℕ → List ClassSite → List ObjectSite → Site
-plant_with outbox classes objects = record {
+-- an enrollment in class 7 that watches whether the positive integer value is within 20 and 80
+abbrev pub range : EnrollmentSite
+range = record {
+  object = first_of EventEnrollment;
+  name = codes "Range";
+  class = 7;
+  algorithm = UnsignedRange;
+  monitored = first_of PositiveIntegerValue;
+  feedback = None;
+  low = 20;
+  high = 80;
+  notify = 0;
+  enable = replicate 3 true;
+  time_delay = 0;
+  time_delay_normal = None;
+  detection = true;
+  inhibit = false;
+}
+
+-- a log of two records of class 7
+abbrev pub short_log : LogSite
+short_log = record {
+  object = first_of EventLog;
+  name = codes "Log";
+  size = 2;
+  stop_when_full = false;
+  enable = true;
+  classes = 7 ∷ [];
+}
+
+-- the plant with room for so many notifications, these classes, these objects, these enrollments and these logs
+abbrev pub plant_of : ℕ → List ClassSite → List ObjectSite → List EnrollmentSite → List LogSite → Site
+plant_of outbox classes objects enrollments logs = record {
   device = plant_device outbox;
   classes = classes;
   objects = objects;
-  enrollments = [];
-  logs = [];
+  enrollments = enrollments;
+  logs = logs;
 }
+
+-- without enrollments and logs
+abbrev pub plant_with : ℕ → List ClassSite → List ObjectSite → Site
+plant_with outbox classes objects = plant_of outbox classes objects [] []
+
+-- the class of which the operator is told
+abbrev pub operators_class : List ClassSite
+operators_class = class_seven (operator ∷ []) ∷ []
+
+-- the plant with a tank without a delay, a positive integer value without a class, and the enrollment that watches it
+abbrev pub watched_flow : Site
+watched_flow = plant_of 256 operators_class (tank 1 0 ∷ plain_flow ∷ []) (range ∷ []) []
+
+-- the plant with a tank with a delay of ten seconds, and a log
+abbrev pub logged_tank : Site
+logged_tank = plant_of 256 operators_class (tank 1 10 ∷ []) [] (short_log ∷ [])
 
 -- the plant with these objects, of which the operator is told
 abbrev pub plant : List ObjectSite → Site
-plant objects = plant_with 256 (class_seven (operator ∷ []) ∷ []) objects
+plant objects = plant_with 256 operators_class objects
 
 -- the plant with the smallest outbox, where the engineer is told of one tank, and the operator and the printer of the other
 abbrev pub full_plant : Site
 full_plant = plant_with 64 (class_seven (operator ∷ printer ∷ []) ∷ class_eight ∷ []) (tank_in 8 1 0 ∷ tank 2 0 ∷ [])
 
--- S has a tank with a delay of ten seconds, S0 one without a delay, W one without and one with it, G three with it, M a multi-state value, K what S has and one object of each other kind, F two tanks without a delay and an outbox that is soon full
+-- S has a tank with a delay of ten seconds, S0 one without a delay, W one without and one with it, G three with it, M a multi-state value, K what S has and one object of each other kind, F two tanks without a delay and an outbox that is soon full, E a tank without a delay and a positive integer value that an enrollment watches, L a tank with a delay and a log of two records
 unfoldable pub site_named : List ℕ → Option Site
 site_named name =
     if bytes_eq name (codes "S") then Some (plant (tank 1 10 ∷ []))
@@ -212,4 +261,6 @@ site_named name =
     else (if bytes_eq name (codes "G") then Some (plant (tank 1 10 ∷ tank 2 10 ∷ tank 3 10 ∷ []))
     else (if bytes_eq name (codes "M") then Some (plant (mode ∷ []))
     else (if bytes_eq name (codes "K") then Some (plant six_kinds)
-    else (if bytes_eq name (codes "F") then Some full_plant else None))))))
+    else (if bytes_eq name (codes "F") then Some full_plant
+    else (if bytes_eq name (codes "E") then Some watched_flow
+    else (if bytes_eq name (codes "L") then Some logged_tank else None))))))))

@@ -1,11 +1,14 @@
 ghost use Rattle.std.specs.Prelude.{◌≡◌, ◌∷◌, ◌≤◌, [], All, IfOk, IfSome, IsSome, OnErr, is_some};
 ghost use Rattle.object_table.specs.Objects.{IsObject};
-ghost use Rattle.object_table.specs.Rows.{AscendsById};
-ghost use Rattle.alarm_core.specs.Sites.{HasInstance, IsSite};
-ghost use Rattle.alarm_server.specs.BenchSites.{class_eight, class_of, class_seven, engineer, full_plant, mode, operator, plain, plain_bits, plain_flow, plain_mode, plain_note, plain_pump, plant, plant_device, plant_with, printer, recipient, site_named, six_kinds, tank, tank_in};
+ghost use Rattle.object_table.specs.Rows.{AscendsById, rows_of};
+ghost use Rattle.enrollment.specs.Enrollments.{AscendById, IsEnrollment};
+ghost use Rattle.enrollment.specs.Snapshots.{Holds};
+ghost use Rattle.alarm_core.specs.Sites.{HasInstance, IsLogSite, IsSite};
+ghost use Rattle.alarm_server.specs.BenchSites.{class_eight, class_of, class_seven, engineer, full_plant, logged_tank, mode, operator, operators_class, plain, plain_bits, plain_flow, plain_mode, plain_note, plain_pump, plant, plant_device, plant_of, plant_with, printer, range, recipient, short_log, site_named, six_kinds, tank, tank_in, watched_flow};
 
 use crate::growing::{add, single};
-use alarm_core::{ClassSite, DeviceSite, Site};
+use alarm_core::{ClassSite, DeviceSite, EnrollmentSite, LogSite, Site};
+use algorithm_rules::Algorithm;
 use bac_values::{Bits, Items, NoMemory, ObjectId, ObjectKind, Peer, Text, Value};
 use notify_class::{Class, Destination};
 use object_table::ObjectSite;
@@ -253,6 +256,70 @@ fn plain_flow(alloc: Global) -> Result<ObjectSite, NoMemory>
     plain(alloc, object, "Flow", Value::Unsigned(50), 0)
 }
 
+fn range(alloc: Global) -> Result<EnrollmentSite, NoMemory>
+    ensures range { IfOk result (λ site. site ≡ range) }
+    ensures enrollment { IfOk result (λ site. IsEnrollment site) }
+{
+    Ok(EnrollmentSite {
+        object: ObjectId::of_kind(ObjectKind::EventEnrollment, 1).unwrap(),
+        name: text(alloc, "Range")?,
+        class: 7,
+        algorithm: Algorithm::UnsignedRange,
+        monitored: ObjectId::of_kind(ObjectKind::PositiveIntegerValue, 1).unwrap(),
+        feedback: None,
+        low: 20,
+        high: 80,
+        notify: 0,
+        enable: [true; 3],
+        time_delay: 0,
+        time_delay_normal: None,
+        detection: true,
+        inhibit: false,
+    })
+}
+
+fn short_log(alloc: Global) -> Result<LogSite, NoMemory>
+    ensures log { IfOk result (λ log. log ≡ short_log) }
+    ensures listed { IfOk result (λ log. IsLogSite log) }
+{
+    Ok(LogSite {
+        object: ObjectId::of_kind(ObjectKind::EventLog, 1).unwrap(),
+        name: text(alloc, "Log")?,
+        size: 2,
+        stop_when_full: false,
+        enable: true,
+        classes: Items::of(single(alloc, 7)?),
+    })
+}
+
+fn plant_of(
+    alloc: Global,
+    outbox: u32,
+    classes: Vec<ClassSite>,
+    objects: Vec<ObjectSite>,
+    enrollments: Vec<EnrollmentSite>,
+    logs: Vec<LogSite>,
+) -> Result<Site, NoMemory>
+    requires outbox { outbox ≤ 16_384 }
+    requires classes { All HasInstance classes.items }
+    requires ascending { AscendsById objects.items }
+    requires objects { All IsObject objects.items }
+    requires enrollments_ascend { AscendById enrollments.items }
+    requires enrollments { All IsEnrollment enrollments.items }
+    requires referred { Holds (rows_of objects.items) enrollments.items }
+    requires logs { All IsLogSite logs.items }
+    ensures plant { IfOk result (λ site. site ≡ plant_of outbox classes.items objects.items enrollments.items logs.items) }
+    ensures keeps { IfOk result (λ site. IsSite site) }
+{
+    Ok(Site {
+        device: plant_device(alloc, outbox)?,
+        classes: Items::of(classes),
+        objects: Items::of(objects),
+        enrollments: Items::of(enrollments),
+        logs: Items::of(logs),
+    })
+}
+
 fn plant_with(
     alloc: Global,
     outbox: u32,
@@ -266,13 +333,17 @@ fn plant_with(
     ensures plant { IfOk result (λ site. site ≡ plant_with outbox classes.items objects.items) }
     ensures keeps { IfOk result (λ site. IsSite site) }
 {
-    Ok(Site {
-        device: plant_device(alloc, outbox)?,
-        classes: Items::of(classes),
-        objects: Items::of(objects),
-        enrollments: Items::of(Vec::new(alloc)),
-        logs: Items::of(Vec::new(alloc)),
-    })
+    let (enrollments, logs) = (Vec::new(alloc), Vec::new(alloc));
+    plant_of(alloc, outbox, classes, objects, enrollments, logs)
+}
+
+// The class of which the operator is told.
+fn operators_class(alloc: Global) -> Result<Vec<ClassSite>, NoMemory>
+    ensures classes { IfOk result (λ classes. classes.items ≡ operators_class) }
+    ensures instances { IfOk result (λ classes. All HasInstance classes.items) }
+{
+    let recipients = single(alloc, operator())?;
+    single(alloc, class_seven(alloc, recipients)?)
 }
 
 fn plant(alloc: Global, objects: Vec<ObjectSite>) -> Result<Site, NoMemory>
@@ -281,8 +352,7 @@ fn plant(alloc: Global, objects: Vec<ObjectSite>) -> Result<Site, NoMemory>
     ensures plant { IfOk result (λ site. site ≡ plant objects.items) }
     ensures keeps { IfOk result (λ site. IsSite site) }
 {
-    let recipients = single(alloc, operator())?;
-    let classes = single(alloc, class_seven(alloc, recipients)?)?;
+    let classes = operators_class(alloc)?;
     plant_with(alloc, 256, classes, objects)
 }
 
@@ -345,6 +415,29 @@ fn full_plant(alloc: Global) -> Result<Site, NoMemory>
     plant_with(alloc, 64, classes, objects)
 }
 
+// A tank without a delay, and a flow that an enrollment watches.
+fn watched_flow(alloc: Global) -> Result<Site, NoMemory>
+    ensures plant { IfOk result (λ site. site ≡ watched_flow) }
+    ensures keeps { IfOk result (λ site. IsSite site) }
+{
+    let mut objects = single(alloc, tank(alloc, 1, 0)?)?;
+    add(&mut objects, plain_flow(alloc)?)?;
+    let classes = operators_class(alloc)?;
+    let enrollments = single(alloc, range(alloc)?)?;
+    plant_of(alloc, 256, classes, objects, enrollments, Vec::new(alloc))
+}
+
+// A tank, and a log of two records.
+fn logged_tank(alloc: Global) -> Result<Site, NoMemory>
+    ensures plant { IfOk result (λ site. site ≡ logged_tank) }
+    ensures keeps { IfOk result (λ site. IsSite site) }
+{
+    let objects = single(alloc, tank(alloc, 1, 10)?)?;
+    let classes = operators_class(alloc)?;
+    let logs = single(alloc, short_log(alloc)?)?;
+    plant_of(alloc, 256, classes, objects, Vec::new(alloc), logs)
+}
+
 /// Whether a bench has a site with this name.
 #[tactic(auto, unfolding(crate::specs::BenchSites::site_named))]
 pub fn is_bench_site(name: &str) -> bool
@@ -357,6 +450,8 @@ pub fn is_bench_site(name: &str) -> bool
         || name == "M"
         || name == "K"
         || name == "F"
+        || name == "E"
+        || name == "L"
 }
 
 /// The site of a bench with this name, and none exactly where there is no such site.
@@ -386,6 +481,12 @@ pub fn bench_site(alloc: Global, name: &str) -> Result<Option<Site>, NoMemory>
     }
     if name == "F" {
         return Ok(Some(full_plant(alloc)?));
+    }
+    if name == "E" {
+        return Ok(Some(watched_flow(alloc)?));
+    }
+    if name == "L" {
+        return Ok(Some(logged_tank(alloc)?));
     }
     Ok(None)
 }

@@ -7,7 +7,13 @@
 mod bench_site;
 mod command;
 mod emission;
+#[cfg(test)]
+mod enrollment_tests;
 mod growing;
+#[cfg(test)]
+mod information_tests;
+#[cfg(test)]
+mod log_tests;
 #[cfg(test)]
 mod notification_tests;
 mod paths;
@@ -41,8 +47,9 @@ milliseconds since 1970. Each move of the event state gives the line
 alarm-server bench NAME < SCRIPT
 
 bench plays a session to a site that stands in the program, from no event on:
-NAME is S, S0, W, G, M, K or F. Each line of SCRIPT gives a piece of the report:
-what it came to, the changes of event states, and the datagrams that go out.
+NAME is S, S0, W, G, M, K, F, E or L. Each line of SCRIPT gives a piece of the
+report: what it came to, the changes of event states, and the datagrams that go
+out.
 
 alarm-server --help      prints this text
 alarm-server --version   prints the version";

@@ -367,33 +367,61 @@ fn a_bench_of_no_name_is_refused(rt: HostRuntime) -> Result<(), Fail> {
     expect(&rt, rt.alloc(), "bench T", "tick 5\n", "", Status::Usage)
 }
 
-// That a session answers each of these datagrams from 10.0.0.9 as it is wanted.
-fn expect_answers(
+/// A session of which these lines were read, and what was said of them.
+#[derive(Drop)]
+pub(crate) struct Begun {
+    pub(crate) words: &'static str,
+    pub(crate) script: &'static str,
+    pub(crate) report: &'static str,
+    pub(crate) lines: usize,
+    pub(crate) events: usize,
+}
+
+/// That a session behind these lines answers each of these datagrams from 10.0.0.9 as it is wanted.
+pub(crate) fn expect_answers_behind(
     rt: &impl Abort,
     alloc: Global,
-    words: &str,
+    begun: &Begun,
     answers: &[(&str, &str)],
 ) -> Result<(), Fail> {
-    let mut script = String::new(alloc);
-    let mut report = String::from_str(alloc, "open 0\n")?;
-    for (place, (datagram, answer)) in answers.iter().enumerate() {
-        let line = place + 1;
+    let mut script = String::from_str(alloc, begun.script)?;
+    let mut report = String::from_str(alloc, begun.report)?;
+    let mut line = begun.lines;
+    for (datagram, answer) in answers {
+        line = line.saturating_add(1);
         let from = format!(in alloc; "from 1700000000000 10.0.0.9:47808 {datagram}\n")?;
         let sent = format!(in alloc; "{line} reply\n{line} send 10.0.0.9:47808 {answer}\n")?;
         script.push_str(from.as_str())?;
         report.push_str(sent.as_str())?;
     }
-    let count = answers.len();
-    let end = format!(in alloc; "end {count} 0\n")?;
+    let events = begun.events;
+    let end = format!(in alloc; "end {line} {events}\n")?;
     report.push_str(end.as_str())?;
     expect(
         rt,
         alloc,
-        words,
+        begun.words,
         script.as_str(),
         report.as_str(),
         Status::Done,
     )
+}
+
+/// That a session answers each of these datagrams from 10.0.0.9 as it is wanted.
+pub(crate) fn expect_answers(
+    rt: &impl Abort,
+    alloc: Global,
+    words: &'static str,
+    answers: &[(&str, &str)],
+) -> Result<(), Fail> {
+    let begun = Begun {
+        words,
+        script: "",
+        report: "open 0\n",
+        lines: 0,
+        events: 0,
+    };
+    expect_answers_behind(rt, alloc, &begun, answers)
 }
 
 #[test]

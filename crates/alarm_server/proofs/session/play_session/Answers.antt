@@ -8,6 +8,7 @@ use Rattle.alarm_core.specs.Next.{first_state}
 use Rattle.alarm_server.specs.declared.status.Status.TheVariants.{Done, NoMemory, ScriptRefused, ReadFault}
 use Rattle.alarm_server.specs.Session.{end_piece, piece_of}
 use Rattle.alarm_server.specs.Status.{of_line_fault, of_unsent}
+use Rattle.alarm_server.proofs.OfUnsent.{emit_cause, is_fault, is_no_read_fault, read_cause, refuses_no_line}
 use Rattle.alarm_server.proofs.Progress.{grammar_fault, read_fault}
 use Rattle.alarm_server.proofs.Played.{line_adds}
 use Rattle.alarm_server.proofs.SessionProgress.{begins, by_history, ends, ends_at_end, ends_at_first, ends_at_line, ends_at_once, ends_at_piece, goes_on, refused_first, stops_by_history, stops_reading}
@@ -101,6 +102,35 @@ returns-in_err-play_line-clause-ends g c =
     rw (p.1, p.2)
     (by_history site text (of_unsent fault) before (g.G.Ground.told c.play_line.new.device)
     (ends_at_piece (first_state site) text (octets_to_come here.lines (g.T.Source.left here.script)) (octets_to_come next.self (g.T.Source.left next.source)) before (g.G.Ground.told here.device) (g.G.Ground.told c.play_line.new.device) here.lines.number next.self.number here.lines.ended here.core line (piece_of here.core line) fault here.invariant.progress read refl c.in_err-play_line.ensures.sends))
+
+pub returns-in_err-play_line-clause-refused : goal.returns-in_err-play_line-clause-refused
+returns-in_err-play_line-clause-refused g c = λ line e.
+    let p = err_from_is_err_and c.from_residual-in_err-play_line.result c.from_residual-in_err-play_line.ensures.1 in
+    let same : of_unsent c.in_err-play_line.field-0.0 ≡ ScriptRefused line = cc in
+    refuses_no_line c.in_err-play_line.field-0.0 line same
+
+pub returns-in_err-play_line-clause-stops : goal.returns-in_err-play_line-clause-stops
+returns-in_err-play_line-clause-stops g c = λ e.
+    let p = err_from_is_err_and c.from_residual-in_err-play_line.result c.from_residual-in_err-play_line.ensures.1 in
+    let same : of_unsent c.in_err-play_line.field-0.0 ≡ ReadFault = cc in
+    is_no_read_fault c.in_err-play_line.field-0.0 same
+
+pub returns-in_err-play_line-clause-fault : goal.returns-in_err-play_line-clause-fault
+returns-in_err-play_line-clause-fault g c =
+    let p = err_from_is_err_and c.from_residual-in_err-play_line.result c.from_residual-in_err-play_line.ensures.1 in
+    rw (p.1, p.2) (is_fault c.in_err-play_line.field-0.0)
+
+pub returns-in_err-play_line-clause-read_cause : goal.returns-in_err-play_line-clause-read_cause
+returns-in_err-play_line-clause-read_cause g c =
+    let p = err_from_is_err_and c.from_residual-in_err-play_line.result c.from_residual-in_err-play_line.ensures.1 in
+    let here = c.loop-core in
+    rw (p.1, p.2) (read_cause c.in_err-play_line.field-0.0 (g.T.Source.faults c.args.script.now) (g.T.Source.faults here.script) (g.T.Source.faults c.next_line.new.source) here.invariant.read c.next_line.ensures.cause.later)
+
+pub returns-in_err-play_line-clause-emit_cause : goal.returns-in_err-play_line-clause-emit_cause
+returns-in_err-play_line-clause-emit_cause g c =
+    let p = err_from_is_err_and c.from_residual-in_err-play_line.result c.from_residual-in_err-play_line.ensures.1 in
+    let here = c.loop-core in
+    rw (p.1, p.2) (emit_cause c.in_err-play_line.field-0.0 (g.G.Ground.emit_faults c.args.device.now) (g.G.Ground.emit_faults here.device) (g.G.Ground.emit_faults c.play_line.new.device) here.invariant.emitted c.in_err-play_line.ensures.cause)
 
 pub loop-core-preserved : goal.loop-core-preserved
 loop-core-preserved g c =
@@ -201,6 +231,12 @@ returns-in_err-end-clause-ends g c =
     (by_history site text (of_unsent fault) before after
     (ends_at_end (first_state site) text (octets_to_come here.lines (g.T.Source.left here.script)) (octets_to_come next.self (g.T.Source.left next.source)) before (g.G.Ground.told here.device) after here.lines.number next.self.number here.lines.ended here.core (end_piece c.count.result here.core) fault here.invariant.progress read
     (ap (λ n. end_piece n here.core) c.count.ensures.number) c.in_err-end.ensures.sends))
+
+pub returns-in_err-end-clause-refused : goal.returns-in_err-end-clause-refused
+returns-in_err-end-clause-refused g c = λ line e.
+    let p = err_from_is_err_and c.from_residual-in_err-end.result c.from_residual-in_err-end.ensures.1 in
+    let same : of_unsent c.in_err-end.field-0.0 ≡ ScriptRefused line = cc in
+    refuses_no_line c.in_err-end.field-0.0 line same
 
 pub returns-clause-ends : goal.returns-clause-ends
 returns-clause-ends g c =
