@@ -1,4 +1,4 @@
-mod Looking
+pub mod Looking
 mod Numbering
 mod Places
 mod Sequences
