@@ -13,8 +13,6 @@ mod open;
 mod open_fault;
 mod press;
 mod protocol;
-#[cfg(test)]
-mod tests;
 
 pub use job::Job;
 pub use layout::Layout;

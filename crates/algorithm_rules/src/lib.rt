@@ -10,8 +10,6 @@ mod matches;
 mod rules;
 mod snapshot;
 mod table;
-#[cfg(test)]
-mod tests;
 mod waiting;
 
 pub use conditions::key;

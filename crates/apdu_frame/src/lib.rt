@@ -8,8 +8,6 @@ mod apdu;
 mod reading;
 mod replies;
 mod requests;
-#[cfg(test)]
-mod tests;
 
 pub use apdu::Apdu;
 pub use reading::read_apdu;

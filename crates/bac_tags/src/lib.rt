@@ -11,8 +11,6 @@ mod round_trip;
 mod signed;
 mod stamp;
 mod tag;
-#[cfg(test)]
-mod tests;
 mod unsigned;
 mod value;
 

@@ -22,8 +22,6 @@ mod reliability;
 mod report;
 mod stamp;
 mod status_flags;
-#[cfg(test)]
-mod tests;
 mod text;
 mod transition;
 mod value;

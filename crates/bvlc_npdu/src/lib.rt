@@ -7,8 +7,6 @@
 
 mod layout;
 mod reading;
-#[cfg(test)]
-mod tests;
 mod writing;
 
 pub use reading::{Incoming, unwrap};

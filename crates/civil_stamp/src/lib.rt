@@ -2,8 +2,6 @@
 #![tactic(auto)]
 
 mod local;
-#[cfg(test)]
-mod tests;
 mod zone;
 
 pub use local::{stamp_of, weekday_and_time};

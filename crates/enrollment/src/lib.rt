@@ -14,8 +14,6 @@ mod references;
 mod reliabilities;
 mod settings;
 mod snapshots;
-#[cfg(test)]
-mod tests;
 mod verdicts;
 
 pub use enrollment_property::EnrollmentProperty;

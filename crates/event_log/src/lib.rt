@@ -7,8 +7,6 @@ mod event_log;
 mod log_range;
 mod log_record;
 mod order;
-#[cfg(test)]
-mod tests;
 
 pub use event_log::EventLog;
 pub use log_range::LogRange;

@@ -16,8 +16,6 @@ mod past;
 mod point;
 mod rest;
 mod seen;
-#[cfg(test)]
-mod tests;
 
 pub use alarm::Alarm;
 pub use found::Found;

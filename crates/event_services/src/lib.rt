@@ -8,8 +8,6 @@ mod notification;
 mod read_elements;
 mod read_note;
 mod read_values;
-#[cfg(test)]
-mod tests;
 mod time_stamp;
 mod write_note;
 

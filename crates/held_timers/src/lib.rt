@@ -4,8 +4,6 @@
 //! one look, and a change or a search takes as many steps as the count has binary digits.
 #![tactic(auto)]
 
-#[cfg(test)]
-mod tests;
 mod timers;
 mod tournament;
 

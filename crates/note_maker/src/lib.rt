@@ -6,8 +6,6 @@ mod growing;
 mod making;
 mod shaping;
 mod source;
-#[cfg(test)]
-mod tests;
 mod values;
 
 pub use making::notes_of;

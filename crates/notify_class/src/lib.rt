@@ -5,8 +5,6 @@ mod choice;
 mod class;
 mod destination;
 mod edit;
-#[cfg(test)]
-mod tests;
 
 pub use choice::{chosen, uses};
 pub use class::Class;

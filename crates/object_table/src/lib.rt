@@ -14,8 +14,6 @@ mod properties;
 mod row;
 mod settings;
 mod table;
-#[cfg(test)]
-mod tests;
 mod values;
 mod verdicts;
 

@@ -14,7 +14,6 @@ mod Finished
 mod Counting
 mod Idling
 mod Told
-mod ShownLemmas
 mod QueueLemmas
 mod QueueKeeping
 mod Fullness

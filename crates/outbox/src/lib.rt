@@ -13,8 +13,6 @@ mod outbox;
 mod post;
 mod queueing;
 mod restoring;
-#[cfg(test)]
-mod tests;
 
 pub use answers::{Answered, QueueFault};
 pub use order::finishes_in_order;

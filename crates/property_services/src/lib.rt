@@ -9,8 +9,6 @@ mod fault;
 mod read_range;
 mod reference;
 mod requests;
-#[cfg(test)]
-mod tests;
 mod who_is;
 mod write_property;
 

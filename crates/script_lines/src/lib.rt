@@ -13,8 +13,6 @@ mod object;
 mod pending;
 mod report;
 mod session_line;
-#[cfg(test)]
-mod tests;
 mod value;
 mod words;
 

@@ -5,10 +5,6 @@
 
 mod acknowledging;
 mod answering;
-#[cfg(test)]
-mod core_note_tests;
-#[cfg(test)]
-mod core_tests;
 mod datagrams;
 mod deciding;
 mod decision;

@@ -10,8 +10,6 @@ mod elements;
 mod malformed;
 mod parameter;
 mod tags;
-#[cfg(test)]
-mod tests;
 mod writing;
 
 pub use balanced::read_elements;

@@ -30,8 +30,6 @@ mod order;
 mod references;
 mod sections;
 mod site;
-#[cfg(test)]
-mod tests;
 mod values;
 
 pub use fault::{Counted, Section, SiteFault, SitePlace};

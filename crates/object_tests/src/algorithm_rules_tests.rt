@@ -1,0 +1,324 @@
+ghost use Rattle.std.specs.Prelude.{◌≡◌, ◌≤◌, length, []};
+
+use algorithm_rules::Algorithm::*;
+use algorithm_rules::Test::*;
+use algorithm_rules::Waiting::*;
+use algorithm_rules::*;
+use bac_values::EventState::{self, Fault, HighLimit, LowLimit, Normal, Offnormal};
+use bac_values::{Bits, Text, Value};
+use std::test::Fail;
+
+/// An object with limits 20 and 80, a deadband of 5, both limits enabled, and a delay of 10 seconds.
+fn object<'a>(algorithm: Algorithm, value: &'a Value, alarms: &'a [Value]) -> Snapshot<'a>
+    ensures { result.alarm_values.now ≡ alarms.now }
+{
+    with_feedback(algorithm, value, alarms, None, None)
+}
+
+fn with_feedback<'a>(
+    algorithm: Algorithm,
+    value: &'a Value,
+    alarm_values: &'a [Value],
+    alarm_value: Option<&'a Value>,
+    feedback: Option<&'a Value>,
+) -> Snapshot<'a>
+    ensures { result.alarm_values.now ≡ alarm_values.now }
+{
+    Snapshot {
+        algorithm,
+        value,
+        feedback,
+        alarm_value,
+        alarm_values,
+        mask: None,
+        low: 20,
+        high: 80,
+        limit_enable: [true, true],
+        deadband: 5,
+        time_delay: 10,
+        time_delay_normal: None,
+    }
+}
+
+fn leads(target: EventState, test: Test, wait: Waiting) -> Option<Rule> {
+    Some(Rule { target, test, wait })
+}
+
+fn is_met(test: Test, snapshot: &Snapshot<'_>) -> bool
+    requires { length snapshot.now.alarm_values.now ≤ 32 }
+{
+    let rule = Rule {
+        target: Normal,
+        test,
+        wait: AtOnce,
+    };
+    key(&rule, snapshot).is_some()
+}
+
+#[test]
+fn matches_lead_to_offnormal_and_back(rt: HostRuntime) {
+    for algorithm in [ChangeOfState, ChangeOfBitstring, ChangeOfCharacterstring] {
+        assert_eq!(rt;
+            rule(algorithm, Normal, 0),
+            leads(Offnormal, SomeMatch, TimeDelay)
+        );
+        assert_eq!(rt; rule(algorithm, Normal, 1), None);
+        assert_eq!(rt;
+            rule(algorithm, Offnormal, 0),
+            leads(Normal, NoMatch, NormalDelay)
+        );
+        assert_eq!(rt;
+            rule(algorithm, Offnormal, 1),
+            leads(Offnormal, OtherMatch, TimeDelay)
+        );
+        assert_eq!(rt; rule(algorithm, Offnormal, 2), None);
+        for state in [Fault, HighLimit, LowLimit] {
+            assert_eq!(rt; rule(algorithm, state, 0), None);
+        }
+    }
+}
+
+#[test]
+fn a_command_that_fails_leads_to_offnormal_and_back(rt: HostRuntime) {
+    let algorithm = CommandFailure;
+    assert_eq!(rt;
+        rule(algorithm, Normal, 0),
+        leads(Offnormal, FeedbackDiffers, TimeDelay)
+    );
+    assert_eq!(rt; rule(algorithm, Normal, 1), None);
+    assert_eq!(rt;
+        rule(algorithm, Offnormal, 0),
+        leads(Normal, FeedbackEquals, NormalDelay)
+    );
+    assert_eq!(rt; rule(algorithm, Offnormal, 1), None);
+    for state in [Fault, HighLimit, LowLimit] {
+        assert_eq!(rt; rule(algorithm, state, 0), None);
+    }
+}
+
+#[test]
+fn limits_with_a_deadband_lead_up_down_and_back(rt: HostRuntime) {
+    for algorithm in [SignedOutOfRange, UnsignedOutOfRange] {
+        assert_eq!(rt;
+            rule(algorithm, Normal, 0),
+            leads(HighLimit, AboveEnabledHigh, TimeDelay)
+        );
+        assert_eq!(rt;
+            rule(algorithm, Normal, 1),
+            leads(LowLimit, BelowEnabledLow, TimeDelay)
+        );
+        assert_eq!(rt; rule(algorithm, Normal, 2), None);
+        assert_eq!(rt;
+            rule(algorithm, HighLimit, 0),
+            leads(Normal, HighDisabled, AtOnce)
+        );
+        assert_eq!(rt;
+            rule(algorithm, HighLimit, 1),
+            leads(LowLimit, BelowEnabledLow, TimeDelay)
+        );
+        assert_eq!(rt;
+            rule(algorithm, HighLimit, 2),
+            leads(Normal, BelowHighLessDeadband, NormalDelay)
+        );
+        assert_eq!(rt; rule(algorithm, HighLimit, 3), None);
+        assert_eq!(rt;
+            rule(algorithm, LowLimit, 0),
+            leads(Normal, LowDisabled, AtOnce)
+        );
+        assert_eq!(rt;
+            rule(algorithm, LowLimit, 1),
+            leads(HighLimit, AboveEnabledHigh, TimeDelay)
+        );
+        assert_eq!(rt;
+            rule(algorithm, LowLimit, 2),
+            leads(Normal, AboveLowPlusDeadband, NormalDelay)
+        );
+        assert_eq!(rt; rule(algorithm, LowLimit, 3), None);
+        assert_eq!(rt; rule(algorithm, Fault, 0), None);
+        assert_eq!(rt; rule(algorithm, Offnormal, 0), None);
+    }
+}
+
+#[test]
+fn a_range_leads_up_down_and_back(rt: HostRuntime) {
+    let algorithm = UnsignedRange;
+    assert_eq!(rt;
+        rule(algorithm, Normal, 0),
+        leads(HighLimit, AboveHigh, TimeDelay)
+    );
+    assert_eq!(rt;
+        rule(algorithm, Normal, 1),
+        leads(LowLimit, BelowLow, TimeDelay)
+    );
+    assert_eq!(rt; rule(algorithm, Normal, 2), None);
+    assert_eq!(rt;
+        rule(algorithm, HighLimit, 0),
+        leads(LowLimit, BelowLow, TimeDelay)
+    );
+    assert_eq!(rt;
+        rule(algorithm, HighLimit, 1),
+        leads(Normal, Within, NormalDelay)
+    );
+    assert_eq!(rt; rule(algorithm, HighLimit, 2), None);
+    assert_eq!(rt;
+        rule(algorithm, LowLimit, 0),
+        leads(HighLimit, AboveHigh, TimeDelay)
+    );
+    assert_eq!(rt;
+        rule(algorithm, LowLimit, 1),
+        leads(Normal, Within, NormalDelay)
+    );
+    assert_eq!(rt; rule(algorithm, LowLimit, 2), None);
+    assert_eq!(rt; rule(algorithm, Fault, 0), None);
+    assert_eq!(rt; rule(algorithm, Offnormal, 0), None);
+}
+
+#[test]
+fn texts_match_the_empty_text_or_what_occurs_in_them(rt: HostRuntime) -> Result<(), Fail> {
+    let alarms = [
+        Value::Text(Text::new(rt.alloc(), "")?),
+        Value::Text(Text::new(rt.alloc(), "fire")?),
+    ];
+    for (text, place) in [("", Some(0)), ("no fire here", Some(1)), ("calm", None)] {
+        let value = Value::Text(Text::new(rt.alloc(), text)?);
+        let snapshot = object(ChangeOfCharacterstring, &value, &alarms);
+        assert_eq!(rt; matched(&snapshot), place, "{text}");
+        assert_eq!(rt; is_met(SomeMatch, &snapshot), place.is_some(), "{text}");
+        assert_eq!(rt; is_met(NoMatch, &snapshot), place.is_none(), "{text}");
+    }
+    Ok(())
+}
+
+#[test]
+fn bit_strings_match_where_the_mask_has_bits(rt: HostRuntime) -> Result<(), Fail> {
+    let alarms = [
+        Value::Bits(Bits::new(4, 0b1001)?),
+        Value::Bits(Bits::new(4, 0b0110)?),
+        Value::Bits(Bits::new(3, 0b100)?),
+    ];
+    // The mask leaves the third and the fourth bit of both: the alarm values are 10.. and 01.. there.
+    let mask = Some(Bits::new(4, 0b1100)?);
+    for (bits, place, plainly) in [
+        (0b1011, Some(0), None),
+        (0b0110, Some(1), Some(1)),
+        (0b1100, None, None),
+        (0b0011, None, None),
+    ] {
+        let value = Value::Bits(Bits::new(4, bits)?);
+        let plain = object(ChangeOfBitstring, &value, &alarms);
+        let masked = Snapshot { mask, ..plain };
+        assert_eq!(rt; matched(&masked), place, "{bits}");
+        assert_eq!(rt; matched(&plain), plainly, "{bits}");
+    }
+    Ok(())
+}
+
+#[test]
+fn states_match_where_they_are_equal(rt: HostRuntime) {
+    let alarms = [Value::Unsigned(2), Value::Unsigned(3)];
+    for (state, place) in [(1, None), (2, Some(0)), (3, Some(1))] {
+        let value = Value::Unsigned(state);
+        let snapshot = object(ChangeOfState, &value, &alarms);
+        let other = Rule {
+            target: Offnormal,
+            test: OtherMatch,
+            wait: TimeDelay,
+        };
+        assert_eq!(rt; matched(&snapshot), place);
+        assert_eq!(rt; key(&other, &snapshot), place);
+    }
+    let active = Value::Enumerated(1);
+    let inactive = Value::Enumerated(0);
+    let alarmed = with_feedback(ChangeOfState, &active, &[], Some(&active), None);
+    assert_eq!(rt; matched(&alarmed), Some(0));
+    let quiet = with_feedback(ChangeOfState, &inactive, &[], Some(&active), None);
+    assert_eq!(rt; matched(&quiet), None);
+}
+
+#[test]
+fn limits_are_strict_and_the_deadband_lies_within(rt: HostRuntime) {
+    for (number, above, below, less, more, within) in [
+        (81, true, false, false, true, false),
+        (80, false, false, false, true, true),
+        (75, false, false, false, true, true),
+        (74, false, false, true, true, true),
+        (26, false, false, true, true, true),
+        (25, false, false, true, false, true),
+        (20, false, false, true, false, true),
+        (19, false, true, true, false, false),
+    ] {
+        let value = Value::Signed(number);
+        let snapshot = object(SignedOutOfRange, &value, &[]);
+        assert_eq!(rt; is_met(AboveEnabledHigh, &snapshot), above, "{number}");
+        assert_eq!(rt; is_met(BelowEnabledLow, &snapshot), below, "{number}");
+        assert_eq!(rt; is_met(BelowHighLessDeadband, &snapshot), less, "{number}");
+        assert_eq!(rt; is_met(AboveLowPlusDeadband, &snapshot), more, "{number}");
+        assert_eq!(rt; is_met(AboveHigh, &snapshot), above, "{number}");
+        assert_eq!(rt; is_met(BelowLow, &snapshot), below, "{number}");
+        assert_eq!(rt; is_met(Within, &snapshot), within, "{number}");
+        let low_alone = Snapshot {
+            limit_enable: [true, false],
+            ..snapshot
+        };
+        assert_eq!(rt; is_met(AboveEnabledHigh, &low_alone), false);
+        assert_eq!(rt; is_met(BelowEnabledLow, &low_alone), below);
+        assert_eq!(rt; is_met(HighDisabled, &low_alone), true);
+        assert_eq!(rt; is_met(LowDisabled, &low_alone), false);
+    }
+}
+
+#[test]
+fn sums_have_no_bounds(rt: HostRuntime) {
+    // The return from the low limit would need a value above 2,147,483,648.
+    let (least, greatest) = (Value::Signed(-2_147_483_648), Value::Signed(2_147_483_647));
+    let lowest = Snapshot {
+        low: -2_147_483_647,
+        high: 2_147_483_647,
+        deadband: 4_294_967_295,
+        ..object(SignedOutOfRange, &least, &[])
+    };
+    assert_eq!(rt; is_met(BelowEnabledLow, &lowest), true);
+    let highest = Snapshot {
+        value: &greatest,
+        ..lowest
+    };
+    assert_eq!(rt; is_met(AboveLowPlusDeadband, &highest), false);
+    assert_eq!(rt; is_met(AboveEnabledHigh, &highest), false);
+    let narrow = Snapshot {
+        low: i64::MAX,
+        high: i64::MIN,
+        ..highest
+    };
+    assert_eq!(rt; is_met(AboveLowPlusDeadband, &narrow), false);
+    assert_eq!(rt; is_met(BelowHighLessDeadband, &narrow), false);
+}
+
+#[test]
+fn feedback_is_compared_and_delays_are_chosen(rt: HostRuntime) {
+    let (value, other) = (Value::Signed(50), Value::Signed(51));
+    let equal = with_feedback(CommandFailure, &value, &[], None, Some(&value));
+    let differs = with_feedback(CommandFailure, &value, &[], None, Some(&other));
+    assert_eq!(rt; is_met(FeedbackEquals, &equal), true);
+    assert_eq!(rt; is_met(FeedbackDiffers, &equal), false);
+    assert_eq!(rt; is_met(FeedbackEquals, &differs), false);
+    assert_eq!(rt; is_met(FeedbackDiffers, &differs), true);
+    let rule = Rule {
+        target: Normal,
+        test: FeedbackEquals,
+        wait: NormalDelay,
+    };
+    assert_eq!(rt; delay(&rule, &equal), 10);
+    let quick = Snapshot {
+        time_delay_normal: Some(0),
+        ..equal
+    };
+    assert_eq!(rt; delay(&rule, &quick), 0);
+    for (wait, seconds) in [(TimeDelay, 10), (NormalDelay, 0), (AtOnce, 0)] {
+        let rule = Rule {
+            target: Normal,
+            test: Within,
+            wait,
+        };
+        assert_eq!(rt; delay(&rule, &quick), seconds);
+    }
+}

@@ -1,0 +1,149 @@
+use bac_values::{Items, Stamp};
+use event_log::*;
+use std::alloc::{AllocError, Global};
+use std::process::Abort;
+use std::test::Fail;
+
+fn second(second: u8) -> Stamp {
+    Stamp {
+        octets: [123, 11, 14, 2, 22, 13, second, 0],
+    }
+}
+
+fn put(alloc: Global, log: &mut EventLog, at: u8) -> Result<(), AllocError> {
+    log.record(second(at), vec![in alloc; at]?);
+    Ok(())
+}
+
+fn three_in_two(alloc: Global, stop_when_full: bool) -> Result<EventLog, Fail> {
+    let mut log = EventLog::new(alloc, 2, stop_when_full, true)?;
+    put(alloc, &mut log, 1)?;
+    put(alloc, &mut log, 2)?;
+    put(alloc, &mut log, 3)?;
+    Ok(log)
+}
+
+fn range(first: u32, count: u32) -> LogRange {
+    LogRange { first, count }
+}
+
+fn answers_for_three_in_two(rt: &impl Abort, log: &EventLog) {
+    assert_eq!(rt; log.total(), 3);
+    assert_eq!(rt; log.len(), 2);
+    assert_eq!(rt; log.range_by_sequence(2, 2), range(0, 2));
+    assert_eq!(rt; log.range_by_position(3, 1), range(0, 0));
+    assert_eq!(rt; log.item(1).map(|entry| entry.sequence), Some(3));
+    assert!(rt; log.item(2).is_none());
+}
+
+#[test]
+fn the_oldest_record_goes(rt: HostRuntime) -> Result<(), Fail> {
+    let log = three_in_two(rt.alloc(), false)?;
+    answers_for_three_in_two(&rt, &log);
+    Ok(())
+}
+
+#[test]
+fn a_full_log_that_stops_takes_nothing(rt: HostRuntime) -> Result<(), Fail> {
+    let log = three_in_two(rt.alloc(), true)?;
+    assert_eq!(rt; log.total(), 2);
+    assert_eq!(rt; log.item(0).map(|entry| entry.sequence), Some(1));
+    assert_eq!(rt; log.item(1).map(|entry| entry.sequence), Some(2));
+    assert!(rt; log.enabled());
+    Ok(())
+}
+
+#[test]
+fn a_restored_log_answers_as_before(rt: HostRuntime) -> Result<(), Fail> {
+    let alloc = rt.alloc();
+    let mut records = Vec::new(alloc);
+    records.push(LogRecord {
+        stamp: second(2),
+        sequence: 2,
+        body: Items::of(vec![in alloc; 2u8]?),
+    })?;
+    records.push(LogRecord {
+        stamp: second(3),
+        sequence: 3,
+        body: Items::of(vec![in alloc; 3u8]?),
+    })?;
+    let log = EventLog::restore(alloc, 2, false, true, 3, records)?;
+    answers_for_three_in_two(&rt, &log);
+    Ok(())
+}
+
+#[test]
+fn numbers_go_on_with_1(rt: HostRuntime) -> Result<(), Fail> {
+    let alloc = rt.alloc();
+    let mut records = Vec::new(alloc);
+    records.push(LogRecord {
+        stamp: second(1),
+        sequence: u32::MAX,
+        body: Items::of(Vec::new(alloc)),
+    })?;
+    let mut log = EventLog::restore(alloc, 4, false, true, u32::MAX, records)?;
+    put(alloc, &mut log, 2)?;
+    put(alloc, &mut log, 3)?;
+    assert_eq!(rt; log.total(), 2);
+    assert_eq!(rt; log.range_by_sequence(u32::MAX, 3), range(0, 3));
+    assert_eq!(rt; log.range_by_sequence(1, 5), range(1, 2));
+    assert_eq!(rt; log.range_by_sequence(2, -2), range(1, 2));
+    assert_eq!(rt; log.range_by_sequence(3, 1), LogRange::EMPTY);
+    assert_eq!(rt; log.range_by_sequence(0, 1), LogRange::EMPTY);
+    Ok(())
+}
+
+#[test]
+fn ranges_end_at_the_edges(rt: HostRuntime) -> Result<(), Fail> {
+    let alloc = rt.alloc();
+    let mut log = EventLog::new(alloc, 8, false, true)?;
+    for at in [1u8, 3, 3, 5] {
+        put(alloc, &mut log, at)?;
+    }
+    assert_eq!(rt; log.range_by_position(0, 1), LogRange::EMPTY);
+    assert_eq!(rt; log.range_by_position(5, -1), LogRange::EMPTY);
+    assert_eq!(rt; log.range_by_position(1, 9), range(0, 4));
+    assert_eq!(rt; log.range_by_position(3, -2), range(1, 2));
+    assert_eq!(rt; log.range_by_position(2, -9), range(0, 2));
+    assert_eq!(rt; log.range_by_position(2, 0), LogRange::EMPTY);
+    assert_eq!(rt; log.range_by_position(4, i32::MIN), range(0, 4));
+    assert_eq!(rt; log.range_by_time(&second(3), 9), range(3, 1));
+    assert_eq!(rt; log.range_by_time(&second(3), -9), range(0, 1));
+    assert_eq!(rt; log.range_by_time(&second(0), 2), range(0, 2));
+    assert_eq!(rt; log.range_by_time(&second(9), -3), range(1, 3));
+    assert_eq!(rt; log.range_by_time(&second(5), 1), LogRange::EMPTY);
+    assert_eq!(rt; log.range_by_time(&second(1), -1), LogRange::EMPTY);
+    Ok(())
+}
+
+#[test]
+fn a_cleared_log_keeps_its_total(rt: HostRuntime) -> Result<(), Fail> {
+    let alloc = rt.alloc();
+    let mut log = three_in_two(alloc, false)?;
+    log.clear();
+    assert_eq!(rt; log.len(), 0);
+    assert_eq!(rt; log.total(), 3);
+    log.set_enabled(false);
+    put(alloc, &mut log, 4)?;
+    assert_eq!(rt; log.total(), 3);
+    log.set_enabled(true);
+    put(alloc, &mut log, 5)?;
+    assert_eq!(rt; log.item(0).map(|entry| entry.sequence), Some(4));
+    Ok(())
+}
+
+#[test]
+fn the_weekday_is_not_looked_at(rt: HostRuntime) {
+    let tuesday = Stamp {
+        octets: [123, 11, 14, 2, 22, 13, 20, 0],
+    };
+    let no_day = Stamp {
+        octets: [123, 11, 14, 255, 22, 13, 20, 0],
+    };
+    let later = Stamp {
+        octets: [123, 11, 15, 1, 0, 0, 0, 0],
+    };
+    assert!(rt; !is_before(&tuesday, &no_day));
+    assert!(rt; !is_before(&no_day, &tuesday));
+    assert!(rt; is_before(&no_day, &later));
+}

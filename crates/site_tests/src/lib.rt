@@ -1,0 +1,11 @@
+//! Tests of what lies in files: the text of a site, scripts and reports, and the journal.
+//!
+//! They ask only what anybody may ask of those crates, and nothing stands on them; so those crates are proved once.
+#![tactic(auto)]
+
+#[cfg(test)]
+mod alarm_journal_tests;
+#[cfg(test)]
+mod script_lines_tests;
+#[cfg(test)]
+mod site_config_tests;

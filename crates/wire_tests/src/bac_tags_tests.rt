@@ -1,0 +1,341 @@
+use bac_tags::*;
+use bac_values::{Bits, Foreign, ObjectId, Stamp, Text, Value};
+use std::alloc::Global;
+use std::process::Abort;
+use std::test::Fail;
+
+const fn tag(number: u8, context: bool, shape: Shape) -> Tag {
+    Tag {
+        number,
+        context,
+        shape,
+    }
+}
+
+fn primitive(number: u8, context: bool, length: u32) -> Tag {
+    tag(number, context, Shape::Primitive { length })
+}
+
+/// The octets are the tag and nothing else.
+fn expect_tag(rt: &impl Abort, octets: &[u8], expected: Tag) {
+    assert_eq!(rt; read_tag(octets, 0), Ok((expected, octets.len())));
+}
+
+/// The octets end within the tag.
+fn expect_cut(rt: &impl Abort, octets: &[u8]) {
+    assert_eq!(rt;
+        read_tag(octets, 0),
+        Err(TagFault::Truncated { at: octets.len() })
+    );
+}
+
+#[test]
+fn tags_are_read_in_any_spelling(rt: HostRuntime) {
+    expect_tag(&rt, &[0x09], primitive(0, true, 1));
+    expect_tag(&rt, &[0xc4], primitive(12, false, 4));
+    expect_tag(&rt, &[0x3e], tag(3, true, Shape::Opening));
+    expect_tag(&rt, &[0x3f], tag(3, true, Shape::Closing));
+    // The number in an octet of its own, above 14 and needlessly.
+    expect_tag(&rt, &[0xfe, 0x0f], tag(15, true, Shape::Opening));
+    expect_tag(&rt, &[0xff, 0x13], tag(19, true, Shape::Closing));
+    expect_tag(&rt, &[0xff, 0xff], tag(255, true, Shape::Closing));
+    expect_tag(&rt, &[0xf9, 0x05], primitive(5, true, 1));
+    // Lengths of one, two and four octets, also needlessly long.
+    expect_tag(&rt, &[0x75, 0xfd], primitive(7, false, 253));
+    expect_tag(&rt, &[0x75, 0x02], primitive(7, false, 2));
+    expect_tag(&rt, &[0x75, 0xfe, 0x01, 0x00], primitive(7, false, 256));
+    expect_tag(&rt, &[0x75, 0xfe, 0x00, 0x05], primitive(7, false, 5));
+    expect_tag(
+        &rt,
+        &[0x75, 0xff, 0x00, 0x01, 0x00, 0x00],
+        primitive(7, false, 65_536),
+    );
+    expect_tag(
+        &rt,
+        &[0x75, 0xff, 0x00, 0x00, 0x00, 0x01],
+        primitive(7, false, 1),
+    );
+    expect_tag(
+        &rt,
+        &[0x75, 0xff, 0xff, 0xff, 0xff, 0xff],
+        primitive(7, false, u32::MAX),
+    );
+    expect_tag(
+        &rt,
+        &[0xfd, 0x21, 0xfe, 0x12, 0x34],
+        primitive(33, true, 0x1234),
+    );
+    // The bits that open and close mean the same in an application's tag.
+    expect_tag(&rt, &[0x26], tag(2, false, Shape::Opening));
+    expect_tag(&rt, &[0x27], tag(2, false, Shape::Closing));
+}
+
+#[test]
+fn a_cut_tag_is_truncated(rt: HostRuntime) {
+    expect_cut(&rt, &[]);
+    expect_cut(&rt, &[0xf9]);
+    expect_cut(&rt, &[0x75]);
+    expect_cut(&rt, &[0xfd, 0x21]);
+    expect_cut(&rt, &[0x75, 0xfe]);
+    expect_cut(&rt, &[0x75, 0xfe, 0x01]);
+    expect_cut(&rt, &[0x75, 0xff, 0x00, 0x00, 0x01]);
+}
+
+/// The front of an event notification of a device 1001 for an integer value 1.
+const NOTE: [u8; 37] = [
+    0x09, 0x01, 0x1c, 0x02, 0x00, 0x03, 0xe9, 0x2c, 0x0b, 0x40, 0x00, 0x01, 0x3e, 0x2e, 0xa4, 0x7b,
+    0x0b, 0x0e, 0x02, 0xb4, 0x16, 0x0d, 0x1e, 0x00, 0x2f, 0x3f, 0x49, 0x07, 0x59, 0x64, 0x99, 0x01,
+    0xa9, 0x00, 0x1a, 0x04, 0x80,
+];
+
+#[test]
+fn the_elements_of_a_notification_are_read_in_turn(rt: HostRuntime) -> Result<(), Fail> {
+    assert_eq!(rt; read_unsigned(&NOTE, 0, Some(0)), Ok((1, 2)));
+    let device = ObjectId::new(8, 1001)?;
+    assert_eq!(rt; read_object(&NOTE, 2, Some(1)), Ok((device, 7)));
+    let value = ObjectId::new(45, 1)?;
+    assert_eq!(rt; read_object(&NOTE, 7, Some(2)), Ok((value, 12)));
+    assert_eq!(rt; read_tag(&NOTE, 12), Ok((tag(3, true, Shape::Opening), 13)));
+    let stamp = Stamp {
+        octets: [0x7b, 0x0b, 0x0e, 0x02, 0x16, 0x0d, 0x1e, 0x00],
+    };
+    assert_eq!(rt; read_stamp(&NOTE, 14, None), Ok((stamp, 24)));
+    assert_eq!(rt; read_unsigned(&NOTE, 28, Some(5)), Ok((100, 30)));
+    assert_eq!(rt; read_bool(&NOTE, 30, Some(9)), Ok((true, 32)));
+    assert_eq!(rt; read_unsigned(&NOTE, 32, Some(10)), Ok((0, 34)));
+    assert_eq!(rt; read_bits(&NOTE, 34, Some(1)), Ok((Bits::new(4, 1)?, 37)));
+    // The time of a stamp has a place of its own.
+    assert_eq!(rt;
+        read_stamp(&NOTE[..22], 14, None),
+        Err(TagFault::Truncated { at: 22 })
+    );
+    assert_eq!(rt;
+        read_stamp(&[0xa4, 1, 2, 3, 4, 0xa4, 1, 2, 3, 4], 0, None),
+        Err(TagFault::WrongTag { at: 5 })
+    );
+    Ok(())
+}
+
+#[test]
+fn numbers_have_one_to_four_octets(rt: HostRuntime) {
+    let most = [0x24, 0xff, 0xff, 0xff, 0xff];
+    assert_eq!(rt; read_unsigned(&most, 0, None), Ok((u32::MAX, 5)));
+    assert_eq!(rt; read_unsigned(&[0x22, 0x00, 0x05], 0, None), Ok((5, 3)));
+    assert_eq!(rt; read_unsigned(&[0x25, 0x01, 0x07], 0, None), Ok((7, 3)));
+    let none = Err(TagFault::BadLength { at: 0 });
+    assert_eq!(rt; read_unsigned(&[0x20], 0, None), none);
+    assert_eq!(rt; read_unsigned(&[0x25, 0x05, 0, 0, 0, 0, 1], 0, None), none);
+    assert_eq!(rt; read_unsigned(&[0x25, 0x05], 0, None), none);
+    assert_eq!(rt;
+        read_unsigned(&[0x22, 0x05], 0, None),
+        Err(TagFault::Truncated { at: 2 })
+    );
+    let other = Err(TagFault::WrongTag { at: 0 });
+    assert_eq!(rt; read_unsigned(&[0x09, 0x01], 0, None), other);
+    assert_eq!(rt; read_unsigned(&[0x21, 0x01], 0, Some(2)), other);
+    assert_eq!(rt; read_unsigned(&[0x26, 0x01], 0, None), other);
+    assert_eq!(rt; read_unsigned(&[0x2e, 0x01], 0, Some(2)), other);
+    assert_eq!(rt; read_unsigned(&[0x31], 0, None), other);
+    assert_eq!(rt; read_signed(&[0x31, 0xff], 0, None), Ok((-1, 2)));
+    assert_eq!(rt; read_signed(&[0x31, 0x80], 0, None), Ok((-128, 2)));
+    assert_eq!(rt; read_signed(&[0x32, 0xff, 0x7f], 0, None), Ok((-129, 3)));
+    assert_eq!(rt;
+        read_signed(&[0x33, 0x00, 0xff, 0xff], 0, None),
+        Ok((65_535, 4))
+    );
+    let least = [0x34, 0x80, 0x00, 0x00, 0x00];
+    assert_eq!(rt; read_signed(&least, 0, None), Ok((i32::MIN, 5)));
+}
+
+#[test]
+fn booleans_are_in_the_tag_or_behind_it(rt: HostRuntime) {
+    assert_eq!(rt; read_bool(&[0x10], 0, None), Ok((false, 1)));
+    assert_eq!(rt; read_bool(&[0x11], 0, None), Ok((true, 1)));
+    assert_eq!(rt; read_bool(&[0x15, 0x01], 0, None), Ok((true, 2)));
+    assert_eq!(rt; read_bool(&[0x19, 0x00], 0, Some(1)), Ok((false, 2)));
+    let none = Err(TagFault::BadLength { at: 0 });
+    assert_eq!(rt; read_bool(&[0x12, 0, 0], 0, None), none);
+    assert_eq!(rt; read_bool(&[0x19, 0x02], 0, Some(1)), none);
+    assert_eq!(rt; read_bool(&[0x18], 0, Some(1)), none);
+    assert_eq!(rt;
+        read_bool(&[0x19], 0, Some(1)),
+        Err(TagFault::Truncated { at: 1 })
+    );
+}
+
+#[test]
+fn bit_strings_begin_with_their_first_bit(rt: HostRuntime) -> Result<(), Fail> {
+    assert_eq!(rt;
+        read_bits(&[0x2a, 0x05, 0x60], 0, Some(2)),
+        Ok((Bits::new(3, 6)?, 3))
+    );
+    // Bits that aren't used are read over.
+    assert_eq!(rt;
+        read_bits(&[0x82, 0x05, 0x7f], 0, None),
+        Ok((Bits::new(3, 6)?, 3))
+    );
+    let two = [0x83, 0x04, 0x80, 0x50];
+    assert_eq!(rt; read_bits(&two, 0, None), Ok((Bits::new(12, 0x0a01)?, 4)));
+    assert_eq!(rt;
+        read_bits(&[0x81, 0x00], 0, None),
+        Ok((Bits::new(0, 0)?, 2))
+    );
+    let all = [0x85, 0x09, 0, 255, 255, 255, 255, 255, 255, 255, 254];
+    let most = Bits::new(64, u64::MAX >> 1)?;
+    assert_eq!(rt; read_bits(&all, 0, None), Ok((most, 11)));
+    let none = Err(TagFault::BadLength { at: 0 });
+    let more = [0x85, 0x0a, 7, 0, 0, 0, 0, 0, 0, 0, 0, 0];
+    assert_eq!(rt; read_bits(&more, 0, None), none);
+    assert_eq!(rt; read_bits(&[0x80], 0, None), none);
+    assert_eq!(rt; read_bits(&[0x81, 0x01], 0, None), none);
+    assert_eq!(rt; read_bits(&[0x82, 0x08, 0x00], 0, None), none);
+    Ok(())
+}
+
+/// The octets are the value and nothing else.
+fn expect_value(rt: &impl Abort, alloc: Global, octets: &[u8], expected: Value) {
+    assert_eq!(rt; read_value(alloc, octets, 0), Ok((expected, octets.len())));
+}
+
+fn opaque(tag: u8, why: Foreign) -> Value {
+    Value::Opaque { tag, why }
+}
+
+#[test]
+fn values_are_read_by_their_type(rt: HostRuntime) -> Result<(), Fail> {
+    expect_value(&rt, rt.alloc(), &[0x00], Value::Null);
+    expect_value(&rt, rt.alloc(), &[0x11], Value::Bool(true));
+    expect_value(&rt, rt.alloc(), &[0x22, 0x05, 0xc4], Value::Unsigned(1476));
+    expect_value(&rt, rt.alloc(), &[0x31, 0x9c], Value::Signed(-100));
+    expect_value(&rt, rt.alloc(), &[0x91, 0x03], Value::Enumerated(3));
+    let device = ObjectId::new(8, 1001)?;
+    expect_value(
+        &rt,
+        rt.alloc(),
+        &[0xc4, 0x02, 0x00, 0x03, 0xe9],
+        Value::Object(device),
+    );
+    expect_value(
+        &rt,
+        rt.alloc(),
+        &[0x82, 0x05, 0x60],
+        Value::Bits(Bits::new(3, 6)?),
+    );
+    let text = Text::new(rt.alloc(), "Lüfter")?;
+    let octets = [0x75, 0x08, 0x00, 0x4c, 0xc3, 0xbc, 0x66, 0x74, 0x65, 0x72];
+    expect_value(&rt, rt.alloc(), &octets, Value::Text(text));
+    Ok(())
+}
+
+#[test]
+fn what_is_not_taken_is_opaque_by_its_reason(rt: HostRuntime) {
+    let real = [0x44, 0x3f, 0x80, 0x00, 0x00];
+    expect_value(&rt, rt.alloc(), &real, opaque(4, Foreign::OtherType));
+    let date = [0xa4, 0x7b, 0x0b, 0x0e, 0x02];
+    expect_value(&rt, rt.alloc(), &date, opaque(10, Foreign::OtherType));
+    let time = [0xb4, 0x16, 0x0d, 0x1e, 0x00];
+    expect_value(&rt, rt.alloc(), &time, opaque(11, Foreign::OtherType));
+    expect_value(&rt, rt.alloc(), &[0x60], opaque(6, Foreign::OtherType));
+    expect_value(
+        &rt,
+        rt.alloc(),
+        &[0xf1, 0x20, 0x01],
+        opaque(32, Foreign::OtherType),
+    );
+    let long = [0x25, 0x05, 0, 0, 0, 0, 1];
+    expect_value(&rt, rt.alloc(), &long, opaque(2, Foreign::OutOfRange));
+    let bits = [0x85, 0x0a, 7, 0, 0, 0, 0, 0, 0, 0, 0, 0];
+    expect_value(&rt, rt.alloc(), &bits, opaque(8, Foreign::OutOfRange));
+    expect_value(
+        &rt,
+        rt.alloc(),
+        &[0x73, 0x04, 0xe9, 0x21],
+        opaque(7, Foreign::CharacterSet),
+    );
+    expect_value(
+        &rt,
+        rt.alloc(),
+        &[0x73, 0x00, 0xc3, 0x28],
+        opaque(7, Foreign::NotUtf8),
+    );
+}
+
+#[test]
+fn what_is_no_value_is_refused(rt: HostRuntime) {
+    let other = Err(TagFault::WrongTag { at: 0 });
+    assert_eq!(rt; read_value(rt.alloc(), &[0x09, 0x01], 0), other);
+    let other = Err(TagFault::WrongTag { at: 0 });
+    assert_eq!(rt; read_value(rt.alloc(), &[0x26], 0), other);
+    let none = Err(TagFault::BadLength { at: 0 });
+    assert_eq!(rt; read_value(rt.alloc(), &[0x12, 0, 0], 0), none);
+    let none = Err(TagFault::BadLength { at: 0 });
+    assert_eq!(rt; read_value(rt.alloc(), &[0x43, 0, 0, 0], 0), none);
+    let none = Err(TagFault::BadLength { at: 0 });
+    assert_eq!(rt; read_value(rt.alloc(), &[0x82, 0x08, 0x00], 0), none);
+    let cut = Err(TagFault::Truncated { at: 2 });
+    assert_eq!(rt; read_value(rt.alloc(), &[0x25, 0x05], 0), cut);
+}
+
+#[test]
+fn texts_of_256_octets_are_the_longest(rt: HostRuntime) -> Result<(), Fail> {
+    let letters = String::from_str(rt.alloc(), "0123456789abcdef")?.repeat(rt.alloc(), 16)?;
+    let text = Value::Text(Text::new(rt.alloc(), letters.as_str())?);
+    let mut octets = Vec::new(rt.alloc());
+    write_value(&mut octets, &text)?;
+    assert_eq!(rt; octets.len(), 261);
+    assert!(rt;
+        octets
+            .as_slice()
+            .starts_with(&[0x75, 0xfe, 0x01, 0x01, 0x00])
+    );
+    expect_value(&rt, rt.alloc(), octets.as_slice(), text);
+    let mut longer = Vec::new(rt.alloc());
+    longer.extend_from_slice(&[0x75, 0xfe, 0x01, 0x02, 0x00])?;
+    longer.extend_from_slice(letters.as_bytes())?;
+    longer.extend_from_slice(&[0xff])?;
+    expect_value(
+        &rt,
+        rt.alloc(),
+        longer.as_slice(),
+        opaque(7, Foreign::TooLong),
+    );
+    Ok(())
+}
+
+#[test]
+fn the_shortest_spelling_is_written(rt: HostRuntime) -> Result<(), Fail> {
+    let mut out = Vec::new(rt.alloc());
+    write_unsigned(&mut out, Some(0), 1)?;
+    write_object(&mut out, Some(1), ObjectId::new(8, 1001)?)?;
+    write_object(&mut out, Some(2), ObjectId::new(45, 1)?)?;
+    write_tag(&mut out, tag(3, true, Shape::Opening))?;
+    write_tag(&mut out, tag(2, true, Shape::Opening))?;
+    let stamp = Stamp {
+        octets: [0x7b, 0x0b, 0x0e, 0x02, 0x16, 0x0d, 0x1e, 0x00],
+    };
+    write_stamp(&mut out, None, stamp)?;
+    write_tag(&mut out, tag(2, true, Shape::Closing))?;
+    write_tag(&mut out, tag(3, true, Shape::Closing))?;
+    write_unsigned(&mut out, Some(4), 7)?;
+    write_unsigned(&mut out, Some(5), 100)?;
+    write_bool(&mut out, Some(9), true)?;
+    write_unsigned(&mut out, Some(10), 0)?;
+    write_bits(&mut out, Some(1), Bits::new(4, 1)?)?;
+    assert_eq!(rt; out.as_slice(), NOTE.as_slice());
+    out.clear();
+    write_tag(&mut out, tag(19, true, Shape::Closing))?;
+    write_signed(&mut out, None, -128)?;
+    write_signed(&mut out, None, -129)?;
+    write_signed(&mut out, None, i32::MAX)?;
+    write_unsigned(&mut out, Some(200), 65_536)?;
+    write_value(&mut out, &Value::Bool(true))?;
+    write_value(&mut out, &Value::Enumerated(3))?;
+    write_bits(&mut out, None, Bits::new(9, 0x100)?)?;
+    write_bits(&mut out, None, Bits::new(0, 0)?)?;
+    let expected = [
+        0xff, 0x13, 0x31, 0x80, 0x32, 0xff, 0x7f, 0x34, 0x7f, 0xff, 0xff, 0xff, 0xfb, 0xc8, 0x01,
+        0x00, 0x00, 0x11, 0x91, 0x03, 0x83, 0x07, 0x00, 0x80, 0x81, 0x00,
+    ];
+    assert_eq!(rt; out.as_slice(), expected.as_slice());
+    Ok(())
+}

@@ -1,0 +1,318 @@
+ghost use Rattle.std.specs.Prelude.{IfOk};
+ghost use Rattle.event_services.specs.Notifications.{IsTold};
+
+use bac_values::{EventState, ObjectId, Reliability, Stamp, StatusFlags, Value};
+use event_services::*;
+use std::alloc::Global;
+use std::process::Abort;
+use std::test::Fail;
+
+/// An acknowledgement of an OFFNORMAL state of integer value 1, by `op`.
+const ACKNOWLEDGE: [u8; 41] = [
+    0x09, 0x01, 0x1c, 0x0b, 0x40, 0x00, 0x01, 0x29, 0x02, 0x3e, 0x2e, 0xa4, 0x7b, 0x0b, 0x0e, 0x02,
+    0xb4, 0x16, 0x0d, 0x1e, 0x00, 0x2f, 0x3f, 0x4b, 0x00, 0x6f, 0x70, 0x5e, 0x2e, 0xa4, 0x7b, 0x0b,
+    0x0e, 0x02, 0xb4, 0x16, 0x0d, 0x28, 0x00, 0x2f, 0x5f,
+];
+
+/// Tuesday, the 14th of November 2023, 22:13:30.
+const RAISED: Stamp = Stamp {
+    octets: [0x7b, 0x0b, 0x0e, 0x02, 0x16, 0x0d, 0x1e, 0x00],
+};
+
+/// Ten seconds later.
+const LATER: Stamp = Stamp {
+    octets: [0x7b, 0x0b, 0x0e, 0x02, 0x16, 0x0d, 0x28, 0x00],
+};
+
+/// The octets are refused with a reason, at a place.
+fn expect_refused(rt: &impl Abort, octets: &[u8], reject: u8, at: usize) {
+    assert_eq!(rt; read_ack(octets), Err(Malformed { reject, at }));
+}
+
+#[test]
+fn an_acknowledgement_is_read(rt: HostRuntime) -> Result<(), Fail> {
+    let request = AckRequest {
+        process: 1,
+        object: ObjectId::new(45, 1)?,
+        state: 2,
+        stamp: AckStamp::DateTime(RAISED),
+    };
+    assert_eq!(rt; read_ack(&ACKNOWLEDGE), Ok(request));
+    Ok(())
+}
+
+#[test]
+fn every_form_of_a_time_stamp_is_read(rt: HostRuntime) -> Result<(), Fail> {
+    // A sequence number, a source of one octet and a time of day, each in a spelling of its own.
+    let counted = [
+        0x0a, 0x00, 0x01, 0x1c, 0x0b, 0x40, 0x00, 0x01, 0x29, 0x00, 0x3e, 0x1a, 0x00, 0x05, 0x3f,
+        0x49, 0xff, 0x5e, 0x0d, 0x04, 0x16, 0x0d, 0x28, 0x00, 0x5f,
+    ];
+    let request = AckRequest {
+        process: 1,
+        object: ObjectId::new(45, 1)?,
+        state: 0,
+        stamp: AckStamp::Sequence,
+    };
+    assert_eq!(rt; read_ack(&counted), Ok(request));
+    let timed = [
+        0x09, 0x01, 0x1c, 0x0b, 0x40, 0x00, 0x01, 0x29, 0x00, 0x3e, 0x0c, 0x16, 0x0d, 0x1e, 0x00,
+        0x3f, 0x49, 0xff, 0x5e, 0x19, 0x05, 0x5f,
+    ];
+    let stamp = AckStamp::Time;
+    assert_eq!(rt; read_ack(&timed), Ok(AckRequest { stamp, ..request }));
+    Ok(())
+}
+
+#[test]
+fn a_missing_parameter_of_an_acknowledgement_is_refused(rt: HostRuntime) {
+    expect_refused(&rt, &[], 5, 0);
+    expect_refused(&rt, &ACKNOWLEDGE[..2], 5, 2);
+    expect_refused(&rt, &ACKNOWLEDGE[..7], 5, 7);
+    expect_refused(&rt, &ACKNOWLEDGE[..9], 5, 9);
+    expect_refused(&rt, &ACKNOWLEDGE[..23], 5, 23);
+    expect_refused(&rt, &ACKNOWLEDGE[..27], 5, 27);
+}
+
+#[test]
+fn a_parameter_of_an_acknowledgement_that_is_cut_or_another_is_refused(rt: HostRuntime) {
+    // Cut within a parameter, also where an element within it should begin.
+    expect_refused(&rt, &ACKNOWLEDGE[..1], 4, 0);
+    expect_refused(&rt, &ACKNOWLEDGE[..6], 4, 2);
+    expect_refused(&rt, &ACKNOWLEDGE[..8], 4, 7);
+    expect_refused(&rt, &ACKNOWLEDGE[..10], 4, 9);
+    expect_refused(&rt, &ACKNOWLEDGE[..22], 4, 9);
+    expect_refused(&rt, &ACKNOWLEDGE[..24], 4, 23);
+    expect_refused(&rt, &ACKNOWLEDGE[..40], 4, 27);
+    // Another tag, a number without octets, one of five octets, a cut header, an application's tag.
+    expect_refused(&rt, &ACKNOWLEDGE[2..], 4, 0);
+    expect_refused(&rt, &[0x08, 0x01], 4, 0);
+    expect_refused(&rt, &[0x0d, 0x05, 0, 0, 0, 0, 1], 4, 0);
+    expect_refused(&rt, &[0x09, 0x01, 0xf9], 4, 2);
+    expect_refused(&rt, &[0x21, 0x01], 4, 0);
+    // A time stamp of no form, one that isn't closed, and a source without octets.
+    let formless = [
+        0x09, 0x01, 0x1c, 0x0b, 0x40, 0x00, 0x01, 0x29, 0x02, 0x3e, 0x39, 0x05, 0x3f,
+    ];
+    expect_refused(&rt, &formless, 4, 9);
+    let unclosed = [
+        0x09, 0x01, 0x1c, 0x0b, 0x40, 0x00, 0x01, 0x29, 0x02, 0x3e, 0x19, 0x05, 0x49, 0x01,
+    ];
+    expect_refused(&rt, &unclosed, 4, 9);
+    let unsourced = [
+        0x09, 0x01, 0x1c, 0x0b, 0x40, 0x00, 0x01, 0x29, 0x02, 0x3e, 0x19, 0x05, 0x3f, 0x48,
+    ];
+    expect_refused(&rt, &unsourced, 4, 13);
+}
+
+#[test]
+fn more_than_an_acknowledgement_is_refused(rt: HostRuntime) {
+    let mut more = [0; 42];
+    more[..41].copy_from_slice(&ACKNOWLEDGE);
+    expect_refused(&rt, &more, 7, 41);
+}
+
+/// An integer value of 90 enters HIGH_LIMIT, whose limit is 80.
+const HIGH: [u8; 55] = [
+    0x09, 0x01, 0x1c, 0x02, 0x00, 0x03, 0xe9, 0x2c, 0x0b, 0x40, 0x00, 0x01, 0x3e, 0x2e, 0xa4, 0x7b,
+    0x0b, 0x0e, 0x02, 0xb4, 0x16, 0x0d, 0x1e, 0x00, 0x2f, 0x3f, 0x49, 0x07, 0x59, 0x64, 0x69, 0x0f,
+    0x89, 0x00, 0x99, 0x01, 0xa9, 0x00, 0xb9, 0x03, 0xce, 0xfe, 0x0f, 0x09, 0x5a, 0x1a, 0x04, 0x80,
+    0x29, 0x05, 0x39, 0x50, 0xff, 0x0f, 0xcf,
+];
+
+/// The state OFFNORMAL of the same value is acknowledged.
+const ACKNOWLEDGED: [u8; 36] = [
+    0x09, 0x01, 0x1c, 0x02, 0x00, 0x03, 0xe9, 0x2c, 0x0b, 0x40, 0x00, 0x01, 0x3e, 0x2e, 0xa4, 0x7b,
+    0x0b, 0x0e, 0x02, 0xb4, 0x16, 0x0d, 0x28, 0x00, 0x2f, 0x3f, 0x49, 0x07, 0x59, 0x64, 0x69, 0x0f,
+    0x89, 0x02, 0xb9, 0x02,
+];
+
+/// The same value of 90 isn't reliable.
+const FAULTY: [u8; 59] = [
+    0x09, 0x01, 0x1c, 0x02, 0x00, 0x03, 0xe9, 0x2c, 0x0b, 0x40, 0x00, 0x01, 0x3e, 0x2e, 0xa4, 0x7b,
+    0x0b, 0x0e, 0x02, 0xb4, 0x16, 0x0d, 0x28, 0x00, 0x2f, 0x3f, 0x49, 0x07, 0x59, 0x5a, 0x69, 0x13,
+    0x89, 0x00, 0x99, 0x01, 0xa9, 0x03, 0xb9, 0x01, 0xce, 0xfe, 0x13, 0x09, 0x07, 0x1a, 0x04, 0xc0,
+    0x2e, 0x09, 0x55, 0x2e, 0x31, 0x5a, 0x2f, 0x2f, 0xff, 0x13, 0xcf,
+];
+
+/// What is told of the value in HIGH_LIMIT, with more to come.
+const INFORMATION: [u8; 65] = [
+    0x0e, 0x0c, 0x0b, 0x40, 0x00, 0x01, 0x19, 0x03, 0x2a, 0x05, 0x60, 0x3e, 0x2e, 0xa4, 0x7b, 0x0b,
+    0x0e, 0x02, 0xb4, 0x16, 0x0d, 0x1e, 0x00, 0x2f, 0x2e, 0xa4, 0xff, 0xff, 0xff, 0xff, 0xb4, 0xff,
+    0xff, 0xff, 0xff, 0x2f, 0x2e, 0xa4, 0xff, 0xff, 0xff, 0xff, 0xb4, 0xff, 0xff, 0xff, 0xff, 0x2f,
+    0x3f, 0x49, 0x00, 0x5a, 0x05, 0xe0, 0x6e, 0x21, 0x64, 0x21, 0x5a, 0x21, 0xc8, 0x6f, 0x0f, 0x19,
+    0x01,
+];
+
+/// The notification of `HIGH`.
+fn high() -> Result<Notification, Fail>
+    ensures told { IfOk result (λ note. IsTold note.event_type note.values) }
+{
+    Ok(Notification {
+        process: 1,
+        device: ObjectId::new(8, 1001)?,
+        object: ObjectId::new(45, 1)?,
+        stamp: RAISED,
+        class: 7,
+        priority: 100,
+        event_type: 15,
+        text: None,
+        notify: 0,
+        ack_required: Some(true),
+        from: Some(EventState::Normal),
+        to: EventState::HighLimit,
+        values: Some(EventValues::SignedOutOfRange {
+            value: 90,
+            flags: StatusFlags {
+                in_alarm: true,
+                fault: false,
+                overridden: false,
+                out_of_service: false,
+            },
+            deadband: 5,
+            limit: 80,
+        }),
+    })
+}
+
+/// The notification of `ACKNOWLEDGED`.
+fn acknowledged() -> Result<Notification, Fail>
+    ensures told { IfOk result (λ note. IsTold note.event_type note.values) }
+{
+    Ok(Notification {
+        stamp: LATER,
+        notify: 2,
+        ack_required: None,
+        from: None,
+        to: EventState::Offnormal,
+        values: None,
+        ..high()?
+    })
+}
+
+/// The notification of `FAULTY`.
+fn faulty() -> Result<Notification, Fail>
+    ensures told { IfOk result (λ note. IsTold note.event_type note.values) }
+{
+    Ok(Notification {
+        stamp: LATER,
+        priority: 90,
+        event_type: 19,
+        from: Some(EventState::HighLimit),
+        to: EventState::Fault,
+        values: Some(EventValues::Reliability {
+            reliability: Reliability::UnreliableOther,
+            flags: StatusFlags {
+                in_alarm: true,
+                fault: true,
+                overridden: false,
+                out_of_service: false,
+            },
+            property: Some(Value::Signed(90)),
+        }),
+        ..high()?
+    })
+}
+
+#[test]
+fn notifications_are_written(rt: HostRuntime) -> Result<(), Fail> {
+    let octets = write_notification(rt.alloc(), &high()?)
+        .ok()
+        .ok_or("no memory")?;
+    assert_eq!(rt; octets.as_slice(), HIGH.as_slice());
+    let octets = write_notification(rt.alloc(), &acknowledged()?)
+        .ok()
+        .ok_or("no memory")?;
+    assert_eq!(rt; octets.as_slice(), ACKNOWLEDGED.as_slice());
+    let octets = write_notification(rt.alloc(), &faulty()?)
+        .ok()
+        .ok_or("no memory")?;
+    assert_eq!(rt; octets.as_slice(), FAULTY.as_slice());
+    Ok(())
+}
+
+#[test]
+fn information_is_asked_for(rt: HostRuntime) -> Result<(), Fail> {
+    assert_eq!(rt; read_information_request(&[]), Ok(None));
+    let last = [0x0c, 0x0b, 0x40, 0x00, 0x01];
+    assert_eq!(rt;
+        read_information_request(&last),
+        Ok(Some(ObjectId::new(45, 1)?))
+    );
+    let refused = |reject, at| Err(Malformed { reject, at });
+    // A cut header, a cut content, and a length of three.
+    assert_eq!(rt; read_information_request(&[0xf9]), refused(4, 0));
+    assert_eq!(rt; read_information_request(&last[..3]), refused(4, 0));
+    assert_eq!(rt;
+        read_information_request(&[0x0b, 0x0b, 0x40, 0x00]),
+        refused(4, 0)
+    );
+    // Another whole tag, and one behind the object.
+    assert_eq!(rt; read_information_request(&[0x19, 0x01]), refused(7, 0));
+    let more = [0x0c, 0x0b, 0x40, 0x00, 0x01, 0x19, 0x01];
+    assert_eq!(rt; read_information_request(&more), refused(7, 5));
+    Ok(())
+}
+
+#[test]
+fn information_is_written(rt: HostRuntime) -> Result<(), Fail> {
+    let summary = EventSummary {
+        object: ObjectId::new(45, 1)?,
+        state: EventState::HighLimit,
+        acked: [false, true, true],
+        stamps: [RAISED, Stamp::NEVER, Stamp::NEVER],
+        notify: 0,
+        enable: [true, true, true],
+        priority: [100, 90, 200],
+    };
+    let octets = write_information(rt.alloc(), &[summary], true)
+        .ok()
+        .ok_or("no memory")?;
+    assert_eq!(rt; octets.as_slice(), INFORMATION.as_slice());
+    let none = write_information(rt.alloc(), &[], false)
+        .ok()
+        .ok_or("no memory")?;
+    assert_eq!(rt; none.as_slice(), [0x0e, 0x0f, 0x19, 0x00].as_slice());
+    Ok(())
+}
+
+#[test]
+fn notifications_are_read(rt: HostRuntime) -> Result<(), Fail> {
+    assert_eq!(rt; read_notification(rt.alloc(), &HIGH), Ok(high()?));
+    assert_eq!(rt;
+        read_notification(rt.alloc(), &ACKNOWLEDGED),
+        Ok(acknowledged()?)
+    );
+    assert_eq!(rt; read_notification(rt.alloc(), &FAULTY), Ok(faulty()?));
+    Ok(())
+}
+
+/// The octets are no notification, for a reason and at a place.
+fn expect_no_notification(rt: &impl Abort, alloc: Global, octets: &[u8], reject: u8, at: usize) {
+    assert_eq!(rt;
+        read_notification(alloc, octets),
+        Err(NoteFault::Malformed { reject, at })
+    );
+}
+
+#[test]
+fn what_is_no_notification_is_refused(rt: HostRuntime) {
+    // A required parameter is missing, also behind optional ones.
+    expect_no_notification(&rt, rt.alloc(), &[], 5, 0);
+    expect_no_notification(&rt, rt.alloc(), &HIGH[..12], 5, 12);
+    expect_no_notification(&rt, rt.alloc(), &HIGH[..32], 5, 32);
+    expect_no_notification(&rt, rt.alloc(), &HIGH[..36], 5, 36);
+    // Cut within the time stamp, and within the values.
+    expect_no_notification(&rt, rt.alloc(), &HIGH[..24], 4, 12);
+    expect_no_notification(&rt, rt.alloc(), &HIGH[..54], 4, 40);
+    // The values of another type, a state that isn't known, and what follows the values.
+    let mut other = HIGH;
+    other[31] = 0x10;
+    expect_no_notification(&rt, rt.alloc(), &other, 4, 40);
+    other[31] = 0x0f;
+    other[37] = 0x05;
+    expect_no_notification(&rt, rt.alloc(), &other, 4, 36);
+    let mut more = [0; 56];
+    more[..55].copy_from_slice(&HIGH);
+    expect_no_notification(&rt, rt.alloc(), &more, 7, 55);
+}
