@@ -7,15 +7,7 @@
 mod bench_site;
 mod command;
 mod emission;
-#[cfg(test)]
-mod enrollment_tests;
 mod growing;
-#[cfg(test)]
-mod information_tests;
-#[cfg(test)]
-mod log_tests;
-#[cfg(test)]
-mod notification_tests;
 mod paths;
 mod pieces;
 mod run;

@@ -11,8 +11,6 @@ mod decision;
 mod informing;
 mod laws;
 mod ranging;
-#[cfg(test)]
-mod ranging_tests;
 mod reading;
 mod replies;
 mod who_is;
