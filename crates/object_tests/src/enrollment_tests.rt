@@ -319,71 +319,99 @@ fn a_write_is_taken_back(rt: HostRuntime) -> Result<(), Fail> {
     Ok(())
 }
 
+fn is_signed(value: &Value, wanted: i32) -> bool {
+    matches!(value, Value::Signed(number) if *number == wanted)
+}
+
+fn is_unsigned(value: &Value, wanted: u32) -> bool {
+    matches!(value, Value::Unsigned(number) if *number == wanted)
+}
+
+/// Enrollments 1 and 2, and the integer values 1, which is -5, and 2, which is 12.
+fn followed(alloc: Global) -> Result<(Enrollments, Table), Fail> {
+    let list = enrollments_of(alloc, follower(alloc)?, mirror(alloc)?)?;
+    Ok((list, table_of(alloc, level(alloc, 1, -5)?, level(alloc, 2, 12)?)?))
+}
+
 #[test]
 fn an_enrollment_sees_the_values_of_its_objects(rt: HostRuntime) -> Result<(), Fail> {
-    let list = enrollments_of(rt.alloc(), follower(rt.alloc())?, mirror(rt.alloc())?)?;
-    let table = table_of(
-        rt.alloc(),
-        level(rt.alloc(), 1, -5)?,
-        level(rt.alloc(), 2, 12)?,
-    )?;
+    let (list, table) = followed(rt.alloc())?;
     let object = identifier(ObjectKind::EventEnrollment, 1)?;
     let Some(seen) = list.snapshot_of(&table, object) else {
         return Err("no snapshot".into());
     };
+    assert!(rt; is_signed(seen.value, 12));
+    assert!(rt; seen.feedback.is_some_and(|value| is_signed(value, -5)));
     assert_eq!(rt; seen.algorithm, Algorithm::CommandFailure);
-    assert!(rt; seen.value == &Value::Signed(12));
-    assert!(rt; seen.feedback == Some(&Value::Signed(-5)));
-    assert_eq!(rt; (seen.time_delay, seen.time_delay_normal), (5, Some(8)));
-    assert_eq!(rt; (seen.low, seen.high, seen.deadband), (0, 0, 0));
-    assert!(rt; seen.alarm_value.is_none() && seen.alarm_values.is_empty());
-    let object = identifier(ObjectKind::EventEnrollment, 2)?;
-    let Some(seen) = list.snapshot_of(&table, object) else {
-        return Err("no snapshot".into());
-    };
-    assert!(rt; seen.value == &Value::Signed(-5));
-    assert!(rt; seen.feedback == Some(&Value::Signed(-5)));
+    assert_eq!(rt; [seen.time_delay, seen.time_delay_normal.unwrap_or(0)], [5, 8]);
+    assert_eq!(rt; [seen.low, seen.high], [0, 0]);
+    assert_eq!(rt; seen.deadband, 0);
+    assert!(rt; seen.alarm_value.is_none());
+    assert!(rt; seen.alarm_values.is_empty());
     Ok(())
 }
 
 #[test]
-fn a_range_and_a_value_object_have_limits_of_their_own(rt: HostRuntime) -> Result<(), Fail> {
-    let list = enrollments_of(rt.alloc(), mirror(rt.alloc())?, range(rt.alloc())?)?;
-    let table = table_of(rt.alloc(), level(rt.alloc(), 1, 0)?, flow(rt.alloc())?)?;
+fn an_object_may_be_its_own_feedback(rt: HostRuntime) -> Result<(), Fail> {
+    let (list, table) = followed(rt.alloc())?;
+    let object = identifier(ObjectKind::EventEnrollment, 2)?;
+    let Some(seen) = list.snapshot_of(&table, object) else {
+        return Err("no snapshot".into());
+    };
+    assert!(rt; is_signed(seen.value, -5));
+    assert!(rt; seen.feedback.is_some_and(|value| is_signed(value, -5)));
+    Ok(())
+}
+
+/// Enrollments 2 and 3, integer value 1, and positive integer value 1.
+fn ranged(alloc: Global) -> Result<(Enrollments, Table), Fail> {
+    let list = enrollments_of(alloc, mirror(alloc)?, range(alloc)?)?;
+    Ok((list, table_of(alloc, level(alloc, 1, 0)?, flow(alloc)?)?))
+}
+
+#[test]
+fn a_range_has_limits_of_its_own(rt: HostRuntime) -> Result<(), Fail> {
+    let (list, table) = ranged(rt.alloc())?;
     let object = identifier(ObjectKind::EventEnrollment, 3)?;
     let Some(seen) = list.snapshot_of(&table, object) else {
         return Err("no snapshot".into());
     };
+    assert!(rt; is_unsigned(seen.value, 90));
+    assert!(rt; seen.feedback.is_none());
     assert_eq!(rt; seen.algorithm, Algorithm::UnsignedRange);
-    assert!(rt; seen.value == &Value::Unsigned(90) && seen.feedback.is_none());
-    assert_eq!(rt;
-        (seen.low, seen.high, seen.limit_enable),
-        (20, 80, [true, true])
-    );
-    assert_eq!(rt; (seen.time_delay, seen.time_delay_normal), (3, None));
+    assert_eq!(rt; [seen.low, seen.high], [20, 80]);
+    assert_eq!(rt; seen.limit_enable, [true, true]);
+    assert_eq!(rt; seen.time_delay, 3);
+    assert!(rt; seen.time_delay_normal.is_none());
+    Ok(())
+}
+
+#[test]
+fn a_value_object_has_limits_of_its_own(rt: HostRuntime) -> Result<(), Fail> {
+    let (list, table) = ranged(rt.alloc())?;
     let object = identifier(ObjectKind::PositiveIntegerValue, 1)?;
     let Some(seen) = list.snapshot_of(&table, object) else {
         return Err("no snapshot".into());
     };
+    assert!(rt; is_unsigned(seen.value, 90));
+    assert!(rt; seen.feedback.is_none());
     assert_eq!(rt; seen.algorithm, Algorithm::UnsignedOutOfRange);
-    assert!(rt; seen.value == &Value::Unsigned(90) && seen.feedback.is_none());
-    assert_eq!(rt;
-        (seen.low, seen.high, seen.limit_enable),
-        (40, 60, [true, false])
-    );
-    assert_eq!(rt;
-        (seen.deadband, seen.time_delay, seen.time_delay_normal),
-        (5, 10, Some(20))
-    );
+    assert_eq!(rt; [seen.low, seen.high], [40, 60]);
+    assert_eq!(rt; seen.deadband, 5);
+    assert_eq!(rt; seen.limit_enable, [true, false]);
+    assert_eq!(rt; [seen.time_delay, seen.time_delay_normal.unwrap_or(0)], [10, 20]);
+    Ok(())
+}
+
+#[test]
+fn an_object_that_is_not_there_is_not_seen(rt: HostRuntime) -> Result<(), Fail> {
+    let (list, table) = ranged(rt.alloc())?;
     for (kind, instance) in [
         (ObjectKind::EventEnrollment, 1),
         (ObjectKind::IntegerValue, 2),
     ] {
-        assert!(rt;
-            list.snapshot_of(&table, identifier(kind, instance)?)
-                .is_none(),
-            "{instance}"
-        );
+        let object = identifier(kind, instance)?;
+        assert!(rt; list.snapshot_of(&table, object).is_none(), "{instance}");
     }
     Ok(())
 }
