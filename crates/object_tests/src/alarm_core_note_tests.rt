@@ -4,6 +4,7 @@ ghost use Rattle.object_table.specs.Objects.{IsObject};
 ghost use Rattle.alarm_core.specs.Allowed.{IsAllowed};
 ghost use Rattle.alarm_core.specs.Sites.{IsSite};
 
+use crate::comparing::holds;
 use alarm_core::*;
 use bac_values::{Items, ObjectId, ObjectKind, Peer, Text, Value};
 use notify_class::{Class, Destination};
@@ -159,9 +160,9 @@ fn a_transition_is_told_and_answered(rt: HostRuntime) -> Result<(), Fail> {
     let mut core = Core::start(rt.alloc(), &plant(rt.alloc(), 64)?)?;
     let _moved = set(&mut core, START, 90)??;
     let sent = take(&mut core, START + 1, Act::Pump)??;
-    assert!(rt; sends(&sent, &HIGH_LIMIT));
+    holds(&rt, sends(&sent, &HIGH_LIMIT));
     let _answered = answer(&mut core, START + 2, 0)?;
-    assert!(rt; core.outbox().room() == 64 && core.idle_pump(START + 3));
+    holds(&rt, core.outbox().room() == 64 && core.idle_pump(START + 3));
     Ok(())
 }
 
@@ -171,8 +172,8 @@ fn nothing_fits_where_nothing_may_wait(rt: HostRuntime) -> Result<(), Fail> {
     let refused = set(&mut core, START, 90)?;
     match refused {
         Ok(_) => return Err(Fail::new("it is queued")),
-        Err(fault) => assert!(rt; fault == StepFault::Full { would: 1, limit: 0 }),
+        Err(fault) => holds(&rt, fault == StepFault::Full { would: 1, limit: 0 }),
     }
-    assert!(rt; core.events() == 0);
+    holds(&rt, core.events() == 0);
     Ok(())
 }

@@ -1,6 +1,7 @@
 ghost use Rattle.std.specs.Prelude.{◌≡◌, IfOk, pos};
 ghost use Rattle.alarm_core.specs.Sites.{IsLogSite, IsSite};
 
+use crate::comparing::holds;
 use alarm_core::*;
 use bac_values::{Items, Mac, ObjectId, ObjectKind, Peer, PropertyId, Text, Value};
 use notify_class::{Class, Destination};
@@ -156,7 +157,7 @@ fn expect_reads(
     let (kind, instance) = object;
     let object = ObjectId::of_kind(kind, instance)?;
     for (property, octets) in reads {
-        assert!(rt; is(alloc, &core, object, *property, octets));
+        holds(rt, is(alloc, &core, object, *property, octets));
     }
     Ok(())
 }
@@ -172,7 +173,10 @@ fn expect_elements(
     let (kind, instance) = object;
     let object = ObjectId::of_kind(kind, instance)?;
     for (property, index, octets) in reads {
-        assert!(rt; gives(alloc, &core, object, *property, Some(*index), octets));
+        holds(
+            rt,
+            gives(alloc, &core, object, *property, Some(*index), octets),
+        );
     }
     Ok(())
 }
@@ -188,7 +192,10 @@ fn expect_errors(
     let (kind, instance) = object;
     let object = ObjectId::of_kind(kind, instance)?;
     for (property, index, class, code) in reads {
-        assert!(rt; is_error(alloc, &core, object, *property, *index, *class, *code));
+        holds(
+            rt,
+            is_error(alloc, &core, object, *property, *index, *class, *code),
+        );
     }
     Ok(())
 }
@@ -335,7 +342,7 @@ fn what_is_no_value_object_is_not_written(rt: HostRuntime) -> Result<(), Fail> {
         let object = ObjectId::of_kind(kind, instance)?;
         let property = PropertyId(property);
         let answer = core.check_write(rt.alloc(), object, property, index, &Value::Null);
-        assert!(rt; is_write_error(answer, class, code));
+        holds(&rt, is_write_error(answer, class, code));
     }
     Ok(())
 }

@@ -1,5 +1,6 @@
 ghost use Rattle.std.specs.Prelude.{◌≡◌, ◌≤◌, length, []};
 
+use crate::comparing::same;
 use algorithm_rules::Algorithm::*;
 use algorithm_rules::Test::*;
 use algorithm_rules::Waiting::*;
@@ -58,22 +59,25 @@ fn is_met(test: Test, snapshot: &Snapshot<'_>) -> bool
 #[test]
 fn matches_lead_to_offnormal_and_back(rt: HostRuntime) {
     for algorithm in [ChangeOfState, ChangeOfBitstring, ChangeOfCharacterstring] {
-        assert_eq!(rt;
-            rule(algorithm, Normal, 0),
-            leads(Offnormal, SomeMatch, TimeDelay)
+        same(
+            &rt,
+            &rule(algorithm, Normal, 0),
+            &leads(Offnormal, SomeMatch, TimeDelay),
         );
-        assert_eq!(rt; rule(algorithm, Normal, 1), None);
-        assert_eq!(rt;
-            rule(algorithm, Offnormal, 0),
-            leads(Normal, NoMatch, NormalDelay)
+        same(&rt, &rule(algorithm, Normal, 1), &None);
+        same(
+            &rt,
+            &rule(algorithm, Offnormal, 0),
+            &leads(Normal, NoMatch, NormalDelay),
         );
-        assert_eq!(rt;
-            rule(algorithm, Offnormal, 1),
-            leads(Offnormal, OtherMatch, TimeDelay)
+        same(
+            &rt,
+            &rule(algorithm, Offnormal, 1),
+            &leads(Offnormal, OtherMatch, TimeDelay),
         );
-        assert_eq!(rt; rule(algorithm, Offnormal, 2), None);
+        same(&rt, &rule(algorithm, Offnormal, 2), &None);
         for state in [Fault, HighLimit, LowLimit] {
-            assert_eq!(rt; rule(algorithm, state, 0), None);
+            same(&rt, &rule(algorithm, state, 0), &None);
         }
     }
 }
@@ -81,96 +85,112 @@ fn matches_lead_to_offnormal_and_back(rt: HostRuntime) {
 #[test]
 fn a_command_that_fails_leads_to_offnormal_and_back(rt: HostRuntime) {
     let algorithm = CommandFailure;
-    assert_eq!(rt;
-        rule(algorithm, Normal, 0),
-        leads(Offnormal, FeedbackDiffers, TimeDelay)
+    same(
+        &rt,
+        &rule(algorithm, Normal, 0),
+        &leads(Offnormal, FeedbackDiffers, TimeDelay),
     );
-    assert_eq!(rt; rule(algorithm, Normal, 1), None);
-    assert_eq!(rt;
-        rule(algorithm, Offnormal, 0),
-        leads(Normal, FeedbackEquals, NormalDelay)
+    same(&rt, &rule(algorithm, Normal, 1), &None);
+    same(
+        &rt,
+        &rule(algorithm, Offnormal, 0),
+        &leads(Normal, FeedbackEquals, NormalDelay),
     );
-    assert_eq!(rt; rule(algorithm, Offnormal, 1), None);
+    same(&rt, &rule(algorithm, Offnormal, 1), &None);
     for state in [Fault, HighLimit, LowLimit] {
-        assert_eq!(rt; rule(algorithm, state, 0), None);
+        same(&rt, &rule(algorithm, state, 0), &None);
     }
 }
 
 #[test]
 fn limits_with_a_deadband_lead_up_down_and_back(rt: HostRuntime) {
     for algorithm in [SignedOutOfRange, UnsignedOutOfRange] {
-        assert_eq!(rt;
-            rule(algorithm, Normal, 0),
-            leads(HighLimit, AboveEnabledHigh, TimeDelay)
+        same(
+            &rt,
+            &rule(algorithm, Normal, 0),
+            &leads(HighLimit, AboveEnabledHigh, TimeDelay),
         );
-        assert_eq!(rt;
-            rule(algorithm, Normal, 1),
-            leads(LowLimit, BelowEnabledLow, TimeDelay)
+        same(
+            &rt,
+            &rule(algorithm, Normal, 1),
+            &leads(LowLimit, BelowEnabledLow, TimeDelay),
         );
-        assert_eq!(rt; rule(algorithm, Normal, 2), None);
-        assert_eq!(rt;
-            rule(algorithm, HighLimit, 0),
-            leads(Normal, HighDisabled, AtOnce)
+        same(&rt, &rule(algorithm, Normal, 2), &None);
+        same(
+            &rt,
+            &rule(algorithm, HighLimit, 0),
+            &leads(Normal, HighDisabled, AtOnce),
         );
-        assert_eq!(rt;
-            rule(algorithm, HighLimit, 1),
-            leads(LowLimit, BelowEnabledLow, TimeDelay)
+        same(
+            &rt,
+            &rule(algorithm, HighLimit, 1),
+            &leads(LowLimit, BelowEnabledLow, TimeDelay),
         );
-        assert_eq!(rt;
-            rule(algorithm, HighLimit, 2),
-            leads(Normal, BelowHighLessDeadband, NormalDelay)
+        same(
+            &rt,
+            &rule(algorithm, HighLimit, 2),
+            &leads(Normal, BelowHighLessDeadband, NormalDelay),
         );
-        assert_eq!(rt; rule(algorithm, HighLimit, 3), None);
-        assert_eq!(rt;
-            rule(algorithm, LowLimit, 0),
-            leads(Normal, LowDisabled, AtOnce)
+        same(&rt, &rule(algorithm, HighLimit, 3), &None);
+        same(
+            &rt,
+            &rule(algorithm, LowLimit, 0),
+            &leads(Normal, LowDisabled, AtOnce),
         );
-        assert_eq!(rt;
-            rule(algorithm, LowLimit, 1),
-            leads(HighLimit, AboveEnabledHigh, TimeDelay)
+        same(
+            &rt,
+            &rule(algorithm, LowLimit, 1),
+            &leads(HighLimit, AboveEnabledHigh, TimeDelay),
         );
-        assert_eq!(rt;
-            rule(algorithm, LowLimit, 2),
-            leads(Normal, AboveLowPlusDeadband, NormalDelay)
+        same(
+            &rt,
+            &rule(algorithm, LowLimit, 2),
+            &leads(Normal, AboveLowPlusDeadband, NormalDelay),
         );
-        assert_eq!(rt; rule(algorithm, LowLimit, 3), None);
-        assert_eq!(rt; rule(algorithm, Fault, 0), None);
-        assert_eq!(rt; rule(algorithm, Offnormal, 0), None);
+        same(&rt, &rule(algorithm, LowLimit, 3), &None);
+        same(&rt, &rule(algorithm, Fault, 0), &None);
+        same(&rt, &rule(algorithm, Offnormal, 0), &None);
     }
 }
 
 #[test]
 fn a_range_leads_up_down_and_back(rt: HostRuntime) {
     let algorithm = UnsignedRange;
-    assert_eq!(rt;
-        rule(algorithm, Normal, 0),
-        leads(HighLimit, AboveHigh, TimeDelay)
+    same(
+        &rt,
+        &rule(algorithm, Normal, 0),
+        &leads(HighLimit, AboveHigh, TimeDelay),
     );
-    assert_eq!(rt;
-        rule(algorithm, Normal, 1),
-        leads(LowLimit, BelowLow, TimeDelay)
+    same(
+        &rt,
+        &rule(algorithm, Normal, 1),
+        &leads(LowLimit, BelowLow, TimeDelay),
     );
-    assert_eq!(rt; rule(algorithm, Normal, 2), None);
-    assert_eq!(rt;
-        rule(algorithm, HighLimit, 0),
-        leads(LowLimit, BelowLow, TimeDelay)
+    same(&rt, &rule(algorithm, Normal, 2), &None);
+    same(
+        &rt,
+        &rule(algorithm, HighLimit, 0),
+        &leads(LowLimit, BelowLow, TimeDelay),
     );
-    assert_eq!(rt;
-        rule(algorithm, HighLimit, 1),
-        leads(Normal, Within, NormalDelay)
+    same(
+        &rt,
+        &rule(algorithm, HighLimit, 1),
+        &leads(Normal, Within, NormalDelay),
     );
-    assert_eq!(rt; rule(algorithm, HighLimit, 2), None);
-    assert_eq!(rt;
-        rule(algorithm, LowLimit, 0),
-        leads(HighLimit, AboveHigh, TimeDelay)
+    same(&rt, &rule(algorithm, HighLimit, 2), &None);
+    same(
+        &rt,
+        &rule(algorithm, LowLimit, 0),
+        &leads(HighLimit, AboveHigh, TimeDelay),
     );
-    assert_eq!(rt;
-        rule(algorithm, LowLimit, 1),
-        leads(Normal, Within, NormalDelay)
+    same(
+        &rt,
+        &rule(algorithm, LowLimit, 1),
+        &leads(Normal, Within, NormalDelay),
     );
-    assert_eq!(rt; rule(algorithm, LowLimit, 2), None);
-    assert_eq!(rt; rule(algorithm, Fault, 0), None);
-    assert_eq!(rt; rule(algorithm, Offnormal, 0), None);
+    same(&rt, &rule(algorithm, LowLimit, 2), &None);
+    same(&rt, &rule(algorithm, Fault, 0), &None);
+    same(&rt, &rule(algorithm, Offnormal, 0), &None);
 }
 
 #[test]
@@ -182,9 +202,17 @@ fn texts_match_the_empty_text_or_what_occurs_in_them(rt: HostRuntime) -> Result<
     for (text, place) in [("", Some(0)), ("no fire here", Some(1)), ("calm", None)] {
         let value = Value::Text(Text::new(rt.alloc(), text)?);
         let snapshot = object(ChangeOfCharacterstring, &value, &alarms);
-        assert_eq!(rt; matched(&snapshot), place, "{text}");
-        assert_eq!(rt; is_met(SomeMatch, &snapshot), place.is_some(), "{text}");
-        assert_eq!(rt; is_met(NoMatch, &snapshot), place.is_none(), "{text}");
+        same(&rt, &(text, matched(&snapshot)), &(text, place));
+        same(
+            &rt,
+            &(text, is_met(SomeMatch, &snapshot)),
+            &(text, place.is_some()),
+        );
+        same(
+            &rt,
+            &(text, is_met(NoMatch, &snapshot)),
+            &(text, place.is_none()),
+        );
     }
     Ok(())
 }
@@ -207,8 +235,8 @@ fn bit_strings_match_where_the_mask_has_bits(rt: HostRuntime) -> Result<(), Fail
         let value = Value::Bits(Bits::new(4, bits)?);
         let plain = object(ChangeOfBitstring, &value, &alarms);
         let masked = Snapshot { mask, ..plain };
-        assert_eq!(rt; matched(&masked), place, "{bits}");
-        assert_eq!(rt; matched(&plain), plainly, "{bits}");
+        same(&rt, &(bits, matched(&masked)), &(bits, place));
+        same(&rt, &(bits, matched(&plain)), &(bits, plainly));
     }
     Ok(())
 }
@@ -224,15 +252,15 @@ fn states_match_where_they_are_equal(rt: HostRuntime) {
             test: OtherMatch,
             wait: TimeDelay,
         };
-        assert_eq!(rt; matched(&snapshot), place);
-        assert_eq!(rt; key(&other, &snapshot), place);
+        same(&rt, &matched(&snapshot), &place);
+        same(&rt, &key(&other, &snapshot), &place);
     }
     let active = Value::Enumerated(1);
     let inactive = Value::Enumerated(0);
     let alarmed = with_feedback(ChangeOfState, &active, &[], Some(&active), None);
-    assert_eq!(rt; matched(&alarmed), Some(0));
+    same(&rt, &matched(&alarmed), &Some(0));
     let quiet = with_feedback(ChangeOfState, &inactive, &[], Some(&active), None);
-    assert_eq!(rt; matched(&quiet), None);
+    same(&rt, &matched(&quiet), &None);
 }
 
 #[test]
@@ -249,21 +277,45 @@ fn limits_are_strict_and_the_deadband_lies_within(rt: HostRuntime) {
     ] {
         let value = Value::Signed(number);
         let snapshot = object(SignedOutOfRange, &value, &[]);
-        assert_eq!(rt; is_met(AboveEnabledHigh, &snapshot), above, "{number}");
-        assert_eq!(rt; is_met(BelowEnabledLow, &snapshot), below, "{number}");
-        assert_eq!(rt; is_met(BelowHighLessDeadband, &snapshot), less, "{number}");
-        assert_eq!(rt; is_met(AboveLowPlusDeadband, &snapshot), more, "{number}");
-        assert_eq!(rt; is_met(AboveHigh, &snapshot), above, "{number}");
-        assert_eq!(rt; is_met(BelowLow, &snapshot), below, "{number}");
-        assert_eq!(rt; is_met(Within, &snapshot), within, "{number}");
+        same(
+            &rt,
+            &(number, is_met(AboveEnabledHigh, &snapshot)),
+            &(number, above),
+        );
+        same(
+            &rt,
+            &(number, is_met(BelowEnabledLow, &snapshot)),
+            &(number, below),
+        );
+        same(
+            &rt,
+            &(number, is_met(BelowHighLessDeadband, &snapshot)),
+            &(number, less),
+        );
+        same(
+            &rt,
+            &(number, is_met(AboveLowPlusDeadband, &snapshot)),
+            &(number, more),
+        );
+        same(
+            &rt,
+            &(number, is_met(AboveHigh, &snapshot)),
+            &(number, above),
+        );
+        same(
+            &rt,
+            &(number, is_met(BelowLow, &snapshot)),
+            &(number, below),
+        );
+        same(&rt, &(number, is_met(Within, &snapshot)), &(number, within));
         let low_alone = Snapshot {
             limit_enable: [true, false],
             ..snapshot
         };
-        assert_eq!(rt; is_met(AboveEnabledHigh, &low_alone), false);
-        assert_eq!(rt; is_met(BelowEnabledLow, &low_alone), below);
-        assert_eq!(rt; is_met(HighDisabled, &low_alone), true);
-        assert_eq!(rt; is_met(LowDisabled, &low_alone), false);
+        same(&rt, &is_met(AboveEnabledHigh, &low_alone), &false);
+        same(&rt, &is_met(BelowEnabledLow, &low_alone), &below);
+        same(&rt, &is_met(HighDisabled, &low_alone), &true);
+        same(&rt, &is_met(LowDisabled, &low_alone), &false);
     }
 }
 
@@ -277,20 +329,20 @@ fn sums_have_no_bounds(rt: HostRuntime) {
         deadband: 4_294_967_295,
         ..object(SignedOutOfRange, &least, &[])
     };
-    assert_eq!(rt; is_met(BelowEnabledLow, &lowest), true);
+    same(&rt, &is_met(BelowEnabledLow, &lowest), &true);
     let highest = Snapshot {
         value: &greatest,
         ..lowest
     };
-    assert_eq!(rt; is_met(AboveLowPlusDeadband, &highest), false);
-    assert_eq!(rt; is_met(AboveEnabledHigh, &highest), false);
+    same(&rt, &is_met(AboveLowPlusDeadband, &highest), &false);
+    same(&rt, &is_met(AboveEnabledHigh, &highest), &false);
     let narrow = Snapshot {
         low: i64::MAX,
         high: i64::MIN,
         ..highest
     };
-    assert_eq!(rt; is_met(AboveLowPlusDeadband, &narrow), false);
-    assert_eq!(rt; is_met(BelowHighLessDeadband, &narrow), false);
+    same(&rt, &is_met(AboveLowPlusDeadband, &narrow), &false);
+    same(&rt, &is_met(BelowHighLessDeadband, &narrow), &false);
 }
 
 #[test]
@@ -298,27 +350,27 @@ fn feedback_is_compared_and_delays_are_chosen(rt: HostRuntime) {
     let (value, other) = (Value::Signed(50), Value::Signed(51));
     let equal = with_feedback(CommandFailure, &value, &[], None, Some(&value));
     let differs = with_feedback(CommandFailure, &value, &[], None, Some(&other));
-    assert_eq!(rt; is_met(FeedbackEquals, &equal), true);
-    assert_eq!(rt; is_met(FeedbackDiffers, &equal), false);
-    assert_eq!(rt; is_met(FeedbackEquals, &differs), false);
-    assert_eq!(rt; is_met(FeedbackDiffers, &differs), true);
+    same(&rt, &is_met(FeedbackEquals, &equal), &true);
+    same(&rt, &is_met(FeedbackDiffers, &equal), &false);
+    same(&rt, &is_met(FeedbackEquals, &differs), &false);
+    same(&rt, &is_met(FeedbackDiffers, &differs), &true);
     let rule = Rule {
         target: Normal,
         test: FeedbackEquals,
         wait: NormalDelay,
     };
-    assert_eq!(rt; delay(&rule, &equal), 10);
+    same(&rt, &delay(&rule, &equal), &10);
     let quick = Snapshot {
         time_delay_normal: Some(0),
         ..equal
     };
-    assert_eq!(rt; delay(&rule, &quick), 0);
+    same(&rt, &delay(&rule, &quick), &0);
     for (wait, seconds) in [(TimeDelay, 10), (NormalDelay, 0), (AtOnce, 0)] {
         let rule = Rule {
             target: Normal,
             test: Within,
             wait,
         };
-        assert_eq!(rt; delay(&rule, &quick), seconds);
+        same(&rt, &delay(&rule, &quick), &seconds);
     }
 }

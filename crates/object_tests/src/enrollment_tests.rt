@@ -4,6 +4,7 @@ ghost use Rattle.object_table.specs.Objects.{IsObject};
 ghost use Rattle.object_table.specs.Rows.{identifier_order};
 ghost use Rattle.enrollment.specs.Enrollments.{IsEnrollment};
 
+use crate::comparing::{holds, same};
 use algorithm_rules::Algorithm;
 use bac_values::{Bits, Foreign, Items, ObjectId, ObjectKind, PropertyId, Text, Value};
 use enrollment::*;
@@ -172,9 +173,9 @@ fn table_of(alloc: Global, first: ObjectSite, second: ObjectSite) -> Result<Tabl
 }
 
 /// The class and the code of the error of a write; 0 and 0 where there is none.
-fn error_of(answer: Result<Change, WriteFault>) -> (u8, u8) {
+fn error_of(answer: &Result<Change, WriteFault>) -> (u8, u8) {
     match answer {
-        Err(WriteFault::Error { class, code }) => (class, code),
+        Err(WriteFault::Error { class, code }) => (*class, *code),
         _ => (0, 0),
     }
 }
@@ -187,7 +188,8 @@ fn written(
     value: Value,
 ) -> Result<(u8, u8), Fail> {
     let object = identifier(ObjectKind::EventEnrollment, 1)?;
-    Ok(error_of(enrollments.check_write(object, PropertyId(number), index, &value)))
+    let answer = enrollments.check_write(object, PropertyId(number), index, &value);
+    Ok(error_of(&answer))
 }
 
 fn bits(length: u8, bits: u64) -> Result<Value, Fail> {
@@ -208,15 +210,15 @@ fn an_unknown_object_or_property_is_told_first(rt: HostRuntime) -> Result<(), Fa
     ] {
         let object = identifier(kind, instance)?;
         let answer = list.check_write(object, PropertyId(8), Some(9), &Value::Null);
-        assert_eq!(rt; error_of(answer), (1, 31), "{instance}");
+        same(&rt, &(instance, error_of(&answer)), &(instance, (1, 31)));
     }
     // Present_Value, Out_Of_Service, Time_Delay, Time_Delay_Normal, High_Limit, Reliability_Evaluation_Inhibit,
     // Event_Parameters, Object_Property_Reference, and all of them.
     for number in [85, 81, 113, 356, 45, 357, 83, 78, 8, 4_194_303] {
-        assert_eq!(rt;
-            written(&list, number, Some(9), Value::Null)?,
-            (2, 32),
-            "{number}"
+        same(
+            &rt,
+            &(number, written(&list, number, Some(9), Value::Null)?),
+            &(number, (2, 32)),
         );
     }
     Ok(())
@@ -226,25 +228,25 @@ fn an_unknown_object_or_property_is_told_first(rt: HostRuntime) -> Result<(), Fa
 fn an_index_is_for_the_three_time_stamps_alone(rt: HostRuntime) -> Result<(), Fail> {
     let list = enrollments_of(rt.alloc(), follower(rt.alloc())?, mirror(rt.alloc())?)?;
     for number in [0, 17, 35, 36, 37, 72, 75, 77, 79, 103, 111, 353, 354] {
-        assert_eq!(rt;
-            written(&list, number, Some(0), Value::Null)?,
-            (2, 50),
-            "{number}"
+        same(
+            &rt,
+            &(number, written(&list, number, Some(0), Value::Null)?),
+            &(number, (2, 50)),
         );
     }
-    assert_eq!(rt; written(&list, 130, Some(4), Value::Null)?, (2, 42));
+    same(&rt, &written(&list, 130, Some(4), Value::Null)?, &(2, 42));
     for index in [0, 3] {
-        assert_eq!(rt;
-            written(&list, 130, Some(index), Value::Null)?,
-            (2, 40),
-            "{index}"
+        same(
+            &rt,
+            &(index, written(&list, 130, Some(index), Value::Null)?),
+            &(index, (2, 40)),
         );
     }
     for number in [0, 17, 36, 37, 72, 75, 77, 79, 103, 111, 130, 353] {
-        assert_eq!(rt;
-            written(&list, number, None, Value::Null)?,
-            (2, 40),
-            "{number}"
+        same(
+            &rt,
+            &(number, written(&list, number, None, Value::Null)?),
+            &(number, (2, 40)),
         );
     }
     Ok(())
@@ -253,26 +255,37 @@ fn an_index_is_for_the_three_time_stamps_alone(rt: HostRuntime) -> Result<(), Fa
 #[test]
 fn event_enable_is_three_bits_and_inhibition_true_or_false(rt: HostRuntime) -> Result<(), Fail> {
     let list = enrollments_of(rt.alloc(), follower(rt.alloc())?, mirror(rt.alloc())?)?;
-    assert_eq!(rt; written(&list, 35, None, Value::Bool(true))?, (2, 9));
-    assert_eq!(rt;
-        written(&list, 35, None, foreign(4, Foreign::OtherType))?,
-        (2, 9)
+    same(&rt, &written(&list, 35, None, Value::Bool(true))?, &(2, 9));
+    same(
+        &rt,
+        &written(&list, 35, None, foreign(4, Foreign::OtherType))?,
+        &(2, 9),
     );
-    assert_eq!(rt;
-        written(&list, 35, None, foreign(7, Foreign::CharacterSet))?,
-        (2, 9)
+    same(
+        &rt,
+        &written(&list, 35, None, foreign(7, Foreign::CharacterSet))?,
+        &(2, 9),
     );
-    assert_eq!(rt;
-        written(&list, 35, None, foreign(8, Foreign::OutOfRange))?,
-        (2, 37)
+    same(
+        &rt,
+        &written(&list, 35, None, foreign(8, Foreign::OutOfRange))?,
+        &(2, 37),
     );
-    assert_eq!(rt; written(&list, 35, None, bits(2, 0)?)?, (2, 37));
-    assert_eq!(rt; written(&list, 35, None, bits(4, 7)?)?, (2, 37));
-    assert_eq!(rt; written(&list, 35, None, bits(3, 7)?)?, (0, 0));
-    assert_eq!(rt; written(&list, 354, None, bits(3, 7)?)?, (2, 9));
-    assert_eq!(rt; written(&list, 354, None, Value::Unsigned(1))?, (2, 9));
-    assert_eq!(rt; written(&list, 354, None, Value::Null)?, (2, 9));
-    assert_eq!(rt; written(&list, 354, None, Value::Bool(false))?, (0, 0));
+    same(&rt, &written(&list, 35, None, bits(2, 0)?)?, &(2, 37));
+    same(&rt, &written(&list, 35, None, bits(4, 7)?)?, &(2, 37));
+    same(&rt, &written(&list, 35, None, bits(3, 7)?)?, &(0, 0));
+    same(&rt, &written(&list, 354, None, bits(3, 7)?)?, &(2, 9));
+    same(
+        &rt,
+        &written(&list, 354, None, Value::Unsigned(1))?,
+        &(2, 9),
+    );
+    same(&rt, &written(&list, 354, None, Value::Null)?, &(2, 9));
+    same(
+        &rt,
+        &written(&list, 354, None, Value::Bool(false))?,
+        &(0, 0),
+    );
     Ok(())
 }
 
@@ -304,17 +317,19 @@ fn written_and_taken_back(
 fn a_write_is_taken_back(rt: HostRuntime) -> Result<(), Fail> {
     let of_mirror = ([true, true, true], true);
     let of_follower = ([true, true, false], false);
-    assert_eq!(rt;
-        written_and_taken_back(rt.alloc(), PropertyId::EVENT_ENABLE, bits(3, 0b100)?)?,
-        [([false, false, true], true), of_mirror, of_follower]
+    same(
+        &rt,
+        &written_and_taken_back(rt.alloc(), PropertyId::EVENT_ENABLE, bits(3, 0b100)?)?,
+        &[([false, false, true], true), of_mirror, of_follower],
     );
-    assert_eq!(rt;
-        written_and_taken_back(
+    same(
+        &rt,
+        &written_and_taken_back(
             rt.alloc(),
             PropertyId::EVENT_ALGORITHM_INHIBIT,
-            Value::Bool(false)
+            Value::Bool(false),
         )?,
-        [([true, true, true], false), of_mirror, of_follower]
+        &[([true, true, true], false), of_mirror, of_follower],
     );
     Ok(())
 }
@@ -330,7 +345,10 @@ fn is_unsigned(value: &Value, wanted: u32) -> bool {
 /// Enrollments 1 and 2, and the integer values 1, which is -5, and 2, which is 12.
 fn followed(alloc: Global) -> Result<(Enrollments, Table), Fail> {
     let list = enrollments_of(alloc, follower(alloc)?, mirror(alloc)?)?;
-    Ok((list, table_of(alloc, level(alloc, 1, -5)?, level(alloc, 2, 12)?)?))
+    Ok((
+        list,
+        table_of(alloc, level(alloc, 1, -5)?, level(alloc, 2, 12)?)?,
+    ))
 }
 
 #[test]
@@ -340,14 +358,18 @@ fn an_enrollment_sees_the_values_of_its_objects(rt: HostRuntime) -> Result<(), F
     let Some(seen) = list.snapshot_of(&table, object) else {
         return Err("no snapshot".into());
     };
-    assert!(rt; is_signed(seen.value, 12));
-    assert!(rt; seen.feedback.is_some_and(|value| is_signed(value, -5)));
-    assert_eq!(rt; seen.algorithm, Algorithm::CommandFailure);
-    assert_eq!(rt; [seen.time_delay, seen.time_delay_normal.unwrap_or(0)], [5, 8]);
-    assert_eq!(rt; [seen.low, seen.high], [0, 0]);
-    assert_eq!(rt; seen.deadband, 0);
-    assert!(rt; seen.alarm_value.is_none());
-    assert!(rt; seen.alarm_values.is_empty());
+    holds(&rt, is_signed(seen.value, 12));
+    holds(&rt, seen.feedback.is_some_and(|value| is_signed(value, -5)));
+    same(&rt, &seen.algorithm, &Algorithm::CommandFailure);
+    same(
+        &rt,
+        &[seen.time_delay, seen.time_delay_normal.unwrap_or(0)],
+        &[5, 8],
+    );
+    same(&rt, &[seen.low, seen.high], &[0, 0]);
+    same(&rt, &seen.deadband, &0);
+    holds(&rt, seen.alarm_value.is_none());
+    holds(&rt, seen.alarm_values.is_empty());
     Ok(())
 }
 
@@ -358,8 +380,8 @@ fn an_object_may_be_its_own_feedback(rt: HostRuntime) -> Result<(), Fail> {
     let Some(seen) = list.snapshot_of(&table, object) else {
         return Err("no snapshot".into());
     };
-    assert!(rt; is_signed(seen.value, -5));
-    assert!(rt; seen.feedback.is_some_and(|value| is_signed(value, -5)));
+    holds(&rt, is_signed(seen.value, -5));
+    holds(&rt, seen.feedback.is_some_and(|value| is_signed(value, -5)));
     Ok(())
 }
 
@@ -376,13 +398,13 @@ fn a_range_has_limits_of_its_own(rt: HostRuntime) -> Result<(), Fail> {
     let Some(seen) = list.snapshot_of(&table, object) else {
         return Err("no snapshot".into());
     };
-    assert!(rt; is_unsigned(seen.value, 90));
-    assert!(rt; seen.feedback.is_none());
-    assert_eq!(rt; seen.algorithm, Algorithm::UnsignedRange);
-    assert_eq!(rt; [seen.low, seen.high], [20, 80]);
-    assert_eq!(rt; seen.limit_enable, [true, true]);
-    assert_eq!(rt; seen.time_delay, 3);
-    assert!(rt; seen.time_delay_normal.is_none());
+    holds(&rt, is_unsigned(seen.value, 90));
+    holds(&rt, seen.feedback.is_none());
+    same(&rt, &seen.algorithm, &Algorithm::UnsignedRange);
+    same(&rt, &[seen.low, seen.high], &[20, 80]);
+    same(&rt, &seen.limit_enable, &[true, true]);
+    same(&rt, &seen.time_delay, &3);
+    holds(&rt, seen.time_delay_normal.is_none());
     Ok(())
 }
 
@@ -393,13 +415,17 @@ fn a_value_object_has_limits_of_its_own(rt: HostRuntime) -> Result<(), Fail> {
     let Some(seen) = list.snapshot_of(&table, object) else {
         return Err("no snapshot".into());
     };
-    assert!(rt; is_unsigned(seen.value, 90));
-    assert!(rt; seen.feedback.is_none());
-    assert_eq!(rt; seen.algorithm, Algorithm::UnsignedOutOfRange);
-    assert_eq!(rt; [seen.low, seen.high], [40, 60]);
-    assert_eq!(rt; seen.deadband, 5);
-    assert_eq!(rt; seen.limit_enable, [true, false]);
-    assert_eq!(rt; [seen.time_delay, seen.time_delay_normal.unwrap_or(0)], [10, 20]);
+    holds(&rt, is_unsigned(seen.value, 90));
+    holds(&rt, seen.feedback.is_none());
+    same(&rt, &seen.algorithm, &Algorithm::UnsignedOutOfRange);
+    same(&rt, &[seen.low, seen.high], &[40, 60]);
+    same(&rt, &seen.deadband, &5);
+    same(&rt, &seen.limit_enable, &[true, false]);
+    same(
+        &rt,
+        &[seen.time_delay, seen.time_delay_normal.unwrap_or(0)],
+        &[10, 20],
+    );
     Ok(())
 }
 
@@ -411,7 +437,11 @@ fn an_object_that_is_not_there_is_not_seen(rt: HostRuntime) -> Result<(), Fail> 
         (ObjectKind::IntegerValue, 2),
     ] {
         let object = identifier(kind, instance)?;
-        assert!(rt; list.snapshot_of(&table, object).is_none(), "{instance}");
+        same(
+            &rt,
+            &(instance, list.snapshot_of(&table, object).is_none()),
+            &(instance, true),
+        );
     }
     Ok(())
 }
@@ -445,9 +475,9 @@ fn number_of(
 #[test]
 fn a_fault_of_either_object_is_a_fault(rt: HostRuntime) -> Result<(), Fail> {
     // Integer value 1 is the feedback of the first, and both objects of the second.
-    assert_eq!(rt; reliabilities(rt.alloc(), 1, 0)?, [0, 0, 0, 0]);
-    assert_eq!(rt; reliabilities(rt.alloc(), 1, 7)?, [14, 14, 7, 0]);
-    assert_eq!(rt; reliabilities(rt.alloc(), 2, 12)?, [14, 0, 0, 12]);
+    same(&rt, &reliabilities(rt.alloc(), 1, 0)?, &[0, 0, 0, 0]);
+    same(&rt, &reliabilities(rt.alloc(), 1, 7)?, &[14, 14, 7, 0]);
+    same(&rt, &reliabilities(rt.alloc(), 2, 12)?, &[14, 0, 0, 12]);
     Ok(())
 }
 
@@ -459,17 +489,23 @@ fn an_object_that_is_not_there_has_no_fault(rt: HostRuntime) -> Result<(), Fail>
         level(rt.alloc(), 1, 0)?,
         level(rt.alloc(), 2, 0)?,
     )?;
-    assert_eq!(rt;
-        number_of(&list, &table, ObjectKind::EventEnrollment, 1)?,
-        0
+    same(
+        &rt,
+        &number_of(&list, &table, ObjectKind::EventEnrollment, 1)?,
+        &0,
     );
-    assert_eq!(rt;
-        number_of(&list, &table, ObjectKind::EventEnrollment, 3)?,
-        0
+    same(
+        &rt,
+        &number_of(&list, &table, ObjectKind::EventEnrollment, 3)?,
+        &0,
     );
-    assert_eq!(rt; number_of(&list, &table, ObjectKind::IntegerValue, 3)?, 0);
+    same(
+        &rt,
+        &number_of(&list, &table, ObjectKind::IntegerValue, 3)?,
+        &0,
+    );
     let object = identifier(ObjectKind::EventEnrollment, 3)?;
-    assert!(rt; list.snapshot_of(&table, object).is_none());
+    holds(&rt, list.snapshot_of(&table, object).is_none());
     Ok(())
 }
 
@@ -487,22 +523,30 @@ fn watching(list: &Enrollments, kind: ObjectKind, instance: u32) -> Result<u64, 
 #[test]
 fn each_that_refers_is_told_once_in_order(rt: HostRuntime) -> Result<(), Fail> {
     let list = enrollments_of(rt.alloc(), follower(rt.alloc())?, mirror(rt.alloc())?)?;
-    assert_eq!(rt; watching(&list, ObjectKind::IntegerValue, 1)?, 12);
-    assert_eq!(rt; watching(&list, ObjectKind::IntegerValue, 2)?, 1);
+    same(&rt, &watching(&list, ObjectKind::IntegerValue, 1)?, &12);
+    same(&rt, &watching(&list, ObjectKind::IntegerValue, 2)?, &1);
     for (kind, instance) in [
         (ObjectKind::IntegerValue, 0),
         (ObjectKind::IntegerValue, 3),
         (ObjectKind::PositiveIntegerValue, 1),
         (ObjectKind::EventEnrollment, 1),
     ] {
-        assert_eq!(rt; watching(&list, kind, instance)?, 0, "{instance}");
+        same(
+            &rt,
+            &(instance, watching(&list, kind, instance)?),
+            &(instance, 0),
+        );
     }
     let list = enrollments_of(rt.alloc(), mirror(rt.alloc())?, range(rt.alloc())?)?;
-    assert_eq!(rt; watching(&list, ObjectKind::IntegerValue, 1)?, 2);
-    assert_eq!(rt; watching(&list, ObjectKind::PositiveIntegerValue, 1)?, 3);
+    same(&rt, &watching(&list, ObjectKind::IntegerValue, 1)?, &2);
+    same(
+        &rt,
+        &watching(&list, ObjectKind::PositiveIntegerValue, 1)?,
+        &3,
+    );
     let none = Enrollments::new(rt.alloc(), Vec::new(rt.alloc()))?;
-    assert_eq!(rt; watching(&none, ObjectKind::IntegerValue, 1)?, 0);
-    assert!(rt; none.rows().is_empty());
+    same(&rt, &watching(&none, ObjectKind::IntegerValue, 1)?, &0);
+    holds(&rt, none.rows().is_empty());
     Ok(())
 }
 
@@ -514,11 +558,20 @@ fn an_enrollment_has_fourteen_properties(rt: HostRuntime) {
             count = count.wrapping_add(1);
         }
     }
-    assert_eq!(rt; count, 14);
-    assert_eq!(rt;
-        EnrollmentProperty::of_number(37),
-        Some(EnrollmentProperty::EventType)
+    same(&rt, &count, &14);
+    same(
+        &rt,
+        &EnrollmentProperty::of_number(37),
+        &Some(EnrollmentProperty::EventType),
     );
-    assert_eq!(rt; EnrollmentProperty::EventTimeStamps.array_length(), Some(3));
-    assert_eq!(rt; EnrollmentProperty::AckedTransitions.array_length(), None);
+    same(
+        &rt,
+        &EnrollmentProperty::EventTimeStamps.array_length(),
+        &Some(3),
+    );
+    same(
+        &rt,
+        &EnrollmentProperty::AckedTransitions.array_length(),
+        &None,
+    );
 }

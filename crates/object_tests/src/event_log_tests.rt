@@ -1,3 +1,4 @@
+use crate::comparing::{holds, same};
 use bac_values::{Items, Stamp};
 use event_log::*;
 use std::alloc::{AllocError, Global};
@@ -28,12 +29,12 @@ fn range(first: u32, count: u32) -> LogRange {
 }
 
 fn answers_for_three_in_two(rt: &impl Abort, log: &EventLog) {
-    assert_eq!(rt; log.total(), 3);
-    assert_eq!(rt; log.len(), 2);
-    assert_eq!(rt; log.range_by_sequence(2, 2), range(0, 2));
-    assert_eq!(rt; log.range_by_position(3, 1), range(0, 0));
-    assert_eq!(rt; log.item(1).map(|entry| entry.sequence), Some(3));
-    assert!(rt; log.item(2).is_none());
+    same(rt, &log.total(), &3);
+    same(rt, &log.len(), &2);
+    same(rt, &log.range_by_sequence(2, 2), &range(0, 2));
+    same(rt, &log.range_by_position(3, 1), &range(0, 0));
+    same(rt, &log.item(1).map(|entry| entry.sequence), &Some(3));
+    holds(rt, log.item(2).is_none());
 }
 
 #[test]
@@ -46,10 +47,10 @@ fn the_oldest_record_goes(rt: HostRuntime) -> Result<(), Fail> {
 #[test]
 fn a_full_log_that_stops_takes_nothing(rt: HostRuntime) -> Result<(), Fail> {
     let log = three_in_two(rt.alloc(), true)?;
-    assert_eq!(rt; log.total(), 2);
-    assert_eq!(rt; log.item(0).map(|entry| entry.sequence), Some(1));
-    assert_eq!(rt; log.item(1).map(|entry| entry.sequence), Some(2));
-    assert!(rt; log.enabled());
+    same(&rt, &log.total(), &2);
+    same(&rt, &log.item(0).map(|entry| entry.sequence), &Some(1));
+    same(&rt, &log.item(1).map(|entry| entry.sequence), &Some(2));
+    holds(&rt, log.enabled());
     Ok(())
 }
 
@@ -84,12 +85,12 @@ fn numbers_go_on_with_1(rt: HostRuntime) -> Result<(), Fail> {
     let mut log = EventLog::restore(alloc, 4, false, true, u32::MAX, records)?;
     put(alloc, &mut log, 2)?;
     put(alloc, &mut log, 3)?;
-    assert_eq!(rt; log.total(), 2);
-    assert_eq!(rt; log.range_by_sequence(u32::MAX, 3), range(0, 3));
-    assert_eq!(rt; log.range_by_sequence(1, 5), range(1, 2));
-    assert_eq!(rt; log.range_by_sequence(2, -2), range(1, 2));
-    assert_eq!(rt; log.range_by_sequence(3, 1), LogRange::EMPTY);
-    assert_eq!(rt; log.range_by_sequence(0, 1), LogRange::EMPTY);
+    same(&rt, &log.total(), &2);
+    same(&rt, &log.range_by_sequence(u32::MAX, 3), &range(0, 3));
+    same(&rt, &log.range_by_sequence(1, 5), &range(1, 2));
+    same(&rt, &log.range_by_sequence(2, -2), &range(1, 2));
+    same(&rt, &log.range_by_sequence(3, 1), &LogRange::EMPTY);
+    same(&rt, &log.range_by_sequence(0, 1), &LogRange::EMPTY);
     Ok(())
 }
 
@@ -100,19 +101,19 @@ fn ranges_end_at_the_edges(rt: HostRuntime) -> Result<(), Fail> {
     for at in [1u8, 3, 3, 5] {
         put(alloc, &mut log, at)?;
     }
-    assert_eq!(rt; log.range_by_position(0, 1), LogRange::EMPTY);
-    assert_eq!(rt; log.range_by_position(5, -1), LogRange::EMPTY);
-    assert_eq!(rt; log.range_by_position(1, 9), range(0, 4));
-    assert_eq!(rt; log.range_by_position(3, -2), range(1, 2));
-    assert_eq!(rt; log.range_by_position(2, -9), range(0, 2));
-    assert_eq!(rt; log.range_by_position(2, 0), LogRange::EMPTY);
-    assert_eq!(rt; log.range_by_position(4, i32::MIN), range(0, 4));
-    assert_eq!(rt; log.range_by_time(&second(3), 9), range(3, 1));
-    assert_eq!(rt; log.range_by_time(&second(3), -9), range(0, 1));
-    assert_eq!(rt; log.range_by_time(&second(0), 2), range(0, 2));
-    assert_eq!(rt; log.range_by_time(&second(9), -3), range(1, 3));
-    assert_eq!(rt; log.range_by_time(&second(5), 1), LogRange::EMPTY);
-    assert_eq!(rt; log.range_by_time(&second(1), -1), LogRange::EMPTY);
+    same(&rt, &log.range_by_position(0, 1), &LogRange::EMPTY);
+    same(&rt, &log.range_by_position(5, -1), &LogRange::EMPTY);
+    same(&rt, &log.range_by_position(1, 9), &range(0, 4));
+    same(&rt, &log.range_by_position(3, -2), &range(1, 2));
+    same(&rt, &log.range_by_position(2, -9), &range(0, 2));
+    same(&rt, &log.range_by_position(2, 0), &LogRange::EMPTY);
+    same(&rt, &log.range_by_position(4, i32::MIN), &range(0, 4));
+    same(&rt, &log.range_by_time(&second(3), 9), &range(3, 1));
+    same(&rt, &log.range_by_time(&second(3), -9), &range(0, 1));
+    same(&rt, &log.range_by_time(&second(0), 2), &range(0, 2));
+    same(&rt, &log.range_by_time(&second(9), -3), &range(1, 3));
+    same(&rt, &log.range_by_time(&second(5), 1), &LogRange::EMPTY);
+    same(&rt, &log.range_by_time(&second(1), -1), &LogRange::EMPTY);
     Ok(())
 }
 
@@ -121,14 +122,14 @@ fn a_cleared_log_keeps_its_total(rt: HostRuntime) -> Result<(), Fail> {
     let alloc = rt.alloc();
     let mut log = three_in_two(alloc, false)?;
     log.clear();
-    assert_eq!(rt; log.len(), 0);
-    assert_eq!(rt; log.total(), 3);
+    same(&rt, &log.len(), &0);
+    same(&rt, &log.total(), &3);
     log.set_enabled(false);
     put(alloc, &mut log, 4)?;
-    assert_eq!(rt; log.total(), 3);
+    same(&rt, &log.total(), &3);
     log.set_enabled(true);
     put(alloc, &mut log, 5)?;
-    assert_eq!(rt; log.item(0).map(|entry| entry.sequence), Some(4));
+    same(&rt, &log.item(0).map(|entry| entry.sequence), &Some(4));
     Ok(())
 }
 
@@ -143,7 +144,7 @@ fn the_weekday_is_not_looked_at(rt: HostRuntime) {
     let later = Stamp {
         octets: [123, 11, 15, 1, 0, 0, 0, 0],
     };
-    assert!(rt; !is_before(&tuesday, &no_day));
-    assert!(rt; !is_before(&no_day, &tuesday));
-    assert!(rt; is_before(&no_day, &later));
+    holds(&rt, !is_before(&tuesday, &no_day));
+    holds(&rt, !is_before(&no_day, &tuesday));
+    holds(&rt, is_before(&no_day, &later));
 }

@@ -1,5 +1,6 @@
 ghost use Rattle.std.specs.Prelude.{◌≤◌, length};
 
+use crate::comparing::{holds, same};
 use algorithm_rules::{Algorithm, Snapshot};
 use bac_values::EventState::{self, Fault, HighLimit, LowLimit, Normal, Offnormal};
 use bac_values::{NoMemory, Reliability, Stamp, Transition, Value};
@@ -119,12 +120,13 @@ fn leaves_a_fault_and_enters_a_limit_at_one_point(rt: HostRuntime) -> Result<(),
         &limits(&within, 0),
         &faulty(0),
     )?;
-    assert_eq!(rt;
-        changed,
-        Changed {
+    same(
+        &rt,
+        &changed,
+        &Changed {
             first: faults(Normal, Fault),
-            second: None
-        }
+            second: None,
+        },
     );
     let changed = looked(
         alloc,
@@ -133,7 +135,7 @@ fn leaves_a_fault_and_enters_a_limit_at_one_point(rt: HostRuntime) -> Result<(),
         &limits(&above, 0),
         &faulty(1_000),
     )?;
-    assert_eq!(rt; changed, NOTHING);
+    same(&rt, &changed, &NOTHING);
     let changed = looked(
         alloc,
         &mut alarm,
@@ -141,24 +143,34 @@ fn leaves_a_fault_and_enters_a_limit_at_one_point(rt: HostRuntime) -> Result<(),
         &limits(&above, 0),
         &point(2_000),
     )?;
-    assert_eq!(rt;
-        changed,
-        Changed {
+    same(
+        &rt,
+        &changed,
+        &Changed {
             first: faults(Fault, Normal),
             second: moves(Normal, HighLimit),
-        }
+        },
     );
-    assert_eq!(rt; alarm.state(), HighLimit);
-    assert_eq!(rt; alarm.stamps(), [stamp(2_000), stamp(0), stamp(2_000)]);
-    assert_eq!(rt;
-        alarm.last_states(),
-        [Some(HighLimit), Some(Fault), Some(Normal)]
+    same(&rt, &alarm.state(), &HighLimit);
+    same(
+        &rt,
+        &alarm.stamps(),
+        &[stamp(2_000), stamp(0), stamp(2_000)],
     );
-    assert_eq!(rt; alarm.last_reliability(), Reliability::NoFaultDetected);
-    assert_eq!(rt; alarm.cause(), None);
-    assert_eq!(rt; alarm.acked(), [false, true, true]);
+    same(
+        &rt,
+        &alarm.last_states(),
+        &[Some(HighLimit), Some(Fault), Some(Normal)],
+    );
+    same(
+        &rt,
+        &alarm.last_reliability(),
+        &Reliability::NoFaultDetected,
+    );
+    same(&rt, &alarm.cause(), &None);
+    same(&rt, &alarm.acked(), &[false, true, true]);
     alarm.acknowledge(Transition::ToOffnormal);
-    assert_eq!(rt; alarm.acked(), [true; 3]);
+    same(&rt, &alarm.acked(), &[true; 3]);
     Ok(())
 }
 
@@ -179,13 +191,16 @@ fn another_fault_is_a_move_of_its_own(rt: HostRuntime) -> Result<(), Fail> {
             ..point(after)
         };
         let changed = looked(alloc, &mut alarm, &mut past, &snapshot, &seen)?;
-        assert_eq!(rt;
-            changed,
-            Changed {
-                first,
-                second: None
-            },
-            "{after}"
+        same(
+            &rt,
+            &(after, changed),
+            &(
+                after,
+                Changed {
+                    first,
+                    second: None,
+                },
+            ),
         );
     }
     Ok(())
@@ -213,13 +228,16 @@ fn goes_from_one_limit_to_the_other_after_the_delay(rt: HostRuntime) -> Result<(
             &limits(value, 10),
             &point(after),
         )?;
-        assert_eq!(rt;
-            changed,
-            Changed {
-                first: None,
-                second
-            },
-            "{after}"
+        same(
+            &rt,
+            &(after, changed),
+            &(
+                after,
+                Changed {
+                    first: None,
+                    second,
+                },
+            ),
         );
     }
     Ok(())
@@ -251,15 +269,18 @@ fn another_alarm_value_is_a_move_once_it_has_lasted(rt: HostRuntime) -> Result<(
             &states(value, &alarms),
             &point(after),
         )?;
-        assert_eq!(rt;
-            changed,
-            Changed {
-                first: None,
-                second
-            },
-            "{after}"
+        same(
+            &rt,
+            &(after, changed),
+            &(
+                after,
+                Changed {
+                    first: None,
+                    second,
+                },
+            ),
         );
-        assert_eq!(rt; alarm.cause(), cause, "{after}");
+        same(&rt, &(after, alarm.cause()), &(after, cause));
     }
     Ok(())
 }
@@ -283,13 +304,16 @@ fn the_delay_starts_anew_where_an_inhibition_ends(rt: HostRuntime) -> Result<(),
             ..point(after)
         };
         let changed = looked(alloc, &mut alarm, &mut past, &limits(value, 10), &seen)?;
-        assert_eq!(rt;
-            changed,
-            Changed {
-                first: None,
-                second
-            },
-            "{after}"
+        same(
+            &rt,
+            &(after, changed),
+            &(
+                after,
+                Changed {
+                    first: None,
+                    second,
+                },
+            ),
         );
     }
     Ok(())
@@ -298,9 +322,9 @@ fn the_delay_starts_anew_where_an_inhibition_ends(rt: HostRuntime) -> Result<(),
 #[test]
 fn a_new_alarm_is_normal_and_acknowledged(rt: HostRuntime) {
     let alarm = Alarm::new();
-    assert_eq!(rt; alarm.state(), Normal);
-    assert_eq!(rt; alarm.acked(), [true; 3]);
-    assert_eq!(rt; alarm.stamps(), [Stamp::NEVER; 3]);
-    assert_eq!(rt; alarm.last_states(), [None; 3]);
-    assert!(rt; matches!(Found::Has(&alarm), Found::Has(_)));
+    same(&rt, &alarm.state(), &Normal);
+    same(&rt, &alarm.acked(), &[true; 3]);
+    same(&rt, &alarm.stamps(), &[Stamp::NEVER; 3]);
+    same(&rt, &alarm.last_states(), &[None; 3]);
+    holds(&rt, matches!(Found::Has(&alarm), Found::Has(_)));
 }

@@ -1,19 +1,20 @@
+use crate::comparing::same;
 use held_timers::*;
 use std::test::Fail;
 
 #[test]
 fn the_least_moment_is_next(rt: HostRuntime) -> Result<(), Fail> {
     let mut timers = Timers::new(rt.alloc(), 5)?;
-    assert_eq!(rt; timers.next_due(), None);
+    same(&rt, &timers.next_due(), &None);
     timers.set_due(4, Some(u64::MAX));
-    assert_eq!(rt; timers.next_due(), Some(u64::MAX));
+    same(&rt, &timers.next_due(), &Some(u64::MAX));
     timers.set_due(1, Some(30));
     timers.set_due(3, Some(20));
-    assert_eq!(rt; timers.next_due(), Some(20));
+    same(&rt, &timers.next_due(), &Some(20));
     timers.set_due(3, None);
-    assert_eq!(rt; timers.next_due(), Some(30));
+    same(&rt, &timers.next_due(), &Some(30));
     timers.set_due(1, Some(40));
-    assert_eq!(rt; timers.next_due(), Some(40));
+    same(&rt, &timers.next_due(), &Some(40));
     Ok(())
 }
 
@@ -43,7 +44,7 @@ fn due_indices_are_found_in_their_order(rt: HostRuntime) -> Result<(), Fail> {
 #[test]
 fn no_timers_are_never_due(rt: HostRuntime) -> Result<(), Fail> {
     let timers = Timers::new(rt.alloc(), 0)?;
-    assert_eq!(rt; timers.next_due(), None);
-    assert_eq!(rt; timers.due_from(u64::MAX, 0), None);
+    same(&rt, &timers.next_due(), &None);
+    same(&rt, &timers.due_from(u64::MAX, 0), &None);
     Ok(())
 }

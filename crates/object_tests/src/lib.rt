@@ -14,6 +14,8 @@ mod bac_values_tests;
 #[cfg(test)]
 mod civil_stamp_tests;
 #[cfg(test)]
+mod comparing;
+#[cfg(test)]
 mod enrollment_tests;
 #[cfg(test)]
 mod event_log_tests;

@@ -4,6 +4,7 @@ ghost use Rattle.algorithm_rules.specs.declared.table.Algorithm.TheVariants.{Sig
 ghost use Rattle.event_services.specs.Notifications.{IsTold};
 ghost use Rattle.notify_class.specs.Recipients.{IsListedRecipient};
 
+use crate::comparing::same;
 use algorithm_rules::{Algorithm, Snapshot};
 use bac_values::{
     Bits, EventState, Items, Note, ObjectId, Peer, Reliability, Stamp, StatusFlags, Text,
@@ -181,12 +182,12 @@ fn expect_note(
 {
     let class = class_of_one(alloc)?;
     let body = body_of(alloc, &facts, &class, transition)?;
-    assert_eq!(rt; body.as_slice(), wanted);
+    same(rt, &body.as_slice(), &wanted);
     let told = Notification {
         process: 1,
         ..facts
     };
-    assert_eq!(rt; read_notification(alloc, wanted), Ok(told));
+    same(rt, &read_notification(alloc, wanted), &Ok(told));
     Ok(())
 }
 
@@ -236,7 +237,11 @@ fn an_acknowledgement_has_the_type_and_the_priority_of_its_state(
         (EventState::Normal, 15, 200),
     ] {
         let facts = acknowledgement_notification(&source, &class, state, LATER);
-        assert_eq!(rt; (facts.event_type, facts.priority), (event_type, priority));
+        same(
+            &rt,
+            &(facts.event_type, facts.priority),
+            &(event_type, priority),
+        );
     }
     Ok(())
 }
@@ -298,20 +303,24 @@ fn processes_told(alloc: Global, moment: u64, minutes: i16) -> Result<Vec<u32>, 
 fn recipients_are_told_in_their_windows(rt: HostRuntime) -> Result<(), Fail> {
     // Each wanted answer was computed by Python's datetime.
     let told = processes_told(rt.alloc(), RAISED_AT, 0)?;
-    assert_eq!(rt; told.as_slice(), [1, 4, 0, 1, 3, 0, 1, 0].as_slice());
+    same(&rt, &told.as_slice(), &[1, 4, 0, 1, 3, 0, 1, 0].as_slice());
     let told = processes_told(rt.alloc(), RAISED_AT + 9, 0)?;
-    assert_eq!(rt; told.as_slice(), [1, 4, 0, 1, 3, 0, 1, 0].as_slice());
+    same(&rt, &told.as_slice(), &[1, 4, 0, 1, 3, 0, 1, 0].as_slice());
     let told = processes_told(rt.alloc(), RAISED_AT + 10, 0)?;
-    assert_eq!(rt; told.as_slice(), [1, 0, 1, 3, 0, 1, 0].as_slice());
+    same(&rt, &told.as_slice(), &[1, 0, 1, 3, 0, 1, 0].as_slice());
     let told = processes_told(rt.alloc(), RAISED_AT, -1)?;
-    assert_eq!(rt; told.as_slice(), [1, 0, 1, 3, 0, 1, 0].as_slice());
+    same(&rt, &told.as_slice(), &[1, 0, 1, 3, 0, 1, 0].as_slice());
     // Monday, the 13th of November 2023, at 08:00 in UTC, and a minute earlier west of it.
     let told = processes_told(rt.alloc(), 1_699_862_400_000, 0)?;
-    assert_eq!(rt; told.as_slice(), [1, 2, 0, 1, 2, 3, 0, 1, 2, 0].as_slice());
+    same(
+        &rt,
+        &told.as_slice(),
+        &[1, 2, 0, 1, 2, 3, 0, 1, 2, 0].as_slice(),
+    );
     let told = processes_told(rt.alloc(), 1_699_862_400_000, -1)?;
-    assert_eq!(rt; told.as_slice(), [1, 0, 1, 3, 0, 1, 0].as_slice());
+    same(&rt, &told.as_slice(), &[1, 0, 1, 3, 0, 1, 0].as_slice());
     // Saturday, the 18th.
     let told = processes_told(rt.alloc(), 1_700_345_600_000, 120)?;
-    assert_eq!(rt; told.as_slice(), [1, 5, 0, 1, 0, 1, 5, 0].as_slice());
+    same(&rt, &told.as_slice(), &[1, 5, 0, 1, 0, 1, 5, 0].as_slice());
     Ok(())
 }

@@ -1,6 +1,7 @@
 ghost use Rattle.notify_class.specs.Recipients.{IsListedRecipient};
 
 // Each wanted answer at a moment was computed by Python's datetime.
+use crate::comparing::{holds, same};
 use bac_values::{Items, Peer, Transition};
 use civil_stamp::Zone;
 use notify_class::{Class, Destination, EditFault, check_edit, chosen, uses};
@@ -32,11 +33,14 @@ fn includes_both_ends_of_a_window(rt: HostRuntime) -> Result<(), Fail> {
     let zone = Zone::fixed(0)?;
     let instant = destination(1, 1, EIGHT, EIGHT);
     let off = Transition::ToOffnormal;
-    assert!(rt; uses(&instant, off, MONDAY_AT_EIGHT, &zone));
-    assert!(rt; uses(&instant, off, MONDAY_AT_EIGHT + 9, &zone));
-    assert!(rt; !uses(&instant, off, MONDAY_AT_EIGHT + 10, &zone));
-    assert!(rt; !uses(&instant, off, MONDAY_AT_EIGHT - 1, &zone));
-    assert!(rt; !uses(&instant, Transition::ToNormal, MONDAY_AT_EIGHT, &zone));
+    holds(&rt, uses(&instant, off, MONDAY_AT_EIGHT, &zone));
+    holds(&rt, uses(&instant, off, MONDAY_AT_EIGHT + 9, &zone));
+    holds(&rt, !uses(&instant, off, MONDAY_AT_EIGHT + 10, &zone));
+    holds(&rt, !uses(&instant, off, MONDAY_AT_EIGHT - 1, &zone));
+    holds(
+        &rt,
+        !uses(&instant, Transition::ToNormal, MONDAY_AT_EIGHT, &zone),
+    );
     Ok(())
 }
 
@@ -45,9 +49,9 @@ fn a_window_with_its_ends_exchanged_is_empty(rt: HostRuntime) -> Result<(), Fail
     let zone = Zone::fixed(0)?;
     let empty = destination(1, 1, NINE, EIGHT);
     let off = Transition::ToOffnormal;
-    assert!(rt; !uses(&empty, off, MONDAY_AT_EIGHT, &zone));
-    assert!(rt; !uses(&empty, off, MONDAY_AT_EIGHT + 9, &zone));
-    assert!(rt; !uses(&empty, off, MONDAY_AT_EIGHT + 10, &zone));
+    holds(&rt, !uses(&empty, off, MONDAY_AT_EIGHT, &zone));
+    holds(&rt, !uses(&empty, off, MONDAY_AT_EIGHT + 9, &zone));
+    holds(&rt, !uses(&empty, off, MONDAY_AT_EIGHT + 10, &zone));
     Ok(())
 }
 
@@ -56,8 +60,14 @@ fn the_weekday_is_the_zones(rt: HostRuntime) -> Result<(), Fail> {
     // Sixteen hours later it is Tuesday, 2023-11-14, at 00:00:00.00 in UTC, and still Monday a minute west of it.
     let midnight = MONDAY_AT_EIGHT + 57_600_000;
     let tuesdays = destination(1, 2, 0, 8_639_999);
-    assert!(rt; uses(&tuesdays, Transition::ToFault, midnight, &Zone::fixed(0)?));
-    assert!(rt; !uses(&tuesdays, Transition::ToFault, midnight, &Zone::fixed(-1)?));
+    holds(
+        &rt,
+        uses(&tuesdays, Transition::ToFault, midnight, &Zone::fixed(0)?),
+    );
+    holds(
+        &rt,
+        !uses(&tuesdays, Transition::ToFault, midnight, &Zone::fixed(-1)?),
+    );
     Ok(())
 }
 
@@ -75,10 +85,18 @@ fn chooses_in_the_order_of_the_list(rt: HostRuntime) -> Result<(), Fail> {
         destinations: Items::of(list),
     };
     let off = Transition::ToOffnormal;
-    assert_eq!(rt; chosen(&class, off, MONDAY_AT_EIGHT, &zone, 0), Some(0));
-    assert_eq!(rt; chosen(&class, off, MONDAY_AT_EIGHT, &zone, 1), Some(2));
-    assert_eq!(rt; chosen(&class, off, MONDAY_AT_EIGHT, &zone, 3), None);
-    assert_eq!(rt; chosen(&class, off, MONDAY_AT_EIGHT, &zone, 4), None);
+    same(
+        &rt,
+        &chosen(&class, off, MONDAY_AT_EIGHT, &zone, 0),
+        &Some(0),
+    );
+    same(
+        &rt,
+        &chosen(&class, off, MONDAY_AT_EIGHT, &zone, 1),
+        &Some(2),
+    );
+    same(&rt, &chosen(&class, off, MONDAY_AT_EIGHT, &zone, 3), &None);
+    same(&rt, &chosen(&class, off, MONDAY_AT_EIGHT, &zone, 4), &None);
     Ok(())
 }
 
@@ -90,15 +108,17 @@ fn an_edit_keeps_the_limits(rt: HostRuntime) -> Result<(), Fail> {
         destination(2, 1, 0, 1),
         destination(1, 1, 0, 1),
     ];
-    assert_eq!(rt; check_edit(&known, &list, 3, 9), Ok(()));
-    assert_eq!(rt;
-        check_edit(&known, &list, 3, 8),
-        Err(EditFault::TooManyNotes { would: 9 })
+    same(&rt, &check_edit(&known, &list, 3, 9), &Ok(()));
+    same(
+        &rt,
+        &check_edit(&known, &list, 3, 8),
+        &Err(EditFault::TooManyNotes { would: 9 }),
     );
     let longer = [destination(1, 1, 0, 1); 33];
-    assert_eq!(rt;
-        check_edit(&known, &longer, 3, 8),
-        Err(EditFault::TooMany { count: 33 })
+    same(
+        &rt,
+        &check_edit(&known, &longer, 3, 8),
+        &Err(EditFault::TooMany { count: 33 }),
     );
     Ok(())
 }

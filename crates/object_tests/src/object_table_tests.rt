@@ -3,6 +3,7 @@ ghost use Rattle.std.specs.declared.cmp.Ordering.TheVariants.{Less};
 ghost use Rattle.object_table.specs.Objects.{IsObject};
 ghost use Rattle.object_table.specs.Rows.{identifier_order};
 
+use crate::comparing::{holds, same};
 use bac_values::{Bits, Foreign, Items, ObjectId, ObjectKind, PropertyId, SetFault, Text, Value};
 use object_table::*;
 use std::alloc::Global;
@@ -99,19 +100,19 @@ fn a_binary_value_is_0_or_1(rt: HostRuntime) -> Result<(), Fail> {
     let mut table = table_of(rt.alloc(), pump(rt.alloc())?, tank(rt.alloc())?)?;
     let two = Value::Enumerated(2);
     let answer = table.check_write(pump_id, PropertyId::PRESENT_VALUE, None, &two);
-    assert!(rt; is_error(answer, 2, 37));
+    holds(&rt, is_error(answer, 2, 37));
     let real = Value::Opaque {
         tag: 4,
         why: Foreign::OtherType,
     };
     let answer = table.check_write(pump_id, PropertyId::PRESENT_VALUE, None, &real);
-    assert!(rt; is_error(answer, 2, 9));
+    holds(&rt, is_error(answer, 2, 9));
     let one = Value::Enumerated(1);
     let change = table.check_write(pump_id, PropertyId::PRESENT_VALUE, None, &one)?;
     let back = table.apply(change);
-    assert!(rt; table.value_of(pump_id) == Some(&one));
+    holds(&rt, table.value_of(pump_id) == Some(&one));
     let again = table.apply(back);
-    assert!(rt; table.value_of(pump_id) == Some(&Value::Enumerated(0)));
+    holds(&rt, table.value_of(pump_id) == Some(&Value::Enumerated(0)));
     let _ = again;
     Ok(())
 }
@@ -140,43 +141,59 @@ fn the_first_error_is_told(rt: HostRuntime) -> Result<(), Fail> {
     let text = Value::Text(Text::new(rt.alloc(), "calm")?);
     let nowhere = ObjectId::of_kind(ObjectKind::IntegerValue, 2)?;
     let answer = table.check_write(nowhere, PropertyId(0), Some(9), &text);
-    assert!(rt; is_error(answer, 1, 31));
+    holds(&rt, is_error(answer, 1, 31));
     // Alarm_Value of an integer value, and Time_Delay_Normal where the site gives none.
-    assert!(rt; is_refused(&table, 6, Some(9), &text, 2, 32)?);
-    assert!(rt; is_refused(&table, 356, None, &Value::Unsigned(5), 2, 32)?);
+    holds(&rt, is_refused(&table, 6, Some(9), &text, 2, 32)?);
+    holds(
+        &rt,
+        is_refused(&table, 356, None, &Value::Unsigned(5), 2, 32)?,
+    );
     // Object_Name is no array; Event_Time_Stamps has three elements, and index 0 is its length.
-    assert!(rt; is_refused(&table, 77, Some(0), &text, 2, 50)?);
-    assert!(rt; is_refused(&table, 130, Some(4), &text, 2, 42)?);
-    assert!(rt; is_refused(&table, 130, Some(3), &text, 2, 40)?);
-    assert!(rt; is_refused(&table, 130, Some(0), &text, 2, 40)?);
-    assert!(rt; is_refused(&table, 77, None, &text, 2, 40)?);
+    holds(&rt, is_refused(&table, 77, Some(0), &text, 2, 50)?);
+    holds(&rt, is_refused(&table, 130, Some(4), &text, 2, 42)?);
+    holds(&rt, is_refused(&table, 130, Some(3), &text, 2, 40)?);
+    holds(&rt, is_refused(&table, 130, Some(0), &text, 2, 40)?);
+    holds(&rt, is_refused(&table, 77, None, &text, 2, 40)?);
     // High_Limit is signed here, so text comes first as another type, whatever else it is.
-    assert!(rt; is_refused(&table, 45, None, &Value::Unsigned(80), 2, 9)?);
-    assert!(rt; is_refused(&table, 45, None, &foreign(7, Foreign::CharacterSet), 2, 9)?);
-    assert!(rt; is_refused(&table, 45, None, &foreign(3, Foreign::OutOfRange), 2, 37)?);
+    holds(
+        &rt,
+        is_refused(&table, 45, None, &Value::Unsigned(80), 2, 9)?,
+    );
+    holds(
+        &rt,
+        is_refused(&table, 45, None, &foreign(7, Foreign::CharacterSet), 2, 9)?,
+    );
+    holds(
+        &rt,
+        is_refused(&table, 45, None, &foreign(3, Foreign::OutOfRange), 2, 37)?,
+    );
     // Limit_Enable has two bits.
     let three = Value::Bits(Bits::new(3, 0b101)?);
-    assert!(rt; is_refused(&table, 52, None, &three, 2, 37)?);
+    holds(&rt, is_refused(&table, 52, None, &three, 2, 37)?);
     Ok(())
 }
 
 #[test]
 fn a_text_is_utf_8_of_at_most_256_octets(rt: HostRuntime) {
-    assert_eq!(rt;
-        check_value(Some(7), false, &foreign(7, Foreign::CharacterSet)),
-        Err(WriteFault::Error { class: 2, code: 41 })
+    same(
+        &rt,
+        &check_value(Some(7), false, &foreign(7, Foreign::CharacterSet)),
+        &Err(WriteFault::Error { class: 2, code: 41 }),
     );
-    assert_eq!(rt;
-        check_value(Some(7), false, &foreign(7, Foreign::TooLong)),
-        Err(WriteFault::Error { class: 3, code: 20 })
+    same(
+        &rt,
+        &check_value(Some(7), false, &foreign(7, Foreign::TooLong)),
+        &Err(WriteFault::Error { class: 3, code: 20 }),
     );
-    assert_eq!(rt;
-        check_value(Some(7), false, &foreign(7, Foreign::NotUtf8)),
-        Err(WriteFault::Error { class: 2, code: 37 })
+    same(
+        &rt,
+        &check_value(Some(7), false, &foreign(7, Foreign::NotUtf8)),
+        &Err(WriteFault::Error { class: 2, code: 37 }),
     );
-    assert_eq!(rt;
-        check_value(None, true, &foreign(7, Foreign::TooLong)),
-        Err(WriteFault::Error { class: 2, code: 40 })
+    same(
+        &rt,
+        &check_value(None, true, &foreign(7, Foreign::TooLong)),
+        &Err(WriteFault::Error { class: 2, code: 40 }),
     );
 }
 
@@ -191,16 +208,17 @@ fn limits_are_written_and_taken_back(rt: HostRuntime) -> Result<(), Fail> {
     let change = table.check_write(tank_id, PropertyId::LIMIT_ENABLE, None, &flags)?;
     let _ = table.apply(change);
     let row = table.row(tank_id).ok_or("no row")?;
-    assert_eq!(rt; (row.site.low, row.site.high), (20, -7));
-    assert_eq!(rt; row.site.limit_enable, [false, true]);
-    assert!(rt;
+    same(&rt, &(row.site.low, row.site.high), &(20, -7));
+    same(&rt, &row.site.limit_enable, &[false, true]);
+    holds(
+        &rt,
         matches!(
             &back.what,
             What::Property {
                 property: PropertyId::HIGH_LIMIT,
                 value: Value::Signed(80)
             }
-        )
+        ),
     );
     Ok(())
 }
@@ -210,17 +228,19 @@ fn an_object_out_of_service_is_not_set(rt: HostRuntime) -> Result<(), Fail> {
     let tank_id = ObjectId::of_kind(ObjectKind::IntegerValue, 1)?;
     let mut table = table_of(rt.alloc(), pump(rt.alloc())?, tank(rt.alloc())?)?;
     let device = ObjectId::of_kind(ObjectKind::Device, 1)?;
-    assert!(rt;
+    holds(
+        &rt,
         matches!(
             table.check_set(device, Value::Null),
             Err(SetFault::UnknownObject)
-        )
+        ),
     );
-    assert!(rt;
+    holds(
+        &rt,
         matches!(
             table.check_set(tank_id, Value::Unsigned(1)),
             Err(SetFault::WrongKind)
-        )
+        ),
     );
     let out = table.check_write(
         tank_id,
@@ -229,16 +249,20 @@ fn an_object_out_of_service_is_not_set(rt: HostRuntime) -> Result<(), Fail> {
         &Value::Bool(true),
     )?;
     let _ = table.apply(out);
-    assert!(rt;
+    holds(
+        &rt,
         matches!(
             table.check_set(tank_id, Value::Unsigned(1)),
             Err(SetFault::OutOfService)
-        )
+        ),
     );
-    assert!(rt; matches!(table.check_fault(tank_id, 9), Err(SetFault::ValueRange)));
+    holds(
+        &rt,
+        matches!(table.check_fault(tank_id, 9), Err(SetFault::ValueRange)),
+    );
     let fault = table.check_fault(tank_id, 12)?;
     let _ = table.apply(fault);
     let row = table.row(tank_id).ok_or("no row")?;
-    assert_eq!(rt; row.field_fault, 12);
+    same(&rt, &row.field_fault, &12);
     Ok(())
 }

@@ -1,5 +1,6 @@
 ghost use Rattle.std.specs.Prelude.{◌≤◌, length};
 
+use crate::comparing::{holds, same};
 use bac_values::{Items, Note, Peer, Send};
 use outbox::*;
 use std::alloc::Global;
@@ -119,9 +120,9 @@ fn pump_at(alloc: Global, outbox: &mut Outbox, after: u32) -> Result<Vec<Send>, 
 }
 
 fn sent(rt: &impl Abort, sends: &[Send], to: &Peer, octets: &[u8]) {
-    assert_eq!(rt; sends.len(), 1);
-    assert_eq!(rt; sends[0].peer, *to);
-    assert_eq!(rt; sends[0].bytes.as_slice(), octets);
+    same(rt, &sends.len(), &1);
+    same(rt, &sends[0].peer, &*to);
+    same(rt, &sends[0].bytes.as_slice(), &octets);
 }
 
 #[test]
@@ -133,15 +134,15 @@ fn an_answer_lets_the_next_note_go(rt: HostRuntime) -> Result<(), Fail> {
     queue_at(alloc, &mut outbox, 0, true, &ACKNOWLEDGED)?;
     let sends = pump_at(alloc, &mut outbox, 20_000)?;
     sent(&rt, &sends, &five, &ALARM_SENT);
-    assert!(rt; outbox.has_in_flight(&five, 0));
-    assert_eq!(rt; outbox.answer(&five, 1), Answered::Stray);
-    assert_eq!(rt; outbox.answer(&peer(6), 0), Answered::Stray);
-    assert_eq!(rt; outbox.answer(&peer(8), 0), Answered::Stray);
-    assert_eq!(rt; outbox.answer(&five, 0), Answered::Answered);
-    assert_eq!(rt; outbox.answer(&five, 0), Answered::Stray);
+    holds(&rt, outbox.has_in_flight(&five, 0));
+    same(&rt, &outbox.answer(&five, 1), &Answered::Stray);
+    same(&rt, &outbox.answer(&peer(6), 0), &Answered::Stray);
+    same(&rt, &outbox.answer(&peer(8), 0), &Answered::Stray);
+    same(&rt, &outbox.answer(&five, 0), &Answered::Answered);
+    same(&rt, &outbox.answer(&five, 0), &Answered::Stray);
     let sends = pump_at(alloc, &mut outbox, 20_100)?;
     sent(&rt, &sends, &five, &ACKNOWLEDGED_SENT);
-    assert_eq!(rt; outbox.room(), 63);
+    same(&rt, &outbox.room(), &63);
     Ok(())
 }
 
@@ -162,20 +163,24 @@ fn a_note_without_an_answer_is_repeated_until_its_last_deadline(
         (19_000, true),
         (21_999, false),
     ] {
-        assert_eq!(rt; outbox.idle(T + u64::from(after)), !sends_it);
+        same(&rt, &outbox.idle(T + u64::from(after)), &!sends_it);
         let sends = pump_at(alloc, &mut outbox, after)?;
         if sends_it {
             sent(&rt, &sends, &five, &ALARM_SENT);
         } else {
-            assert_eq!(rt; sends.len(), 0);
+            same(&rt, &sends.len(), &0);
         }
     }
-    assert_eq!(rt; outbox.post(0).map(|post| post.attempts), Some(4));
-    assert_eq!(rt; outbox.post(0).map(|post| post.deadline), Some(T + 22_000));
+    same(&rt, &outbox.post(0).map(|post| post.attempts), &Some(4));
+    same(
+        &rt,
+        &outbox.post(0).map(|post| post.deadline),
+        &Some(T + 22_000),
+    );
     queue_at(alloc, &mut outbox, 0, true, &FAULT)?;
     let sends = pump_at(alloc, &mut outbox, 22_000)?;
     sent(&rt, &sends, &five, &FAULT_SENT);
-    assert_eq!(rt; outbox.answer(&five, 0), Answered::Stray);
+    same(&rt, &outbox.answer(&five, 0), &Answered::Stray);
     Ok(())
 }
 
@@ -197,14 +202,14 @@ fn notes_above_the_limit_come_back(rt: HostRuntime) -> Result<(), Fail> {
     else {
         return Err(Fail::from("not full"));
     };
-    assert_eq!(rt; (would, limit), (65, 64));
-    assert_eq!(rt; notes.as_slice().len(), 2);
-    assert_eq!(rt; outbox.room(), 1);
+    same(&rt, &(would, limit), &(65, 64));
+    same(&rt, &notes.as_slice().len(), &2);
+    same(&rt, &outbox.room(), &1);
     let sends = pump_at(alloc, &mut outbox, 64)?;
     sent(&rt, &sends, &peer(6), &ALARM_SENT);
-    assert_eq!(rt; outbox.answer(&peer(6), 0), Answered::Answered);
-    assert!(rt; queue_two(alloc, &mut outbox, 0)?.is_none());
-    assert_eq!(rt; outbox.room(), 0);
+    same(&rt, &outbox.answer(&peer(6), 0), &Answered::Answered);
+    holds(&rt, queue_two(alloc, &mut outbox, 0)?.is_none());
+    same(&rt, &outbox.room(), &0);
     Ok(())
 }
 
@@ -218,15 +223,20 @@ fn unconfirmed_notes_go_before_a_confirmed_one_and_wait_behind_it(
         queue_at(alloc, &mut outbox, 0, confirmed, &[0x09, 0x01])?;
     }
     let sends = pump_at(alloc, &mut outbox, 0)?;
-    assert_eq!(rt; sends.len(), 2);
-    assert_eq!(rt;
-        sends[0].bytes.as_slice(),
-        [0x81, 0x0a, 0x00, 0x0a, 0x01, 0x00, 0x10, 0x03, 0x09, 0x01].as_slice()
+    same(&rt, &sends.len(), &2);
+    same(
+        &rt,
+        &sends[0].bytes.as_slice(),
+        &[0x81, 0x0a, 0x00, 0x0a, 0x01, 0x00, 0x10, 0x03, 0x09, 0x01].as_slice(),
     );
-    assert_eq!(rt; outbox.note(0, 0).map(|note| note.confirmed), Some(true));
-    assert!(rt; outbox.note(0, 3).is_none());
-    assert_eq!(rt; outbox.answer(&peer(5), 0), Answered::Answered);
-    assert_eq!(rt; pump_at(alloc, &mut outbox, 0)?.len(), 2);
+    same(
+        &rt,
+        &outbox.note(0, 0).map(|note| note.confirmed),
+        &Some(true),
+    );
+    holds(&rt, outbox.note(0, 3).is_none());
+    same(&rt, &outbox.answer(&peer(5), 0), &Answered::Answered);
+    same(&rt, &pump_at(alloc, &mut outbox, 0)?.len(), &2);
     Ok(())
 }
 
@@ -236,12 +246,12 @@ fn peers_are_learned_at_their_places(rt: HostRuntime) -> Result<(), Fail> {
     let mut outbox = outbox(alloc)?;
     queue_at(alloc, &mut outbox, 1, true, &ALARM)?;
     outbox.learn(alloc, &[peer(9), peer(6), peer(1), peer(9)])?;
-    assert_eq!(rt; peer_at(&outbox, 0), Some(peer(1)));
-    assert_eq!(rt; peer_at(&outbox, 2), Some(peer(6)));
-    assert_eq!(rt; peer_at(&outbox, 4), Some(peer(9)));
-    assert_eq!(rt; peer_at(&outbox, 5), None);
-    assert_eq!(rt; outbox.post(2).map(|post| post.notes), Some(1));
-    assert_eq!(rt; outbox.room(), 63);
+    same(&rt, &peer_at(&outbox, 0), &Some(peer(1)));
+    same(&rt, &peer_at(&outbox, 2), &Some(peer(6)));
+    same(&rt, &peer_at(&outbox, 4), &Some(peer(9)));
+    same(&rt, &peer_at(&outbox, 5), &None);
+    same(&rt, &outbox.post(2).map(|post| post.notes), &Some(1));
+    same(&rt, &outbox.room(), &63);
     Ok(())
 }
 

@@ -1,3 +1,4 @@
+use crate::comparing::same;
 use bac_values::{Items, ObjectId, ObjectKind, Reliability, Text, Value};
 use object_table::{ObjectSite, Row, Table};
 use reliability_eval::*;
@@ -56,10 +57,13 @@ fn level(alloc: Global, value: i32) -> Result<Row, Fail> {
 #[test]
 fn a_value_outside_its_fault_limits_is_a_fault(rt: HostRuntime) -> Result<(), Fail> {
     for (value, number) in [(9, 3), (10, 0), (15, 0), (20, 0), (21, 2), (-5, 3)] {
-        assert_eq!(rt;
-            reliability_of_row(&level(rt.alloc(), value)?).number(),
-            number,
-            "{value}"
+        same(
+            &rt,
+            &(
+                value,
+                reliability_of_row(&level(rt.alloc(), value)?).number(),
+            ),
+            &(value, number),
         );
     }
     Ok(())
@@ -69,13 +73,25 @@ fn a_value_outside_its_fault_limits_is_a_fault(rt: HostRuntime) -> Result<(), Fa
 fn a_field_fault_counts_first_and_inhibition_ends_all(rt: HostRuntime) -> Result<(), Fail> {
     let mut row = level(rt.alloc(), 21)?;
     row.field_fault = 7;
-    assert_eq!(rt; reliability_of_row(&row), Reliability::UnreliableOther);
+    same(
+        &rt,
+        &reliability_of_row(&row),
+        &Reliability::UnreliableOther,
+    );
     row.field_fault = 0;
-    assert_eq!(rt; reliability_of_row(&row), Reliability::OverRange);
+    same(&rt, &reliability_of_row(&row), &Reliability::OverRange);
     row.site.reliability_inhibit = true;
-    assert_eq!(rt; reliability_of_row(&row), Reliability::NoFaultDetected);
+    same(
+        &rt,
+        &reliability_of_row(&row),
+        &Reliability::NoFaultDetected,
+    );
     row.field_fault = 12;
-    assert_eq!(rt; reliability_of_row(&row), Reliability::NoFaultDetected);
+    same(
+        &rt,
+        &reliability_of_row(&row),
+        &Reliability::NoFaultDetected,
+    );
     Ok(())
 }
 
@@ -89,7 +105,11 @@ fn a_fault_value_is_a_fault(rt: HostRuntime) -> Result<(), Fail> {
             Value::Unsigned(5),
             Value::Unsigned(3),
         )?;
-        assert_eq!(rt; reliability_of_row(&row).number(), number, "{state}");
+        same(
+            &rt,
+            &(state, reliability_of_row(&row).number()),
+            &(state, number),
+        );
     }
     Ok(())
 }
@@ -104,7 +124,11 @@ fn a_text_that_has_a_fault_text_is_a_fault(rt: HostRuntime) -> Result<(), Fail> 
             Value::Text(Text::new(rt.alloc(), "")?),
             Value::Text(Text::new(rt.alloc(), "leak")?),
         )?;
-        assert_eq!(rt; reliability_of_row(&row).number(), number, "{text}");
+        same(
+            &rt,
+            &(text, reliability_of_row(&row).number()),
+            &(text, number),
+        );
     }
     Ok(())
 }
@@ -113,6 +137,10 @@ fn a_text_that_has_a_fault_text_is_a_fault(rt: HostRuntime) -> Result<(), Fail> 
 fn no_object_no_fault(rt: HostRuntime) -> Result<(), Fail> {
     let table = Table::new(rt.alloc(), Vec::new(rt.alloc()))?;
     let object = ObjectId::of_kind(ObjectKind::IntegerValue, 1)?;
-    assert_eq!(rt; reliability(&table, object), Reliability::NoFaultDetected);
+    same(
+        &rt,
+        &reliability(&table, object),
+        &Reliability::NoFaultDetected,
+    );
     Ok(())
 }

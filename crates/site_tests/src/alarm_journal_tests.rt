@@ -1,3 +1,4 @@
+use crate::comparing::{holds, same};
 use alarm_journal::*;
 use bac_values::{Items, Peer, Send};
 use ground_io::{Filling, Ground, MemoryGround};
@@ -130,8 +131,8 @@ fn opens_to_either(
 fn every_crash_image_opens_to_a_state_between_two_commits(rt: HostRuntime) -> Result<(), Fail> {
     let alloc = rt.alloc();
     let (device, done) = run(alloc, device_of(alloc, 91, &[])?);
-    assert_eq!(rt; done, Some(6));
-    assert_eq!(rt; device.trace().map(|trace| trace.len()), Some(29));
+    same(&rt, &done, &Some(6));
+    same(&rt, &device.trace().map(|trace| trace.len()), &Some(29));
     for upto in 1..30u64 {
         let count = (upto.saturating_sub(5) / 4) as usize;
         for filling in [
@@ -161,7 +162,7 @@ fn each_failing_call_leaves_what_stood_or_what_was_to_stand(rt: HostRuntime) -> 
         assert!(rt; between, "call {call}");
     }
     let (_, done) = run(alloc, device_of(alloc, 91, &[32])?);
-    assert_eq!(rt; done, Some(6));
+    same(&rt, &done, &Some(6));
     Ok(())
 }
 
@@ -170,21 +171,24 @@ fn octets_lie_as_the_layout_says(rt: HostRuntime) -> Result<(), Fail> {
     let alloc = rt.alloc();
     let (device, _) = run(alloc, device_of(alloc, 91, &[])?);
     let contents = device.contents();
-    assert_eq!(rt; contents.len(), 91);
-    assert_eq!(rt; &contents[..9], b"\x01BACALRM1".as_slice());
-    assert_eq!(rt;
-        &contents[9..25],
-        b"\0\0\0\0\0\0\0\x5b\0\0\0\x04site".as_slice()
+    same(&rt, &contents.len(), &91);
+    same(&rt, &&contents[..9], &b"\x01BACALRM1".as_slice());
+    same(
+        &rt,
+        &&contents[9..25],
+        &b"\0\0\0\0\0\0\0\x5b\0\0\0\x04site".as_slice(),
     );
-    assert_eq!(rt; &contents[25..32], b"\0\0\0\0\x02\x01\x01".as_slice());
-    assert_eq!(rt;
-        &contents[32..58],
-        b"\x01\0\0\0\x140123456789abcdefghij\0".as_slice()
+    same(&rt, &&contents[25..32], &b"\0\0\0\0\x02\x01\x01".as_slice());
+    same(
+        &rt,
+        &&contents[32..58],
+        &b"\x01\0\0\0\x140123456789abcdefghij\0".as_slice(),
     );
-    assert_eq!(rt; &contents[58..67], b"\0\0\0\x05state".as_slice());
-    assert_eq!(rt;
-        &contents[67..79],
-        b"\x01\0\0\0\x06\x01\0\0\0\x01\x01\0".as_slice()
+    same(&rt, &&contents[58..67], &b"\0\0\0\x05state".as_slice());
+    same(
+        &rt,
+        &&contents[67..79],
+        &b"\x01\0\0\0\x06\x01\0\0\0\x01\x01\0".as_slice(),
     );
     Ok(())
 }
@@ -206,45 +210,50 @@ fn refusals_come_in_their_order(rt: HostRuntime) -> Result<(), Fail> {
     let alloc = rt.alloc();
     let (device, _) = run(alloc, device_of(alloc, 91, &[])?);
     let octets = device.contents();
-    assert_eq!(rt; octets.len(), 91);
+    same(&rt, &octets.len(), &91);
     let mut small = octets.to_vec(alloc)?;
     small.truncate(59);
     let fault = OpenFault::SmallDevice { size: 59, need: 60 };
-    assert_eq!(rt; refused(alloc, small, SITE), Some(fault));
+    same(&rt, &refused(alloc, small, SITE), &Some(fault));
     let mut shortened = octets.to_vec(alloc)?;
     shortened.truncate(90);
     let fault = OpenFault::SmallDevice { size: 90, need: 91 };
-    assert_eq!(rt; refused(alloc, shortened, b"sits"), Some(fault));
+    same(&rt, &refused(alloc, shortened, b"sits"), &Some(fault));
     let foreign = octets.to_vec(alloc)?;
-    assert_eq!(rt;
-        refused(alloc, foreign, b"sits"),
-        Some(OpenFault::Foreign { at: 24 })
+    same(
+        &rt,
+        &refused(alloc, foreign, b"sits"),
+        &Some(OpenFault::Foreign { at: 24 }),
     );
     let foreign = octets.to_vec(alloc)?;
-    assert_eq!(rt;
-        refused(alloc, foreign, b"sit"),
-        Some(OpenFault::Foreign { at: 20 })
+    same(
+        &rt,
+        &refused(alloc, foreign, b"sit"),
+        &Some(OpenFault::Foreign { at: 20 }),
     );
     let mut formatted = octets.to_vec(alloc)?;
-    assert_eq!(rt; formatted.len(), 91);
+    same(&rt, &formatted.len(), &91);
     formatted[16] = 59;
-    assert_eq!(rt;
-        refused(alloc, formatted, SITE),
-        Some(OpenFault::Damaged { at: 9 })
+    same(
+        &rt,
+        &refused(alloc, formatted, SITE),
+        &Some(OpenFault::Damaged { at: 9 }),
     );
     let mut snapshot = octets.to_vec(alloc)?;
-    assert_eq!(rt; snapshot.len(), 91);
+    same(&rt, &snapshot.len(), &91);
     snapshot[29] = 29;
-    assert_eq!(rt;
-        refused(alloc, snapshot, SITE),
-        Some(OpenFault::Damaged { at: 26 })
+    same(
+        &rt,
+        &refused(alloc, snapshot, SITE),
+        &Some(OpenFault::Damaged { at: 26 }),
     );
     let mut batch = octets.to_vec(alloc)?;
-    assert_eq!(rt; batch.len(), 91);
+    same(&rt, &batch.len(), &91);
     batch[36] = 22;
-    assert_eq!(rt;
-        refused(alloc, batch, SITE),
-        Some(OpenFault::Damaged { at: 33 })
+    same(
+        &rt,
+        &refused(alloc, batch, SITE),
+        &Some(OpenFault::Damaged { at: 33 }),
     );
     Ok(())
 }
@@ -256,7 +265,7 @@ fn emissions_are_tried_in_order(rt: HostRuntime) -> Result<(), Fail> {
     let Ok((mut press, opened)) = Press::open(alloc, device, SITE, NEED) else {
         return Err("not opened".into());
     };
-    assert!(rt; opened.fresh);
+    holds(&rt, opened.fresh);
     let mut sends = Vec::new(alloc);
     for line in [b"a".as_slice(), b"b", b"c"] {
         sends.push(Send {
@@ -264,8 +273,8 @@ fn emissions_are_tried_in_order(rt: HostRuntime) -> Result<(), Fail> {
             bytes: Items::of(line.to_vec(alloc)?),
         })?;
     }
-    assert_eq!(rt; press.emit_all(&sends), Emits { sent: 2, lost: 1 });
+    same(&rt, &press.emit_all(&sends), &Emits { sent: 2, lost: 1 });
     let device = press.into_ground();
-    assert_eq!(rt; device.trace().map(|trace| trace.len()), Some(8));
+    same(&rt, &device.trace().map(|trace| trace.len()), &Some(8));
     Ok(())
 }

@@ -6,6 +6,8 @@
 #[cfg(test)]
 mod alarm_journal_tests;
 #[cfg(test)]
+mod comparing;
+#[cfg(test)]
 mod script_lines_tests;
 #[cfg(test)]
 mod site_config_tests;

@@ -1,5 +1,6 @@
 ghost use Rattle.std.specs.Prelude.{None};
 
+use crate::comparing::{holds, same};
 use bac_values::*;
 use ground_io::{Failed, Source};
 use script_lines::*;
@@ -48,16 +49,20 @@ impl Source for Pieces<'_> {
 
 #[test]
 fn numbers_are_decimal_without_needless_zeros(rt: HostRuntime) {
-    assert_eq!(rt; unsigned(b"0", 9), Some(0));
+    same(&rt, &unsigned(b"0", 9), &Some(0));
     for text in ["", "00", "+1", "-1", "10", "1 ", "18446744073709551616"] {
-        assert_eq!(rt; unsigned(text.as_bytes(), 9), None);
+        same(&rt, &unsigned(text.as_bytes(), 9), &None);
     }
-    assert_eq!(rt; unsigned(b"18446744073709551615", u64::MAX), Some(u64::MAX));
-    assert_eq!(rt; signed(b"0"), Some(0));
-    assert_eq!(rt; signed(b"2147483647"), Some(i32::MAX));
-    assert_eq!(rt; signed(b"-2147483648"), Some(i32::MIN));
+    same(
+        &rt,
+        &unsigned(b"18446744073709551615", u64::MAX),
+        &Some(u64::MAX),
+    );
+    same(&rt, &signed(b"0"), &Some(0));
+    same(&rt, &signed(b"2147483647"), &Some(i32::MAX));
+    same(&rt, &signed(b"-2147483648"), &Some(i32::MIN));
     for text in ["-0", "-", "-01", "+1", "2147483648", "-2147483649"] {
-        assert_eq!(rt; signed(text.as_bytes()), None);
+        same(&rt, &signed(text.as_bytes()), &None);
     }
 }
 
@@ -83,16 +88,16 @@ fn skipped_lines_count_and_the_last_may_lack_its_line_feed(rt: HostRuntime) -> R
             .next_line(&mut source)
             .map_err(|_| "fault")?
             .ok_or("no line")?;
-        assert_eq!(rt; set_of(&first), Some((3, 946_684_800_000, -7)));
-        assert_eq!(rt; lines.count(), 3);
+        same(&rt, &set_of(&first), &Some((3, 946_684_800_000, -7)));
+        same(&rt, &lines.count(), &3);
         let second = lines
             .next_line(&mut source)
             .map_err(|_| "fault")?
             .ok_or("no line")?;
-        assert_eq!(rt; set_of(&second), Some((5, 946_684_801_000, 0)));
+        same(&rt, &set_of(&second), &Some((5, 946_684_801_000, 0)));
         let end = lines.next_line(&mut source).map_err(|_| "fault")?;
-        assert!(rt; end.is_none());
-        assert_eq!(rt; lines.count(), 5);
+        holds(&rt, end.is_none());
+        same(&rt, &lines.count(), &5);
     }
     Ok(())
 }
@@ -121,7 +126,7 @@ fn refused(alloc: Global, script: &[u8]) -> Option<u64> {
 fn what_is_outside_the_grammar_is_refused(rt: HostRuntime) {
     let alloc = rt.alloc();
     for script in ["", "#", "tick 946684800000", "tick 4102444799999\n\n"] {
-        assert_eq!(rt; refused(alloc, script.as_bytes()), Some(0));
+        same(&rt, &refused(alloc, script.as_bytes()), &Some(0));
     }
     for script in [
         "tick 5",
@@ -135,18 +140,18 @@ fn what_is_outside_the_grammar_is_refused(rt: HostRuntime) {
         "pump 946684800000\n",
         " \n",
     ] {
-        assert_eq!(rt; refused(alloc, script.as_bytes()), Some(1));
+        same(&rt, &refused(alloc, script.as_bytes()), &Some(1));
     }
-    assert_eq!(rt; refused(alloc, b"#\n\nno\n"), Some(3));
+    same(&rt, &refused(alloc, b"#\n\nno\n"), &Some(3));
 }
 
 #[test]
 fn a_line_has_at_most_4096_octets(rt: HostRuntime) -> Result<(), Fail> {
     let alloc = rt.alloc();
     let comment = String::from_str(alloc, "#")?.repeat(alloc, 4096)?;
-    assert_eq!(rt; refused(alloc, comment.as_bytes()), Some(0));
+    same(&rt, &refused(alloc, comment.as_bytes()), &Some(0));
     let longer = format!(in alloc; "\n{comment}#\n")?;
-    assert_eq!(rt; refused(alloc, longer.as_bytes()), Some(2));
+    same(&rt, &refused(alloc, longer.as_bytes()), &Some(2));
     Ok(())
 }
 
@@ -154,9 +159,9 @@ fn a_line_has_at_most_4096_octets(rt: HostRuntime) -> Result<(), Fail> {
 fn a_line_beyond_the_last_is_refused_also_where_it_would_be_skipped(rt: HostRuntime) {
     for grammar in [Grammar::Trial, Grammar::Session] {
         let last = LineSays::read(rt.alloc(), grammar, 1_000_000, b"");
-        assert!(rt; matches!(&last, Ok(LineSays::Skipped)));
+        holds(&rt, matches!(&last, Ok(LineSays::Skipped)));
         let beyond = LineSays::read(rt.alloc(), grammar, 1_000_001, b"");
-        assert!(rt; matches!(&beyond, Ok(LineSays::Outside)));
+        holds(&rt, matches!(&beyond, Ok(LineSays::Outside)));
     }
 }
 
@@ -166,22 +171,22 @@ fn lines_are_the_same_after_a_failed_read(rt: HostRuntime) -> Result<(), Fail> {
     source.failing = 3;
     let mut lines = Lines::trial(rt.alloc()).map_err(|_| "memory")?;
     let failed = lines.next_line(&mut source);
-    assert!(rt; matches!(&failed, Err(LineFault::Read)));
-    assert_eq!(rt; lines.count(), 1);
+    holds(&rt, matches!(&failed, Err(LineFault::Read)));
+    same(&rt, &lines.count(), &1);
     let line = lines
         .next_line(&mut source)
         .map_err(|_| "fault")?
         .ok_or("no line")?;
-    assert_eq!(rt; set_of(&line), Some((2, 946_684_800_000, 12)));
+    same(&rt, &set_of(&line), &Some((2, 946_684_800_000, 12)));
     let line = lines
         .next_line(&mut source)
         .map_err(|_| "fault")?
         .ok_or("no line")?;
-    assert!(rt; matches!(&line.input, Input::Tick));
-    assert_eq!(rt; line.moment, 946_684_800_001);
+    holds(&rt, matches!(&line.input, Input::Tick));
+    same(&rt, &line.moment, &946_684_800_001);
     source.failing = source.calls.saturating_add(1);
     let end = lines.next_line(&mut source).map_err(|_| "fault")?;
-    assert!(rt; end.is_none());
+    holds(&rt, end.is_none());
     Ok(())
 }
 
@@ -201,38 +206,56 @@ fn lines_of_a_trials_report(rt: HostRuntime) {
         from: EventState::Normal,
         to: EventState::HighLimit,
     };
-    assert!(rt; is_written(alloc, moved, "946684800000 normal high-limit\n"));
+    holds(
+        &rt,
+        is_written(alloc, moved, "946684800000 normal high-limit\n"),
+    );
     let end = ReportLine::TrialEnd { lines: 12 };
-    assert!(rt; is_written(alloc, end, "end 12\n"));
+    holds(&rt, is_written(alloc, end, "end 12\n"));
 }
 
 #[test]
 fn lines_of_a_sessions_report(rt: HostRuntime) {
     let alloc = rt.alloc();
-    assert!(rt; is_written(alloc, ReportLine::Open { events: 0 }, "open 0\n"));
+    holds(
+        &rt,
+        is_written(alloc, ReportLine::Open { events: 0 }, "open 0\n"),
+    );
     let entered = ReportLine::Entered {
         line: 4,
         event: 2,
         moment: 946_684_800_001,
     };
-    assert!(rt; is_written(alloc, entered, "4 entered 2 946684800001\n"));
-    assert!(rt; is_written(alloc, ReportLine::Idle { line: 5 }, "5 idle\n"));
-    assert!(rt; is_written(alloc, ReportLine::Ignored { line: 6 }, "6 ignored\n"));
+    holds(
+        &rt,
+        is_written(alloc, entered, "4 entered 2 946684800001\n"),
+    );
+    holds(
+        &rt,
+        is_written(alloc, ReportLine::Idle { line: 5 }, "5 idle\n"),
+    );
+    holds(
+        &rt,
+        is_written(alloc, ReportLine::Ignored { line: 6 }, "6 ignored\n"),
+    );
     let why = SetFault::ValueRange;
     let refused = ReportLine::Refused { line: 7, why };
-    assert!(rt; is_written(alloc, refused, "7 refused value-range\n"));
-    assert!(rt; is_written(alloc, ReportLine::Reply { line: 8 }, "8 reply\n"));
+    holds(&rt, is_written(alloc, refused, "7 refused value-range\n"));
+    holds(
+        &rt,
+        is_written(alloc, ReportLine::Reply { line: 8 }, "8 reply\n"),
+    );
     let full = ReportLine::Full {
         line: 9,
         would: 70,
         limit: 64,
     };
-    assert!(rt; is_written(alloc, full, "9 full 70 64\n"));
+    holds(&rt, is_written(alloc, full, "9 full 70 64\n"));
     let end = ReportLine::End {
         lines: 10,
         events: 3,
     };
-    assert!(rt; is_written(alloc, end, "end 10 3\n"));
+    holds(&rt, is_written(alloc, end, "end 10 3\n"));
 }
 
 #[test]
@@ -245,16 +268,22 @@ fn lines_with_objects_and_datagrams(rt: HostRuntime) -> Result<(), Fail> {
     };
     let change = ReportLine::Change { line: 1, moved };
     let text = "1 change characterstring-value:4194303 offnormal fault\n";
-    assert!(rt; is_written(alloc, change, text));
+    holds(&rt, is_written(alloc, change, text));
     moved.object = ObjectId::new(2, 0)?;
     let change = ReportLine::Change { line: 2, moved };
-    assert!(rt; is_written(alloc, change, "2 change 2:0 offnormal fault\n"));
+    holds(
+        &rt,
+        is_written(alloc, change, "2 change 2:0 offnormal fault\n"),
+    );
     let send = Send {
         peer: Peer::local(0x0A00_01FE, 47_808),
         bytes: Items::of(vec![in alloc; 0x81u8, 0x0A, 0x00, 0xFF]?),
     };
     let sent = ReportLine::Sent { line: 3, send };
-    assert!(rt; is_written(alloc, sent, "3 send 10.0.1.254:47808 810a00ff\n"));
+    holds(
+        &rt,
+        is_written(alloc, sent, "3 send 10.0.1.254:47808 810a00ff\n"),
+    );
     Ok(())
 }
 
@@ -270,7 +299,7 @@ fn summary_of_a_workload(rt: HostRuntime) {
         full: 1,
     };
     let text = "workload 7 20000 events 19000 changes 300 sends 299 full 1\n";
-    assert!(rt; is_written(alloc, summary, text));
+    holds(&rt, is_written(alloc, summary, text));
 }
 
 // The one line of a session's script, with its input.
@@ -308,38 +337,42 @@ fn sets(alloc: Global, text: &str, number: u16, instance: u32, wanted: &Value) -
 fn lines_of_a_session_succeed_with_ample_memory(rt: HostRuntime) -> Result<(), Fail> {
     let alloc = rt.alloc();
     let tick = session_input(alloc, "tick 1700000000000").ok_or("no tick")?;
-    assert!(rt; matches!(&tick, Input::Tick));
+    holds(&rt, matches!(&tick, Input::Tick));
     let pump = session_input(alloc, "pump 1700000000000").ok_or("no pump")?;
-    assert!(rt; matches!(&pump, Input::Pump));
+    holds(&rt, matches!(&pump, Input::Pump));
     let set = "set 1700000000000";
     let text = format!(in alloc; "{set} integer-value:0 signed:-2147483648")?;
-    assert!(rt; sets(alloc, text.as_str(), 45, 0, &Value::Signed(i32::MIN)));
+    holds(
+        &rt,
+        sets(alloc, text.as_str(), 45, 0, &Value::Signed(i32::MIN)),
+    );
     let text = format!(in alloc; "{set} positive-integer-value:4194303 unsigned:4294967295")?;
-    assert!(rt;
+    holds(
+        &rt,
         sets(
             alloc,
             text.as_str(),
             48,
             4_194_303,
-            &Value::Unsigned(u32::MAX)
-        )
+            &Value::Unsigned(u32::MAX),
+        ),
     );
     let text = format!(in alloc; "{set} binary-value:1 active")?;
-    assert!(rt; sets(alloc, text.as_str(), 5, 1, &Value::Enumerated(1)));
+    holds(&rt, sets(alloc, text.as_str(), 5, 1, &Value::Enumerated(1)));
     let text = format!(in alloc; "{set} binary-value:1 inactive")?;
-    assert!(rt; sets(alloc, text.as_str(), 5, 1, &Value::Enumerated(0)));
+    holds(&rt, sets(alloc, text.as_str(), 5, 1, &Value::Enumerated(0)));
     let text = format!(in alloc; "{set} bitstring-value:2 bits:0111")?;
     let bits = Bits::new(4, 0b1110).map_err(|_| "bits")?;
-    assert!(rt; sets(alloc, text.as_str(), 39, 2, &Value::Bits(bits)));
+    holds(&rt, sets(alloc, text.as_str(), 39, 2, &Value::Bits(bits)));
     let text = format!(in alloc; "{set} bitstring-value:2 bits:")?;
     let bits = Bits::new(0, 0).map_err(|_| "bits")?;
-    assert!(rt; sets(alloc, text.as_str(), 39, 2, &Value::Bits(bits)));
+    holds(&rt, sets(alloc, text.as_str(), 39, 2, &Value::Bits(bits)));
     let text = format!(in alloc; "{set} characterstring-value:3 text:C3bc21")?;
     let wanted = Text::new(alloc, "\u{fc}!").map_err(|_| "text")?;
-    assert!(rt; sets(alloc, text.as_str(), 40, 3, &Value::Text(wanted)));
+    holds(&rt, sets(alloc, text.as_str(), 40, 3, &Value::Text(wanted)));
     let text = format!(in alloc; "{set} characterstring-value:3 text:")?;
     let wanted = Text::new(alloc, "").map_err(|_| "text")?;
-    assert!(rt; sets(alloc, text.as_str(), 40, 3, &Value::Text(wanted)));
+    holds(&rt, sets(alloc, text.as_str(), 40, 3, &Value::Text(wanted)));
     Ok(())
 }
 
@@ -355,17 +388,17 @@ fn faults_and_datagrams_of_a_session(rt: HostRuntime) -> Result<(), Fail> {
     else {
         return Err(Fail::from("another line"));
     };
-    assert_eq!(rt; object.number(), 19);
-    assert_eq!(rt; object.instance(), 5);
-    assert_eq!(rt; *reliability, u32::MAX);
+    same(&rt, &object.number(), &19);
+    same(&rt, &object.instance(), &5);
+    same(&rt, &*reliability, &u32::MAX);
     let text = "from 1700000000000 10.0.1.254:65535 810aFF";
     let input = session_input(alloc, text).ok_or("no datagram")?;
     let Input::Datagram { peer, bytes } = &input else {
         return Err(Fail::from("another line"));
     };
-    assert_eq!(rt; peer.ip, 0x0A00_01FE);
-    assert_eq!(rt; peer.port, 65_535);
-    assert!(rt; bytes.as_slice() == [0x81u8, 0x0A, 0xFF].as_slice());
+    same(&rt, &peer.ip, &0x0A00_01FE);
+    same(&rt, &peer.port, &65_535);
+    holds(&rt, bytes.as_slice() == [0x81u8, 0x0A, 0xFF].as_slice());
     Ok(())
 }
 
@@ -415,7 +448,11 @@ fn what_is_outside_a_sessions_grammar_is_refused(rt: HostRuntime) {
         "from 1700000000000 10.0.0.1:80 81 0a",
     ] {
         let read = LineSays::read(alloc, Grammar::Session, 1, text.as_bytes());
-        assert!(rt; matches!(&read, Ok(LineSays::Outside)), "{text}");
+        same(
+            &rt,
+            &(text, matches!(&read, Ok(LineSays::Outside))),
+            &(text, true),
+        );
     }
 }
 
@@ -429,9 +466,9 @@ fn longest_bits_texts_and_datagrams(rt: HostRuntime) -> Result<(), Fail> {
     ] {
         let longest = String::from_str(alloc, part)?.repeat(alloc, most)?;
         let text = format!(in alloc; "{front}{longest}")?;
-        assert!(rt; session_input(alloc, text.as_str()).is_some());
+        holds(&rt, session_input(alloc, text.as_str()).is_some());
         let longer = format!(in alloc; "{text}{part}")?;
-        assert!(rt; session_input(alloc, longer.as_str()).is_none());
+        holds(&rt, session_input(alloc, longer.as_str()).is_none());
     }
     Ok(())
 }
@@ -440,5 +477,5 @@ fn longest_bits_texts_and_datagrams(rt: HostRuntime) -> Result<(), Fail> {
 fn a_sessions_script_is_read_line_by_line(rt: HostRuntime) {
     let lines = Lines::new(rt.alloc());
     let script = b"# one\npump 1700000000000\nset 1700000000000 90\n";
-    assert_eq!(rt; first_refused(lines, script), Some(3));
+    same(&rt, &first_refused(lines, script), &Some(3));
 }

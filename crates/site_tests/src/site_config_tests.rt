@@ -1,3 +1,4 @@
+use crate::comparing::{holds, same};
 use alarm_core::Site;
 use algorithm_rules::Algorithm;
 use bac_values::{Bits, ObjectId, ObjectKind, Peer, Value};
@@ -145,28 +146,28 @@ fn is_always_told(destination: &Destination, ip: u32, process: u32, confirmed: b
 fn a_site_is_read_with_its_defaults(rt: HostRuntime) -> Result<(), Fail> {
     let site = site_of(rt.alloc(), &[SURROUNDINGS, TANK])?;
     let device = &site.device;
-    assert_eq!(rt; device.instance, 1001);
-    assert_eq!(rt; device.name.as_str(), "Plant");
-    assert_eq!(rt; device.vendor, 999);
-    assert_eq!(rt; device.start, 1_700_000_000_000);
-    assert_eq!(rt; device.zone_minutes, 0);
-    assert_eq!(rt; device.apdu_timeout, 3000);
-    assert_eq!(rt; device.retries, 3);
-    assert_eq!(rt; device.outbox, 256);
-    assert_eq!(rt; site.classes.as_slice().len(), 1);
+    same(&rt, &device.instance, &1001);
+    same(&rt, &device.name.as_str(), &"Plant");
+    same(&rt, &device.vendor, &999);
+    same(&rt, &device.start, &1_700_000_000_000);
+    same(&rt, &device.zone_minutes, &0);
+    same(&rt, &device.apdu_timeout, &3000);
+    same(&rt, &device.retries, &3);
+    same(&rt, &device.outbox, &256);
+    same(&rt, &site.classes.as_slice().len(), &1);
     let class = &site.classes.as_slice()[0];
-    assert_eq!(rt; class.name.as_str(), "notification-class:7");
-    assert_eq!(rt; class.class.instance, 7);
-    assert!(rt; class.class.priority == [100, 90, 200]);
-    assert!(rt; class.class.ack_required == [true, true, false]);
-    assert_eq!(rt; class.class.destinations.as_slice().len(), 1);
+    same(&rt, &class.name.as_str(), &"notification-class:7");
+    same(&rt, &class.class.instance, &7);
+    holds(&rt, class.class.priority == [100, 90, 200]);
+    holds(&rt, class.class.ack_required == [true, true, false]);
+    same(&rt, &class.class.destinations.as_slice().len(), &1);
     let destination = &class.class.destinations.as_slice()[0];
-    assert!(rt; is_always_told(destination, 0x0A00_0005, 1, true));
-    assert_eq!(rt; site.objects.as_slice().len(), 1);
+    holds(&rt, is_always_told(destination, 0x0A00_0005, 1, true));
+    same(&rt, &site.objects.as_slice().len(), &1);
     let tank = &site.objects.as_slice()[0];
-    assert!(rt; is_tank(tank, 1, 7, 10));
-    assert!(rt; site.enrollments.as_slice().is_empty());
-    assert!(rt; site.logs.as_slice().is_empty());
+    holds(&rt, is_tank(tank, 1, 7, 10));
+    holds(&rt, site.enrollments.as_slice().is_empty());
+    holds(&rt, site.logs.as_slice().is_empty());
     Ok(())
 }
 
@@ -202,8 +203,8 @@ time_delay = 0
 fn a_tank_may_be_without_delay(rt: HostRuntime) -> Result<(), Fail> {
     let site = site_of(rt.alloc(), &[SURROUNDINGS, PROMPT_TANK])?;
     let objects = site.objects.as_slice();
-    assert_eq!(rt; objects.len(), 1);
-    assert!(rt; is_tank(&objects[0], 1, 7, 0));
+    same(&rt, &objects.len(), &1);
+    holds(&rt, is_tank(&objects[0], 1, 7, 0));
     Ok(())
 }
 
@@ -211,9 +212,9 @@ fn a_tank_may_be_without_delay(rt: HostRuntime) -> Result<(), Fail> {
 fn objects_ascend_whatever_their_order_in_the_text(rt: HostRuntime) -> Result<(), Fail> {
     let site = site_of(rt.alloc(), &[SURROUNDINGS, SECOND_TANK, PROMPT_TANK])?;
     let objects = site.objects.as_slice();
-    assert_eq!(rt; objects.len(), 2);
-    assert!(rt; is_tank(&objects[0], 1, 7, 0));
-    assert!(rt; is_tank(&objects[1], 2, 7, 10));
+    same(&rt, &objects.len(), &2);
+    holds(&rt, is_tank(&objects[0], 1, 7, 0));
+    holds(&rt, is_tank(&objects[1], 2, 7, 10));
     Ok(())
 }
 
@@ -235,9 +236,9 @@ time_delay = 10
 fn three_tanks_are_read(rt: HostRuntime) -> Result<(), Fail> {
     let site = site_of(rt.alloc(), &[SURROUNDINGS, TANK, SECOND_TANK, THIRD_TANK])?;
     let objects = site.objects.as_slice();
-    assert_eq!(rt; objects.len(), 3);
+    same(&rt, &objects.len(), &3);
     for place in 0..3 {
-        assert!(rt; is_tank(&objects[place], place as u32 + 1, 7, 10));
+        holds(&rt, is_tank(&objects[place], place as u32 + 1, 7, 10));
     }
     Ok(())
 }
@@ -280,49 +281,56 @@ value = \"ok\"
 fn objects_of_every_kind_are_read(rt: HostRuntime) -> Result<(), Fail> {
     let site = site_of(rt.alloc(), &[SURROUNDINGS, TANK, OTHER_KINDS])?;
     let objects = site.objects.as_slice();
-    assert_eq!(rt; objects.len(), 6);
+    same(&rt, &objects.len(), &6);
     let text = bac_values::Text::new(rt.alloc(), "ok")?;
     let bits = Value::Bits(Bits::new(4, 0)?);
-    assert!(rt;
+    holds(
+        &rt,
         is_object(
             &objects[0],
             ObjectKind::BinaryValue,
             1,
             "Pump",
-            &Value::Enumerated(0)
-        )
+            &Value::Enumerated(0),
+        ),
     );
-    assert!(rt;
+    holds(
+        &rt,
         is_object(
             &objects[1],
             ObjectKind::MultiStateValue,
             1,
             "Mode",
-            &Value::Unsigned(1)
-        )
+            &Value::Unsigned(1),
+        ),
     );
-    assert_eq!(rt; objects[1].states, 5);
-    assert!(rt; is_object(&objects[2], ObjectKind::BitStringValue, 1, "Bits", &bits));
-    assert!(rt;
+    same(&rt, &objects[1].states, &5);
+    holds(
+        &rt,
+        is_object(&objects[2], ObjectKind::BitStringValue, 1, "Bits", &bits),
+    );
+    holds(
+        &rt,
         is_object(
             &objects[3],
             ObjectKind::CharacterStringValue,
             1,
             "Note",
-            &Value::Text(text)
-        )
+            &Value::Text(text),
+        ),
     );
-    assert!(rt;
+    holds(
+        &rt,
         is_object(
             &objects[5],
             ObjectKind::PositiveIntegerValue,
             1,
             "Flow",
-            &Value::Unsigned(50)
-        )
+            &Value::Unsigned(50),
+        ),
     );
     for site in objects {
-        assert!(rt; is_without_class(site) || is_tank(site, 1, 7, 10));
+        holds(&rt, is_without_class(site) || is_tank(site, 1, 7, 10));
     }
     Ok(())
 }
@@ -342,25 +350,26 @@ time_delay = 5
 #[test]
 fn alarm_values_stand_in_the_order_of_the_text(rt: HostRuntime) -> Result<(), Fail> {
     let site = site_of(rt.alloc(), &[SURROUNDINGS, MODE])?;
-    assert_eq!(rt; site.objects.as_slice().len(), 1);
+    same(&rt, &site.objects.as_slice().len(), &1);
     let mode = &site.objects.as_slice()[0];
-    assert!(rt;
+    holds(
+        &rt,
         is_object(
             mode,
             ObjectKind::MultiStateValue,
             1,
             "multi-state-value:1",
-            &Value::Unsigned(1)
-        )
+            &Value::Unsigned(1),
+        ),
     );
-    assert!(rt; is_alarmed(mode, 7, 5));
-    assert!(rt; mode.low == 0 && mode.high == 0 && mode.deadband == 0);
-    assert!(rt; mode.limit_enable == [false, false]);
-    assert_eq!(rt; mode.states, 5);
+    holds(&rt, is_alarmed(mode, 7, 5));
+    holds(&rt, mode.low == 0 && mode.high == 0 && mode.deadband == 0);
+    holds(&rt, mode.limit_enable == [false, false]);
+    same(&rt, &mode.states, &5);
     let values = mode.alarm_values.as_slice();
-    assert_eq!(rt; values.len(), 2);
-    assert!(rt; values[0] == Value::Unsigned(2));
-    assert!(rt; values[1] == Value::Unsigned(3));
+    same(&rt, &values.len(), &2);
+    holds(&rt, values[0] == Value::Unsigned(2));
+    holds(&rt, values[1] == Value::Unsigned(3));
     Ok(())
 }
 
@@ -414,18 +423,18 @@ fn site_of_two_classes(alloc: Global) -> Result<Site, Fail> {
 #[test]
 fn objects_are_in_the_one_class_or_the_other(rt: HostRuntime) -> Result<(), Fail> {
     let site = site_of_two_classes(rt.alloc())?;
-    assert_eq!(rt; site.device.outbox, 64);
+    same(&rt, &site.device.outbox, &64);
     let classes = site.classes.as_slice();
-    assert_eq!(rt; classes.len(), 2);
-    assert_eq!(rt; classes[0].class.instance, 7);
-    assert_eq!(rt; classes[1].class.instance, 8);
-    assert_eq!(rt; classes[1].name.as_str(), "notification-class:8");
-    assert!(rt; classes[1].class.priority == [100, 90, 200]);
-    assert!(rt; classes[1].class.ack_required == [true, true, false]);
+    same(&rt, &classes.len(), &2);
+    same(&rt, &classes[0].class.instance, &7);
+    same(&rt, &classes[1].class.instance, &8);
+    same(&rt, &classes[1].name.as_str(), &"notification-class:8");
+    holds(&rt, classes[1].class.priority == [100, 90, 200]);
+    holds(&rt, classes[1].class.ack_required == [true, true, false]);
     let objects = site.objects.as_slice();
-    assert_eq!(rt; objects.len(), 2);
-    assert!(rt; is_tank(&objects[0], 1, 8, 0));
-    assert!(rt; is_tank(&objects[1], 2, 7, 0));
+    same(&rt, &objects.len(), &2);
+    holds(&rt, is_tank(&objects[0], 1, 8, 0));
+    holds(&rt, is_tank(&objects[1], 2, 7, 0));
     Ok(())
 }
 
@@ -433,14 +442,14 @@ fn objects_are_in_the_one_class_or_the_other(rt: HostRuntime) -> Result<(), Fail
 fn classes_have_their_destinations_in_order(rt: HostRuntime) -> Result<(), Fail> {
     let site = site_of_two_classes(rt.alloc())?;
     let classes = site.classes.as_slice();
-    assert_eq!(rt; classes.len(), 2);
+    same(&rt, &classes.len(), &2);
     let first = classes[0].class.destinations.as_slice();
-    assert_eq!(rt; first.len(), 2);
-    assert!(rt; is_always_told(&first[0], 0x0A00_0005, 1, true));
-    assert!(rt; is_always_told(&first[1], 0x0A00_0007, 0, false));
+    same(&rt, &first.len(), &2);
+    holds(&rt, is_always_told(&first[0], 0x0A00_0005, 1, true));
+    holds(&rt, is_always_told(&first[1], 0x0A00_0007, 0, false));
     let second = classes[1].class.destinations.as_slice();
-    assert_eq!(rt; second.len(), 1);
-    assert!(rt; is_always_told(&second[0], 0x0A00_0006, 1, true));
+    same(&rt, &second.len(), &1);
+    holds(&rt, is_always_told(&second[0], 0x0A00_0006, 1, true));
     Ok(())
 }
 
@@ -455,10 +464,10 @@ priority = [100, 90, 200]
 fn classes_ascend_whatever_their_order_in_the_text(rt: HostRuntime) -> Result<(), Fail> {
     let site = site_of(rt.alloc(), &[SURROUNDINGS, UNSORTED_CLASSES])?;
     let classes = site.classes.as_slice();
-    assert_eq!(rt; classes.len(), 2);
-    assert_eq!(rt; classes[0].class.instance, 3);
-    assert!(rt; classes[0].class.ack_required == [false, false, false]);
-    assert_eq!(rt; classes[1].class.instance, 7);
+    same(&rt, &classes.len(), &2);
+    same(&rt, &classes[0].class.instance, &3);
+    holds(&rt, classes[0].class.ack_required == [false, false, false]);
+    same(&rt, &classes[1].class.instance, &7);
     Ok(())
 }
 
@@ -483,28 +492,37 @@ high = 80
 #[test]
 fn an_enrollment_is_read(rt: HostRuntime) -> Result<(), Fail> {
     let site = site_of(rt.alloc(), &[SURROUNDINGS, PROMPT_TANK, RANGE])?;
-    assert_eq!(rt; site.objects.as_slice().len(), 2);
-    assert!(rt; is_tank(&site.objects.as_slice()[0], 1, 7, 0));
+    same(&rt, &site.objects.as_slice().len(), &2);
+    holds(&rt, is_tank(&site.objects.as_slice()[0], 1, 7, 0));
     let flow = &site.objects.as_slice()[1];
     let value = Value::Unsigned(50);
-    assert!(rt; is_object(flow, ObjectKind::PositiveIntegerValue, 1, "Flow", &value));
-    assert!(rt; is_without_class(flow));
-    assert_eq!(rt; site.enrollments.as_slice().len(), 1);
+    holds(
+        &rt,
+        is_object(flow, ObjectKind::PositiveIntegerValue, 1, "Flow", &value),
+    );
+    holds(&rt, is_without_class(flow));
+    same(&rt, &site.enrollments.as_slice().len(), &1);
     let range = &site.enrollments.as_slice()[0];
-    assert!(rt; range.object == ObjectId::of_kind(ObjectKind::EventEnrollment, 1)?);
-    assert_eq!(rt; range.name.as_str(), "Range");
-    assert_eq!(rt; range.class, 7);
-    assert!(rt; range.algorithm == Algorithm::UnsignedRange);
-    assert!(rt; range.monitored == ObjectId::of_kind(ObjectKind::PositiveIntegerValue, 1)?);
-    assert!(rt; range.feedback.is_none());
-    assert_eq!(rt; range.low, 20);
-    assert_eq!(rt; range.high, 80);
-    assert_eq!(rt; range.notify, 0);
-    assert!(rt; range.enable == [true, true, true]);
-    assert_eq!(rt; range.time_delay, 0);
-    assert!(rt; range.time_delay_normal.is_none());
-    assert!(rt; range.detection && !range.inhibit);
-    assert!(rt; site.logs.as_slice().is_empty());
+    holds(
+        &rt,
+        range.object == ObjectId::of_kind(ObjectKind::EventEnrollment, 1)?,
+    );
+    same(&rt, &range.name.as_str(), &"Range");
+    same(&rt, &range.class, &7);
+    holds(&rt, range.algorithm == Algorithm::UnsignedRange);
+    holds(
+        &rt,
+        range.monitored == ObjectId::of_kind(ObjectKind::PositiveIntegerValue, 1)?,
+    );
+    holds(&rt, range.feedback.is_none());
+    same(&rt, &range.low, &20);
+    same(&rt, &range.high, &80);
+    same(&rt, &range.notify, &0);
+    holds(&rt, range.enable == [true, true, true]);
+    same(&rt, &range.time_delay, &0);
+    holds(&rt, range.time_delay_normal.is_none());
+    holds(&rt, range.detection && !range.inhibit);
+    holds(&rt, site.logs.as_slice().is_empty());
     Ok(())
 }
 
@@ -520,33 +538,36 @@ classes = [7]
 #[test]
 fn a_log_is_read(rt: HostRuntime) -> Result<(), Fail> {
     let site = site_of(rt.alloc(), &[SURROUNDINGS, TANK, LOG])?;
-    assert_eq!(rt; site.objects.as_slice().len(), 1);
-    assert!(rt; is_tank(&site.objects.as_slice()[0], 1, 7, 10));
-    assert!(rt; site.enrollments.as_slice().is_empty());
-    assert_eq!(rt; site.logs.as_slice().len(), 1);
+    same(&rt, &site.objects.as_slice().len(), &1);
+    holds(&rt, is_tank(&site.objects.as_slice()[0], 1, 7, 10));
+    holds(&rt, site.enrollments.as_slice().is_empty());
+    same(&rt, &site.logs.as_slice().len(), &1);
     let log = &site.logs.as_slice()[0];
-    assert!(rt; log.object == ObjectId::of_kind(ObjectKind::EventLog, 1)?);
-    assert_eq!(rt; log.name.as_str(), "Log");
-    assert_eq!(rt; log.size, 2);
-    assert!(rt; log.enable && !log.stop_when_full);
-    assert!(rt; log.classes.as_slice() == [7].as_slice());
+    holds(
+        &rt,
+        log.object == ObjectId::of_kind(ObjectKind::EventLog, 1)?,
+    );
+    same(&rt, &log.name.as_str(), &"Log");
+    same(&rt, &log.size, &2);
+    holds(&rt, log.enable && !log.stop_when_full);
+    holds(&rt, log.classes.as_slice() == [7].as_slice());
     Ok(())
 }
 
 #[test]
 fn the_example_of_a_plant_is_a_site(rt: HostRuntime) -> Result<(), Fail> {
     let site = site_of(rt.alloc(), &[PLANT])?;
-    assert_eq!(rt; site.device.zone_minutes, 60);
-    assert_eq!(rt; site.objects.as_slice().len(), 8);
-    assert_eq!(rt; site.enrollments.as_slice().len(), 2);
-    assert_eq!(rt; site.logs.as_slice().len(), 1);
-    assert_eq!(rt; site.classes.as_slice().len(), 2);
+    same(&rt, &site.device.zone_minutes, &60);
+    same(&rt, &site.objects.as_slice().len(), &8);
+    same(&rt, &site.enrollments.as_slice().len(), &2);
+    same(&rt, &site.logs.as_slice().len(), &1);
+    same(&rt, &site.classes.as_slice().len(), &2);
     let destinations = site.classes.as_slice()[0].class.destinations.as_slice();
-    assert_eq!(rt; destinations.len(), 2);
+    same(&rt, &destinations.len(), &2);
     let watch = destinations[1];
-    assert_eq!(rt; watch.days, 0b001_1111);
-    assert_eq!(rt; watch.from, 6_480_000);
-    assert!(rt; watch.transitions == [true, true, false]);
+    same(&rt, &watch.days, &0b001_1111);
+    same(&rt, &watch.from, &6_480_000);
+    holds(&rt, watch.transitions == [true, true, false]);
     Ok(())
 }
 
@@ -554,12 +575,15 @@ fn the_example_of_a_plant_is_a_site(rt: HostRuntime) -> Result<(), Fail> {
 fn objects_of_the_plant_have_their_values(rt: HostRuntime) -> Result<(), Fail> {
     let site = site_of(rt.alloc(), &[PLANT])?;
     let objects = site.objects.as_slice();
-    assert_eq!(rt; objects.len(), 8);
-    assert!(rt; objects[0].alarm_value == Some(Value::Enumerated(1)));
-    assert!(rt; objects[4].mask == Some(Bits::new(4, 0b0011)?));
-    assert!(rt; objects[6].fault_low == Some(-50) && objects[6].fault_high == Some(150));
-    assert_eq!(rt; objects[7].notify, 1);
-    assert!(rt; objects[7].limit_enable == [true, false]);
-    assert!(rt; objects[7].time_delay_normal == Some(10));
+    same(&rt, &objects.len(), &8);
+    holds(&rt, objects[0].alarm_value == Some(Value::Enumerated(1)));
+    holds(&rt, objects[4].mask == Some(Bits::new(4, 0b0011)?));
+    holds(
+        &rt,
+        objects[6].fault_low == Some(-50) && objects[6].fault_high == Some(150),
+    );
+    same(&rt, &objects[7].notify, &1);
+    holds(&rt, objects[7].limit_enable == [true, false]);
+    holds(&rt, objects[7].time_delay_normal == Some(10));
     Ok(())
 }

@@ -1,3 +1,4 @@
+use crate::comparing::same;
 use apdu_frame::*;
 use std::test::Fail;
 
@@ -7,14 +8,15 @@ fn headers_of_requests_are_read(rt: HostRuntime) {
     let acknowledge = [
         0x00, 0x05, 0x07, 0x00, 0x09, 0x01, 0x1c, 0x0b, 0x40, 0x00, 0x01,
     ];
-    assert_eq!(rt;
-        read_apdu(&acknowledge),
-        Apdu::Request {
+    same(
+        &rt,
+        &read_apdu(&acknowledge),
+        &Apdu::Request {
             max_apdu: 1476,
             invoke: 7,
             service: 0,
-            start: 4
-        }
+            start: 4,
+        },
     );
     // WriteProperty, whole and cut behind its header
     let write = [
@@ -26,18 +28,19 @@ fn headers_of_requests_are_read(rt: HostRuntime) {
         service: 15,
         start: 4,
     };
-    assert_eq!(rt; read_apdu(&write), header);
-    assert_eq!(rt; read_apdu(&write[..4]), header);
+    same(&rt, &read_apdu(&write), &header);
+    same(&rt, &read_apdu(&write[..4]), &header);
     // a segment
     let segment = [0x08, 0x05, 0x01, 0x00, 0x04, 0x0f];
-    assert_eq!(rt; read_apdu(&segment), Apdu::Segmented { invoke: 1 });
+    same(&rt, &read_apdu(&segment), &Apdu::Segmented { invoke: 1 });
     // Who-Is
-    assert_eq!(rt;
-        read_apdu(&[0x10, 0x08]),
-        Apdu::Unconfirmed {
+    same(
+        &rt,
+        &read_apdu(&[0x10, 0x08]),
+        &Apdu::Unconfirmed {
             service: 8,
-            start: 2
-        }
+            start: 2,
+        },
     );
 }
 
@@ -48,39 +51,51 @@ fn the_longest_answer_is_that_of_the_code(rt: HostRuntime) {
         .iter()
         .zip(longest.iter())
     {
-        assert_eq!(rt;
-            read_apdu(&[0x02, *second, 0x09, 0x1d]),
-            Apdu::Request {
+        same(
+            &rt,
+            &read_apdu(&[0x02, *second, 0x09, 0x1d]),
+            &Apdu::Request {
                 max_apdu: *expected,
                 invoke: 9,
                 service: 29,
-                start: 4
-            }
+                start: 4,
+            },
         );
     }
 }
 
 #[test]
 fn answers_are_read_by_their_first_three_octets(rt: HostRuntime) {
-    assert_eq!(rt;
-        read_apdu(&[0x20, 0x00, 0x02]),
-        Apdu::SimpleAck {
+    same(
+        &rt,
+        &read_apdu(&[0x20, 0x00, 0x02]),
+        &Apdu::SimpleAck {
             invoke: 0,
-            service: 2
-        }
+            service: 2,
+        },
     );
-    assert_eq!(rt;
-        read_apdu(&[0x50, 0x03, 0x02, 0xff]),
-        Apdu::Error {
+    same(
+        &rt,
+        &read_apdu(&[0x50, 0x03, 0x02, 0xff]),
+        &Apdu::Error {
             invoke: 3,
-            service: 2
-        }
+            service: 2,
+        },
     );
-    assert_eq!(rt; read_apdu(&[0x60, 0x04, 0x09]), Apdu::Reject { invoke: 4 });
-    assert_eq!(rt; read_apdu(&[0x70, 0x05, 0x04]), Apdu::Abort { invoke: 5 });
-    assert_eq!(rt;
-        read_apdu(&[0x71, 0x06, 0x00, 0x01]),
-        Apdu::Abort { invoke: 6 }
+    same(
+        &rt,
+        &read_apdu(&[0x60, 0x04, 0x09]),
+        &Apdu::Reject { invoke: 4 },
+    );
+    same(
+        &rt,
+        &read_apdu(&[0x70, 0x05, 0x04]),
+        &Apdu::Abort { invoke: 5 },
+    );
+    same(
+        &rt,
+        &read_apdu(&[0x71, 0x06, 0x00, 0x01]),
+        &Apdu::Abort { invoke: 6 },
     );
 }
 
@@ -109,25 +124,27 @@ fn what_is_cut_or_unknown_is_other(rt: HostRuntime) {
         &[0xf0, 0x01, 0x02, 0x03],
     ];
     for octets in other {
-        assert_eq!(rt; read_apdu(octets), Apdu::Other);
+        same(&rt, &read_apdu(octets), &Apdu::Other);
     }
 }
 
 #[test]
 fn answers_are_written(rt: HostRuntime) -> Result<(), Fail> {
-    assert_eq!(rt; simple_ack(7, 0), [0x20, 0x07, 0x00]);
-    assert_eq!(rt;
-        error(1, 15, 2, 37),
-        [0x50, 0x01, 0x0f, 0x91, 0x02, 0x91, 0x25]
+    same(&rt, &simple_ack(7, 0), &[0x20, 0x07, 0x00]);
+    same(
+        &rt,
+        &error(1, 15, 2, 37),
+        &[0x50, 0x01, 0x0f, 0x91, 0x02, 0x91, 0x25],
     );
-    assert_eq!(rt; reject(1, 9), [0x60, 0x01, 0x09]);
-    assert_eq!(rt; abort(1, 4), [0x71, 0x01, 0x04]);
+    same(&rt, &reject(1, 9), &[0x60, 0x01, 0x09]);
+    same(&rt, &abort(1, 4), &[0x71, 0x01, 0x04]);
     let answer = complex_ack(rt.alloc(), 1, 29, &[0x0e, 0x0f])
         .ok()
         .ok_or("no memory")?;
-    assert_eq!(rt;
-        answer.as_slice(),
-        [0x30, 0x01, 0x1d, 0x0e, 0x0f].as_slice()
+    same(
+        &rt,
+        &answer.as_slice(),
+        &[0x30, 0x01, 0x1d, 0x0e, 0x0f].as_slice(),
     );
     Ok(())
 }
@@ -137,13 +154,18 @@ fn requests_are_written(rt: HostRuntime) -> Result<(), Fail> {
     let confirmed = request(rt.alloc(), 0, 2, &[0x09, 0x01])
         .ok()
         .ok_or("no memory")?;
-    assert_eq!(rt;
-        confirmed.as_slice(),
-        [0x00, 0x05, 0x00, 0x02, 0x09, 0x01].as_slice()
+    same(
+        &rt,
+        &confirmed.as_slice(),
+        &[0x00, 0x05, 0x00, 0x02, 0x09, 0x01].as_slice(),
     );
     let announced = unconfirmed(rt.alloc(), 0, &[0xc4, 0x02])
         .ok()
         .ok_or("no memory")?;
-    assert_eq!(rt; announced.as_slice(), [0x10, 0x00, 0xc4, 0x02].as_slice());
+    same(
+        &rt,
+        &announced.as_slice(),
+        &[0x10, 0x00, 0xc4, 0x02].as_slice(),
+    );
     Ok(())
 }

@@ -1,3 +1,4 @@
+use crate::comparing::{holds, same};
 use bac_tags::*;
 use bac_values::{Bits, Foreign, ObjectId, Stamp, Text, Value};
 use std::alloc::Global;
@@ -18,14 +19,15 @@ fn primitive(number: u8, context: bool, length: u32) -> Tag {
 
 /// The octets are the tag and nothing else.
 fn expect_tag(rt: &impl Abort, octets: &[u8], expected: Tag) {
-    assert_eq!(rt; read_tag(octets, 0), Ok((expected, octets.len())));
+    same(rt, &read_tag(octets, 0), &Ok((expected, octets.len())));
 }
 
 /// The octets end within the tag.
 fn expect_cut(rt: &impl Abort, octets: &[u8]) {
-    assert_eq!(rt;
-        read_tag(octets, 0),
-        Err(TagFault::Truncated { at: octets.len() })
+    same(
+        rt,
+        &read_tag(octets, 0),
+        &Err(TagFault::Truncated { at: octets.len() }),
     );
 }
 
@@ -90,28 +92,38 @@ const NOTE: [u8; 37] = [
 
 #[test]
 fn the_elements_of_a_notification_are_read_in_turn(rt: HostRuntime) -> Result<(), Fail> {
-    assert_eq!(rt; read_unsigned(&NOTE, 0, Some(0)), Ok((1, 2)));
+    same(&rt, &read_unsigned(&NOTE, 0, Some(0)), &Ok((1, 2)));
     let device = ObjectId::new(8, 1001)?;
-    assert_eq!(rt; read_object(&NOTE, 2, Some(1)), Ok((device, 7)));
+    same(&rt, &read_object(&NOTE, 2, Some(1)), &Ok((device, 7)));
     let value = ObjectId::new(45, 1)?;
-    assert_eq!(rt; read_object(&NOTE, 7, Some(2)), Ok((value, 12)));
-    assert_eq!(rt; read_tag(&NOTE, 12), Ok((tag(3, true, Shape::Opening), 13)));
+    same(&rt, &read_object(&NOTE, 7, Some(2)), &Ok((value, 12)));
+    same(
+        &rt,
+        &read_tag(&NOTE, 12),
+        &Ok((tag(3, true, Shape::Opening), 13)),
+    );
     let stamp = Stamp {
         octets: [0x7b, 0x0b, 0x0e, 0x02, 0x16, 0x0d, 0x1e, 0x00],
     };
-    assert_eq!(rt; read_stamp(&NOTE, 14, None), Ok((stamp, 24)));
-    assert_eq!(rt; read_unsigned(&NOTE, 28, Some(5)), Ok((100, 30)));
-    assert_eq!(rt; read_bool(&NOTE, 30, Some(9)), Ok((true, 32)));
-    assert_eq!(rt; read_unsigned(&NOTE, 32, Some(10)), Ok((0, 34)));
-    assert_eq!(rt; read_bits(&NOTE, 34, Some(1)), Ok((Bits::new(4, 1)?, 37)));
-    // The time of a stamp has a place of its own.
-    assert_eq!(rt;
-        read_stamp(&NOTE[..22], 14, None),
-        Err(TagFault::Truncated { at: 22 })
+    same(&rt, &read_stamp(&NOTE, 14, None), &Ok((stamp, 24)));
+    same(&rt, &read_unsigned(&NOTE, 28, Some(5)), &Ok((100, 30)));
+    same(&rt, &read_bool(&NOTE, 30, Some(9)), &Ok((true, 32)));
+    same(&rt, &read_unsigned(&NOTE, 32, Some(10)), &Ok((0, 34)));
+    same(
+        &rt,
+        &read_bits(&NOTE, 34, Some(1)),
+        &Ok((Bits::new(4, 1)?, 37)),
     );
-    assert_eq!(rt;
-        read_stamp(&[0xa4, 1, 2, 3, 4, 0xa4, 1, 2, 3, 4], 0, None),
-        Err(TagFault::WrongTag { at: 5 })
+    // The time of a stamp has a place of its own.
+    same(
+        &rt,
+        &read_stamp(&NOTE[..22], 14, None),
+        &Err(TagFault::Truncated { at: 22 }),
+    );
+    same(
+        &rt,
+        &read_stamp(&[0xa4, 1, 2, 3, 4, 0xa4, 1, 2, 3, 4], 0, None),
+        &Err(TagFault::WrongTag { at: 5 }),
     );
     Ok(())
 }
@@ -119,82 +131,112 @@ fn the_elements_of_a_notification_are_read_in_turn(rt: HostRuntime) -> Result<()
 #[test]
 fn numbers_have_one_to_four_octets(rt: HostRuntime) {
     let most = [0x24, 0xff, 0xff, 0xff, 0xff];
-    assert_eq!(rt; read_unsigned(&most, 0, None), Ok((u32::MAX, 5)));
-    assert_eq!(rt; read_unsigned(&[0x22, 0x00, 0x05], 0, None), Ok((5, 3)));
-    assert_eq!(rt; read_unsigned(&[0x25, 0x01, 0x07], 0, None), Ok((7, 3)));
+    same(&rt, &read_unsigned(&most, 0, None), &Ok((u32::MAX, 5)));
+    same(
+        &rt,
+        &read_unsigned(&[0x22, 0x00, 0x05], 0, None),
+        &Ok((5, 3)),
+    );
+    same(
+        &rt,
+        &read_unsigned(&[0x25, 0x01, 0x07], 0, None),
+        &Ok((7, 3)),
+    );
     let none = Err(TagFault::BadLength { at: 0 });
-    assert_eq!(rt; read_unsigned(&[0x20], 0, None), none);
-    assert_eq!(rt; read_unsigned(&[0x25, 0x05, 0, 0, 0, 0, 1], 0, None), none);
-    assert_eq!(rt; read_unsigned(&[0x25, 0x05], 0, None), none);
-    assert_eq!(rt;
-        read_unsigned(&[0x22, 0x05], 0, None),
-        Err(TagFault::Truncated { at: 2 })
+    same(&rt, &read_unsigned(&[0x20], 0, None), &none);
+    same(
+        &rt,
+        &read_unsigned(&[0x25, 0x05, 0, 0, 0, 0, 1], 0, None),
+        &none,
+    );
+    same(&rt, &read_unsigned(&[0x25, 0x05], 0, None), &none);
+    same(
+        &rt,
+        &read_unsigned(&[0x22, 0x05], 0, None),
+        &Err(TagFault::Truncated { at: 2 }),
     );
     let other = Err(TagFault::WrongTag { at: 0 });
-    assert_eq!(rt; read_unsigned(&[0x09, 0x01], 0, None), other);
-    assert_eq!(rt; read_unsigned(&[0x21, 0x01], 0, Some(2)), other);
-    assert_eq!(rt; read_unsigned(&[0x26, 0x01], 0, None), other);
-    assert_eq!(rt; read_unsigned(&[0x2e, 0x01], 0, Some(2)), other);
-    assert_eq!(rt; read_unsigned(&[0x31], 0, None), other);
-    assert_eq!(rt; read_signed(&[0x31, 0xff], 0, None), Ok((-1, 2)));
-    assert_eq!(rt; read_signed(&[0x31, 0x80], 0, None), Ok((-128, 2)));
-    assert_eq!(rt; read_signed(&[0x32, 0xff, 0x7f], 0, None), Ok((-129, 3)));
-    assert_eq!(rt;
-        read_signed(&[0x33, 0x00, 0xff, 0xff], 0, None),
-        Ok((65_535, 4))
+    same(&rt, &read_unsigned(&[0x09, 0x01], 0, None), &other);
+    same(&rt, &read_unsigned(&[0x21, 0x01], 0, Some(2)), &other);
+    same(&rt, &read_unsigned(&[0x26, 0x01], 0, None), &other);
+    same(&rt, &read_unsigned(&[0x2e, 0x01], 0, Some(2)), &other);
+    same(&rt, &read_unsigned(&[0x31], 0, None), &other);
+    same(&rt, &read_signed(&[0x31, 0xff], 0, None), &Ok((-1, 2)));
+    same(&rt, &read_signed(&[0x31, 0x80], 0, None), &Ok((-128, 2)));
+    same(
+        &rt,
+        &read_signed(&[0x32, 0xff, 0x7f], 0, None),
+        &Ok((-129, 3)),
+    );
+    same(
+        &rt,
+        &read_signed(&[0x33, 0x00, 0xff, 0xff], 0, None),
+        &Ok((65_535, 4)),
     );
     let least = [0x34, 0x80, 0x00, 0x00, 0x00];
-    assert_eq!(rt; read_signed(&least, 0, None), Ok((i32::MIN, 5)));
+    same(&rt, &read_signed(&least, 0, None), &Ok((i32::MIN, 5)));
 }
 
 #[test]
 fn booleans_are_in_the_tag_or_behind_it(rt: HostRuntime) {
-    assert_eq!(rt; read_bool(&[0x10], 0, None), Ok((false, 1)));
-    assert_eq!(rt; read_bool(&[0x11], 0, None), Ok((true, 1)));
-    assert_eq!(rt; read_bool(&[0x15, 0x01], 0, None), Ok((true, 2)));
-    assert_eq!(rt; read_bool(&[0x19, 0x00], 0, Some(1)), Ok((false, 2)));
+    same(&rt, &read_bool(&[0x10], 0, None), &Ok((false, 1)));
+    same(&rt, &read_bool(&[0x11], 0, None), &Ok((true, 1)));
+    same(&rt, &read_bool(&[0x15, 0x01], 0, None), &Ok((true, 2)));
+    same(&rt, &read_bool(&[0x19, 0x00], 0, Some(1)), &Ok((false, 2)));
     let none = Err(TagFault::BadLength { at: 0 });
-    assert_eq!(rt; read_bool(&[0x12, 0, 0], 0, None), none);
-    assert_eq!(rt; read_bool(&[0x19, 0x02], 0, Some(1)), none);
-    assert_eq!(rt; read_bool(&[0x18], 0, Some(1)), none);
-    assert_eq!(rt;
-        read_bool(&[0x19], 0, Some(1)),
-        Err(TagFault::Truncated { at: 1 })
+    same(&rt, &read_bool(&[0x12, 0, 0], 0, None), &none);
+    same(&rt, &read_bool(&[0x19, 0x02], 0, Some(1)), &none);
+    same(&rt, &read_bool(&[0x18], 0, Some(1)), &none);
+    same(
+        &rt,
+        &read_bool(&[0x19], 0, Some(1)),
+        &Err(TagFault::Truncated { at: 1 }),
     );
 }
 
 #[test]
 fn bit_strings_begin_with_their_first_bit(rt: HostRuntime) -> Result<(), Fail> {
-    assert_eq!(rt;
-        read_bits(&[0x2a, 0x05, 0x60], 0, Some(2)),
-        Ok((Bits::new(3, 6)?, 3))
+    same(
+        &rt,
+        &read_bits(&[0x2a, 0x05, 0x60], 0, Some(2)),
+        &Ok((Bits::new(3, 6)?, 3)),
     );
     // Bits that aren't used are read over.
-    assert_eq!(rt;
-        read_bits(&[0x82, 0x05, 0x7f], 0, None),
-        Ok((Bits::new(3, 6)?, 3))
+    same(
+        &rt,
+        &read_bits(&[0x82, 0x05, 0x7f], 0, None),
+        &Ok((Bits::new(3, 6)?, 3)),
     );
     let two = [0x83, 0x04, 0x80, 0x50];
-    assert_eq!(rt; read_bits(&two, 0, None), Ok((Bits::new(12, 0x0a01)?, 4)));
-    assert_eq!(rt;
-        read_bits(&[0x81, 0x00], 0, None),
-        Ok((Bits::new(0, 0)?, 2))
+    same(
+        &rt,
+        &read_bits(&two, 0, None),
+        &Ok((Bits::new(12, 0x0a01)?, 4)),
+    );
+    same(
+        &rt,
+        &read_bits(&[0x81, 0x00], 0, None),
+        &Ok((Bits::new(0, 0)?, 2)),
     );
     let all = [0x85, 0x09, 0, 255, 255, 255, 255, 255, 255, 255, 254];
     let most = Bits::new(64, u64::MAX >> 1)?;
-    assert_eq!(rt; read_bits(&all, 0, None), Ok((most, 11)));
+    same(&rt, &read_bits(&all, 0, None), &Ok((most, 11)));
     let none = Err(TagFault::BadLength { at: 0 });
     let more = [0x85, 0x0a, 7, 0, 0, 0, 0, 0, 0, 0, 0, 0];
-    assert_eq!(rt; read_bits(&more, 0, None), none);
-    assert_eq!(rt; read_bits(&[0x80], 0, None), none);
-    assert_eq!(rt; read_bits(&[0x81, 0x01], 0, None), none);
-    assert_eq!(rt; read_bits(&[0x82, 0x08, 0x00], 0, None), none);
+    same(&rt, &read_bits(&more, 0, None), &none);
+    same(&rt, &read_bits(&[0x80], 0, None), &none);
+    same(&rt, &read_bits(&[0x81, 0x01], 0, None), &none);
+    same(&rt, &read_bits(&[0x82, 0x08, 0x00], 0, None), &none);
     Ok(())
 }
 
 /// The octets are the value and nothing else.
 fn expect_value(rt: &impl Abort, alloc: Global, octets: &[u8], expected: Value) {
-    assert_eq!(rt; read_value(alloc, octets, 0), Ok((expected, octets.len())));
+    same(
+        rt,
+        &read_value(alloc, octets, 0),
+        &Ok((expected, octets.len())),
+    );
 }
 
 fn opaque(tag: u8, why: Foreign) -> Value {
@@ -263,17 +305,17 @@ fn what_is_not_taken_is_opaque_by_its_reason(rt: HostRuntime) {
 #[test]
 fn what_is_no_value_is_refused(rt: HostRuntime) {
     let other = Err(TagFault::WrongTag { at: 0 });
-    assert_eq!(rt; read_value(rt.alloc(), &[0x09, 0x01], 0), other);
+    same(&rt, &read_value(rt.alloc(), &[0x09, 0x01], 0), &other);
     let other = Err(TagFault::WrongTag { at: 0 });
-    assert_eq!(rt; read_value(rt.alloc(), &[0x26], 0), other);
+    same(&rt, &read_value(rt.alloc(), &[0x26], 0), &other);
     let none = Err(TagFault::BadLength { at: 0 });
-    assert_eq!(rt; read_value(rt.alloc(), &[0x12, 0, 0], 0), none);
+    same(&rt, &read_value(rt.alloc(), &[0x12, 0, 0], 0), &none);
     let none = Err(TagFault::BadLength { at: 0 });
-    assert_eq!(rt; read_value(rt.alloc(), &[0x43, 0, 0, 0], 0), none);
+    same(&rt, &read_value(rt.alloc(), &[0x43, 0, 0, 0], 0), &none);
     let none = Err(TagFault::BadLength { at: 0 });
-    assert_eq!(rt; read_value(rt.alloc(), &[0x82, 0x08, 0x00], 0), none);
+    same(&rt, &read_value(rt.alloc(), &[0x82, 0x08, 0x00], 0), &none);
     let cut = Err(TagFault::Truncated { at: 2 });
-    assert_eq!(rt; read_value(rt.alloc(), &[0x25, 0x05], 0), cut);
+    same(&rt, &read_value(rt.alloc(), &[0x25, 0x05], 0), &cut);
 }
 
 #[test]
@@ -282,11 +324,12 @@ fn texts_of_256_octets_are_the_longest(rt: HostRuntime) -> Result<(), Fail> {
     let text = Value::Text(Text::new(rt.alloc(), letters.as_str())?);
     let mut octets = Vec::new(rt.alloc());
     write_value(&mut octets, &text)?;
-    assert_eq!(rt; octets.len(), 261);
-    assert!(rt;
+    same(&rt, &octets.len(), &261);
+    holds(
+        &rt,
         octets
             .as_slice()
-            .starts_with(&[0x75, 0xfe, 0x01, 0x01, 0x00])
+            .starts_with(&[0x75, 0xfe, 0x01, 0x01, 0x00]),
     );
     expect_value(&rt, rt.alloc(), octets.as_slice(), text);
     let mut longer = Vec::new(rt.alloc());
@@ -321,7 +364,7 @@ fn the_shortest_spelling_is_written(rt: HostRuntime) -> Result<(), Fail> {
     write_bool(&mut out, Some(9), true)?;
     write_unsigned(&mut out, Some(10), 0)?;
     write_bits(&mut out, Some(1), Bits::new(4, 1)?)?;
-    assert_eq!(rt; out.as_slice(), NOTE.as_slice());
+    same(&rt, &out.as_slice(), &NOTE.as_slice());
     out.clear();
     write_tag(&mut out, tag(19, true, Shape::Closing))?;
     write_signed(&mut out, None, -128)?;
@@ -336,6 +379,6 @@ fn the_shortest_spelling_is_written(rt: HostRuntime) -> Result<(), Fail> {
         0xff, 0x13, 0x31, 0x80, 0x32, 0xff, 0x7f, 0x34, 0x7f, 0xff, 0xff, 0xff, 0xfb, 0xc8, 0x01,
         0x00, 0x00, 0x11, 0x91, 0x03, 0x83, 0x07, 0x00, 0x80, 0x81, 0x00,
     ];
-    assert_eq!(rt; out.as_slice(), expected.as_slice());
+    same(&rt, &out.as_slice(), &expected.as_slice());
     Ok(())
 }

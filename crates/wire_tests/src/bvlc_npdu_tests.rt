@@ -1,3 +1,4 @@
+use crate::comparing::{holds, same};
 use bac_values::{Mac, Peer};
 use bvlc_npdu::*;
 use std::test::Fail;
@@ -18,18 +19,19 @@ const ACKNOWLEDGEMENT: [u8; 51] = [
 #[test]
 fn a_request_is_found_and_written_again(rt: HostRuntime) -> Result<(), Fail> {
     let found = unwrap(sender(), &ACKNOWLEDGEMENT).ok_or("ignored")?;
-    assert_eq!(rt;
-        found,
-        Incoming {
+    same(
+        &rt,
+        &found,
+        &Incoming {
             peer: sender(),
-            start: 6
-        }
+            start: 6,
+        },
     );
     let apdu = &ACKNOWLEDGEMENT[6..];
     let written = wrap(rt.alloc(), &sender(), true, apdu)
         .ok()
         .ok_or("no memory")?;
-    assert_eq!(rt; written.as_slice(), ACKNOWLEDGEMENT.as_slice());
+    same(&rt, &written.as_slice(), &ACKNOWLEDGEMENT.as_slice());
     Ok(())
 }
 
@@ -39,7 +41,7 @@ fn an_acknowledgement_expects_no_reply(rt: HostRuntime) -> Result<(), Fail> {
         .ok()
         .ok_or("no memory")?;
     let expected = [0x81, 0x0a, 0x00, 0x09, 0x01, 0x00, 0x20, 0x07, 0x00];
-    assert_eq!(rt; written.as_slice(), expected.as_slice());
+    same(&rt, &written.as_slice(), &expected.as_slice());
     Ok(())
 }
 
@@ -49,18 +51,18 @@ fn a_station_behind_a_router_is_answered_through_it(rt: HostRuntime) -> Result<(
         0x81, 0x0a, 0x00, 0x0d, 0x01, 0x08, 0x01, 0x05, 0x02, 0x77, 0x78, 0x10, 0x08,
     ];
     let found = unwrap(sender(), &datagram).ok_or("ignored")?;
-    assert_eq!(rt; found.start, 11);
-    assert_eq!(rt; found.peer.ip, 0x0a00_0009);
-    assert_eq!(rt; found.peer.port, 47808);
-    assert_eq!(rt; found.peer.net, 0x0105);
-    assert_eq!(rt; found.peer.mac.octets(), [0x77, 0x78].as_slice());
+    same(&rt, &found.start, &11);
+    same(&rt, &found.peer.ip, &0x0a00_0009);
+    same(&rt, &found.peer.port, &47808);
+    same(&rt, &found.peer.net, &0x0105);
+    same(&rt, &found.peer.mac.octets(), &[0x77, 0x78].as_slice());
     let written = wrap(rt.alloc(), &found.peer, true, &[0x00, 0x05])
         .ok()
         .ok_or("no memory")?;
     let expected = [
         0x81, 0x0a, 0x00, 0x0e, 0x01, 0x24, 0x01, 0x05, 0x02, 0x77, 0x78, 0xff, 0x00, 0x05,
     ];
-    assert_eq!(rt; written.as_slice(), expected.as_slice());
+    same(&rt, &written.as_slice(), &expected.as_slice());
     Ok(())
 }
 
@@ -68,24 +70,26 @@ fn a_station_behind_a_router_is_answered_through_it(rt: HostRuntime) -> Result<(
 fn broadcasts_and_forwarded_requests_are_taken(rt: HostRuntime) -> Result<(), Fail> {
     // Who-Is as a broadcast of the local network.
     let broadcast = [0x81, 0x0b, 0x00, 0x08, 0x01, 0x00, 0x10, 0x08];
-    assert_eq!(rt;
-        unwrap(sender(), &broadcast),
-        Some(Incoming {
+    same(
+        &rt,
+        &unwrap(sender(), &broadcast),
+        &Some(Incoming {
             peer: sender(),
-            start: 6
-        })
+            start: 6,
+        }),
     );
     // Forwarded: the peer is the device within, also where the sender has no port.
     let forwarded = [
         0x81, 0x04, 0x00, 0x0e, 0x0a, 0x00, 0x00, 0x07, 0xba, 0xc1, 0x01, 0x00, 0x10, 0x08,
     ];
     let device = Peer::local(0x0a00_0007, 47809);
-    assert_eq!(rt;
-        unwrap(Peer::console(), &forwarded),
-        Some(Incoming {
+    same(
+        &rt,
+        &unwrap(Peer::console(), &forwarded),
+        &Some(Incoming {
             peer: device,
-            start: 12
-        })
+            start: 12,
+        }),
     );
     // A global broadcast that names an address, from a station, with reserved bits set.
     let global = [
@@ -93,17 +97,18 @@ fn broadcasts_and_forwarded_requests_are_taken(rt: HostRuntime) -> Result<(), Fa
         0x10, 0x08,
     ];
     let found = unwrap(sender(), &global).ok_or("ignored")?;
-    assert_eq!(rt; found.start, 15);
-    assert_eq!(rt; found.peer.net, 5);
-    assert_eq!(rt; found.peer.mac, Mac::new(&[7]).ok_or("no station")?);
+    same(&rt, &found.start, &15);
+    same(&rt, &found.peer.net, &5);
+    same(&rt, &found.peer.mac, &Mac::new(&[7]).ok_or("no station")?);
     // No APDU at all begins at the end.
     let empty = [0x81, 0x0a, 0x00, 0x06, 0x01, 0x00];
-    assert_eq!(rt;
-        unwrap(sender(), &empty),
-        Some(Incoming {
+    same(
+        &rt,
+        &unwrap(sender(), &empty),
+        &Some(Incoming {
             peer: sender(),
-            start: 6
-        })
+            start: 6,
+        }),
     );
     Ok(())
 }
@@ -159,10 +164,10 @@ fn a_datagram_is_ignored_for_each_reason(rt: HostRuntime) {
         &[0x81, 0x04, 0x00, 0x08, 0x01, 0x00, 0x10, 0x08],
     ];
     for datagram in ignored {
-        assert_eq!(rt; unwrap(sender(), datagram), None);
+        same(&rt, &unwrap(sender(), datagram), &None);
     }
     // From port 0, a datagram that is taken otherwise.
     let whole = [0x81, 0x0a, 0x00, 0x08, 0x01, 0x00, 0x10, 0x08];
-    assert_eq!(rt; unwrap(Peer::local(0x0a00_0009, 0), &whole), None);
-    assert!(rt; unwrap(sender(), &whole).is_some());
+    same(&rt, &unwrap(Peer::local(0x0a00_0009, 0), &whole), &None);
+    holds(&rt, unwrap(sender(), &whole).is_some());
 }

@@ -1,6 +1,7 @@
 ghost use Rattle.std.specs.Prelude.{IfOk};
 ghost use Rattle.event_services.specs.Notifications.{IsTold};
 
+use crate::comparing::same;
 use bac_values::{EventState, ObjectId, Reliability, Stamp, StatusFlags, Value};
 use event_services::*;
 use std::alloc::Global;
@@ -26,7 +27,7 @@ const LATER: Stamp = Stamp {
 
 /// The octets are refused with a reason, at a place.
 fn expect_refused(rt: &impl Abort, octets: &[u8], reject: u8, at: usize) {
-    assert_eq!(rt; read_ack(octets), Err(Malformed { reject, at }));
+    same(rt, &read_ack(octets), &Err(Malformed { reject, at }));
 }
 
 #[test]
@@ -37,7 +38,7 @@ fn an_acknowledgement_is_read(rt: HostRuntime) -> Result<(), Fail> {
         state: 2,
         stamp: AckStamp::DateTime(RAISED),
     };
-    assert_eq!(rt; read_ack(&ACKNOWLEDGE), Ok(request));
+    same(&rt, &read_ack(&ACKNOWLEDGE), &Ok(request));
     Ok(())
 }
 
@@ -54,13 +55,13 @@ fn every_form_of_a_time_stamp_is_read(rt: HostRuntime) -> Result<(), Fail> {
         state: 0,
         stamp: AckStamp::Sequence,
     };
-    assert_eq!(rt; read_ack(&counted), Ok(request));
+    same(&rt, &read_ack(&counted), &Ok(request));
     let timed = [
         0x09, 0x01, 0x1c, 0x0b, 0x40, 0x00, 0x01, 0x29, 0x00, 0x3e, 0x0c, 0x16, 0x0d, 0x1e, 0x00,
         0x3f, 0x49, 0xff, 0x5e, 0x19, 0x05, 0x5f,
     ];
     let stamp = AckStamp::Time;
-    assert_eq!(rt; read_ack(&timed), Ok(AckRequest { stamp, ..request }));
+    same(&rt, &read_ack(&timed), &Ok(AckRequest { stamp, ..request }));
     Ok(())
 }
 
@@ -219,38 +220,44 @@ fn notifications_are_written(rt: HostRuntime) -> Result<(), Fail> {
     let octets = write_notification(rt.alloc(), &high()?)
         .ok()
         .ok_or("no memory")?;
-    assert_eq!(rt; octets.as_slice(), HIGH.as_slice());
+    same(&rt, &octets.as_slice(), &HIGH.as_slice());
     let octets = write_notification(rt.alloc(), &acknowledged()?)
         .ok()
         .ok_or("no memory")?;
-    assert_eq!(rt; octets.as_slice(), ACKNOWLEDGED.as_slice());
+    same(&rt, &octets.as_slice(), &ACKNOWLEDGED.as_slice());
     let octets = write_notification(rt.alloc(), &faulty()?)
         .ok()
         .ok_or("no memory")?;
-    assert_eq!(rt; octets.as_slice(), FAULTY.as_slice());
+    same(&rt, &octets.as_slice(), &FAULTY.as_slice());
     Ok(())
 }
 
 #[test]
 fn information_is_asked_for(rt: HostRuntime) -> Result<(), Fail> {
-    assert_eq!(rt; read_information_request(&[]), Ok(None));
+    same(&rt, &read_information_request(&[]), &Ok(None));
     let last = [0x0c, 0x0b, 0x40, 0x00, 0x01];
-    assert_eq!(rt;
-        read_information_request(&last),
-        Ok(Some(ObjectId::new(45, 1)?))
+    same(
+        &rt,
+        &read_information_request(&last),
+        &Ok(Some(ObjectId::new(45, 1)?)),
     );
     let refused = |reject, at| Err(Malformed { reject, at });
     // A cut header, a cut content, and a length of three.
-    assert_eq!(rt; read_information_request(&[0xf9]), refused(4, 0));
-    assert_eq!(rt; read_information_request(&last[..3]), refused(4, 0));
-    assert_eq!(rt;
-        read_information_request(&[0x0b, 0x0b, 0x40, 0x00]),
-        refused(4, 0)
+    same(&rt, &read_information_request(&[0xf9]), &refused(4, 0));
+    same(&rt, &read_information_request(&last[..3]), &refused(4, 0));
+    same(
+        &rt,
+        &read_information_request(&[0x0b, 0x0b, 0x40, 0x00]),
+        &refused(4, 0),
     );
     // Another whole tag, and one behind the object.
-    assert_eq!(rt; read_information_request(&[0x19, 0x01]), refused(7, 0));
+    same(
+        &rt,
+        &read_information_request(&[0x19, 0x01]),
+        &refused(7, 0),
+    );
     let more = [0x0c, 0x0b, 0x40, 0x00, 0x01, 0x19, 0x01];
-    assert_eq!(rt; read_information_request(&more), refused(7, 5));
+    same(&rt, &read_information_request(&more), &refused(7, 5));
     Ok(())
 }
 
@@ -268,30 +275,32 @@ fn information_is_written(rt: HostRuntime) -> Result<(), Fail> {
     let octets = write_information(rt.alloc(), &[summary], true)
         .ok()
         .ok_or("no memory")?;
-    assert_eq!(rt; octets.as_slice(), INFORMATION.as_slice());
+    same(&rt, &octets.as_slice(), &INFORMATION.as_slice());
     let none = write_information(rt.alloc(), &[], false)
         .ok()
         .ok_or("no memory")?;
-    assert_eq!(rt; none.as_slice(), [0x0e, 0x0f, 0x19, 0x00].as_slice());
+    same(&rt, &none.as_slice(), &[0x0e, 0x0f, 0x19, 0x00].as_slice());
     Ok(())
 }
 
 #[test]
 fn notifications_are_read(rt: HostRuntime) -> Result<(), Fail> {
-    assert_eq!(rt; read_notification(rt.alloc(), &HIGH), Ok(high()?));
-    assert_eq!(rt;
-        read_notification(rt.alloc(), &ACKNOWLEDGED),
-        Ok(acknowledged()?)
+    same(&rt, &read_notification(rt.alloc(), &HIGH), &Ok(high()?));
+    same(
+        &rt,
+        &read_notification(rt.alloc(), &ACKNOWLEDGED),
+        &Ok(acknowledged()?),
     );
-    assert_eq!(rt; read_notification(rt.alloc(), &FAULTY), Ok(faulty()?));
+    same(&rt, &read_notification(rt.alloc(), &FAULTY), &Ok(faulty()?));
     Ok(())
 }
 
 /// The octets are no notification, for a reason and at a place.
 fn expect_no_notification(rt: &impl Abort, alloc: Global, octets: &[u8], reject: u8, at: usize) {
-    assert_eq!(rt;
-        read_notification(alloc, octets),
-        Err(NoteFault::Malformed { reject, at })
+    same(
+        rt,
+        &read_notification(alloc, octets),
+        &Err(NoteFault::Malformed { reject, at }),
     );
 }
 

@@ -10,6 +10,8 @@ mod bac_tags_tests;
 #[cfg(test)]
 mod bvlc_npdu_tests;
 #[cfg(test)]
+mod comparing;
+#[cfg(test)]
 mod event_services_tests;
 #[cfg(test)]
 mod property_services_tests;

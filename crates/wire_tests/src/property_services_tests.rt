@@ -1,3 +1,4 @@
+use crate::comparing::{holds, same};
 use bac_values::{Foreign, ObjectId, PropertyId, Stamp, Value};
 use property_services::*;
 use service_parameters::{invalid_tag, missing_parameter, too_many_arguments};
@@ -20,16 +21,17 @@ fn read_property_is_read_and_answered(rt: HostRuntime) -> Result<(), Fail> {
     // Event_State of an integer value 1.
     let octets = [0x0c, 0x0b, 0x40, 0x00, 0x01, 0x19, 0x24];
     let request = named(45, 1, PropertyId::EVENT_STATE).ok_or("an identifier")?;
-    assert_eq!(rt; read_read_property(&octets), Ok(request));
+    same(&rt, &read_read_property(&octets), &Ok(request));
     let answer = write_read_ack(rt.alloc(), &request, &[0x91, 0x00])
         .ok()
         .ok_or("no memory")?;
-    assert_eq!(rt;
-        answer.as_slice(),
-        [
-            0x0c, 0x0b, 0x40, 0x00, 0x01, 0x19, 0x24, 0x3e, 0x91, 0x00, 0x3f
+    same(
+        &rt,
+        &answer.as_slice(),
+        &[
+            0x0c, 0x0b, 0x40, 0x00, 0x01, 0x19, 0x24, 0x3e, 0x91, 0x00, 0x3f,
         ]
-        .as_slice()
+        .as_slice(),
     );
     // The second stamp of its Event_Time_Stamps, in numbers that are longer than they need be.
     let octets = [
@@ -40,16 +42,17 @@ fn read_property_is_read_and_answered(rt: HostRuntime) -> Result<(), Fail> {
         index: Some(2),
         ..request
     };
-    assert_eq!(rt; read_read_property(&octets), Ok(request));
+    same(&rt, &read_read_property(&octets), &Ok(request));
     let answer = write_read_ack(rt.alloc(), &request, &[])
         .ok()
         .ok_or("no memory")?;
-    assert_eq!(rt;
-        answer.as_slice(),
-        [
-            0x0c, 0x0b, 0x40, 0x00, 0x01, 0x19, 0x82, 0x29, 0x02, 0x3e, 0x3f
+    same(
+        &rt,
+        &answer.as_slice(),
+        &[
+            0x0c, 0x0b, 0x40, 0x00, 0x01, 0x19, 0x82, 0x29, 0x02, 0x3e, 0x3f,
         ]
-        .as_slice()
+        .as_slice(),
     );
     Ok(())
 }
@@ -93,7 +96,7 @@ fn read_property_is_refused_with_its_cause(rt: HostRuntime) {
         ),
     ];
     for (octets, fault) in refused {
-        assert_eq!(rt; read_read_property(octets), Err(fault));
+        same(&rt, &read_read_property(octets), &Err(fault));
     }
 }
 
@@ -101,16 +104,16 @@ fn read_property_is_refused_with_its_cause(rt: HostRuntime) {
 fn expect_written(rt: &impl Abort, alloc: Global, value: &[u8], expected: Value) {
     let front = [0x0c, 0x0b, 0x40, 0x00, 0x01, 0x1a, 0x01, 0x62];
     let mut octets = Vec::new(alloc);
-    assert!(rt; octets.extend_from_slice(&front).is_ok());
-    assert!(rt; octets.extend_from_slice(value).is_ok());
+    holds(rt, octets.extend_from_slice(&front).is_ok());
+    holds(rt, octets.extend_from_slice(value).is_ok());
     match read_write_property(alloc, octets.as_slice()) {
         Ok(request) => {
-            assert_eq!(rt; ObjectId::new(45, 1), Ok(request.object));
-            assert_eq!(rt; request.property, PropertyId::EVENT_ALGORITHM_INHIBIT);
-            assert_eq!(rt; request.index, None);
-            assert!(rt; request.value == expected);
+            same(rt, &ObjectId::new(45, 1), &Ok(request.object));
+            same(rt, &request.property, &PropertyId::EVENT_ALGORITHM_INHIBIT);
+            same(rt, &request.index, &None);
+            holds(rt, request.value == expected);
         }
-        Err(_) => assert!(rt; false),
+        Err(_) => holds(rt, false),
     }
 }
 
@@ -171,11 +174,11 @@ fn write_property_is_refused_with_its_cause(rt: HostRuntime) {
     for (more, reject, at) in refused {
         let mut octets = Vec::new(rt.alloc());
         let front = [0x0c, 0x0b, 0x40, 0x00, 0x01, 0x19, 0x2d];
-        assert!(rt; octets.extend_from_slice(&front).is_ok());
-        assert!(rt; octets.extend_from_slice(more).is_ok());
+        holds(&rt, octets.extend_from_slice(&front).is_ok());
+        holds(&rt, octets.extend_from_slice(more).is_ok());
         match read_write_property(rt.alloc(), octets.as_slice()) {
-            Err(fault) => assert_eq!(rt; fault, ServiceFault::Malformed { reject, at }),
-            Ok(_) => assert!(rt; false),
+            Err(fault) => same(&rt, &fault, &ServiceFault::Malformed { reject, at }),
+            Ok(_) => holds(&rt, false),
         }
     }
 }
@@ -184,32 +187,34 @@ fn write_property_is_refused_with_its_cause(rt: HostRuntime) {
 fn range_of(rt: &impl Abort, alloc: Global, more: &[u8]) -> Result<RangeBy, Malformed> {
     let mut octets = Vec::new(alloc);
     let front = [0x0c, 0x06, 0x40, 0x00, 0x01, 0x19, 0x83];
-    assert!(rt; octets.extend_from_slice(&front).is_ok());
-    assert!(rt; octets.extend_from_slice(more).is_ok());
+    holds(rt, octets.extend_from_slice(&front).is_ok());
+    holds(rt, octets.extend_from_slice(more).is_ok());
     let request = read_read_range(octets.as_slice())?;
-    assert_eq!(rt; ObjectId::new(25, 1), Ok(request.object));
-    assert_eq!(rt; request.property, PropertyId::LOG_BUFFER);
-    assert_eq!(rt; request.index, None);
+    same(rt, &ObjectId::new(25, 1), &Ok(request.object));
+    same(rt, &request.property, &PropertyId::LOG_BUFFER);
+    same(rt, &request.index, &None);
     Ok(request.range)
 }
 
 #[test]
 fn read_range_is_read(rt: HostRuntime) {
     let alloc = rt.alloc();
-    assert_eq!(rt; range_of(&rt, alloc, &[]), Ok(RangeBy::All));
-    assert_eq!(rt;
-        range_of(&rt, alloc, &[0x3e, 0x21, 0x01, 0x31, 0x0a, 0x3f]),
-        Ok(RangeBy::Position {
+    same(&rt, &range_of(&rt, alloc, &[]), &Ok(RangeBy::All));
+    same(
+        &rt,
+        &range_of(&rt, alloc, &[0x3e, 0x21, 0x01, 0x31, 0x0a, 0x3f]),
+        &Ok(RangeBy::Position {
             reference: 1,
-            count: 10
-        })
+            count: 10,
+        }),
     );
-    assert_eq!(rt;
-        range_of(&rt, alloc, &[0x6e, 0x22, 0x01, 0x00, 0x31, 0xfe, 0x6f]),
-        Ok(RangeBy::Sequence {
+    same(
+        &rt,
+        &range_of(&rt, alloc, &[0x6e, 0x22, 0x01, 0x00, 0x31, 0xfe, 0x6f]),
+        &Ok(RangeBy::Sequence {
             reference: 256,
-            count: -2
-        })
+            count: -2,
+        }),
     );
     let octets = [
         0x7e, 0xa4, 0x7b, 0x0b, 0x0e, 0x02, 0xb4, 0x16, 0x0d, 0x1e, 0x00, 0x31, 0x01, 0x7f,
@@ -217,12 +222,13 @@ fn read_range_is_read(rt: HostRuntime) {
     let reference = Stamp {
         octets: [0x7b, 0x0b, 0x0e, 0x02, 0x16, 0x0d, 0x1e, 0x00],
     };
-    assert_eq!(rt;
-        range_of(&rt, alloc, &octets),
-        Ok(RangeBy::Time {
+    same(
+        &rt,
+        &range_of(&rt, alloc, &octets),
+        &Ok(RangeBy::Time {
             reference,
-            count: 1
-        })
+            count: 1,
+        }),
     );
 }
 
@@ -247,7 +253,7 @@ fn read_range_is_refused_with_its_cause(rt: HostRuntime) {
         ),
     ];
     for (more, fault) in refused {
-        assert_eq!(rt; range_of(&rt, rt.alloc(), more), Err(fault));
+        same(&rt, &range_of(&rt, rt.alloc(), more), &Err(fault));
     }
 }
 
@@ -262,12 +268,13 @@ fn read_range_is_answered(rt: HostRuntime) -> Result<(), Fail> {
     let answer = write_range_ack(rt.alloc(), &all, [false, false, false], 0, &[], None)
         .ok()
         .ok_or("no memory")?;
-    assert_eq!(rt;
-        answer.as_slice(),
-        [
-            0x0c, 0x06, 0x40, 0x00, 0x01, 0x19, 0x83, 0x3a, 0x05, 0x00, 0x49, 0x00, 0x5e, 0x5f
+    same(
+        &rt,
+        &answer.as_slice(),
+        &[
+            0x0c, 0x06, 0x40, 0x00, 0x01, 0x19, 0x83, 0x3a, 0x05, 0x00, 0x49, 0x00, 0x5e, 0x5f,
         ]
-        .as_slice()
+        .as_slice(),
     );
     // The first of more items, with its sequence number.
     let answer = write_range_ack(
@@ -280,41 +287,53 @@ fn read_range_is_answered(rt: HostRuntime) -> Result<(), Fail> {
     )
     .ok()
     .ok_or("no memory")?;
-    assert_eq!(rt;
-        answer.as_slice(),
-        [
+    same(
+        &rt,
+        &answer.as_slice(),
+        &[
             0x0c, 0x06, 0x40, 0x00, 0x01, 0x19, 0x83, 0x3a, 0x05, 0xa0, 0x49, 0x01, 0x5e, 0x21,
-            0x07, 0x5f, 0x6a, 0x01, 0x2c
+            0x07, 0x5f, 0x6a, 0x01, 0x2c,
         ]
-        .as_slice()
+        .as_slice(),
     );
     Ok(())
 }
 
 #[test]
 fn who_is_is_read_and_answered(rt: HostRuntime) -> Result<(), Fail> {
-    assert_eq!(rt; read_who_is(&[]), Ok(None));
-    assert_eq!(rt;
-        read_who_is(&[0x09, 0x00, 0x1a, 0x03, 0xe9]),
-        Ok(Some((0, 1001)))
+    same(&rt, &read_who_is(&[]), &Ok(None));
+    same(
+        &rt,
+        &read_who_is(&[0x09, 0x00, 0x1a, 0x03, 0xe9]),
+        &Ok(Some((0, 1001))),
     );
-    assert_eq!(rt; read_who_is(&[0x09, 0x00]), Err(missing_parameter(2)));
-    assert_eq!(rt; read_who_is(&[0x09]), Err(invalid_tag(0)));
-    assert_eq!(rt; read_who_is(&[0x09, 0x00, 0x29, 0x01]), Err(invalid_tag(2)));
-    assert_eq!(rt; read_who_is(&[0x19, 0x01]), Err(too_many_arguments(0)));
-    assert_eq!(rt;
-        read_who_is(&[0x09, 0x00, 0x19, 0x01, 0x00]),
-        Err(too_many_arguments(4))
+    same(&rt, &read_who_is(&[0x09, 0x00]), &Err(missing_parameter(2)));
+    same(&rt, &read_who_is(&[0x09]), &Err(invalid_tag(0)));
+    same(
+        &rt,
+        &read_who_is(&[0x09, 0x00, 0x29, 0x01]),
+        &Err(invalid_tag(2)),
+    );
+    same(
+        &rt,
+        &read_who_is(&[0x19, 0x01]),
+        &Err(too_many_arguments(0)),
+    );
+    same(
+        &rt,
+        &read_who_is(&[0x09, 0x00, 0x19, 0x01, 0x00]),
+        &Err(too_many_arguments(4)),
     );
     let announced = write_i_am(rt.alloc(), ObjectId::new(8, 1001)?, 999)
         .ok()
         .ok_or("no memory")?;
-    assert_eq!(rt;
-        announced.as_slice(),
-        [
-            0xc4, 0x02, 0x00, 0x03, 0xe9, 0x22, 0x05, 0xc4, 0x91, 0x03, 0x22, 0x03, 0xe7
+    same(
+        &rt,
+        &announced.as_slice(),
+        &[
+            0xc4, 0x02, 0x00, 0x03, 0xe9, 0x22, 0x05, 0xc4, 0x91, 0x03, 0x22, 0x03, 0xe7,
         ]
-        .as_slice()
+        .as_slice(),
     );
     Ok(())
 }

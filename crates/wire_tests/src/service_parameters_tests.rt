@@ -1,3 +1,4 @@
+use crate::comparing::{holds, same};
 use bac_tags::TagFault;
 use bac_values::ObjectId;
 use service_parameters::*;
@@ -14,54 +15,83 @@ const OCTETS: [u8; 11] = [
 
 #[test]
 fn required_parameters_are_there(rt: HostRuntime) -> Result<(), Fail> {
-    assert_eq!(rt; required_unsigned(&OCTETS, 0, 0), Ok((1, 2)));
-    assert_eq!(rt;
-        required_object(&OCTETS, 2, 1),
-        Ok((ObjectId::new(45, 1)?, 7))
+    same(&rt, &required_unsigned(&OCTETS, 0, 0), &Ok((1, 2)));
+    same(
+        &rt,
+        &required_object(&OCTETS, 2, 1),
+        &Ok((ObjectId::new(45, 1)?, 7)),
     );
-    assert_eq!(rt; required_unsigned(&OCTETS, 2, 0), Err(malformed(4, 2)));
-    assert_eq!(rt; required_unsigned(&OCTETS[..2], 2, 1), Err(malformed(5, 2)));
-    assert_eq!(rt; required_unsigned(&OCTETS[..1], 0, 0), Err(malformed(4, 0)));
-    assert_eq!(rt; nothing_follows(&OCTETS, 11), Ok(()));
-    assert_eq!(rt; nothing_follows(&OCTETS, 7), Err(malformed(7, 7)));
+    same(
+        &rt,
+        &required_unsigned(&OCTETS, 2, 0),
+        &Err(malformed(4, 2)),
+    );
+    same(
+        &rt,
+        &required_unsigned(&OCTETS[..2], 2, 1),
+        &Err(malformed(5, 2)),
+    );
+    same(
+        &rt,
+        &required_unsigned(&OCTETS[..1], 0, 0),
+        &Err(malformed(4, 0)),
+    );
+    same(&rt, &nothing_follows(&OCTETS, 11), &Ok(()));
+    same(&rt, &nothing_follows(&OCTETS, 7), &Err(malformed(7, 7)));
     Ok(())
 }
 
 #[test]
 fn optional_parameters_may_be_absent(rt: HostRuntime) -> Result<(), Fail> {
-    assert_eq!(rt; optional_unsigned(&OCTETS, 0, 0), Ok((Some(1), 2)));
+    same(&rt, &optional_unsigned(&OCTETS, 0, 0), &Ok((Some(1), 2)));
     let object = Some(ObjectId::new(45, 1)?);
-    assert_eq!(rt; optional_object(&OCTETS, 2, 1), Ok((object, 7)));
+    same(&rt, &optional_object(&OCTETS, 2, 1), &Ok((object, 7)));
     // Another whole tag, the end of the octets, a cut content, a cut header, and a length that no number has.
-    assert_eq!(rt; optional_unsigned(&OCTETS, 0, 1), Ok((None, 0)));
-    assert_eq!(rt; optional_unsigned(&OCTETS, 11, 4), Ok((None, 11)));
-    assert_eq!(rt; optional_unsigned(&OCTETS[..1], 0, 0), Err(malformed(4, 0)));
-    assert_eq!(rt; optional_unsigned(&[0xf9], 0, 15), Err(malformed(4, 0)));
-    assert_eq!(rt; optional_unsigned(&[0x08], 0, 0), Err(malformed(4, 0)));
+    same(&rt, &optional_unsigned(&OCTETS, 0, 1), &Ok((None, 0)));
+    same(&rt, &optional_unsigned(&OCTETS, 11, 4), &Ok((None, 11)));
+    same(
+        &rt,
+        &optional_unsigned(&OCTETS[..1], 0, 0),
+        &Err(malformed(4, 0)),
+    );
+    same(
+        &rt,
+        &optional_unsigned(&[0xf9], 0, 15),
+        &Err(malformed(4, 0)),
+    );
+    same(
+        &rt,
+        &optional_unsigned(&[0x08], 0, 0),
+        &Err(malformed(4, 0)),
+    );
     Ok(())
 }
 
 #[test]
 fn tags_open_and_close(rt: HostRuntime) {
-    assert_eq!(rt; read_opening(&OCTETS, 7, 3), Ok(8));
-    assert_eq!(rt; read_closing(&OCTETS, 10, 3), Ok(11));
-    assert_eq!(rt;
-        read_opening(&OCTETS, 7, 2),
-        Err(TagFault::WrongTag { at: 7 })
+    same(&rt, &read_opening(&OCTETS, 7, 3), &Ok(8));
+    same(&rt, &read_closing(&OCTETS, 10, 3), &Ok(11));
+    same(
+        &rt,
+        &read_opening(&OCTETS, 7, 2),
+        &Err(TagFault::WrongTag { at: 7 }),
     );
-    assert_eq!(rt;
-        read_closing(&OCTETS, 7, 3),
-        Err(TagFault::WrongTag { at: 7 })
+    same(
+        &rt,
+        &read_closing(&OCTETS, 7, 3),
+        &Err(TagFault::WrongTag { at: 7 }),
     );
     // An application's tag opens no parameter.
-    assert_eq!(rt;
-        read_opening(&[0x36], 0, 3),
-        Err(TagFault::WrongTag { at: 0 })
+    same(
+        &rt,
+        &read_opening(&[0x36], 0, 3),
+        &Err(TagFault::WrongTag { at: 0 }),
     );
-    assert_eq!(rt; read_octets(&OCTETS, 2, 1, 1, 4).map(|x| x.1), Ok(7));
-    assert_eq!(rt;
-        read_octets(&OCTETS, 2, 1, 5, 9).map(|x| x.1),
-        Err(TagFault::BadLength { at: 2 })
+    same(&rt, &read_octets(&OCTETS, 2, 1, 1, 4).map(|x| x.1), &Ok(7));
+    same(
+        &rt,
+        &read_octets(&OCTETS, 2, 1, 5, 9).map(|x| x.1),
+        &Err(TagFault::BadLength { at: 2 }),
     );
 }
 
@@ -74,6 +104,6 @@ fn tags_are_written(rt: HostRuntime) -> Result<(), Fail> {
     write_opening(&mut out, 19)?;
     write_closing(&mut out, 19)?;
     let octets: &[u8] = &[0x3e, 0x3f, 0xfe, 0x13, 0xff, 0x13];
-    assert!(rt; out.as_slice() == octets);
+    holds(&rt, out.as_slice() == octets);
     Ok(())
 }

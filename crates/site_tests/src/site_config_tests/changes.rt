@@ -1,5 +1,6 @@
 use super::PLANT;
 use super::refusals::told;
+use crate::comparing::same;
 use std::alloc::Global;
 use std::test::Fail;
 
@@ -75,7 +76,7 @@ const DEVICES: [Change; 16] = [
 #[test]
 fn a_device_is_refused(rt: HostRuntime) -> Result<(), Fail> {
     let told = told_otherwise(rt.alloc(), &DEVICES)?;
-    assert_eq!(rt; told.as_str(), "");
+    same(&rt, &told.as_str(), &"");
     Ok(())
 }
 
@@ -163,7 +164,7 @@ const CLASSES_AND_DESTINATIONS: [Change; 17] = [
 #[test]
 fn classes_and_destinations_are_refused(rt: HostRuntime) -> Result<(), Fail> {
     let told = told_otherwise(rt.alloc(), &CLASSES_AND_DESTINATIONS)?;
-    assert_eq!(rt; told.as_str(), "");
+    same(&rt, &told.as_str(), &"");
     Ok(())
 }
 
@@ -241,7 +242,7 @@ const OBJECTS: [Change; 19] = [
 #[test]
 fn objects_are_refused(rt: HostRuntime) -> Result<(), Fail> {
     let told = told_otherwise(rt.alloc(), &OBJECTS)?;
-    assert_eq!(rt; told.as_str(), "");
+    same(&rt, &told.as_str(), &"");
     Ok(())
 }
 
@@ -340,7 +341,7 @@ const ALARM_KEYS: [Change; 20] = [
 #[test]
 fn alarm_keys_are_refused(rt: HostRuntime) -> Result<(), Fail> {
     let told = told_otherwise(rt.alloc(), &ALARM_KEYS)?;
-    assert_eq!(rt; told.as_str(), "");
+    same(&rt, &told.as_str(), &"");
     Ok(())
 }
 
@@ -406,7 +407,7 @@ const ENROLLMENTS_AND_LOGS: [Change; 15] = [
 #[test]
 fn enrollments_and_logs_are_refused(rt: HostRuntime) -> Result<(), Fail> {
     let told = told_otherwise(rt.alloc(), &ENROLLMENTS_AND_LOGS)?;
-    assert_eq!(rt; told.as_str(), "");
+    same(&rt, &told.as_str(), &"");
     Ok(())
 }
 
@@ -473,6 +474,6 @@ const REFERENCES: [Change; 12] = [
 #[test]
 fn identifiers_and_references_are_refused(rt: HostRuntime) -> Result<(), Fail> {
     let told = told_otherwise(rt.alloc(), &REFERENCES)?;
-    assert_eq!(rt; told.as_str(), "");
+    same(&rt, &told.as_str(), &"");
     Ok(())
 }

@@ -1,4 +1,5 @@
 use super::{SURROUNDINGS, TANK, joined};
+use crate::comparing::same;
 use site_config::read_site;
 use std::alloc::Global;
 use std::test::Fail;
@@ -41,28 +42,39 @@ alarm_value = \"active\"
 #[test]
 fn texts_that_are_no_site(rt: HostRuntime) -> Result<(), Fail> {
     let alloc = rt.alloc();
-    assert_eq!(rt; told(alloc, b"x =")?.as_str(), "site refused: not-toml");
-    assert_eq!(rt; told(alloc, b"# \xff")?.as_str(), "site refused: not-toml");
+    same(
+        &rt,
+        &told(alloc, b"x =")?.as_str(),
+        &"site refused: not-toml",
+    );
+    same(
+        &rt,
+        &told(alloc, b"# \xff")?.as_str(),
+        &"site refused: not-toml",
+    );
     let empty = "site refused: missing device 0 instance";
-    assert_eq!(rt; told(alloc, b"")?.as_str(), empty);
+    same(&rt, &told(alloc, b"")?.as_str(), &empty);
     let longest = vec![in alloc; b' '; 1_048_576]?;
-    assert_eq!(rt; told(alloc, longest.as_slice())?.as_str(), empty);
+    same(&rt, &told(alloc, longest.as_slice())?.as_str(), &empty);
     let too_long = vec![in alloc; b' '; 1_048_577]?;
-    assert_eq!(rt;
-        told(alloc, too_long.as_slice())?.as_str(),
-        "site refused: too-long"
+    same(
+        &rt,
+        &told(alloc, too_long.as_slice())?.as_str(),
+        &"site refused: too-long",
     );
     let twins = joined(alloc, &[TWINS, SURROUNDINGS])?;
     let told_of_twins = told(alloc, twins.as_str().as_bytes())?;
-    assert_eq!(rt;
-        told_of_twins.as_str(),
-        "site refused: duplicate binary-value:1"
+    same(
+        &rt,
+        &told_of_twins.as_str(),
+        &"site refused: duplicate binary-value:1",
     );
     let orphans = joined(alloc, &[SURROUNDINGS, ORPHANS])?;
     let told_of_orphans = told(alloc, orphans.as_str().as_bytes())?;
-    assert_eq!(rt;
-        told_of_orphans.as_str(),
-        "site refused: dangling binary-value:1"
+    same(
+        &rt,
+        &told_of_orphans.as_str(),
+        &"site refused: dangling binary-value:1",
     );
     Ok(())
 }
@@ -77,10 +89,10 @@ fn each_other_section_is_an_array_of_tables(rt: HostRuntime) -> Result<(), Fail>
         let wanted = format!(in alloc; "site refused: bad-value {section} 0 {section}")?;
         let table = format!(in alloc; "{SMALL_DEVICE}[{section}]\n")?;
         let told_of_table = told(alloc, table.as_str().as_bytes())?;
-        assert_eq!(rt; told_of_table.as_str(), wanted.as_str());
+        same(&rt, &told_of_table.as_str(), &wanted.as_str());
         let numbers = format!(in alloc; "{section} = [5]\n{SMALL_DEVICE}")?;
         let told_of_numbers = told(alloc, numbers.as_str().as_bytes())?;
-        assert_eq!(rt; told_of_numbers.as_str(), wanted.as_str());
+        same(&rt, &told_of_numbers.as_str(), &wanted.as_str());
     }
     Ok(())
 }
@@ -100,7 +112,7 @@ fn names_and_keys_have_at_most_256_octets(rt: HostRuntime) -> Result<(), Fail> {
     ];
     for (before, after, want) in rows {
         let text = format!(in alloc; "{SMALL_DEVICE}{before}{long}{after}")?;
-        assert_eq!(rt; told(alloc, text.as_str().as_bytes())?.as_str(), want);
+        same(&rt, &told(alloc, text.as_str().as_bytes())?.as_str(), &want);
     }
     Ok(())
 }
@@ -182,14 +194,15 @@ fn there_is_too_much_of_something(rt: HostRuntime) -> Result<(), Fail> {
     ];
     for (count, before, after, want) in rows {
         let text = with_many(alloc, SMALL_DEVICE, count, before, after)?;
-        assert_eq!(rt; told(alloc, text.as_str().as_bytes())?.as_str(), want);
+        same(&rt, &told(alloc, text.as_str().as_bytes())?.as_str(), &want);
     }
     let whole = joined(alloc, &[SURROUNDINGS, TANK])?;
     let classes = "[[class]]\npriority = [100, 90, 200]\ninstance = 1";
     let text = with_many(alloc, whole.as_str(), 256, classes, "\n")?;
-    assert_eq!(rt;
-        told(alloc, text.as_str().as_bytes())?.as_str(),
-        "site refused: too-many class"
+    same(
+        &rt,
+        &told(alloc, text.as_str().as_bytes())?.as_str(),
+        &"site refused: too-many class",
     );
     Ok(())
 }
@@ -204,9 +217,13 @@ fn one_tick_may_fill_the_outbox_and_no_more(rt: HostRuntime) -> Result<(), Fail>
     let before =
         "[[object]]\nkind = \"integer-value\"\nvalue = 50\nclass = 7\nlow = 20\nhigh = 80\ninstance = 1";
     let fits = with_many(alloc, small.as_str(), 63, before, "\n")?;
-    assert_eq!(rt; told(alloc, fits.as_str().as_bytes())?.as_str(), "read");
+    same(
+        &rt,
+        &told(alloc, fits.as_str().as_bytes())?.as_str(),
+        &"read",
+    );
     let more = with_many(alloc, small.as_str(), 64, before, "\n")?;
     let told = told(alloc, more.as_str().as_bytes())?;
-    assert_eq!(rt; told.as_str(), "site refused: too-many notes");
+    same(&rt, &told.as_str(), &"site refused: too-many notes");
     Ok(())
 }
