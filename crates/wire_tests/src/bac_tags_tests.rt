@@ -345,27 +345,38 @@ fn texts_of_256_octets_are_the_longest(rt: HostRuntime) -> Result<(), Fail> {
     Ok(())
 }
 
-#[test]
-fn the_shortest_spelling_is_written(rt: HostRuntime) -> Result<(), Fail> {
-    let mut out = Vec::new(rt.alloc());
-    write_unsigned(&mut out, Some(0), 1)?;
-    write_object(&mut out, Some(1), ObjectId::new(8, 1001)?)?;
-    write_object(&mut out, Some(2), ObjectId::new(45, 1)?)?;
-    write_tag(&mut out, tag(3, true, Shape::Opening))?;
-    write_tag(&mut out, tag(2, true, Shape::Opening))?;
+/// The front of a notification, as `NOTE` begins.
+fn write_front(out: &mut Vec<u8>) -> Result<(), Fail> {
+    write_unsigned(out, Some(0), 1)?;
+    write_object(out, Some(1), ObjectId::new(8, 1001)?)?;
+    write_object(out, Some(2), ObjectId::new(45, 1)?)?;
+    write_tag(out, tag(3, true, Shape::Opening))?;
+    write_tag(out, tag(2, true, Shape::Opening))?;
     let stamp = Stamp {
         octets: [0x7b, 0x0b, 0x0e, 0x02, 0x16, 0x0d, 0x1e, 0x00],
     };
-    write_stamp(&mut out, None, stamp)?;
-    write_tag(&mut out, tag(2, true, Shape::Closing))?;
-    write_tag(&mut out, tag(3, true, Shape::Closing))?;
+    write_stamp(out, None, stamp)?;
+    write_tag(out, tag(2, true, Shape::Closing))?;
+    write_tag(out, tag(3, true, Shape::Closing))?;
+    Ok(())
+}
+
+#[test]
+fn elements_of_a_notification_are_written_in_turn(rt: HostRuntime) -> Result<(), Fail> {
+    let mut out = Vec::new(rt.alloc());
+    write_front(&mut out)?;
     write_unsigned(&mut out, Some(4), 7)?;
     write_unsigned(&mut out, Some(5), 100)?;
     write_bool(&mut out, Some(9), true)?;
     write_unsigned(&mut out, Some(10), 0)?;
     write_bits(&mut out, Some(1), Bits::new(4, 1)?)?;
     same(&rt, &out.as_slice(), &NOTE.as_slice());
-    out.clear();
+    Ok(())
+}
+
+#[test]
+fn the_shortest_spelling_is_written(rt: HostRuntime) -> Result<(), Fail> {
+    let mut out = Vec::new(rt.alloc());
     write_tag(&mut out, tag(19, true, Shape::Closing))?;
     write_signed(&mut out, None, -128)?;
     write_signed(&mut out, None, -129)?;

@@ -215,21 +215,28 @@ fn faulty() -> Result<Notification, Fail>
     })
 }
 
+/// The notification is written as these octets.
+fn expect_written(
+    rt: &impl Abort,
+    alloc: Global,
+    note: &Notification,
+    octets: &[u8],
+) -> Result<(), Fail>
+    requires told { IsTold note.now.event_type note.now.values }
+{
+    let written = write_notification(alloc, note).ok().ok_or("no memory")?;
+    same(rt, &written.as_slice(), &octets);
+    Ok(())
+}
+
 #[test]
 fn notifications_are_written(rt: HostRuntime) -> Result<(), Fail> {
-    let octets = write_notification(rt.alloc(), &high()?)
-        .ok()
-        .ok_or("no memory")?;
-    same(&rt, &octets.as_slice(), &HIGH.as_slice());
-    let octets = write_notification(rt.alloc(), &acknowledged()?)
-        .ok()
-        .ok_or("no memory")?;
-    same(&rt, &octets.as_slice(), &ACKNOWLEDGED.as_slice());
-    let octets = write_notification(rt.alloc(), &faulty()?)
-        .ok()
-        .ok_or("no memory")?;
-    same(&rt, &octets.as_slice(), &FAULTY.as_slice());
-    Ok(())
+    let note = high()?;
+    expect_written(&rt, rt.alloc(), &note, &HIGH)?;
+    let note = acknowledged()?;
+    expect_written(&rt, rt.alloc(), &note, &ACKNOWLEDGED)?;
+    let note = faulty()?;
+    expect_written(&rt, rt.alloc(), &note, &FAULTY)
 }
 
 #[test]
