@@ -481,31 +481,39 @@ fn a_fault_of_either_object_is_a_fault(rt: HostRuntime) -> Result<(), Fail> {
     Ok(())
 }
 
+/// The numbers of the reliabilities of two enrollments, of which the second monitors an object that isn't in the table,
+/// and of another object that isn't.
+fn reliabilities_beside_the_table(alloc: Global) -> Result<[u8; 3], Fail> {
+    let list = enrollments_of(alloc, mirror(alloc)?, range(alloc)?)?;
+    let table = table_of(alloc, level(alloc, 1, 0)?, level(alloc, 2, 0)?)?;
+    Ok([
+        number_of(&list, &table, ObjectKind::EventEnrollment, 1)?,
+        number_of(&list, &table, ObjectKind::EventEnrollment, 3)?,
+        number_of(&list, &table, ObjectKind::IntegerValue, 3)?,
+    ])
+}
+
 #[test]
 fn an_object_that_is_not_there_has_no_fault(rt: HostRuntime) -> Result<(), Fail> {
-    let list = enrollments_of(rt.alloc(), mirror(rt.alloc())?, range(rt.alloc())?)?;
-    let table = table_of(
-        rt.alloc(),
-        level(rt.alloc(), 1, 0)?,
-        level(rt.alloc(), 2, 0)?,
-    )?;
     same(
         &rt,
-        &number_of(&list, &table, ObjectKind::EventEnrollment, 1)?,
-        &0,
+        &reliabilities_beside_the_table(rt.alloc())?,
+        &[0, 0, 0],
     );
-    same(
-        &rt,
-        &number_of(&list, &table, ObjectKind::EventEnrollment, 3)?,
-        &0,
-    );
-    same(
-        &rt,
-        &number_of(&list, &table, ObjectKind::IntegerValue, 3)?,
-        &0,
-    );
+    Ok(())
+}
+
+/// Whether enrollment 3 sees something in a table without the object that it monitors.
+fn sees_beside_the_table(alloc: Global) -> Result<bool, Fail> {
+    let list = enrollments_of(alloc, mirror(alloc)?, range(alloc)?)?;
+    let table = table_of(alloc, level(alloc, 1, 0)?, level(alloc, 2, 0)?)?;
     let object = identifier(ObjectKind::EventEnrollment, 3)?;
-    holds(&rt, list.snapshot_of(&table, object).is_none());
+    Ok(list.snapshot_of(&table, object).is_some())
+}
+
+#[test]
+fn a_monitored_object_that_is_not_there_is_not_seen(rt: HostRuntime) -> Result<(), Fail> {
+    holds(&rt, !sees_beside_the_table(rt.alloc())?);
     Ok(())
 }
 

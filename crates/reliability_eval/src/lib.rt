@@ -6,7 +6,6 @@ ghost use Rattle.algorithm_rules.specs.Conditions.{number_in};
 ghost use Rattle.algorithm_rules.specs.Matches.{matches};
 ghost use Rattle.reliability_eval.specs.Reliability.{fault_of_field, is_fault_value, is_over, is_under, list_fault, range_fault, reliability_in, reliability_of, value_fault};
 
-
 use algorithm_rules::{Algorithm, Snapshot, matched};
 use bac_values::{ObjectId, ObjectKind, Reliability, Value};
 use object_table::{ObjectSite, Row, Table};
