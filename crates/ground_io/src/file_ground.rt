@@ -1,4 +1,5 @@
-ghost use Rattle.std.specs.Prelude.{◌≡◌, IfOk, IsNone};
+ghost use Rattle.std.specs.Prelude.{◌≡◌, ◌+◌, ◌≤◌, length, IfOk, IsErr, IsNone, OnOk};
+ghost use Rattle.ground_io.specs.Counts.{HasCause};
 
 use crate::{Failed, Ground};
 use bac_values::Peer;
@@ -87,11 +88,23 @@ impl<W: Write + Drop> Ground for FileGround<W> {
 
     ghost sized = { λ _. tt };
 
-    fn size(&mut self) -> Result<u64, Failed> {
+    fn size(&mut self) -> Result<u64, Failed>
+        ensures answer { IfOk result (λ octets. octets ≡ self.old.size) }
+        ensures same { self.new.size ≡ self.old.size }
+        ensures cause { HasCause self.old.disk_faults self.new.disk_faults (IsErr result) }
+        ensures emitted { self.new.emit_faults ≡ self.old.emit_faults }
+        ensures uncounted { OnOk result (self.new.disk_faults ≡ self.old.disk_faults) }
+    {
         Ok(self.size)
     }
 
-    fn read_at(&mut self, place: u64, into: &mut [u8]) -> Result<(), Failed> {
+    fn read_at(&mut self, place: u64, into: &mut [u8]) -> Result<(), Failed>
+        requires { place + length into.old ≤ self.old.size }
+        ensures same { self.new.size ≡ self.old.size }
+        ensures cause { HasCause self.old.disk_faults self.new.disk_faults (IsErr result) }
+        ensures emitted { self.new.emit_faults ≡ self.old.emit_faults }
+        ensures uncounted { OnOk result (self.new.disk_faults ≡ self.old.disk_faults) }
+    {
         let Some(file) = &self.file else {
             return Ok(());
         };
@@ -102,7 +115,13 @@ impl<W: Write + Drop> Ground for FileGround<W> {
         Ok(())
     }
 
-    fn write_at(&mut self, place: u64, octets: &[u8]) -> Result<(), Failed> {
+    fn write_at(&mut self, place: u64, octets: &[u8]) -> Result<(), Failed>
+        requires { place + length octets.now ≤ self.old.size }
+        ensures same { self.new.size ≡ self.old.size }
+        ensures cause { HasCause self.old.disk_faults self.new.disk_faults (IsErr result) }
+        ensures emitted { self.new.emit_faults ≡ self.old.emit_faults }
+        ensures uncounted { OnOk result (self.new.disk_faults ≡ self.old.disk_faults) }
+    {
         let Some(file) = &self.file else {
             return Ok(());
         };
@@ -113,7 +132,12 @@ impl<W: Write + Drop> Ground for FileGround<W> {
         Ok(())
     }
 
-    fn sync(&mut self) -> Result<(), Failed> {
+    fn sync(&mut self) -> Result<(), Failed>
+        ensures same { self.new.size ≡ self.old.size }
+        ensures cause { HasCause self.old.disk_faults self.new.disk_faults (IsErr result) }
+        ensures emitted { self.new.emit_faults ≡ self.old.emit_faults }
+        ensures uncounted { OnOk result (self.new.disk_faults ≡ self.old.disk_faults) }
+    {
         let Some(file) = &self.file else {
             return Ok(());
         };
@@ -124,7 +148,12 @@ impl<W: Write + Drop> Ground for FileGround<W> {
         Ok(())
     }
 
-    fn emit(&mut self, peer: Peer, octets: &[u8]) -> Result<(), Failed> {
+    fn emit(&mut self, peer: Peer, octets: &[u8]) -> Result<(), Failed>
+        ensures same { self.new.size ≡ self.old.size }
+        ensures disk { self.new.disk_faults ≡ self.old.disk_faults }
+        ensures cause { HasCause self.old.emit_faults self.new.emit_faults (IsErr result) }
+        ensures uncounted { OnOk result (self.new.emit_faults ≡ self.old.emit_faults) }
+    {
         let emitted = if peer == Peer::console() {
             print(&mut self.console, octets)
         } else {

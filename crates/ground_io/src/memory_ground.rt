@@ -1,6 +1,6 @@
-ghost use Rattle.std.specs.Prelude.{◌≡◌, ◌+◌, ◌≤◌, [], ◌∷◌, ℕ, length, take, IfOk, IfSome, IsErr, IsNone, OnOk, OnErr, Some, Err, option_map};
+ghost use Rattle.std.specs.Prelude.{◌≡◌, ◌+◌, ◌≤◌, [], ◌∷◌, ℕ, length, take, IfOk, IfSome, IsErr, IsNone, IsSome, OnOk, OnErr, Some, Err, Contains, option_map};
 ghost use Rattle.std.specs.Option.{option_copied};
-ghost use Rattle.ground_io.specs.Counts.{HasCause};
+ghost use Rattle.ground_io.specs.Counts.{HasCause, next_count};
 ghost use Rattle.ground_io.specs.Disk.{MayLeave, with_octets};
 ghost use Rattle.ground_io.specs.Image.{image_after};
 ghost use Rattle.ground_io.specs.InMemory.{AreTold, FailsAsListed, FailsAsListedOrUntold, size_of};
@@ -118,6 +118,9 @@ impl Ground for MemoryGround {
         ensures emitted { self.new.emit_faults ≡ self.old.emit_faults }
         ensures failing { FailsAsListed self.old self.new (IsErr result) }
         ensures contents { self.new.contents ≡ self.old.contents }
+        ensures tells { self.new.told ≡ self.old.told }
+        ensures uncounted { OnOk result (self.new.disk_faults ≡ self.old.disk_faults) }
+        ensures counted { OnErr result (self.new.disk_faults ≡ next_count self.old.disk_faults) }
     {
         if is_listed_next(&self.failing, &mut self.calls) {
             self.disk_faults = self.disk_faults.saturating_add(1);
@@ -135,6 +138,9 @@ impl Ground for MemoryGround {
         ensures emitted { self.new.emit_faults ≡ self.old.emit_faults }
         ensures failing { FailsAsListed self.old self.new (IsErr result) }
         ensures contents { self.new.contents ≡ self.old.contents }
+        ensures tells { self.new.told ≡ self.old.told }
+        ensures uncounted { OnOk result (self.new.disk_faults ≡ self.old.disk_faults) }
+        ensures counted { OnErr result (self.new.disk_faults ≡ next_count self.old.disk_faults) }
     {
         if is_listed_next(&self.failing, &mut self.calls) {
             self.disk_faults = self.disk_faults.saturating_add(1);
@@ -155,6 +161,9 @@ impl Ground for MemoryGround {
         ensures failing { FailsAsListedOrUntold self.old self.new (IsErr result) }
         ensures contents { OnOk result (self.new.contents ≡ with_octets place octets.now self.old.contents) }
         ensures left { OnErr result (self.new.contents ≡ self.old.contents) }
+        ensures tells { OnOk result (IsSome self.old.told → IsSome self.new.told) }
+        ensures uncounted { OnOk result (self.new.disk_faults ≡ self.old.disk_faults) }
+        ensures counted { OnErr result (self.new.disk_faults ≡ next_count self.old.disk_faults) }
     {
         if is_listed_next(&self.failing, &mut self.calls) {
             self.disk_faults = self.disk_faults.saturating_add(1);
@@ -186,6 +195,10 @@ impl Ground for MemoryGround {
         ensures emitted { self.new.emit_faults ≡ self.old.emit_faults }
         ensures failing { FailsAsListedOrUntold self.old self.new (IsErr result) }
         ensures contents { self.new.contents ≡ self.old.contents }
+        ensures tells { OnOk result (IsSome self.old.told → IsSome self.new.told) }
+        ensures failed_tells { Contains self.old.failing self.new.calls → self.new.told ≡ self.old.told }
+        ensures uncounted { OnOk result (self.new.disk_faults ≡ self.old.disk_faults) }
+        ensures counted { OnErr result (self.new.disk_faults ≡ next_count self.old.disk_faults) }
     {
         if is_listed_next(&self.failing, &mut self.calls) {
             self.disk_faults = self.disk_faults.saturating_add(1);
@@ -207,6 +220,9 @@ impl Ground for MemoryGround {
         ensures cause { HasCause self.old.emit_faults self.new.emit_faults (IsErr result) }
         ensures failing { FailsAsListedOrUntold self.old self.new (IsErr result) }
         ensures contents { self.new.contents ≡ self.old.contents }
+        ensures tells { OnOk result (IsSome self.old.told → IsSome self.new.told) }
+        ensures uncounted { OnOk result (self.new.emit_faults ≡ self.old.emit_faults) }
+        ensures counted { OnErr result (self.new.emit_faults ≡ next_count self.old.emit_faults) }
     {
         let fails = is_listed_next(&self.failing, &mut self.calls);
         let told = self.past.is_some();

@@ -1,7 +1,7 @@
 -- A list of one thread, and the histories of its calls.
 use Rattle.std.specs.Prelude.{◌≡◌, ℕ, List, [], ◌∷◌, ◌++◌, map, Vec}
 use Rattle.std.specs.declared.alloc.Global.{Global}
-use Rattle.turnstile.specs.Histories.{Accounts, IsOnce}
+use Rattle.turnstile.specs.Histories.{Accounts, IsOnce, NoOther}
 use Rattle.turnstile.specs.Passes.{Known}
 use Rattle.shared_list.specs.declared.list.Call.{Call}
 use Rattle.shared_list.specs.declared.list.Call.TheVariants.{Appended, Refused}
@@ -25,9 +25,10 @@ pub record Makes (p q : Known Call (Unit {0})) (call : Call) : Type 0 where
 abbrev pub calls_of : List (Vec ℕ Global) → List (List Call)
 calls_of lists = map (λ list. map Appended list.items) lists
 
--- each list of calls stands in the history under a number of its own: under that number the history has just these calls, in their order
+-- each list of calls stands in the history under a number of its own: under that number the history has just these calls, in their order. The history has nothing else
 pub record Stand (history : List (ℕ × Call)) (lists : List (List Call)) : Type 0 where
   pub calls : List (ℕ × List Call)
   pub are : map (λ c. c.1) calls ≡ lists
   pub accounts : Accounts history calls
   pub once : IsOnce calls
+  pub only : NoOther history calls

@@ -38,7 +38,7 @@ pub fn append_each<R: Wait>(
     requires { IsOf list.now pass }
     ensures here { IfOk result (λ after. IsOf list.entry.now after) }
     ensures calls { IfOk result (λ after. after.mine ≡ pass.mine ++ map Appended entries.now) }
-    ensures rest { IfOk result (λ after. (after.number ≡ pass.number) × (after.carried ≡ pass.carried)) }
+    ensures rest { IfOk result (λ after. (after.number ≡ pass.number) × (after.carried ≡ pass.carried) × (after.split_off ≡ pass.split_off)) }
 {
     for entry in entries {
         pass = match append(rt, list, pass, *entry) {

@@ -1,11 +1,13 @@
 -- Sums over views, and the entries under a number.
-use Rattle.std.proofs.Common.{◌≡◌, ◌≢◌, ℕ, suc, zero, ◌+◌, ◌≤◌, true, false, List, [], ◌∷◌, ◌++◌, length, set, refl, sym, ap, ◌∙◌, arith, append_assoc, append-nil, eq-eqb, ne_eqb}
+use Rattle.std.proofs.Common.{◌≡◌, ◌≢◌, ℕ, suc, zero, ◌+◌, ◌<◌, ◌≤◌, true, false, List, [], ◌∷◌, ◌++◌, length, set, refl, sym, ap, ◌∙◌, arith, append_assoc, append-nil, eq-eqb, ne_eqb}
 use mathlib.Core.Option.{some, some-injective, some-ne-none}
+use mathlib.Core.Logic.{dite}
+use native.Mathlib.Decide.{dec_le}
 use lib.ListN.{get_elem?}
 use Rattle.std.specs.Prelude.{◌==◌, if◌then◌else◌}
-use Rattle.turnstile.specs.Histories.{StartsWith, entries_under, Accounts, times}
+use Rattle.turnstile.specs.Histories.{StartsWith, entries_under, Accounts, times, among}
 use Rattle.turnstile.specs.Views.{own_number, with_call}
-use Rattle.turnstile.specs.Rule.{total}
+use Rattle.turnstile.specs.Rule.{total, AreAbove}
 
 module _ {V : Type 0} (f : V → ℕ) where
   pub total_set : (vs : List V) (k : ℕ) (v w : V) → get_elem? vs k ≡ some v → total f (set vs k w) + f v ≡ total f vs + f w
@@ -34,6 +36,11 @@ module _ {V : Type 0} where
   total_zero f [] h = refl
   total_zero f (x ∷ xs) h = let a = h 0 x refl in let b = total_zero f xs (λ k v at. h (suc k) v at) in omega arith
 
+  -- a view that adds to the sum
+  pub total_found : (f : V → ℕ) (vs : List V) → 1 ≤ total f vs → (k : ℕ) × (v : V) × (get_elem? vs k ≡ some v) × (1 ≤ f v)
+  total_found f [] h = absurd (omega arith)
+  total_found f (x ∷ xs) h = dite (dec_le 1 (f x)) (λ here. (0, x, refl, here)) (λ no. let r = total_found f xs (omega arith) in (suc r.0, r.1, r.2, r.3))
+
   pub there_set : (l : List V) (i : ℕ) (a b : V) → get_elem? l i ≡ some a → get_elem? (set l i b) i ≡ some b
   there_set [] i a b e = absurd (some-ne-none a (sym e))
   there_set (x ∷ xs) zero a b e = refl
@@ -41,6 +48,16 @@ module _ {V : Type 0} where
 
   pub there_same : (l : List V) (i j : ℕ) (a b : V) → i ≡ j → get_elem? l i ≡ some a → get_elem? l j ≡ some b → a ≡ b
   there_same l i j a b is x y = some-injective a b (sym x ∙ (ap (λ z. get_elem? l z) is ∙ y))
+
+pub among_append : (n : ℕ) (xs ys : List ℕ) → among n (xs ++ ys) ≡ among n xs + among n ys
+among_append n [] ys = omega arith
+among_append n (x ∷ xs) ys = omega (arith, among_append n xs ys)
+
+pub among_here : (n m : ℕ) (ms : List ℕ) → m ≡ n → among n (m ∷ ms) ≡ 1 + among n ms
+among_here n m ms e = ap (λ b. (if b then 1 else 0) + among n ms) (eq-eqb m n e)
+
+pub among_there : (n m : ℕ) (ms : List ℕ) → m ≢ n → among n (m ∷ ms) ≡ among n ms
+among_there n m ms ne = let e = ap (λ b. (if b then 1 else 0) + among n ms) (ne_eqb m n ne) in omega arith
 
 module _ {E : Type 0} where
   pub under_append : (n : ℕ) (xs ys : List (ℕ × E)) → entries_under n (xs ++ ys) ≡ entries_under n xs ++ entries_under n ys
@@ -62,6 +79,22 @@ module _ {E : Type 0} where
 
   pub times_here : (n : ℕ) (c : ℕ × List E) (cs : List (ℕ × List E)) → c.0 ≡ n → times n (c ∷ cs) ≡ 1 + times n cs
   times_here n c cs e = ap (λ b. (if b then 1 else 0) + times n cs) (eq-eqb c.0 n e)
+
+  pub own_times : (cs : List (ℕ × List E)) → 0 < length cs → 1 ≤ times (own_number cs) cs
+  own_times [] h = absurd (omega arith)
+  own_times (c ∷ cs) h = omega (arith, times_here c.0 c cs refl)
+
+  pub times_there : (n : ℕ) (c : ℕ × List E) (cs : List (ℕ × List E)) → c.0 ≢ n → times n (c ∷ cs) ≡ times n cs
+  times_there n c cs ne = let e = ap (λ b. (if b then 1 else 0) + times n cs) (ne_eqb c.0 n ne) in omega arith
+
+  -- what is above a number of some calls is above one of more calls
+  pub above_more : (cs ds : List (ℕ × List E)) (ns : List ℕ) → ((m : ℕ) → times m cs ≤ times m ds) → AreAbove cs ns → AreAbove ds ns
+  above_more cs ds ns more a n in_ns = let w = a n in_ns in let le = more w.0 in let here = w.2 in (w.0, w.1, omega arith)
+
+  pub above_both : (cs ds : List (ℕ × List E)) (ms ns : List ℕ) → AreAbove cs ms → AreAbove ds ns → AreAbove (cs ++ ds) (ms ++ ns)
+  above_both cs ds ms ns a b n there = let sum = among_append n ms ns in dite (dec_le 1 (among n ms))
+      (λ one. let w = a n one in let here = w.2 in (w.0, w.1, omega (arith, times_append w.0 cs ds)))
+      (λ no. let w = b n (omega arith) in let here = w.2 in (w.0, w.1, omega (arith, times_append w.0 cs ds)))
 
   pub times_with_call : (n : ℕ) (cs : List (ℕ × List E)) (e : E) → times n (with_call cs e) ≡ times n cs
   times_with_call n [] e = refl

@@ -1,5 +1,5 @@
 -- Each step on a word keeps the rule: the walk of a seat through its turn, and the marks.
-use Rattle.std.proofs.Common.{◌≡◌, ◌≢◌, inl, inr, ⊎_elim, ℕ, ◌+◌, ◌%◌, ◌^◌, ◌<◌, ◌≤◌, Bool, true, List, [], ◌∷◌, ◌++◌, length, set, get_or, refl, sym, ap, ◌∙◌, subst, arith, append-nil, eq-eqb, ne_eqb, eqb, length-set, length-append}
+use Rattle.std.proofs.Common.{◌≡◌, ◌≢◌, inl, inr, ⊎_elim, ℕ, suc, zero, ◌+◌, ◌%◌, ◌^◌, ◌<◌, ◌≤◌, Bool, true, List, [], ◌∷◌, ◌++◌, length, set, get_or, refl, sym, ap, ◌∙◌, subst, arith, append-nil, eq-eqb, ne_eqb, eqb, length-append}
 use mathlib.Core.Option.{Option, none, some, some-injective}
 use mathlib.Core.Logic.{dite}
 use native.Mathlib.Decide.{ℕ_discrete, dec_le}
@@ -10,16 +10,16 @@ use Rattle.std.specs.Prelude.{if◌then◌else◌, max}
 use Rattle.turnstile.specs.declared.memo.Memo.{Memo}
 use Rattle.atomic_table.specs.Table.{State, Me, Act, step, keeps, takes, gives, stepped, Allows, Enters, Splits, Joins, opening, put_back, homes_after, carried_after, Valid}
 use Rattle.atomic_table.proofs.Lists.{at_set, set_else, exchanged}
-use Rattle.turnstile.specs.Histories.{StartsWith, entries_under, times, Licensed}
+use Rattle.turnstile.specs.Histories.{StartsWith, entries_under, times, among, NoOther, Licensed}
 use Rattle.turnstile.specs.Views.{IsHolding, own_number, longer, is_within, IsWithin, shut_of, heard, at_stage, inside, after_call, with_mark}
 use Rattle.turnstile.specs.declared.view.View.{View}
 use Rattle.turnstile.specs.declared.view.Place.{Place}
 use Rattle.turnstile.specs.declared.view.Place.TheVariants.{Empty, Held, Given}
 use Rattle.turnstile.specs.declared.view.Stage.{Stage}
 use Rattle.turnstile.specs.declared.view.Stage.TheVariants.{Idle, Waits, Within, Shut}
-use Rattle.turnstile.specs.Rule.{total, has_ticket, has_some_ticket, Staged, Holds, Fits, Locked, Kept}
+use Rattle.turnstile.specs.Rule.{total, has_ticket, has_some_ticket, AreAbove, Staged, Holds, Fits, Locked, Kept}
 use Rattle.turnstile.specs.Steps.{Drew, PassedOn, Settled, Closed, Raised, Loaded, Turned, Looked}
-use Rattle.turnstile.proofs.Counts.{total_set, total_at, total_two, under_other, times_here, times_with_call, accounts_other, accounts_own, starts_append, total_zero, there_set, there_same, starts_both}
+use Rattle.turnstile.proofs.Counts.{total_set, total_at, total_two, total_found, own_times, above_more, among_here, among_there, under_other, times_with_call, accounts_other, accounts_own, starts_append, total_zero, there_set, there_same, starts_both}
 use Rattle.turnstile.proofs.Stages.{other_ticket, waits_same, within_some, within_is, within_served, more_drawn, restaged, within_out, shut_out}
 use Rattle.std.proofs.lemmas.Bool.{le-leb, lt-leb}
 
@@ -54,16 +54,20 @@ module _ {T E O : Type 0} (stands : T → List (ℕ × E) → Type 0) (origin : 
   abbrev number : ℕ → View E O → ℕ
   number n v = times n v.calls
 
+  abbrev debt : ℕ → View E O → ℕ
+  debt n v = among n v.split_off
+
   -- the seat id goes from v to w, and the rest of the state to what is given
   moved : (s : St) (r : Rule s) (id : ℕ) (v w : View E O) (log : Log) (drawn mark : ℕ) (words : List ℕ) (homes : List (Option P)) → get_elem? s.views id ≡ some v
       → words ≡ drawn ∷ length log ∷ mark ∷ [] → drawn < 2 ^ 64 → (length log + some_ticket w) + r.drawn ≡ (drawn + some_ticket v) + length r.log → Licensed licenses log mark → Locked stands origin first licenses log homes (set s.views id w)
       → F log drawn mark homes w → ((k : ℕ) (u : View E O) → k ≢ id → get_elem? s.views k ≡ some u → F log drawn mark homes u)
-      → ((t : ℕ) → total (ticket t) (set s.views id w) ≤ 1) → ((n : ℕ) → number n w ≡ number n v) → ((n : ℕ) → length s.views ≤ n → entries_under n log ≡ [])
+      → ((t : ℕ) → total (ticket t) (set s.views id w) ≤ 1) → ((n : ℕ) → number n w ≡ number n v) → w.split_off ≡ v.split_off → ((n : ℕ) → r.names ≤ n → entries_under n log ≡ [])
       → Rule record { words = words; homes = homes; views = set s.views id w }
-  moved s r id v w log drawn mark words homes at is few even licensed locked mine others queue same fresh = record {
+  moved s r id v w log drawn mark words homes at is few even licensed locked mine others queue same owes fresh = record {
     log = log;
     drawn = drawn;
     mark = mark;
+    names = r.names;
     words = is;
     few = few;
     counted = let a = total_set some_ticket s.views id v w at in let c = r.counted in omega arith;
@@ -72,8 +76,11 @@ module _ {T E O : Type 0} (stands : T → List (ℕ × E) → Type 0) (origin : 
     each = λ k u there. ⊎_elim (λ (e : (k ≡ id) × (w ≡ u)). subst (F log drawn mark homes) e.1 mine) (λ (e : (k ≢ id) × (get_elem? s.views k ≡ some u)). others k u e.0 e.1) (at_set s.views id k w u there);
     queue = queue;
     once = λ n. let a = total_set (number n) s.views id v w at in let b = same n in let o = r.once n in omega arith;
-    fresh = λ n above. let long : length s.views ≤ n = omega (arith, length-set s.views id w) in
-        ((let a = total_set (number n) s.views id v w at in let b = same n in let o = (r.fresh n long).0 in omega arith), fresh n long);
+    owed = λ n pos below. let a = total_set (debt n) s.views id v w at in let b : debt n w ≡ debt n v = ap (among n) owes in let o = r.owed n pos below in omega arith;
+    above = λ k u there. ⊎_elim (λ (e : (k ≡ id) × (w ≡ u)). subst (λ (z : View E O). AreAbove z.calls z.split_off) e.1
+        (subst (AreAbove w.calls) (sym owes) (above_more v.calls w.calls v.split_off (λ m. let b = same m in omega arith) (r.above id v at))))
+        (λ (e : (k ≢ id) × (get_elem? s.views k ≡ some u)). r.above k u e.1) (at_set s.views id k w u there);
+    fresh = λ n above. ((let a = total_set (number n) s.views id v w at in let b = same n in let o = (r.fresh n above).0 in omega arith), fresh n above);
   }
 
   -- the seat has the ticket of another only if it is the same seat
@@ -92,14 +99,14 @@ module _ {T E O : Type 0} (stands : T → List (ℕ × E) → Type 0) (origin : 
 
   -- a step that leaves the words, the slot and the log as they are
   still : (s : St) (r : Rule s) (i id : ℕ) (c : List (ℕ × P)) (v w : View E O) → get_elem? s.views id ≡ some v → (IsWithin v.stage → IsWithin w.stage) → (some_ticket w ≡ some_ticket v) → ((t : ℕ) → ticket t w ≡ ticket t v)
-      → ((n : ℕ) → number n w ≡ number n v) → F r.log r.drawn r.mark s.homes w → Rule (stepped s i (get_or s.words i 0) id c w keeps)
-  still s r i id c v w at keep some_same tickets numbers mine = subst (λ (ws : List ℕ). Rule record { words = ws; homes = s.homes; views = set s.views id w }) (sym (set-get_or s.words i 0))
+      → ((n : ℕ) → number n w ≡ number n v) → w.split_off ≡ v.split_off → F r.log r.drawn r.mark s.homes w → Rule (stepped s i (get_or s.words i 0) id c w keeps)
+  still s r i id c v w at keep some_same tickets numbers owes mine = subst (λ (ws : List ℕ). Rule record { words = ws; homes = s.homes; views = set s.views id w }) (sym (set-get_or s.words i 0))
       (moved s r id v w r.log r.drawn r.mark s.words s.homes at r.words r.few (omega arith) r.licensed (locked_still s r id v w at keep r.locked) mine (λ k u ne there. r.each k u there)
-      (queue_same s r id v w at tickets) numbers (λ n above. (r.fresh n above).1))
+      (queue_same s r id v w at tickets) numbers owes (λ n above. (r.fresh n above).1))
 
   -- a load that changes nothing
   unchanged : (s : St) (r : Rule s) (i id : ℕ) (c : List (ℕ × P)) (v : View E O) → get_elem? s.views id ≡ some v → Rule (stepped s i (get_or s.words i 0) id c v keeps)
-  unchanged s r i id c v at = still s r i id c v v at (λ h. h) refl (λ t. refl) (λ n. refl) (r.each id v at)
+  unchanged s r i id c v at = still s r i id c v v at (λ h. h) refl (λ t. refl) (λ n. refl) refl (r.each id v at)
 
   -- no view has the next ticket
   next_free : (s : St) (r : Rule s) → total (ticket r.drawn) s.views ≡ 0
@@ -122,7 +129,7 @@ module _ {T E O : Type 0} (stands : T → List (ℕ × E) → Type 0) (origin : 
       dite (ℕ_discrete n t)
       (λ e. let free : total (ticket t) s.views ≡ 0 = subst (λ (u : ℕ). total (ticket u) s.views ≡ 0) (sym is ∙ e) (next_free s r) in let one : ticket t w ≡ 1 = ap (λ b. if b then 1 else 0) (eq-eqb n t e) in omega arith)
       (λ ne. let none_here : ticket t w ≡ 0 = other_ticket n t ne in omega arith))
-      (λ m. refl) (λ m above. (r.fresh m above).1)
+      (λ m. refl) refl (λ m above. (r.fresh m above).1)
 
   pub draws : (slots id n : ℕ) (m : M) → m.0.stage ≡ Idle → n + 1 < 2 ^ 64 → Allows Rule slots id m 0 (λ y. either (eqb y n) (n + 1) y) (Drew (step slots 0 n (n + 1) none) m)
   draws slots id n m idle room s r wide at _ = let y : ℕ = get_or s.words 0 0 in let is : y ≡ r.drawn = ap (λ (ws : List ℕ). get_or ws 0 0) r.words in
@@ -136,12 +143,28 @@ module _ {T E O : Type 0} (stands : T → List (ℕ × E) → Type 0) (origin : 
 
   -- a step that reads a word only, and moves the slot
   slotted : (s : St) (r : Rule s) (i id : ℕ) (v w : View E O) (homes : List (Option P)) → get_elem? s.views id ≡ some v → has_ticket (length r.log) v.stage ≡ 1 → Locked stands origin first licenses r.log homes (set s.views id w)
-      → F r.log r.drawn r.mark homes w → (some_ticket w ≡ some_ticket v) → ((t : ℕ) → ticket t w ≡ ticket t v) → ((n : ℕ) → number n w ≡ number n v) → Rule record { words = set s.words i (get_or s.words i 0); homes = homes; views = set s.views id w }
-  slotted s r i id v w homes at mine locked fits some_same tickets numbers = subst (λ (ws : List ℕ). Rule record { words = ws; homes = homes; views = set s.views id w }) (sym (set-get_or s.words i 0))
+      → F r.log r.drawn r.mark homes w → (some_ticket w ≡ some_ticket v) → ((t : ℕ) → ticket t w ≡ ticket t v) → ((n : ℕ) → number n w ≡ number n v) → w.split_off ≡ v.split_off → Rule record { words = set s.words i (get_or s.words i 0); homes = homes; views = set s.views id w }
+  slotted s r i id v w homes at mine locked fits some_same tickets numbers owes = subst (λ (ws : List ℕ). Rule record { words = ws; homes = homes; views = set s.views id w }) (sym (set-get_or s.words i 0))
       (moved s r id v w r.log r.drawn r.mark s.words homes at r.words r.few (omega arith) r.licensed locked fits
       (λ k u ne there. let o = r.each k u there in let out = alone s r id v at mine k u ne there in
       record { seen = o.seen; told = o.told; calls = o.calls; marked = o.marked; licensed = o.licensed; staged = restaged s.homes homes (length r.log) (length r.log) r.drawn u.stage out o.staged; whole = λ h. absurd (out h); from = o.from })
-      (queue_same s r id v w at tickets) numbers (λ n above. (r.fresh n above).1))
+      (queue_same s r id v w at tickets) numbers owes (λ n above. (r.fresh n above).1))
+
+  -- a seat that carries the first number and each that was split off from it carries all that were given away
+  covers : (s : St) (r : Rule s) (id : ℕ) (v : View E O) → get_elem? s.views id ≡ some v → ((n : ℕ) → among n (0 ∷ v.split_off) ≤ number n v) → (bound n : ℕ) → n < bound → n < r.names → 1 ≤ number n v
+  covers s r id v at whole zero n less below = absurd (omega arith)
+  covers s r id v at whole (suc bound) n less below = dite (ℕ_discrete n 0)
+      (λ e. let w = whole n in let here = among_here n 0 v.split_off (sym e) in omega arith)
+      (λ pos. let f = total_found (debt n) s.views (r.owed n (omega arith) below) in let up = r.above f.0 f.1 f.2 n f.3 in
+      let m : ℕ = up.0 in let lower : m < n = up.1 in let there : 1 ≤ number m f.1 = up.2 in
+      let mine : 1 ≤ number m v = covers s r id v at whole bound m (omega arith) (omega arith) in
+      dite (ℕ_discrete f.0 id)
+      (λ e. let same : f.1 ≡ v = there_same s.views f.0 id f.1 v e f.2 at in let owes : 1 ≤ debt n v = subst (λ (z : View E O). 1 ≤ debt n z) same f.3 in
+      let w = whole n in let apart = among_there n 0 v.split_off (λ z. pos (sym z)) in omega arith)
+      (λ ne. let two = total_two (number m) s.views f.0 id f.1 v ne f.2 at in let o = r.once m in absurd (omega arith)))
+
+  alone_in : (s : St) (r : Rule s) (id : ℕ) (v : View E O) → get_elem? s.views id ≡ some v → ((n : ℕ) → among n (0 ∷ v.split_off) ≤ number n v) → NoOther r.log v.calls
+  alone_in s r id v at whole n nobody = dite (dec_le r.names n) (λ above. (r.fresh n above).1) (λ below. let c = covers s r id v at whole (suc n) n (omega arith) (omega arith) in absurd (omega arith))
 
   held_from : {R : T → Type 0} (log : Log) (p : P) → ((x : T) → right x → R x) → Holds stands right log p → Holds stands R log p
   held_from log Empty f h = absurd h
@@ -157,7 +180,7 @@ module _ {T E O : Type 0} (stands : T → List (ℕ × E) → Type 0) (origin : 
       let out : set s.homes 0 none ≡ none ∷ [] = ap (λ (hs : List (Option P)). set hs 0 none) home in (
         slotted s r 1 id v w (set s.homes 0 none) at own (inr (id, w, there_set s.views id v w at, tt))
             record { seen = ([], sym (append-nil r.log)); told = old.told; calls = old.calls; marked = old.marked; licensed = old.licensed; staged = (below, sym is, out); whole = λ _. refl; from = old.from }
-            (sym (ap has_some_ticket st)) (λ u. sym (ap (has_ticket u) st)) (λ n. refl),
+            (sym (ap has_some_ticket st)) (λ u. sym (ap (has_ticket u) st)) (λ n. refl) refl,
         record {
           place = p;
           taken = ap (λ (c : List (ℕ × P)). (0, p) ∷ c) empty;
@@ -168,6 +191,7 @@ module _ {T E O : Type 0} (stands : T → List (ℕ × E) → Type 0) (origin : 
           begins = old.seen;
           accounts = old.calls;
           once = λ n. let a = total_at (number n) s.views id v at in let o = r.once n in omega arith;
+          only = alone_in s r id v at;
           licensed = old.licensed;
         },
       )
@@ -189,10 +213,6 @@ module _ {T E O : Type 0} (stands : T → List (ℕ × E) → Type 0) (origin : 
       absurd (dite (ℕ_discrete i.0 id) (λ e. subst IsWithin (ap (λ (z : View E O). z.stage) (there_same s.views i.0 id i.1 m.0 e i.2 at) ∙ st) i.3) (λ ne. alone s r id m.0 at own i.0 i.1 ne i.2 i.3)))
       r.locked)
       (λ miss. (m.0, keeps, tt, unchanged s r 1 id m.1 m.0 at, λ u su. ((λ hit. absurd (miss (hit ∙ sym (waits_same t u m.0.stage st su)))), λ _. refl)))
-
-  own_times : (cs : List (ℕ × List E)) → 0 < length cs → 1 ≤ times (own_number cs) cs
-  own_times [] h = absurd (omega arith)
-  own_times (c ∷ cs) h = omega (arith, times_here c.0 c cs refl)
 
   small_mod : (n : ℕ) → n < 2 ^ 64 → n % 2 ^ 64 ≡ n
   small_mod n h = omega arith
@@ -250,8 +270,8 @@ module _ {T E O : Type 0} (stands : T → List (ℕ × E) → Type 0) (origin : 
           from = o.from;
         })
         (λ t. let a = total_set (ticket t) s.views id v w at in let q = r.queue t in omega arith)
-        (λ z. times_with_call z v.calls e.value)
-        (λ z above. let f = r.fresh z above in under_other z k r.log e.value (λ same. let none_there = (r.fresh k (subst (λ (y : ℕ). length s.views ≤ y) (sym same) above)).0 in omega arith) ∙ f.1)
+        (λ z. times_with_call z v.calls e.value) refl
+        (λ z above. let f = r.fresh z above in under_other z k r.log e.value (λ same. let none_there = (r.fresh k (subst (λ (y : ℕ). r.names ≤ y) (sym same) above)).0 in omega arith) ∙ f.1)
 
     gives_turn : (slots id : ℕ) (m : M) (x : T) (e : Memo E) → m.1 ≡ (0, Given x e) ∷ [] → is_within m.0.stage ≡ true → 0 < length m.0.calls
         → stands x (m.0.seen ++ (own_number m.0.calls, e.value) ∷ []) → right x → Allows Rule slots id m 1 (λ n. (n + 1) % 2 ^ 64) (PassedOn (step slots 1 1 0 none) m)
@@ -288,7 +308,7 @@ module _ {T E O : Type 0} (stands : T → List (ℕ × E) → Type 0) (origin : 
               (locked_still s r id v w at (λ h. h) r.locked)
               record { seen = old.seen; told = old.told; calls = old.calls; marked = omega arith; licensed = greater r.log v.mark to old.licensed to_licensed; staged = old.staged; whole = old.whole; from = old.from }
               (λ k u ne there. let o = r.each k u there in let below = o.marked in record { seen = o.seen; told = o.told; calls = o.calls; marked = omega arith; licensed = o.licensed; staged = o.staged; whole = o.whole; from = o.from })
-              (queue_same s r id v w at (λ t. refl)) (λ n. refl) (λ n above. (r.fresh n above).1),
+              (queue_same s r id v w at (λ t. refl)) (λ n. refl) refl (λ n above. (r.fresh n above).1),
           refl,
         )
       where
@@ -303,7 +323,7 @@ module _ {T E O : Type 0} (stands : T → List (ℕ × E) → Type 0) (origin : 
         w,
         keeps,
         tt,
-        still s r 2 id m.1 v w at (λ h. h) refl (λ t. refl) (λ n. refl)
+        still s r 2 id m.1 v w at (λ h. h) refl (λ t. refl) (λ n. refl) refl
             record { seen = old.seen; told = old.told; calls = old.calls; marked = omega arith; licensed = subst (Licensed licenses r.log) (sym found) r.licensed; staged = old.staged; whole = old.whole; from = old.from },
         (omega arith, refl),
       )
@@ -315,7 +335,7 @@ module _ {T E O : Type 0} (stands : T → List (ℕ × E) → Type 0) (origin : 
         w,
         keeps,
         tt,
-        still s r 0 id m.1 v w at (λ h. h) refl (λ t. refl) (λ n. refl)
+        still s r 0 id m.1 v w at (λ h. h) refl (λ t. refl) (λ n. refl) refl
             record { seen = l.0; told = (r.log, refl); calls = old.calls; marked = old.marked; licensed = old.licensed; staged = old.staged; whole = λ h. absurd (subst IsWithin idle h); from = old.from },
         (refl, l.1, l.2, λ n. let a = total_at (number n) s.views id v at in let o = r.once n in omega arith),
       )
@@ -336,7 +356,7 @@ module _ {T E O : Type 0} (stands : T → List (ℕ × E) → Type 0) (origin : 
         tt,
         slotted s r 0 id v w homes' at own (inr (id, w, there_set s.views id v w at, shut_within v.stage within))
             record { seen = old.seen; told = old.told; calls = old.calls; marked = old.marked; licensed = old.licensed; staged = shut_staged s.homes homes' n r.drawn v.stage within back old.staged; whole = λ h. old.whole inside_is; from = old.from }
-            (shut_some v.stage) (λ t. shut_ticket t v.stage) (λ k. refl),
+            (shut_some v.stage) (λ t. shut_ticket t v.stage) (λ k. refl) refl,
         (λ i. (w, Rattle.atomic_table.specs.Table.rest (hand i))),
       )
     where

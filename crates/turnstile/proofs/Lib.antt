@@ -2,5 +2,7 @@ pub mod Counts
 pub mod Keeps
 pub mod Memos
 pub mod Seats
+pub mod Shares
 pub mod Showing
 pub mod Stages
+pub mod Wholes

@@ -1,9 +1,9 @@
 -- From what a seat's view says to what contracts see of a pass.
-use Rattle.std.proofs.Common.{◌≡◌, ℕ, ◌<◌, List, [], ◌∷◌, ◌++◌, length, refl, sym, ap, ◌∙◌, subst, arith}
+use Rattle.std.proofs.Common.{◌≡◌, ℕ, ◌<◌, ◌≤◌, List, [], ◌∷◌, ◌++◌, length, refl, sym, ap, ◌∙◌, subst, arith}
 use Rattle.atomic_table.specs.Table.{Me}
 use Rattle.atomic_table.specs.Seated.{TableId}
-use Rattle.turnstile.specs.Histories.{StartsWith, Accounts, IsOnce}
-use Rattle.turnstile.specs.Passes.{Known, Sees, Joins}
+use Rattle.turnstile.specs.Histories.{StartsWith, Accounts, times, IsOnce, NoOther, among}
+use Rattle.turnstile.specs.Passes.{Known, all_calls, Sees, Joins}
 use Rattle.turnstile.specs.Views.{own_number, own_calls, carried_calls, of_view, of_views, IsAtRest, AreAtRest, heard, joined, at_stage}
 use Rattle.turnstile.specs.Steps.{Turned}
 use Rattle.turnstile.specs.declared.view.View.{View}
@@ -32,12 +32,17 @@ module _ {E O : Type 0} where
   pub rest_of_seat : (views : List (View E O)) (w : View E O) → AreAtRest views → views ≡ w ∷ [] → IsAtRest w
   rest_of_seat views w r is = let same : r.0 ≡ w = (let a = r.1 in cc) in subst IsAtRest same r.2
 
+  -- a number that a seat has not stands not among the calls that its pass shows
+  pub other_number : (t : TableId) (v : View E O) (p : Known E O) (n k : ℕ) → of_view t v ≡ p → 0 < length v.calls → times n v.calls ≡ 0 → k ≡ n → times k (all_calls p) ≡ 0
+  other_number t v p n k is some_number none_there same = subst (λ (z : ℕ × List (ℕ × List E)). times z.0 z.1 ≡ 0) (λ i. (sym same i, (sym (all_of v.calls some_number) ∙ ap all_calls is) i)) none_there
+
   -- at its turn a seat sees what a pass is to see
   sees : {T : Type 0} (stands : T → List (ℕ × E) → Type 0) (origin : T → O) (licenses : List (ℕ × E) → ℕ → Type 0) (t t' : TableId) (v : View E O) (ticket : ℕ) (m : Me (Place T E) (View E O))
       → t' ≡ t → 0 < length v.calls → Turned stands origin licenses v ticket m → Sees licenses (of_view t v) (of_view t' m.0)
   sees stands origin licenses t t' v ticket m same some_number turned =
       let calls : m.0.calls ≡ v.calls = ap (λ (w : View E O). w.calls) turned.is in
       let mark : m.0.mark ≡ v.mark = ap (λ (w : View E O). w.mark) turned.is in
+      let owes : m.0.split_off ≡ v.split_off = ap (λ (w : View E O). w.split_off) turned.is in
       let mine = all_of m.0.calls (subst (λ (cs : List (ℕ × List E)). 0 < length cs) (sym calls) some_number) in record {
         begins = turned.begins;
         same = λ i. record {
@@ -46,11 +51,13 @@ module _ {E O : Type 0} where
           number = own_number (calls i);
           mine = own_calls (calls i);
           carried = carried_calls (calls i);
+          split_off = owes i;
           seen = m.0.seen;
           mark = mark i;
         };
         accounts = subst (Accounts m.0.seen) (sym mine) (subst (Accounts m.0.seen) (sym calls) turned.accounts);
         once = subst IsOnce (sym mine) (subst IsOnce (sym calls) turned.once);
+        only = λ whole. subst (NoOther m.0.seen) (sym mine) (subst (NoOther m.0.seen) (sym calls) (turned.only (λ n. subst (λ (cs : List (ℕ × List E)). among n (0 ∷ v.split_off) ≤ times n cs) (all_of v.calls some_number) (whole n))));
         licensed = λ ne. subst (licenses m.0.seen) (sym mark) (turned.licensed (λ zero. ne (mark ∙ zero)));
       }
 
@@ -78,6 +85,7 @@ module _ {E O : Type 0} where
           number = (ap own_number calls ∙ f.0) i;
           mine = (ap own_calls calls ∙ f.1) i;
           carried = (ap carried_calls calls ∙ (f.2 ∙ ap (λ (z : List (ℕ × List E)). carried_calls v.calls ++ z) (sym all))) i;
+          split_off = (is i).split_off;
           seen = x.seen;
           mark = (is i).mark;
         };

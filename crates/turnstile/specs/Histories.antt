@@ -1,6 +1,11 @@
 -- A history is the list of all entries so far, in order. Each stands beside the number of the pass that made it.
 use Rattle.std.specs.Prelude.{◌≡◌, ◌≢◌, ℕ, ◌+◌, ◌≤◌, ◌==◌, List, [], ◌∷◌, ◌++◌, if◌then◌else◌}
 
+-- how often a number stands in a list
+abbrev pub among : ℕ → List ℕ → ℕ
+among n [] = 0
+among n (m ∷ ms) = (if m == n then 1 else 0) + among n ms
+
 module _ {E : Type 0} where
   -- the history begins with what was seen
   abbrev pub StartsWith : List (ℕ × E) → List (ℕ × E) → Type 0
@@ -20,6 +25,10 @@ module _ {E : Type 0} where
   abbrev pub times : ℕ → List (ℕ × List E) → ℕ
   times n [] = 0
   times n (c ∷ cs) = (if c.0 == n then 1 else 0) + times n cs
+
+  -- under each number that doesn't stand among the calls the history has no entry
+  abbrev pub NoOther : List (ℕ × E) → List (ℕ × List E) → Type 0
+  NoOther log calls = (n : ℕ) → times n calls ≡ 0 → entries_under n log ≡ []
 
   -- no number stands among the calls twice
   abbrev pub IsOnce : List (ℕ × List E) → Type 0

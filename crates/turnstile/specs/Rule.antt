@@ -4,7 +4,7 @@ use Rattle.std.specs.Prelude.{◌≡◌, ◌⊎◌, ℕ, ◌+◌, ◌<◌, ◌�
 use mathlib.Core.Option.{Option, none, some}
 use lib.ListN.{get_elem?}
 use Rattle.atomic_table.specs.Table.{State}
-use Rattle.turnstile.specs.Histories.{StartsWith, entries_under, Accounts, times, Licensed}
+use Rattle.turnstile.specs.Histories.{StartsWith, entries_under, Accounts, times, among, Licensed}
 use Rattle.turnstile.specs.Views.{IsWithin}
 use Rattle.turnstile.specs.declared.view.View.{View}
 use Rattle.turnstile.specs.declared.view.Place.{Place}
@@ -51,6 +51,10 @@ module _ {T E : Type 0} where
   Staged homes served drawn (Within t) = (t < drawn) × (t ≡ served) × (homes ≡ none ∷ [])
   Staged homes served drawn (Shut t) = (t < drawn) × (t ≡ served) × (homes ≡ some Empty ∷ [])
 
+-- each number that was split off is above one that stands among the calls
+abbrev pub AreAbove : {E : Type 0} → List (ℕ × List E) → List ℕ → Type 0
+AreAbove calls numbers = (n : ℕ) → 1 ≤ among n numbers → (m : ℕ) × (m < n) × (1 ≤ times m calls)
+
 module _ {T E : Type 0} (stands : T → List (ℕ × E) → Type 0) (right : T → Type 0) where
   -- the place has a value that stands for the history, and is right
   abbrev pub Holds : List (ℕ × E) → Place T E → Type 0
@@ -81,6 +85,7 @@ module _ {T E O : Type 0} (stands : T → List (ℕ × E) → Type 0) (origin : 
     pub log : List (ℕ × E)
     pub drawn : ℕ
     pub mark : ℕ
+    pub names : ℕ
     pub words : s.words ≡ drawn ∷ length log ∷ mark ∷ []
     pub few : drawn < 2 ^ 64
     -- each ticket that was drawn has led to an entry, or a seat has it
@@ -91,5 +96,8 @@ module _ {T E O : Type 0} (stands : T → List (ℕ × E) → Type 0) (origin : 
     -- no ticket is with two seats, and no number among the calls of two
     pub queue : (t : ℕ) → total (λ (v : View E O). has_ticket t v.stage) s.views ≤ 1
     pub once : (n : ℕ) → total (λ (v : View E O). times n v.calls) s.views ≤ 1
-    -- a number from the count of views on is free: no view has it, and no entry
-    pub fresh : (n : ℕ) → length s.views ≤ n → (total (λ (v : View E O). times n v.calls) s.views ≡ 0) × (entries_under n log ≡ [])
+    -- the numbers below `names` were given away, each but the first by a split
+    pub owed : (n : ℕ) → 0 < n → n < names → 1 ≤ total (λ (v : View E O). among n v.split_off) s.views
+    pub above : (k : ℕ) (v : View E O) → get_elem? s.views k ≡ some v → AreAbove v.calls v.split_off
+    -- the others are free: no view has one, and no entry
+    pub fresh : (n : ℕ) → names ≤ n → (total (λ (v : View E O). times n v.calls) s.views ≡ 0) × (entries_under n log ≡ [])

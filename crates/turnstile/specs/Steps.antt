@@ -1,9 +1,9 @@
 -- What each kind of atomic step tells the seat that makes it. `st` is the step, `m` what the seat knew and held before it, `r` the number that it found, and `m'` what the seat knows and holds after it. No public clause cites this file.
 use Rattle.std.specs.Prelude.{◌≡◌, ◌≢◌, ℕ, ◌+◌, ◌<◌, ◌≤◌, ◌^◌, List, [], ◌∷◌, length, max, Some}
 use Rattle.atomic_table.specs.Table.{Me, Step}
-use Rattle.turnstile.specs.Histories.{StartsWith, Accounts, IsOnce, Licensed}
-use Rattle.turnstile.specs.Views.{shut_of, newcomer, longer, heard, at_stage, inside, after_call, with_mark}
-use Rattle.turnstile.specs.Rule.{Holds}
+use Rattle.turnstile.specs.Histories.{StartsWith, Accounts, times, IsOnce, NoOther, among, Licensed}
+use Rattle.turnstile.specs.Views.{shut_of, named, longer, heard, at_stage, inside, after_call, with_mark}
+use Rattle.turnstile.specs.Rule.{Holds, AreAbove}
 use Rattle.turnstile.specs.declared.memo.Memo.{Memo}
 use Rattle.turnstile.specs.declared.view.View.{View}
 use Rattle.turnstile.specs.declared.view.Place.{Place}
@@ -19,8 +19,9 @@ module _ {T E O : Type 0} where
   abbrev pub PassedOn : Step (Place T E) → Me (Place T E) (View E O) → ℕ → Me (Place T E) (View E O) → Type 0
   PassedOn st m r m' = (x : T) (e : Memo E) → m.1 ≡ (0, Given x e) ∷ [] → m' ≡ (after_call m.0 e.value, [])
 
-  abbrev pub Entered : Step (Place T E) → Me (Place T E) (View E O) → ℕ → Me (Place T E) (View E O) → Type 0
-  Entered st m r m' = (o : O) → m.0.origin ≡ Some o → (n : ℕ) × (m'.0 ≡ newcomer o n)
+  -- a number that the seat didn't have is in front, and it is above one that the seat has
+  abbrev pub Named : Step (Place T E) → Me (Place T E) (View E O) → ℕ → Me (Place T E) (View E O) → Type 0
+  Named st m r m' = (n : ℕ) × (m' ≡ (named m.0 n, m.1)) × AreAbove m.0.calls (n ∷ m.0.split_off) × (times n m.0.calls ≡ 0)
 
   -- what was seen and what was told begin one history, so the longer of them begins with both
   abbrev pub Settled : Step (Place T E) → Me (Place T E) (View E O) → ℕ → Me (Place T E) (View E O) → Type 0
@@ -48,6 +49,7 @@ module _ {T E O : Type 0} (stands : T → List (ℕ × E) → Type 0) (origin : 
     pub begins : StartsWith m.0.seen v.seen
     pub accounts : Accounts m.0.seen v.calls
     pub once : IsOnce v.calls
+    pub only : ((n : ℕ) → among n (0 ∷ v.split_off) ≤ times n v.calls) → NoOther m.0.seen v.calls
     pub licensed : Licensed licenses m.0.seen v.mark
 
   -- the ticket that is served was found: the seat's own, and its turn has come; or another, and nothing changed

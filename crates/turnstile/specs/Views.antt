@@ -27,6 +27,11 @@ module _ {E : Type 0} where
   carried_calls [] = []
   carried_calls (c ∷ cs) = cs
 
+  -- the first number alone, and its calls
+  abbrev pub first_call : List (ℕ × List E) → List (ℕ × List E)
+  first_call [] = []
+  first_call (c ∷ cs) = c ∷ []
+
   -- with one more call of its own
   abbrev pub with_call : List (ℕ × List E) → E → List (ℕ × List E)
   with_call [] e = []
@@ -58,11 +63,11 @@ shut_of (Shut t) = Shut t
 module _ {E O : Type 0} where
   -- the pass that a seat is
   abbrev pub of_view : TableId → View E O → Known E O
-  of_view t v = record { table = t; origin = v.origin; number = own_number v.calls; mine = own_calls v.calls; carried = carried_calls v.calls; seen = v.seen; mark = v.mark }
+  of_view t v = record { table = t; origin = v.origin; number = own_number v.calls; mine = own_calls v.calls; carried = carried_calls v.calls; split_off = v.split_off; seen = v.seen; mark = v.mark }
 
   -- the pass that a badge is, which has the view of one seat
   abbrev pub of_views : TableId → List (View E O) → Known E O
-  of_views t [] = record { table = t; origin = None; number = 0; mine = []; carried = []; seen = []; mark = 0 }
+  of_views t [] = record { table = t; origin = None; number = 0; mine = []; carried = []; split_off = []; seen = []; mark = 0 }
   of_views t (v ∷ vs) = of_view t v
 
   -- the seat has a number, and waits for nothing
@@ -78,34 +83,42 @@ module _ {E O : Type 0} where
 
   -- a new seat: a number, no calls, and nothing seen
   abbrev pub newcomer : O → ℕ → View E O
-  newcomer o n = record { origin = Some o; calls = (n, []) ∷ []; seen = []; told = []; mark = 0; stage = Idle }
+  newcomer o n = record { origin = Some o; calls = (n, []) ∷ []; split_off = []; seen = []; told = []; mark = 0; stage = Idle }
 
-  -- what one seat tells another. It has no number
-  abbrev pub note_of : View E O → View E O
-  note_of v = record { origin = None; calls = []; seen = v.seen; told = []; mark = v.mark; stage = Idle }
+  -- with a new number in front, which is to be split off
+  abbrev pub named : View E O → ℕ → View E O
+  named v n = record { origin = v.origin; calls = (n, []) ∷ v.calls; split_off = n ∷ v.split_off; seen = v.seen; told = v.told; mark = v.mark; stage = v.stage }
+
+  -- without the number in front
+  abbrev pub left_of : View E O → View E O
+  left_of v = record { origin = v.origin; calls = carried_calls v.calls; split_off = v.split_off; seen = v.seen; told = v.told; mark = v.mark; stage = v.stage }
+
+  -- the number in front, with all that was seen
+  abbrev pub right_of : View E O → View E O
+  right_of v = record { origin = v.origin; calls = first_call v.calls; split_off = []; seen = v.seen; told = []; mark = v.mark; stage = Idle }
 
   -- what is left of a seat that was joined to another
   abbrev pub nobody : View E O
-  nobody = record { origin = None; calls = []; seen = []; told = []; mark = 0; stage = Idle }
+  nobody = record { origin = None; calls = []; split_off = []; seen = []; told = []; mark = 0; stage = Idle }
 
   -- v with the calls of w too, and told of what w has seen
   abbrev pub joined : View E O → View E O → View E O
-  joined v w = record { origin = v.origin; calls = v.calls ++ w.calls; seen = v.seen; told = w.seen; mark = max v.mark w.mark; stage = v.stage }
+  joined v w = record { origin = v.origin; calls = v.calls ++ w.calls; split_off = v.split_off ++ w.split_off; seen = v.seen; told = w.seen; mark = max v.mark w.mark; stage = v.stage }
 
   -- with what it was told taken in
   abbrev pub heard : View E O → View E O
-  heard v = record { origin = v.origin; calls = v.calls; seen = longer v.seen v.told; told = []; mark = v.mark; stage = v.stage }
+  heard v = record { origin = v.origin; calls = v.calls; split_off = v.split_off; seen = longer v.seen v.told; told = []; mark = v.mark; stage = v.stage }
 
   abbrev pub at_stage : View E O → Stage → View E O
-  at_stage v stage = record { origin = v.origin; calls = v.calls; seen = v.seen; told = v.told; mark = v.mark; stage = stage }
+  at_stage v stage = record { origin = v.origin; calls = v.calls; split_off = v.split_off; seen = v.seen; told = v.told; mark = v.mark; stage = stage }
 
   -- at its turn, with the whole history in sight
   abbrev pub inside : View E O → List (ℕ × E) → ℕ → View E O
-  inside v log t = record { origin = v.origin; calls = v.calls; seen = log; told = v.told; mark = v.mark; stage = Within t }
+  inside v log t = record { origin = v.origin; calls = v.calls; split_off = v.split_off; seen = log; told = v.told; mark = v.mark; stage = Within t }
 
   -- after its turn, with one more call
   abbrev pub after_call : View E O → E → View E O
-  after_call v e = record { origin = v.origin; calls = with_call v.calls e; seen = v.seen ++ (own_number v.calls, e) ∷ []; told = v.told; mark = v.mark; stage = Idle }
+  after_call v e = record { origin = v.origin; calls = with_call v.calls e; split_off = v.split_off; seen = v.seen ++ (own_number v.calls, e) ∷ []; told = v.told; mark = v.mark; stage = Idle }
 
   abbrev pub with_mark : View E O → ℕ → View E O
-  with_mark v to = record { origin = v.origin; calls = v.calls; seen = v.seen; told = v.told; mark = to; stage = v.stage }
+  with_mark v to = record { origin = v.origin; calls = v.calls; split_off = v.split_off; seen = v.seen; told = v.told; mark = to; stage = v.stage }

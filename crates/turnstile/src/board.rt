@@ -12,7 +12,7 @@ ghost use Rattle.turnstile.specs.Steps.{Turned};
 use crate::bell::{Bell, Bells};
 use crate::chronicle::Chronicle;
 use crate::memo::Memo;
-use crate::steps::{Draw, Look, Note, PassOn, Settle};
+use crate::steps::{Draw, Look, Merge, PassOn, Settle};
 use crate::view::{Place, Ruling, View, value_in};
 use atomic_table::{Seat, Shared};
 use std::sync::Wait;
@@ -125,7 +125,7 @@ pub fn give_turn<T: Chronicle>(
     bells.of(served.wrapping_add(1)).ring();
 }
 
-/// Takes in what a note or another seat tells, and the calls that it has.
+/// Takes in what another seat tells, and the calls that it has.
 pub fn take_in<T: Chronicle>(board: &Board<T>, seat: &mut SeatOf<T>, other: SeatOf<T>)
     requires board { IsBoard board.now.table_id }
     requires seat { seat.old.table_id ≡ board.now.table_id }
@@ -138,6 +138,6 @@ pub fn take_in<T: Chronicle>(board: &Board<T>, seat: &mut SeatOf<T>, other: Seat
     ensures other { StartsWith seat.new.me.0.seen other.me.0.seen }
     ensures once { IsOnce seat.new.me.0.calls }
 {
-    board.join_seat::<Note>(seat, other);
+    board.join_seat::<Merge>(seat, other);
     board.load::<Settle>(seat, 0);
 }

@@ -23,6 +23,7 @@ mod turnstile;
 mod view;
 
 pub use chronicle::Chronicle;
+pub use memo::Memo;
 pub use no_memory::NoMemory;
 pub use pass::{Holding, Pass, Turn};
 pub use turnstile::Turnstile;

@@ -4,7 +4,9 @@ ghost use base.Fml.{ftrue};
 
 use std::marker::{Model, PhantomData};
 
-/// A `T` as contracts see it. It has no bytes and owns nothing, so any thread may have it.
+/// A `T` as contracts see it: its field `value`, which is no part of the code. It has no bytes and owns nothing, so any
+/// thread may have it, whatever `T` is. A client's entries and origins hold it where a history tells of a value that no
+/// entry could keep.
 pub struct Memo<T> {
     marker: PhantomData<T>,
     pub ghost value: { T },
@@ -17,7 +19,7 @@ impl<T> Model for Memo<T> {
 impl<T> Memo<T> {
     /// A memo of what the reference shows.
     pub fn of(shown: &T) -> Memo<T>
-        ensures { result.value ≡ shown.now }
+        ensures value { result.value ≡ shown.now }
     {
         let _ = shown;
         Memo {

@@ -8,8 +8,9 @@ use std::marker::Model;
 /// What one caller knows of a turnstile. It has no bytes.
 ///
 /// Contracts see it as a `Known` of `specs/Passes.antt`: its number, the calls that it made, those that it
-/// carries for passes that were joined to it, the beginning of the history that it has seen, and a mark
-/// that the turnstile's mark has reached.
+/// carries for passes that were joined to it, the numbers of the passes that were split off from it or
+/// from those, the beginning of the history that it has seen, and a mark that the turnstile's mark has
+/// reached.
 #[derive(Drop)]
 pub struct Pass<E, O> {
     pub(crate) badge: Badge<View<E, O>>,

@@ -38,13 +38,13 @@ impl<T, E, O> Play<Place<T, E>, View<E, O>> for PassOn {
     ghost then = { PassedOn };
 }
 
-/// A new seat comes, with a number that no seat and no entry has.
-pub struct Enter;
+/// A seat comes to a further number, which no seat and no entry has.
+pub struct Name;
 
-impl<T, E, O> Play<Place<T, E>, View<E, O>> for Enter {
-    ghost use Rattle.turnstile.specs.Steps.{Entered};
+impl<T, E, O> Play<Place<T, E>, View<E, O>> for Name {
+    ghost use Rattle.turnstile.specs.Steps.{Named};
 
-    ghost then = { Entered };
+    ghost then = { Named };
 }
 
 /// A seat takes in what it was told.
@@ -83,18 +83,21 @@ impl<T, E, O> Play<Place<T, E>, View<E, O>> for Close {
     ghost then = { Closed };
 }
 
-/// A note is split off a seat, and joined to another. It tells what the seat has seen.
-pub struct Note;
+/// The number in front is split off a seat, with all that the seat has seen.
+pub struct Part;
 
-impl<E, O> Split<View<E, O>> for Note {
-    ghost use Rattle.turnstile.specs.Views.{note_of};
+impl<E, O> Split<View<E, O>> for Part {
+    ghost use Rattle.turnstile.specs.Views.{left_of, right_of};
 
-    ghost left = { λ view. view };
+    ghost left = { left_of };
 
-    ghost right = { note_of };
+    ghost right = { right_of };
 }
 
-impl<E, O> Join<View<E, O>> for Note {
+/// A seat is joined to another.
+pub struct Merge;
+
+impl<E, O> Join<View<E, O>> for Merge {
     ghost use Rattle.turnstile.specs.Views.{joined, nobody};
 
     ghost both = { joined };

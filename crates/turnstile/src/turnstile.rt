@@ -1,8 +1,8 @@
 //! The turnstile and its calls.
 
 ghost use Rattle.std.specs.Prelude.{◌≡◌, [], ◌∷◌, ◌++◌, IfOk, IfErr, IsOkAnd, length, ◌+◌, ◌^◌, ◌<◌, ◌≤◌, max};
-ghost use Rattle.turnstile.specs.Histories.{Licensed};
-ghost use Rattle.turnstile.specs.Passes.{IsOf, Sees, Joins, IsNewFrom, with_entry, first_pass};
+ghost use Rattle.turnstile.specs.Histories.{times, Licensed};
+ghost use Rattle.turnstile.specs.Passes.{IsOf, Sees, Joins, IsNewFrom, all_calls, with_entry, first_pass};
 
 use crate::bell::Bells;
 use crate::board::{give_turn, take_in, take_turn};
@@ -10,7 +10,7 @@ use crate::chronicle::Chronicle;
 use crate::memo::Memo;
 use crate::no_memory::NoMemory;
 use crate::pass::{Holding, Pass, Turn};
-use crate::steps::{Close, Enter, LoadMark, Note, Raise};
+use crate::steps::{Close, LoadMark, Name, Part, Raise};
 use crate::view::{Place, Ruling, View, value_in};
 use atomic_table::{Refused, Table};
 use std::alloc::Global;
@@ -81,7 +81,8 @@ impl<T: Chronicle> Turnstile<T> {
 
     /// Takes a turn, once those with earlier tickets have given theirs. The pass has then seen the whole
     /// history: it begins with all that the pass had seen, and under each number that the pass has or
-    /// carries it has just the calls beside that number. It takes no memory, and sleeps while it waits.
+    /// carries it has just the calls beside that number, and nothing else where the pass is whole. It takes
+    /// no memory, and sleeps while it waits.
     pub fn take<R: Wait>(&self, rt: &R, pass: Pass<T::Entry, T::Origin>) -> Turn<T>
         requires { IsOf self.now pass }
         ensures sees { Sees T.licenses pass result.pass }
@@ -120,8 +121,9 @@ impl<T: Chronicle> Turnstile<T> {
         }
     }
 
-    /// The pass as it was, and a new one that has seen the same. The new one has another number, has made
-    /// no call and carries none. It wants no memory, so the answer is always `Ok`.
+    /// The pass as it was, but that one more was split off from it, and that new one, which has seen the
+    /// same. The new one has another number, has made no call and carries none. It wants no memory, so the
+    /// answer is always `Ok`.
     pub fn split(
         &self,
         pass: Pass<T::Entry, T::Origin>,
@@ -130,14 +132,14 @@ impl<T: Chronicle> Turnstile<T> {
         (Pass<T::Entry, T::Origin>, NoMemory),
     >
         requires { IsOf self.now pass }
-        ensures same { IsOkAnd result (λ both. both.0 ≡ pass) }
+        ensures same { IsOkAnd result (λ both. both.0 ≡ record pass { split_off = both.1.number ∷ pass.split_off }) }
         ensures new { IsOkAnd result (λ both. IsNewFrom pass both.1) }
+        ensures other { IsOkAnd result (λ both. times both.1.number (all_calls pass) ≡ 0) }
     {
         let Pass { badge } = pass;
         let mut seat = badge.into_seat();
-        let (_, mut fresh) = self.table.shared.load_new_seat::<Enter>(0);
-        let note = self.table.shared.split_seat::<Note>(&mut seat);
-        take_in(&self.table.shared, &mut fresh, note);
+        self.table.shared.load::<Name>(&mut seat, 0);
+        let fresh = self.table.shared.split_seat::<Part>(&mut seat);
         let same = Pass {
             badge: seat.into_badge(),
         };
@@ -148,7 +150,8 @@ impl<T: Chronicle> Turnstile<T> {
     }
 
     /// One pass of two. It has seen what both had seen, and carries the number and the calls of the ended
-    /// one beside those that both carried. It takes no memory.
+    /// one beside those that both carried. What was split off from either was split off from it. It takes no
+    /// memory.
     pub fn join(
         &self,
         keep: Pass<T::Entry, T::Origin>,

@@ -38,6 +38,8 @@ pub struct View<E, O> {
     pub origin: Option<O>,
     /// The seat's number and its own calls, then those that it carries.
     pub calls: LinkedList<(u64, LinkedList<E>)>,
+    /// The numbers of the seats that were split off from it, or from those that were joined to it.
+    pub split_off: LinkedList<u64>,
     /// The beginning of the history that it has seen.
     pub seen: LinkedList<(u64, E)>,
     /// The beginning of the history that it was told of, and hasn't taken in.

@@ -7,5 +7,5 @@ abbrev pub invariant-loop-entry : goal.invariant-loop-entry
 invariant-loop-entry g l = record {
   here : IsOf l.list l.pass;
   calls : l.pass.mine ≡ l.fn.pass.mine ++ map Appended (take l.entry-index l.entries);
-  rest : (l.pass.number ≡ l.fn.pass.number) × (l.pass.carried ≡ l.fn.pass.carried);
+  rest : (l.pass.number ≡ l.fn.pass.number) × (l.pass.carried ≡ l.fn.pass.carried) × (l.pass.split_off ≡ l.fn.pass.split_off);
 }
