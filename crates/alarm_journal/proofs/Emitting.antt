@@ -2,15 +2,16 @@
 use Rattle.std.proofs.Common.{◌≡◌, ℕ, ◌+◌, List, [], ◌∷◌, ◌++◌, refl, sym, ◌∙◌, ap, subst, Option, Some, None, Result, Ok, Err, IfOk, IsOk, is_ok, true, false, Bool, if◌then◌else◌}
 use Rattle.bac_values.specs.Address.{Address}
 use Rattle.bac_values.specs.declared.note.Send.{Send}
-use Rattle.ground_io.specs.Disk.{Disk, after_entry, disk_after}
+use Rattle.ground_io.specs.Disk.{Disk, Each, Always, after_entry, disk_after}
 use Rattle.ground_io.specs.Trace.{Told, Adds, disk_of, emission}
 use Rattle.ground_io.specs.declared.entry.Entry.{Entry}
 use Rattle.ground_io.specs.declared.entry.Entry.TheVariants.{Wrote, Broke, Synced, Emitted, Lost}
 use Rattle.ground_io.proofs.Crashes.{adds_both, adds_none, disk_adds}
 use Rattle.alarm_journal.specs.Emissions.{AreEmissions, EmitsOnly, EmitsAll}
-use Rattle.alarm_journal.specs.Journal.{Site, Content}
-use Rattle.alarm_journal.specs.Press.{IsSettled, Settled, StandsFor}
+use Rattle.alarm_journal.specs.Journal.{Site, Content, OpensTo}
+use Rattle.alarm_journal.specs.Press.{IsSettled, IsSound, Settled, StandsFor, Throughout}
 use Rattle.alarm_journal.specs.declared.layout.Layout.{Layout}
+use Rattle.alarm_journal.proofs.Rest.{lasts}
 
 push_sent : (sends : List Send) (sent lost : ℕ) (entries : List Entry) (send : Send) (octets : List ℕ) → octets ≡ send.bytes → AreEmissions sends sent lost entries → AreEmissions (sends ++ send ∷ []) (sent + 1) lost (entries ++ Emitted send.peer octets ∷ [])
 push_sent [] sent lost [] send octets same are = (refl, same, (0, ap (λ (n : ℕ). n + 1) are.0, (refl, are.1)))
@@ -76,3 +77,20 @@ settled_still site layout content sends sent lost (Some a) (Some b) emits settle
       stands = subst (λ (k : Disk). StandsFor site layout k.contents content) (sym same) settled.stands;
       stable = ap (λ (k : Disk). k.loose) same ∙ settled.stable;
     }
+
+-- what is so of each image before emissions is so of each image at each moment of them
+always_still : (P : List ℕ → Type 0) (sends : List Send) (sent lost : ℕ) (entries : List Entry) (disk : Disk) → AreEmissions sends sent lost entries → Each P disk → Always P disk entries
+always_still P [] sent lost [] disk are each = each
+always_still P [] sent lost (e ∷ entries) disk are each = absurd are
+always_still P (s ∷ sends) sent lost [] disk are each = absurd are
+always_still P (s ∷ sends) sent lost (Emitted peer o ∷ entries) disk are each = (each, always_still P sends are.2.0 lost entries disk are.2.2 each)
+always_still P (s ∷ sends) sent lost (Lost peer o ∷ entries) disk are each = (each, always_still P sends sent are.2.0 entries disk are.2.2 each)
+always_still P (s ∷ sends) sent lost (Wrote place o ∷ entries) disk are each = absurd are
+always_still P (s ∷ sends) sent lost (Broke place tried left ∷ entries) disk are each = absurd are
+always_still P (s ∷ sends) sent lost (Synced ∷ entries) disk are each = absurd are
+
+pub throughout : (site : Site) (layout : Layout) (content : Content) (size : ℕ) (sends : List Send) (sent lost : ℕ) (a b : Option Told) → IsSound size layout → EmitsAll sends sent lost a b → Settled site layout a content → Throughout site content a b
+throughout site layout content size sends sent lost a None sound emits settled = tt
+throughout site layout content size sends sent lost None (Some b) sound emits settled = absurd emits
+throughout site layout content size sends sent lost (Some a) (Some b) sound emits settled =
+    (emits.entries, emits.adds, always_still (λ image. OpensTo site image content) sends sent lost emits.entries (disk_of a) emits.emissions (lasts site layout (Some a) content size sound settled))

@@ -85,6 +85,13 @@ abbrev pub Lasts : Site → Option Told → Content → Type 0
 Lasts site None content = ⊤
 Lasts site (Some told) content = Each (λ image. OpensTo site image content) (disk_of told)
 
+-- at each moment on the way from one to the other, each image that a crash may leave opens to this, where it tells
+abbrev pub Throughout : Site → Content → Option Told → Option Told → Type 0
+Throughout site content old None = ⊤
+Throughout site content None (Some new) = ⊥
+Throughout site content (Some old) (Some new) =
+    (entries : List Entry) × Adds (Some old) (Some new) entries × Always (λ image. OpensTo site image content) (disk_of old) entries
+
 -- a crash at any moment leaves what opens to one of the two
 abbrev pub Between : Site → Content → Content → Option Told → Option Told → Type 0
 Between site before after old new = Leads (λ image. OpensTo site image before ⊎ OpensTo site image after) old new

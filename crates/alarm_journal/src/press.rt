@@ -1,9 +1,9 @@
-ghost use Rattle.std.specs.Prelude.{◌≡◌, ◌<◌, ◌≤◌, ◌+◌, ◌-◌, ◌/◌, List, [], ◌∷◌, ℕ, length, IfOk, IfErr, MatchResult, Ok, Err};
-ghost use Rattle.ground_io.specs.Counts.{HasCause, Rose};
+ghost use Rattle.std.specs.Prelude.{◌≡◌, ◌<◌, ◌≤◌, ◌+◌, ◌-◌, ◌/◌, List, [], ◌∷◌, ℕ, length, IfOk, IfErr, MatchResult, Ok, Err, ⊤};
+ghost use Rattle.ground_io.specs.Counts.{HasCause};
 ghost use Rattle.ground_io.specs.Trace.{Adds};
 ghost use Rattle.alarm_journal.specs.Emissions.{EmitsAll};
 ghost use Rattle.alarm_journal.specs.Journal.{Content, Site, framed, only_snapshot, with_batch};
-ghost use Rattle.alarm_journal.specs.Press.{Answers, Between, IsOpening, IsSmall, Lasts, Reopens, Settled, WasBlank, behind_batch, behind_snapshot, other_of, room_of, selector_of};
+ghost use Rattle.alarm_journal.specs.Press.{Answers, Between, IsOpening, IsSmall, Lasts, Reopens, Settled, Throughout, WasBlank, behind_batch, behind_snapshot, other_of, room_of, selector_of};
 ghost use Rattle.alarm_journal.specs.Protocol.{AddsSome, IsTwoCutShort, two_writes};
 ghost use Rattle.alarm_journal.specs.declared.open_fault.OpenFault.TheVariants.{DiskFault};
 
@@ -146,7 +146,7 @@ impl<G: Ground> Press<G> {
 
         ensures cause { MatchResult result
             (λ press. G.disk_faults self.device ≤ G.disk_faults press.device)
-            (λ device. Rose (G.disk_faults self.device) (G.disk_faults device)) }
+            (λ device. HasCause (G.disk_faults self.device) (G.disk_faults device) ⊤) }
         ensures same { MatchResult result (λ press. G.size press.device ≡ G.size self.device) (λ device. G.size device ≡ G.size self.device) }
         ensures emitted { MatchResult result (λ press. G.emit_faults press.device ≡ G.emit_faults self.device) (λ device. G.emit_faults device ≡ G.emit_faults self.device) }
     {
@@ -184,7 +184,7 @@ impl<G: Ground> Press<G> {
 
         ensures cause { MatchResult result
             (λ press. G.disk_faults self.device ≤ G.disk_faults press.device)
-            (λ device. Rose (G.disk_faults self.device) (G.disk_faults device)) }
+            (λ device. HasCause (G.disk_faults self.device) (G.disk_faults device) ⊤) }
         ensures same { MatchResult result (λ press. G.size press.device ≡ G.size self.device) (λ device. G.size device ≡ G.size self.device) }
         ensures emitted { MatchResult result (λ press. G.emit_faults press.device ≡ G.emit_faults self.device) (λ device. G.emit_faults device ≡ G.emit_faults self.device) }
     {
@@ -209,6 +209,12 @@ impl<G: Ground> Press<G> {
         ensures same { G.size self.new.device ≡ G.size self.old.device }
         ensures settled { (site : Site) (content : Content) → Settled site self.old.layout (G.told self.old.device) content
             → Settled site self.new.layout (G.told self.new.device) content }
+
+        // Each image that a crash may leave, now or at any moment of the emissions, opens to what stood before them.
+        ensures lasts { (site : Site) (content : Content) → Settled site self.old.layout (G.told self.old.device) content
+            → Lasts site (G.told self.new.device) content }
+        ensures any_moment { (site : Site) (content : Content) → Settled site self.old.layout (G.told self.old.device) content
+            → Throughout site content (G.told self.old.device) (G.told self.new.device) }
     {
         emit_each(&mut self.device, sends)
     }
