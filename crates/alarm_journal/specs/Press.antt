@@ -132,6 +132,10 @@ abbrev pub IsSmall : ℕ → OpenFault → Type 0
 IsSmall size (SmallDevice has need) = (has ≡ size) × (size < need)
 IsSmall size fault = ⊤
 
+-- why a device of this size, which must have more, isn't opened: it failed, or it is small
+abbrev pub IsBelow : ℕ → ℕ → OpenFault → Type 0
+IsBelow size need fault = (fault ≡ DiskFault) ⊎ (fault ≡ SmallDevice size need)
+
 -- The writes of an opening: none but the first sync, or behind it the two of a blank device's formatting.
 abbrev pub IsOpening : List ℕ → ℕ → List Entry → Type 0
 IsOpening text size entries = (entries ≡ []) ⊎ ((entries ≡ Synced ∷ []) ⊎ ((more : List Entry) × ((more ≡ two_writes 1 (heading text size) 0 (1 ∷ [])) ⊎ IsTwoCutShort 1 (heading text size) 0 (1 ∷ []) more) × (entries ≡ Synced ∷ more)))

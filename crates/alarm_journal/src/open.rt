@@ -2,7 +2,7 @@ ghost use Rattle.std.specs.Prelude.{◌≡◌, ◌⊎◌, ◌+◌, ◌-◌, ◌/
 ghost use Rattle.ground_io.specs.Counts.{HasCause};
 ghost use Rattle.ground_io.specs.Trace.{Adds, Reads};
 ghost use Rattle.alarm_journal.specs.Journal.{OpensTo, heading, nothing};
-ghost use Rattle.alarm_journal.specs.Press.{Answers, Begun, Blank, IsOpening, IsSmall, IsSound, Reopens, Settled, WasBlank};
+ghost use Rattle.alarm_journal.specs.Press.{Answers, Begun, Blank, IsBelow, IsOpening, IsSmall, IsSound, Reopens, Settled, WasBlank};
 ghost use Rattle.alarm_journal.specs.Protocol.{AddsSome, IsTwoCutShort, Leads, two_writes};
 ghost use Rattle.alarm_journal.specs.declared.open_fault.OpenFault.TheVariants.{DiskFault, NoMemory};
 
@@ -151,6 +151,8 @@ pub(crate) fn open_device<G: Ground>(
     ensures cause { HasCause (G.disk_faults device.old) (G.disk_faults device.new) (result ≡ Err DiskFault) }
     ensures emitted { G.emit_faults device.new ≡ G.emit_faults device.old }
     ensures small { IfErr result (λ fault. IsSmall (G.size device.old) fault) }
+    ensures enough { IfOk result (λ _. need ≤ G.size device.old) }
+    ensures below { G.size device.old < need → IfErr result (IsBelow (G.size device.old) need) }
     ensures sound { IfOk result (λ read. IsSound (G.size device.new) read.0) }
     ensures area { IfOk result (λ read. (need - 22 - length text.now) / 2 ≤ read.0.half) }
     ensures settled { IfOk result (λ read. Settled (record { text = text.now; need = need }) read.0 (G.told device.new) (record { snapshot = read.1.snapshot.items; batches = read.1.batches.items })) }

@@ -3,7 +3,7 @@ ghost use Rattle.ground_io.specs.Counts.{HasCause};
 ghost use Rattle.ground_io.specs.Trace.{Adds};
 ghost use Rattle.alarm_journal.specs.Emissions.{EmitsAll};
 ghost use Rattle.alarm_journal.specs.Journal.{Content, Site, framed, only_snapshot, with_batch};
-ghost use Rattle.alarm_journal.specs.Press.{Answers, Between, IsOpening, IsSmall, Lasts, Reopens, Settled, Throughout, WasBlank, behind_batch, behind_snapshot, other_of, room_of, selector_of};
+ghost use Rattle.alarm_journal.specs.Press.{Answers, Between, IsBelow, IsOpening, IsSmall, Lasts, Reopens, Settled, Throughout, WasBlank, behind_batch, behind_snapshot, other_of, room_of, selector_of};
 ghost use Rattle.alarm_journal.specs.Protocol.{AddsSome, IsTwoCutShort, two_writes};
 ghost use Rattle.alarm_journal.specs.declared.open_fault.OpenFault.TheVariants.{DiskFault};
 
@@ -85,7 +85,11 @@ impl<G: Ground> Press<G> {
             (λ read. Answers (record { text = site_text.now; need = need }) (G.told device) (G.told read.0.device) (Ok (record { snapshot = read.1.snapshot.items; batches = read.1.batches.items })))
             (λ refused. Answers (record { text = site_text.now; need = need }) (G.told device) (G.told refused.0) (Err refused.1)) }
         ensures fresh { IfOk result (λ read. WasBlank (G.told device) (G.told read.0.device) read.1.fresh) }
+        // A device that is smaller than it must be is refused for that, unless it fails before it tells its size.
         ensures small { IfErr result (λ refused. IsSmall (G.size device) refused.1) }
+        ensures enough { IfOk result (λ read. need ≤ G.size read.0.device) }
+        ensures below { G.size device < need → IfErr result (λ refused. IsBelow (G.size device) need refused.1) }
+
         ensures cause { MatchResult result
             (λ read. G.disk_faults device ≤ G.disk_faults read.0.device)
             (λ refused. HasCause (G.disk_faults device) (G.disk_faults refused.0) (refused.1 ≡ DiskFault)) }
