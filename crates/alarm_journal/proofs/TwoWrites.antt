@@ -6,7 +6,8 @@ use Rattle.ground_io.specs.Trace.{Told, Adds, disk_of}
 use Rattle.ground_io.specs.declared.entry.Entry.{Entry}
 use Rattle.ground_io.specs.declared.entry.Entry.TheVariants.{Wrote, Broke, Synced}
 use Rattle.ground_io.proofs.Crashes.{disk_adds}
-use Rattle.alarm_journal.specs.Protocol.{Quietly, Leads, AddsSome, AreQuiet, two_writes, IsCutShort, IsTwoCutShort}
+use Rattle.ground_io.specs.Sent.{AreQuiet}
+use Rattle.alarm_journal.specs.Protocol.{Quietly, Leads, AddsSome, two_writes, IsCutShort, IsTwoCutShort}
 
 -- each image at each moment of two writes over these contents has P
 pub record TwoWrites (P : List ℕ → Type 0) (c : List ℕ) (p1 : ℕ) (o1 : List ℕ) (p2 : ℕ) (o2 : List ℕ) : Type 0 where

@@ -6,7 +6,8 @@ use Rattle.ground_io.specs.Trace.{Told, Adds, disk_of}
 use Rattle.ground_io.specs.declared.entry.Entry.{Entry}
 use Rattle.ground_io.specs.declared.entry.Entry.TheVariants.{Wrote, Broke, Synced}
 use Rattle.alarm_journal.specs.Journal.{Site, Content, nothing, OpensTo, opened_from, mark, formatted_size, half_of, content_of, batches_from, with_more, heading}
-use Rattle.alarm_journal.specs.Protocol.{AreQuiet, Leads, two_writes, IsTwoCutShort}
+use Rattle.ground_io.specs.Sent.{AreQuiet}
+use Rattle.alarm_journal.specs.Protocol.{Leads, two_writes, IsTwoCutShort}
 use Rattle.alarm_journal.specs.declared.layout.Layout.{Layout}
 use Rattle.alarm_journal.specs.declared.open_fault.OpenFault.{OpenFault}
 use Rattle.alarm_journal.specs.declared.open_fault.OpenFault.TheVariants.{DiskFault, NoMemory, SmallDevice}

@@ -1,6 +1,7 @@
 -- How octets are written: each write is brought onto the disk before the next one begins.
 use Rattle.std.specs.Prelude.{◌≡◌, ◌⊎◌, ℕ, List, [], ◌∷◌, length, Option, Some, None, ⊤}
 use Rattle.ground_io.specs.Disk.{Disk, Always}
+use Rattle.ground_io.specs.Sent.{AreQuiet}
 use Rattle.ground_io.specs.Trace.{Told, Adds, disk_of}
 use Rattle.ground_io.specs.declared.entry.Entry.{Entry}
 use Rattle.ground_io.specs.declared.entry.Entry.TheVariants.{Wrote, Broke, Synced, Emitted, Lost}
@@ -22,15 +23,6 @@ IsCutShort place octets entries = (entries ≡ Wrote place octets ∷ []) ⊎ ((
 -- the entries of two writes of which one failed, or the sync of one: the second only begins once the first is on the disk
 abbrev pub IsTwoCutShort : ℕ → List ℕ → ℕ → List ℕ → List Entry → Type 0
 IsTwoCutShort first body second gate entries = IsCutShort first body entries ⊎ ((more : List Entry) × IsCutShort second gate more × (entries ≡ Wrote first body ∷ Synced ∷ more))
-
--- none of these entries is an emission
-abbrev pub AreQuiet : List Entry → Type 0
-AreQuiet [] = Unit {0}
-AreQuiet (Wrote place octets ∷ entries) = AreQuiet entries
-AreQuiet (Broke place tried left ∷ entries) = AreQuiet entries
-AreQuiet (Synced ∷ entries) = AreQuiet entries
-AreQuiet (Emitted peer octets ∷ entries) = ⊥
-AreQuiet (Lost peer octets ∷ entries) = ⊥
 
 -- from one to the other nothing was emitted, and each image that a crash may leave at any moment, the first and the last included, has P
 pub record Quietly (P : List ℕ → Type 0) (old new : Told) : Type 0 where

@@ -3,3 +3,4 @@ pub mod Crashes
 pub mod Disks
 pub mod Images
 pub mod Telling
+pub mod Sendings

@@ -3,4 +3,5 @@ pub mod Disk
 pub mod Image
 pub mod InMemory
 pub mod Past
+pub mod Sent
 pub mod Trace
