@@ -4,7 +4,7 @@ use Rattle.ground_io.specs.Disk.{Disk, Always}
 use Rattle.ground_io.specs.Sent.{AreQuiet}
 use Rattle.ground_io.specs.Trace.{Told, Adds, disk_of}
 use Rattle.ground_io.specs.declared.entry.Entry.{Entry}
-use Rattle.ground_io.specs.declared.entry.Entry.TheVariants.{Wrote, Broke, Synced, Emitted, Lost}
+use Rattle.ground_io.specs.declared.entry.Entry.TheVariants.{Wrote, Broke, Synced}
 
 -- what is told goes on with some entries that have P
 abbrev pub AddsSome : (List Entry → Type 0) → Option Told → Option Told → Type 0

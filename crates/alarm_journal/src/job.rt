@@ -56,6 +56,13 @@ impl Job {
         Ok(Job { octets })
     }
 
+    /// How many octets there are: so many of the room a batch takes, and with five more so many of its area a snapshot.
+    pub fn length(&self) -> u64
+        ensures length { result ≡ length self.now }
+    {
+        self.framed().len() as u64 - 5
+    }
+
     /// What is written: the length of the octets, the octets, and a closed gate.
     pub(crate) fn framed(&self) -> &[u8]
         ensures framed { result.now ≡ framed self.now }

@@ -1,6 +1,6 @@
 use crate::*;
 use bac_values::Peer;
-use std::fs::{self, OpenOptions};
+use std::fs::{self, File, OpenOptions};
 use std::net::UdpSocket;
 use std::test::Fail;
 use std::time::Duration;
@@ -122,6 +122,38 @@ fn file_ground_keeps_a_file_and_sends_to_peers(rt: HostRuntime) -> Result<(), Fa
     drop(device);
     assert_eq!(rt; console.as_slice(), b"line\n".as_slice());
     fs::remove_file(&rt, path)?;
+    Ok(())
+}
+
+/// A file of eight octets that can only be read, and can be cut by another handle.
+fn read_only(rt: &HostRuntime, path: &str) -> Result<(File, File), Fail> {
+    let whole = OpenOptions::new()
+        .write(true)
+        .create(true)
+        .truncate(true)
+        .open(rt, path)?;
+    whole.set_len(8)?;
+    Ok((OpenOptions::new().read(true).open(rt, path)?, whole))
+}
+
+#[test]
+fn a_file_fails_where_it_can_not_be_written_or_is_cut(rt: HostRuntime) -> Result<(), Fail> {
+    let path = "ground_io_test_read_only";
+    let (file, whole) = read_only(&rt, path)?;
+    let mut device = FileGround::new(Some(file), Vec::new(rt.alloc()), None)?;
+    assert_eq!(rt; write_within(&mut device, 5, b"abc"), Err(Failed));
+    assert_eq!(rt; read_within(&mut device, 4), Ok([0; 4]));
+    whole.set_len(6)?;
+    assert_eq!(rt; read_within(&mut device, 4), Err(Failed));
+    fs::remove_file(&rt, path)?;
+    Ok(())
+}
+
+#[test]
+fn what_has_no_disk_below_is_not_synced(rt: HostRuntime) -> Result<(), Fail> {
+    let file = OpenOptions::new().read(true).open(&rt, "/dev/null")?;
+    let mut device = FileGround::new(Some(file), Vec::new(rt.alloc()), None)?;
+    assert_eq!(rt; device.sync(), Err(Failed));
     Ok(())
 }
 
