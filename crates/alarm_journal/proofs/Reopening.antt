@@ -8,7 +8,6 @@ use Rattle.ground_io.specs.declared.entry.Entry.TheVariants.{Synced}
 use Rattle.ground_io.proofs.Crashes.{only_read, adds_both, disk_adds, always_weaker}
 use Rattle.alarm_journal.specs.Journal.{Site, Content, nothing, OpensTo, opened_from, heading}
 use Rattle.alarm_journal.specs.Press.{IsSettled, Settled, IsSound, IsBegun, Begun, IsBlank, Blank, Reopens, OpensSame, Answers, WasBlank, IsOpening}
-use Rattle.ground_io.specs.Sent.{AreQuiet}
 use Rattle.alarm_journal.specs.Protocol.{AddsSome, Quietly, Leads, two_writes, IsTwoCutShort}
 use Rattle.alarm_journal.specs.declared.layout.Layout.{Layout}
 use Rattle.alarm_journal.specs.declared.open_fault.OpenFault.{OpenFault}
