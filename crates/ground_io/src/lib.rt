@@ -16,8 +16,6 @@ mod memory_source;
 mod past;
 mod source;
 mod std_source;
-#[cfg(test)]
-mod tests;
 
 pub use entry::Entry;
 pub use file_ground::FileGround;

@@ -10,6 +10,8 @@ mod list;
 #[cfg(test)]
 mod tests;
 mod threads;
+#[cfg(test)]
+mod turnstile_tests;
 
 pub use appending::{append, append_each};
 pub use list::{Call, ListPass, SharedList};

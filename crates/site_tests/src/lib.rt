@@ -1,4 +1,4 @@
-//! Tests of what lies in files: the text of a site, scripts and reports, and the journal.
+//! Tests of what lies outside: files and what is sent, the text of a site, scripts and reports, and the journal.
 //!
 //! They ask only what anybody may ask of those crates, and nothing stands on them; so those crates are proved once.
 #![tactic(auto)]
@@ -7,6 +7,8 @@
 mod alarm_journal_tests;
 #[cfg(test)]
 mod comparing;
+#[cfg(test)]
+mod ground_io_tests;
 #[cfg(test)]
 mod script_lines_tests;
 #[cfg(test)]

@@ -17,8 +17,6 @@ mod memo;
 mod no_memory;
 mod pass;
 mod steps;
-#[cfg(test)]
-mod tests;
 mod turnstile;
 mod view;
 

@@ -1,5 +1,6 @@
-use crate::*;
+use crate::comparing::{holds, same};
 use bac_values::Peer;
+use ground_io::*;
 use std::fs::{self, File, OpenOptions};
 use std::net::UdpSocket;
 use std::test::Fail;
@@ -12,13 +13,13 @@ fn memory_source_gives_its_octets_and_fails_at_the_listed_calls(
     let alloc = rt.alloc();
     let mut source = MemorySource::new(b"alarm".to_vec(alloc)?, vec![in alloc; 2u64, 4]?);
     let mut into = [0u8; 3];
-    assert_eq!(rt; source.read(&mut into), Ok(3));
-    assert_eq!(rt; into, *b"ala");
-    assert_eq!(rt; source.read(&mut into), Err(Failed));
-    assert_eq!(rt; source.read(&mut into), Ok(2));
-    assert_eq!(rt; into, *b"rma");
-    assert_eq!(rt; source.read(&mut into), Err(Failed));
-    assert_eq!(rt; source.read(&mut into), Ok(0));
+    same(&rt, &source.read(&mut into), &Ok(3));
+    same(&rt, &into, &*b"ala");
+    same(&rt, &source.read(&mut into), &Err(Failed));
+    same(&rt, &source.read(&mut into), &Ok(2));
+    same(&rt, &into, &*b"rma");
+    same(&rt, &source.read(&mut into), &Err(Failed));
+    same(&rt, &source.read(&mut into), &Ok(0));
     Ok(())
 }
 
@@ -26,39 +27,45 @@ fn memory_source_gives_its_octets_and_fails_at_the_listed_calls(
 fn std_source_reads_a_reader(rt: HostRuntime) {
     let mut source = StdSource::new(b"set 1".as_slice());
     let mut into = [0u8; 4];
-    assert_eq!(rt; source.read(&mut into), Ok(4));
-    assert_eq!(rt; into, *b"set ");
-    assert_eq!(rt; source.read(&mut into), Ok(1));
-    assert_eq!(rt; source.read(&mut into), Ok(0));
+    same(&rt, &source.read(&mut into), &Ok(4));
+    same(&rt, &into, &*b"set ");
+    same(&rt, &source.read(&mut into), &Ok(1));
+    same(&rt, &source.read(&mut into), &Ok(0));
 }
 
 #[test]
 fn memory_ground_tells_all_and_fails_at_the_listed_calls(rt: HostRuntime) -> Result<(), Fail> {
     let alloc = rt.alloc();
     let mut device = MemoryGround::new(alloc, vec![in alloc; 7u8; 6]?, vec![in alloc; 5u64, 7, 9]?);
-    assert_eq!(rt; device.size(), Ok(6));
-    assert_eq!(rt; write_within(&mut device, 1, b"ab"), Ok(()));
-    assert_eq!(rt; write_within(&mut device, 3, b"cd"), Err(Failed));
-    assert_eq!(rt; device.sync(), Ok(()));
-    assert_eq!(rt; device.sync(), Err(Failed));
-    assert_eq!(rt; device.emit(Peer::console(), b"line"), Ok(()));
-    assert_eq!(rt; device.emit(Peer::local(1, 2), b"lost"), Err(Failed));
-    assert_eq!(rt; device.contents(), [7, 97, 98, 7, 7, 7].as_slice());
+    same(&rt, &device.size(), &Ok(6));
+    same(&rt, &write_within(&mut device, 1, b"ab"), &Ok(()));
+    same(&rt, &write_within(&mut device, 3, b"cd"), &Err(Failed));
+    same(&rt, &device.sync(), &Ok(()));
+    same(&rt, &device.sync(), &Err(Failed));
+    same(&rt, &device.emit(Peer::console(), b"line"), &Ok(()));
+    same(&rt, &device.emit(Peer::local(1, 2), b"lost"), &Err(Failed));
+    same(&rt, &device.contents(), &[7, 97, 98, 7, 7, 7].as_slice());
     let trace = device.trace().ok_or("told")?;
     let [first, second, third, fourth, fifth] = trace else {
         return Err("five entries".into());
     };
-    assert!(rt;
-        matches!(first, Entry::Wrote { place: 1, octets } if octets.as_slice() == b"ab".as_slice())
+    holds(
+        &rt,
+        matches!(first, Entry::Wrote { place: 1, octets } if octets.as_slice() == b"ab".as_slice()),
     );
-    assert!(rt;
-        matches!(second, Entry::Broke { place: 3, tried, left } if tried.as_slice() == b"cd".as_slice() && left.as_slice() == [7, 7].as_slice())
+    holds(
+        &rt,
+        matches!(second, Entry::Broke { place: 3, tried, left } if tried.as_slice() == b"cd".as_slice() && left.as_slice() == [7, 7].as_slice()),
     );
-    assert!(rt; matches!(third, Entry::Synced));
-    assert!(rt;
-        matches!(fourth, Entry::Emitted { octets, .. } if octets.as_slice() == b"line".as_slice())
+    holds(&rt, matches!(third, Entry::Synced));
+    holds(
+        &rt,
+        matches!(fourth, Entry::Emitted { octets, .. } if octets.as_slice() == b"line".as_slice()),
     );
-    assert!(rt; matches!(fifth, Entry::Lost { peer, .. } if *peer == Peer::local(1, 2)));
+    holds(
+        &rt,
+        matches!(fifth, Entry::Lost { peer, .. } if *peer == Peer::local(1, 2)),
+    );
     Ok(())
 }
 
@@ -81,11 +88,7 @@ fn images_show_what_a_crash_may_leave(rt: HostRuntime) -> Result<(), Fail> {
         (4, Filling::Octet(1), [97, 1, 1, 1, 1]),
     ] {
         let image = device.image(alloc, upto, filling)?;
-        assert_eq!(rt;
-            image.as_slice(),
-            wanted.as_slice(),
-            "after {upto} with {filling:?}"
-        );
+        same(&rt, &(upto, image.as_slice()), &(upto, wanted.as_slice()));
     }
     Ok(())
 }
@@ -106,21 +109,22 @@ fn file_ground_keeps_a_file_and_sends_to_peers(rt: HostRuntime) -> Result<(), Fa
     let port = peer.local_addr()?.port();
     let mut console = Vec::new(rt.alloc());
     let mut device = FileGround::new(Some(file), &mut console, Some(socket))?;
-    assert_eq!(rt; device.size(), Ok(8));
-    assert_eq!(rt; write_within(&mut device, 5, b"abc"), Ok(()));
-    assert_eq!(rt; device.sync(), Ok(()));
-    assert_eq!(rt; read_within(&mut device, 4), Ok([0, 97, 98, 99]));
-    assert_eq!(rt; device.emit(Peer::console(), b"line\n"), Ok(()));
-    assert_eq!(rt;
-        device.emit(Peer::local(0x7f00_0001, port), b"note"),
-        Ok(())
+    same(&rt, &device.size(), &Ok(8));
+    same(&rt, &write_within(&mut device, 5, b"abc"), &Ok(()));
+    same(&rt, &device.sync(), &Ok(()));
+    same(&rt, &read_within(&mut device, 4), &Ok([0, 97, 98, 99]));
+    same(&rt, &device.emit(Peer::console(), b"line\n"), &Ok(()));
+    same(
+        &rt,
+        &device.emit(Peer::local(0x7f00_0001, port), b"note"),
+        &Ok(()),
     );
     let mut into = [0u8; 8];
     let (length, _) = peer.recv_from(&mut into)?;
-    assert_eq!(rt; length, 4);
-    assert_eq!(rt; &into[..4], b"note".as_slice());
+    same(&rt, &length, &4);
+    same(&rt, &&into[..4], &b"note".as_slice());
     drop(device);
-    assert_eq!(rt; console.as_slice(), b"line\n".as_slice());
+    same(&rt, &console.as_slice(), &b"line\n".as_slice());
     fs::remove_file(&rt, path)?;
     Ok(())
 }
@@ -141,10 +145,10 @@ fn a_file_fails_where_it_can_not_be_written_or_is_cut(rt: HostRuntime) -> Result
     let path = "ground_io_test_read_only";
     let (file, whole) = read_only(&rt, path)?;
     let mut device = FileGround::new(Some(file), Vec::new(rt.alloc()), None)?;
-    assert_eq!(rt; write_within(&mut device, 5, b"abc"), Err(Failed));
-    assert_eq!(rt; read_within(&mut device, 4), Ok([0; 4]));
+    same(&rt, &write_within(&mut device, 5, b"abc"), &Err(Failed));
+    same(&rt, &read_within(&mut device, 4), &Ok([0; 4]));
     whole.set_len(6)?;
-    assert_eq!(rt; read_within(&mut device, 4), Err(Failed));
+    same(&rt, &read_within(&mut device, 4), &Err(Failed));
     fs::remove_file(&rt, path)?;
     Ok(())
 }
@@ -153,16 +157,16 @@ fn a_file_fails_where_it_can_not_be_written_or_is_cut(rt: HostRuntime) -> Result
 fn what_has_no_disk_below_is_not_synced(rt: HostRuntime) -> Result<(), Fail> {
     let file = OpenOptions::new().read(true).open(&rt, "/dev/null")?;
     let mut device = FileGround::new(Some(file), Vec::new(rt.alloc()), None)?;
-    assert_eq!(rt; device.sync(), Err(Failed));
+    same(&rt, &device.sync(), &Err(Failed));
     Ok(())
 }
 
 #[test]
 fn without_a_file_there_is_no_device(rt: HostRuntime) -> Result<(), Fail> {
     let mut device = FileGround::new(None, Vec::new(rt.alloc()), None)?;
-    assert_eq!(rt; device.size(), Ok(0));
-    assert_eq!(rt; device.sync(), Ok(()));
-    assert_eq!(rt; device.emit(Peer::local(1, 2), b"note"), Err(Failed));
+    same(&rt, &device.size(), &Ok(0));
+    same(&rt, &device.sync(), &Ok(()));
+    same(&rt, &device.emit(Peer::local(1, 2), b"note"), &Err(Failed));
     Ok(())
 }
 

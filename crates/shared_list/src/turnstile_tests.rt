@@ -1,8 +1,8 @@
-//! Each call once, on one thread.
+//! Each call of a turnstile once, on one thread.
 ghost use Rattle.std.specs.Prelude.{◌≡◌};
 
-use super::*;
 use std::test::Fail;
+use turnstile::{Chronicle, Turnstile};
 
 // It stands for each history, and each history licenses each mark.
 #[derive(Drop)]
