@@ -12,7 +12,7 @@ use crate::Content;
 use crate::growing::add;
 use bac_tags::{write_object, write_stamp, write_value};
 use bac_values::{Bits, Items, NoMemory, ObjectId, Stamp, Text, Value};
-use service_parameters::{write_closing, write_opening};
+use bac_tags::{write_closing, write_opening};
 use std::alloc::Global;
 
 fn octets_of(alloc: Global, value: &Value) -> Result<Items<u8>, NoMemory>

@@ -12,10 +12,10 @@ use Rattle.bac_tags.specs.Contents.{IsUnsigned, SpellsObject, SpellsBoolean}
 use Rattle.bac_tags.specs.Reading.{content_at, unsigned_at, object_at, boolean_at}
 use Rattle.bac_tags.proofs.Standing.{Stands, Stands-front, Stands-back, Stands-within}
 use Rattle.bac_tags.proofs.ElementLaws.{header_other}
-use Rattle.service_parameters.specs.Reading.{optional}
-use Rattle.service_parameters.proofs.ElementReaders.{Reader, object_reader, boolean_reader}
-use Rattle.service_parameters.proofs.Sequences.{required_again, nothing_none}
-use Rattle.service_parameters.proofs.OptionalReaders.{optional_again, optional_none}
+use Rattle.bac_tags.specs.ParameterReading.{optional}
+use Rattle.bac_tags.proofs.ElementReaders.{Reader, object_reader, boolean_reader}
+use Rattle.bac_tags.proofs.Sequences.{required_again, nothing_none}
+use Rattle.bac_tags.proofs.OptionalReaders.{optional_again, optional_none}
 use Rattle.event_services.specs.declared.notification.Notification.{Notification}
 use Rattle.event_services.specs.NoteReading.{Reads, number_at, octet_number_at, state_at, text_at, moment_at, values_at}
 use Rattle.event_services.specs.NoteService.{source_at, kind_at, states_at, notification_of}

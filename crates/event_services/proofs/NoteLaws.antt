@@ -5,11 +5,11 @@ use Rattle.bac_tags.specs.Contents.{SpellsObject, SpellsBoolean}
 use Rattle.bac_tags.specs.Reading.{object_at, boolean_at}
 use Rattle.bac_tags.proofs.Standing.{IsBytes, Stands, Stands-nil, Stands-then, Stands-within}
 use Rattle.bac_tags.proofs.Answered.{Spelled}
-use Rattle.service_parameters.specs.declared.malformed.Malformed.{Malformed}
-use Rattle.service_parameters.specs.Reading.{◌>>=◌, required, optional, nothing_follows}
-use Rattle.service_parameters.proofs.Steps.{bind_ok, ok_is}
-use Rattle.service_parameters.proofs.ElementReaders.{Reader, object_reader, boolean_reader}
-use Rattle.service_parameters.proofs.Sequences.{required_ok, nothing_ok}
+use Rattle.bac_tags.specs.declared.malformed.Malformed.{Malformed}
+use Rattle.bac_tags.specs.ParameterReading.{◌>>=◌, required, optional, nothing_follows}
+use Rattle.bac_tags.proofs.ParameterSteps.{bind_ok, ok_is}
+use Rattle.bac_tags.proofs.ElementReaders.{Reader, object_reader, boolean_reader}
+use Rattle.bac_tags.proofs.Sequences.{required_ok, nothing_ok}
 use Rattle.event_services.specs.declared.notification.Notification.{Notification}
 use Rattle.event_services.specs.declared.notification.EventValues.{EventValues}
 use Rattle.event_services.specs.NoteReading.{Reads, number_at, octet_number_at, state_at, text_at, moment_at, values_at}
@@ -19,7 +19,7 @@ use Rattle.event_services.proofs.AckLaws.{all_there}
 use Rattle.event_services.proofs.NoteChain.{Source, Kind, States, note_of}
 use Rattle.event_services.proofs.NoteReaders.{number_reader, octet_number_reader, state_reader, text_reader, moment_reader}
 use Rattle.event_services.proofs.ToldReaders.{values_reader}
-use Rattle.service_parameters.proofs.OptionalReaders.{optional_ok}
+use Rattle.bac_tags.proofs.OptionalReaders.{optional_ok}
 
 -- ---- parameters in turn
 

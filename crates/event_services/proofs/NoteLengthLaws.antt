@@ -20,7 +20,7 @@ use Rattle.bac_tags.specs.declared.tag.Shape.TheVariants.{Primitive, Opening, Cl
 use Rattle.bac_tags.specs.Contents.{mirrored}
 use Rattle.bac_tags.specs.Elements.{element_tag}
 use Rattle.bac_tags.specs.Writing.{written_tag, written_number, written_length, written_shape, written_element, unsigned_size, half_size, signed_size, written_unsigned, written_signed, written_object, written_boolean, octets_of_bits, unused_of_bits, written_bits, written_stamp, written_value}
-use Rattle.service_parameters.specs.Tags.{opening, closing}
+use Rattle.bac_tags.specs.EnclosingTags.{opening, closing}
 use Rattle.event_services.specs.declared.notification.Notification.{Notification}
 use Rattle.event_services.specs.declared.notification.EventValues.{EventValues}
 use Rattle.event_services.specs.declared.notification.EventValues.TheVariants.{Bitstring, State, Command, UnsignedRange, SignedOutOfRange, UnsignedOutOfRange, Characterstring, Reliability}

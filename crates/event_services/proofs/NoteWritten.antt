@@ -16,7 +16,7 @@ use Rattle.bac_tags.specs.Values.{SpellsValue, IsOneElement}
 use Rattle.bac_tags.specs.Writing.{written_tag, written_unsigned, written_signed, written_object, written_boolean, written_bits, written_stamp, written_value}
 use Rattle.bac_tags.proofs.Written.{tag_written}
 use Rattle.bac_tags.proofs.WrittenElements.{element_written, unsigned_written, signed_written, object_written, boolean_written, bits_written, stamp_written, value_written}
-use Rattle.service_parameters.specs.Tags.{opening, closing, SpellsEnclosed}
+use Rattle.bac_tags.specs.EnclosingTags.{opening, closing, SpellsEnclosed}
 use Rattle.event_services.specs.declared.notification.Notification.{Notification}
 use Rattle.event_services.specs.declared.notification.EventValues.{EventValues}
 use Rattle.event_services.specs.declared.notification.EventValues.TheVariants.{Bitstring, State, Command, UnsignedRange, SignedOutOfRange, UnsignedOutOfRange, Characterstring, Reliability}

@@ -18,8 +18,8 @@ use Rattle.bac_tags.proofs.Steps.{bind_ok, chosen, ok_is}
 use Rattle.bac_tags.proofs.Standing.{IsBytes, Stands, Stands-then, Stands-front, Stands-back, Stands-within}
 use Rattle.bac_tags.proofs.Answered.{Spelled}
 use Rattle.bac_tags.proofs.TagLaws.{tag_again}
-use Rattle.service_parameters.specs.Tags.{opening, closing, SpellsEnclosed, is_closing, opening_at, closing_at, enclosed_at}
-use Rattle.service_parameters.proofs.ElementReaders.{Reader, tag_some, opening_found, opening_again, closing_found, closing_again, signed_reader, bits_reader, enclosed_reader}
+use Rattle.bac_tags.specs.EnclosingTags.{opening, closing, SpellsEnclosed, is_closing, opening_at, closing_at, enclosed_at}
+use Rattle.bac_tags.proofs.ElementReaders.{Reader, tag_some, opening_found, opening_again, closing_found, closing_again, signed_reader, bits_reader, enclosed_reader}
 use Rattle.event_services.specs.declared.notification.EventValues.{EventValues}
 use Rattle.event_services.specs.declared.notification.EventValues.TheVariants.{Bitstring, State, Command, UnsignedRange, SignedOutOfRange, UnsignedOutOfRange, Characterstring, Reliability}
 use Rattle.event_services.specs.Notifications.{state_number}

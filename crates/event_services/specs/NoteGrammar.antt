@@ -11,7 +11,7 @@ use Rattle.bac_tags.specs.Elements.{SpellsElement}
 use Rattle.bac_tags.specs.Contents.{SpellsUnsigned, SpellsSigned, SpellsObject, SpellsBoolean, SpellsBits}
 use Rattle.bac_tags.specs.Stamps.{SpellsStamp}
 use Rattle.bac_tags.specs.Values.{SpellsValue}
-use Rattle.service_parameters.specs.Tags.{SpellsEnclosed}
+use Rattle.bac_tags.specs.EnclosingTags.{SpellsEnclosed}
 use Rattle.event_services.specs.declared.notification.Notification.{Notification}
 use Rattle.event_services.specs.declared.notification.EventValues.{EventValues}
 use Rattle.event_services.specs.declared.notification.EventValues.TheVariants.{Bitstring, State, Command, UnsignedRange, SignedOutOfRange, UnsignedOutOfRange, Characterstring, Reliability}

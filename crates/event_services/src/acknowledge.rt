@@ -1,9 +1,9 @@
 ghost use Rattle.std.specs.Prelude.{◌≡◌, ◌↔◌, ◌⊎◌, ℕ, ◌<◌, ◌≤◌, Some, length, IfOk, IfErr};
 ghost use Rattle.bac_tags.specs.Reading.{content_at};
-ghost use Rattle.service_parameters.specs.Refusals.{invalid_tag, missing_parameter, too_many_arguments};
+ghost use Rattle.bac_tags.specs.Refusals.{invalid_tag, missing_parameter, too_many_arguments};
 ghost use Rattle.event_services.specs.declared.acknowledge.AckRequest.{AckRequest};
-ghost use Rattle.service_parameters.specs.Reading.{required};
-ghost use Rattle.service_parameters.specs.Tags.{enclosed_at};
+ghost use Rattle.bac_tags.specs.ParameterReading.{required};
+ghost use Rattle.bac_tags.specs.EnclosingTags.{enclosed_at};
 ghost use Rattle.event_services.specs.TimeStamps.{time_stamp_at};
 ghost use Rattle.event_services.specs.Acknowledgements.{SpellsAcknowledgement, LacksParameter, HasInvalidParameter, HasMore, skipped, acknowledge_request_of};
 
@@ -11,7 +11,7 @@ use crate::AckStamp;
 use crate::time_stamp::enclosed_time_stamp;
 use bac_tags::TagFault;
 use bac_values::ObjectId;
-use service_parameters::{
+use bac_tags::{
     Malformed, nothing_follows, read_octets, required, required_object, required_unsigned,
 };
 

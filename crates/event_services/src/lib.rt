@@ -15,6 +15,6 @@ pub use acknowledge::{AckRequest, read_ack};
 pub use information::{EventSummary, read_information_request, write_information};
 pub use notification::{EventValues, Notification};
 pub use read_note::{NoteFault, read_notification, reads_back};
-pub use service_parameters::Malformed;
+pub use bac_tags::Malformed;
 pub use time_stamp::AckStamp;
 pub use write_note::{write_notification, write_notification_to};

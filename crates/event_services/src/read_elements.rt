@@ -4,7 +4,7 @@ ghost use Rattle.event_services.specs.NoteReading.{GivesRead, octet_number_at, s
 use crate::time_stamp::enclosed_stamp;
 use bac_tags::{TagFault, read_bits, read_unsigned};
 use bac_values::{Bits, EventState, Stamp, StatusFlags, Text};
-use service_parameters::{read_closing, read_octets, read_opening};
+use bac_tags::{read_closing, read_octets, read_opening};
 use std::alloc::Global;
 
 /// The number of one octet with that number in a context, and the place after it.

@@ -1,6 +1,6 @@
 ghost use Rattle.std.specs.Prelude.{◌≡◌, ◌<◌, ◌≤◌, length, IfOk};
 ghost use Rattle.event_services.specs.declared.read_note.NoteFault.TheVariants as faults;
-ghost use Rattle.service_parameters.specs.Reading.{required, optional};
+ghost use Rattle.bac_tags.specs.ParameterReading.{required, optional};
 ghost use Rattle.bac_tags.specs.Reading.{boolean_at};
 ghost use Rattle.event_services.specs.NoteReading.{octet_number_at, state_at, text_at, moment_at, values_at};
 ghost use Rattle.event_services.specs.declared.notification.Notification.{Notification};
@@ -14,7 +14,7 @@ use crate::read_values::values_at;
 use crate::{EventValues, Notification};
 use bac_tags::{TagFault, read_bool};
 use bac_values::{EventState, ObjectId, Stamp, Text};
-use service_parameters::{
+use bac_tags::{
     Malformed, nothing_follows, optional, required, required_object, required_unsigned,
 };
 use std::alloc::Global;

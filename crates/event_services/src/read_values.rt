@@ -1,13 +1,13 @@
 ghost use Rattle.std.specs.Prelude.{◌≡◌, ◌<◌, ◌≤◌, length, IfOk};
 ghost use Rattle.bac_tags.specs.Reading.{value_at};
-ghost use Rattle.service_parameters.specs.Tags.{enclosed_at};
+ghost use Rattle.bac_tags.specs.EnclosingTags.{enclosed_at};
 ghost use Rattle.event_services.specs.NoteReading.{GivesRead, property_state_in, property_state_at, present_value, property_value_at, properties_at, reliability_number_at, bitstring_at, changed_state_at, commanded_at, unsigned_range_at, signed_out_of_range_at, unsigned_out_of_range_at, changed_text_at, reliability_at, told_at, values_at};
 
 use crate::EventValues;
 use crate::read_elements::{flags_at, text_at};
 use bac_tags::{Shape, TagFault, read_bits, read_signed, read_tag, read_unsigned, read_value};
 use bac_values::{Reliability, Value};
-use service_parameters::{read_closing, read_opening};
+use bac_tags::{read_closing, read_opening};
 use std::alloc::Global;
 
 /// The state of a property whose tag has that number, and the place after it.

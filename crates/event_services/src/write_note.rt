@@ -11,7 +11,7 @@ use bac_tags::{
     write_unsigned, write_value,
 };
 use bac_values::{Bits, EventState, NoMemory, Reliability, Stamp, StatusFlags, Text, Value};
-use service_parameters::{write_closing, write_opening};
+use bac_tags::{write_closing, write_opening};
 use std::alloc::Global;
 
 /// The number of Present_Value (BACnetPropertyIdentifier).

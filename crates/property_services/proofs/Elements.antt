@@ -13,11 +13,11 @@ use Rattle.bac_tags.specs.Reading.{unsigned_of, identifier_of, unsigned_at, obje
 use Rattle.bac_tags.proofs.Standing.{IsBytes}
 use Rattle.bac_tags.proofs.Readers.{Reads, reads}
 use Rattle.bac_tags.proofs.Numbers.{unsigned_values, identifier_values}
-use Rattle.service_parameters.specs.declared.malformed.Malformed.{Malformed}
-use Rattle.service_parameters.specs.Refusals.{invalid_tag}
-use Rattle.service_parameters.specs.Parameters.{IsThere, IsOptionalAt}
-use Rattle.service_parameters.specs.Reading.{or_invalid, required, or_absent, optional}
-use Rattle.service_parameters.proofs.RequiredReaders.{ReadsOptional, reads_optional, required_inside, required_outside, optional_inside, optional_outside}
+use Rattle.bac_tags.specs.declared.malformed.Malformed.{Malformed}
+use Rattle.bac_tags.specs.Refusals.{invalid_tag}
+use Rattle.bac_tags.specs.Parameters.{IsThere, IsOptionalAt}
+use Rattle.bac_tags.specs.ParameterReading.{or_invalid, required, or_absent, optional}
+use Rattle.bac_tags.proofs.RequiredReaders.{ReadsOptional, reads_optional, required_inside, required_outside, optional_inside, optional_outside}
 use Rattle.property_services.specs.Refusals.{RefusesRequired, RefusesOptional}
 use Rattle.property_services.proofs.Steps.{Answers}
 

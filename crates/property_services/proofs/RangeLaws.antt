@@ -16,12 +16,12 @@ use Rattle.bac_tags.specs.Reading.{tag_at, unsigned_at, stamp_at}
 use Rattle.bac_tags.proofs.Steps as tags
 use Rattle.bac_tags.proofs.Standing.{IsBytes, Stands, Stands-from, Stands-then, Stands-front, Stands-back, Stands-within}
 use Rattle.bac_tags.proofs.TagLaws.{tag_found, tag_again}
-use Rattle.service_parameters.specs.declared.malformed.Malformed.{Malformed}
-use Rattle.service_parameters.specs.Refusals.{invalid_tag}
-use Rattle.service_parameters.specs.Parameters.{IsThere, IsAbsent}
-use Rattle.service_parameters.specs.Tags.{opening, IsOtherTag, SpellsEnclosed}
-use Rattle.service_parameters.specs.Reading.{◌>>=◌, or_invalid}
-use Rattle.service_parameters.proofs.Steps.{bind_ok, bind_err, ok_is}
+use Rattle.bac_tags.specs.declared.malformed.Malformed.{Malformed}
+use Rattle.bac_tags.specs.Refusals.{invalid_tag}
+use Rattle.bac_tags.specs.Parameters.{IsThere, IsAbsent}
+use Rattle.bac_tags.specs.EnclosingTags.{opening, IsOtherTag, SpellsEnclosed}
+use Rattle.bac_tags.specs.ParameterReading.{◌>>=◌, or_invalid}
+use Rattle.bac_tags.proofs.ParameterSteps.{bind_ok, bind_err, ok_is}
 use Rattle.property_services.specs.declared.requests.ReadRequest.{ReadRequest}
 use Rattle.property_services.specs.declared.requests.RangeRequest.{RangeRequest}
 use Rattle.property_services.specs.declared.requests.RangeBy.{RangeBy}

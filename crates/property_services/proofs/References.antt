@@ -7,9 +7,9 @@ use Rattle.bac_tags.specs.Places.{IsSpelledAt}
 use Rattle.bac_tags.specs.Contents.{SpellsUnsigned, SpellsObject}
 use Rattle.bac_tags.specs.Reading.{unsigned_at, object_at}
 use Rattle.bac_tags.proofs.Standing.{IsBytes, Stands, Stands-from, Stands-then, Stands-front, Stands-back}
-use Rattle.service_parameters.specs.declared.malformed.Malformed.{Malformed}
-use Rattle.service_parameters.specs.Parameters.{IsAbsent, IsOptionalAt}
-use Rattle.service_parameters.specs.Reading.{◌>>=◌, required, optional}
+use Rattle.bac_tags.specs.declared.malformed.Malformed.{Malformed}
+use Rattle.bac_tags.specs.Parameters.{IsAbsent, IsOptionalAt}
+use Rattle.bac_tags.specs.ParameterReading.{◌>>=◌, required, optional}
 use Rattle.property_services.specs.declared.requests.ReadRequest.{ReadRequest}
 use Rattle.property_services.specs.Requests.{SpellsIfGiven, SpellsReference}
 use Rattle.property_services.specs.Reading.{property_id, reference_at, read_property_of}

@@ -2,10 +2,10 @@
 use Rattle.std.proofs.Common.{◌≡◌, ℕ, ◌<◌, ◌≤◌, List, length, Result, Ok, Err, refl, sym, ap, subst, ◌∙◌, arith, inl, inr}
 use Rattle.std.specs.Prelude.{◌⊎◌, ◌↔◌, IfOk}
 use Rattle.std.proofs.lemmas.Bool.{cases_lt, lt-ltb, le-ltb}
-use Rattle.service_parameters.specs.declared.malformed.Malformed.{Malformed}
-use Rattle.service_parameters.specs.Refusals.{too_many_arguments}
-use Rattle.service_parameters.specs.Reading.{◌>>=◌, nothing_follows}
-use Rattle.service_parameters.proofs.Steps.{bind_ok, bind_err, ok_is}
+use Rattle.bac_tags.specs.declared.malformed.Malformed.{Malformed}
+use Rattle.bac_tags.specs.Refusals.{too_many_arguments}
+use Rattle.bac_tags.specs.ParameterReading.{◌>>=◌, nothing_follows}
+use Rattle.bac_tags.proofs.ParameterSteps.{bind_ok, bind_err, ok_is}
 use Rattle.property_services.specs.Reading.{whole}
 use Rattle.property_services.specs.Refusals.{Behind, RefusesMore}
 

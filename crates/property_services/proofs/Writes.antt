@@ -15,14 +15,14 @@ use Rattle.bac_tags.proofs.Steps as tags
 use Rattle.bac_tags.proofs.Standing.{IsBytes, Stands, Stands-then, Stands-front, Stands-back}
 use Rattle.bac_tags.proofs.Readers.{part_bytes}
 use Rattle.bac_tags.proofs.ValueLaws.{value_found, value_again}
-use Rattle.service_parameters.specs.declared.malformed.Malformed.{Malformed}
-use Rattle.service_parameters.specs.Parameters.{IsOptionalAt}
-use Rattle.service_parameters.specs.Tags.{SpellsEnclosed}
-use Rattle.service_parameters.specs.Balanced.{AreElements, SpellsElements, elements_at}
-use Rattle.service_parameters.specs.Reading.{◌>>=◌, or_invalid, required, optional}
-use Rattle.service_parameters.proofs.Steps.{bind_ok, bind_err, ok_is}
-use Rattle.service_parameters.proofs.RequiredReaders.{required_inside, required_outside}
-use Rattle.service_parameters.proofs.Between.{elements_found, elements_again}
+use Rattle.bac_tags.specs.declared.malformed.Malformed.{Malformed}
+use Rattle.bac_tags.specs.Parameters.{IsOptionalAt}
+use Rattle.bac_tags.specs.EnclosingTags.{SpellsEnclosed}
+use Rattle.bac_tags.specs.Balanced.{AreElements, SpellsElements, elements_at}
+use Rattle.bac_tags.specs.ParameterReading.{◌>>=◌, or_invalid, required, optional}
+use Rattle.bac_tags.proofs.ParameterSteps.{bind_ok, bind_err, ok_is}
+use Rattle.bac_tags.proofs.RequiredReaders.{required_inside, required_outside}
+use Rattle.bac_tags.proofs.Between.{elements_found, elements_again}
 use Rattle.property_services.specs.declared.fault.ServiceFault.{ServiceFault}
 use Rattle.property_services.specs.declared.fault.ServiceFault.TheVariants as faults
 use Rattle.property_services.specs.declared.requests.ReadRequest.{ReadRequest}

@@ -9,10 +9,10 @@ use Rattle.bac_tags.specs.declared.fault.TagFault.{TagFault}
 use Rattle.bac_tags.specs.declared.tag.Shape.{Shape}
 use Rattle.bac_tags.specs.declared.tag.Shape.TheVariants.{Primitive, Opening, Closing}
 use Rattle.bac_tags.specs.Reading.{tag_at, unsigned_at, signed_at, object_at, stamp_at, value_at}
-use Rattle.service_parameters.specs.declared.malformed.Malformed.{Malformed}
-use Rattle.service_parameters.specs.Reading.{◌>>=◌, or_invalid, required, optional, nothing_follows}
-use Rattle.service_parameters.specs.Tags.{closing_at}
-use Rattle.service_parameters.specs.Balanced.{elements_at}
+use Rattle.bac_tags.specs.declared.malformed.Malformed.{Malformed}
+use Rattle.bac_tags.specs.ParameterReading.{◌>>=◌, or_invalid, required, optional, nothing_follows}
+use Rattle.bac_tags.specs.EnclosingTags.{closing_at}
+use Rattle.bac_tags.specs.Balanced.{elements_at}
 use Rattle.property_services.specs.declared.requests.ReadRequest.{ReadRequest}
 use Rattle.property_services.specs.declared.fault.ServiceFault.{ServiceFault}
 use Rattle.property_services.specs.declared.fault.ServiceFault.TheVariants as faults

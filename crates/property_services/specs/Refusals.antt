@@ -5,11 +5,11 @@ use Rattle.bac_values.specs.declared.value.Value.TheVariants as values
 use Rattle.bac_tags.specs.Places.{IsSpelledAt}
 use Rattle.bac_tags.specs.Values.{SpellsValue}
 use Rattle.bac_tags.specs.Contents.{SpellsUnsigned, SpellsObject}
-use Rattle.service_parameters.specs.declared.malformed.Malformed.{Malformed}
-use Rattle.service_parameters.specs.Refusals.{invalid_tag, missing_parameter, too_many_arguments}
-use Rattle.service_parameters.specs.Parameters.{IsThere, IsAbsent, IsOptionalAt}
-use Rattle.service_parameters.specs.Tags.{opening, IsOtherTag, SpellsEnclosed}
-use Rattle.service_parameters.specs.Balanced.{SpellsElements}
+use Rattle.bac_tags.specs.declared.malformed.Malformed.{Malformed}
+use Rattle.bac_tags.specs.Refusals.{invalid_tag, missing_parameter, too_many_arguments}
+use Rattle.bac_tags.specs.Parameters.{IsThere, IsAbsent, IsOptionalAt}
+use Rattle.bac_tags.specs.EnclosingTags.{opening, IsOtherTag, SpellsEnclosed}
+use Rattle.bac_tags.specs.Balanced.{SpellsElements}
 use Rattle.property_services.specs.declared.requests.ReadRequest.{ReadRequest}
 use Rattle.property_services.specs.declared.requests.RangeRequest.{RangeRequest}
 use Rattle.property_services.specs.declared.requests.RangeBy.{RangeBy}

@@ -6,8 +6,8 @@ use Rattle.bac_values.specs.declared.value.Foreign.TheVariants.{OtherType}
 use Rattle.bac_tags.specs.Contents.{SpellsUnsigned, SpellsSigned, SpellsObject}
 use Rattle.bac_tags.specs.Stamps.{SpellsStamp}
 use Rattle.bac_tags.specs.Values.{SpellsValue}
-use Rattle.service_parameters.specs.Tags.{SpellsEnclosed}
-use Rattle.service_parameters.specs.Balanced.{AreElements}
+use Rattle.bac_tags.specs.EnclosingTags.{SpellsEnclosed}
+use Rattle.bac_tags.specs.Balanced.{AreElements}
 use Rattle.property_services.specs.declared.requests.ReadRequest.{ReadRequest}
 use Rattle.property_services.specs.declared.requests.WriteRequest.{WriteRequest}
 use Rattle.property_services.specs.declared.requests.RangeRequest.{RangeRequest}

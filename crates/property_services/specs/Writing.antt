@@ -4,7 +4,7 @@ use Rattle.std.specs.Int.{from_bool}
 use Rattle.bac_values.specs.Identifier.{Identifier}
 use Rattle.bac_values.specs.BitString.{BitString}
 use Rattle.bac_tags.specs.Writing.{written_tag, written_unsigned, written_enumerated, written_object, written_bits}
-use Rattle.service_parameters.specs.Tags.{opening, closing}
+use Rattle.bac_tags.specs.EnclosingTags.{opening, closing}
 use Rattle.property_services.specs.declared.requests.ReadRequest.{ReadRequest}
 use Rattle.property_services.specs.declared.requests.RangeRequest.{RangeRequest}
 

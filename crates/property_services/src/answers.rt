@@ -4,7 +4,7 @@ ghost use Rattle.property_services.specs.Writing.{written_list, written_if_given
 use crate::{RangeRequest, ReadRequest};
 use bac_tags::{write_bits, write_object, write_unsigned, write_value};
 use bac_values::{Bits, NoMemory, ObjectId, PropertyId, Value};
-use service_parameters::{write_closing, write_opening};
+use bac_tags::{write_closing, write_opening};
 use std::alloc::Global;
 
 /// The longest APDU that the server takes, in octets.

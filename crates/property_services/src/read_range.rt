@@ -1,17 +1,17 @@
 ghost use Rattle.std.specs.Prelude.{◌≡◌, ◌≤◌, ◌↔◌, length, IfOk};
-ghost use Rattle.service_parameters.specs.declared.malformed.Malformed.{Malformed};
-ghost use Rattle.service_parameters.specs.Refusals.{missing_parameter};
+ghost use Rattle.bac_tags.specs.declared.malformed.Malformed.{Malformed};
+ghost use Rattle.bac_tags.specs.Refusals.{missing_parameter};
 ghost use Rattle.property_services.specs.declared.requests.RangeRequest.{RangeRequest};
 ghost use Rattle.property_services.specs.Requests.{SpellsReadRange};
 ghost use Rattle.property_services.specs.Refusals.{RefusesReadRange, EndsBeforeProperty};
-ghost use Rattle.service_parameters.specs.Reading.{or_invalid};
+ghost use Rattle.bac_tags.specs.ParameterReading.{or_invalid};
 ghost use Rattle.property_services.specs.Reading.{opened, counted_at, dated_at, range_behind, range_at, range_request_at, read_range_of};
 
 use crate::reference::reference_at;
 use crate::{RangeBy, RangeRequest};
 use bac_tags::{Shape, Tag, TagFault, read_signed, read_stamp, read_tag, read_unsigned};
 use bac_values::Stamp;
-use service_parameters::{Malformed, invalid_tag, nothing_follows, read_closing};
+use bac_tags::{Malformed, invalid_tag, nothing_follows, read_closing};
 
 /// The number of a tag that opens a list.
 fn opened(tag: Tag) -> Option<u8>

@@ -1,6 +1,6 @@
 ghost use Rattle.std.specs.Prelude.{◌≡◌, ◌≤◌, ◌↔◌, length, IfOk};
-ghost use Rattle.service_parameters.specs.declared.malformed.Malformed.{Malformed};
-ghost use Rattle.service_parameters.specs.Refusals.{missing_parameter};
+ghost use Rattle.bac_tags.specs.declared.malformed.Malformed.{Malformed};
+ghost use Rattle.bac_tags.specs.Refusals.{missing_parameter};
 ghost use Rattle.property_services.specs.declared.requests.ReadRequest.{ReadRequest};
 ghost use Rattle.property_services.specs.Requests.{SpellsReadProperty};
 ghost use Rattle.property_services.specs.Refusals.{RefusesReadProperty, EndsBeforeProperty};
@@ -8,7 +8,7 @@ ghost use Rattle.property_services.specs.Reading.{reference_at, read_property_of
 
 use crate::ReadRequest;
 use bac_values::PropertyId;
-use service_parameters::{
+use bac_tags::{
     Malformed, nothing_follows, optional_unsigned, required_object, required_unsigned,
 };
 

@@ -11,7 +11,7 @@ use crate::reference::reference_at;
 use crate::{ReadRequest, ServiceFault, WriteRequest};
 use bac_tags::{TagFault, read_value};
 use bac_values::{Foreign, NoMemory, Value};
-use service_parameters::{Malformed, nothing_follows, optional_unsigned, read_elements, required};
+use bac_tags::{Malformed, nothing_follows, optional_unsigned, read_elements, required};
 use std::alloc::Global;
 
 /// The elements of the value, and the place after its closing tag.

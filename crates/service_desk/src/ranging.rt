@@ -12,7 +12,7 @@ use bac_tags::write_stamp;
 use bac_values::{NoMemory, PropertyId, Send};
 use event_log::{EventLog, LogRange, LogRecord};
 use property_services::{RangeBy, RangeRequest, read_read_range, write_range_ack};
-use service_parameters::{write_closing, write_opening};
+use bac_tags::{write_closing, write_opening};
 use std::alloc::Global;
 
 /// The classes of errors.

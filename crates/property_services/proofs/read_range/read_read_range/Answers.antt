@@ -1,5 +1,5 @@
 use Rattle.std.proofs.Common.{length, arith}
-use Rattle.service_parameters.specs.Refusals.{missing_parameter}
+use Rattle.bac_tags.specs.Refusals.{missing_parameter}
 use Rattle.property_services.specs.Requests.{SpellsReadRange}
 use Rattle.property_services.specs.Refusals.{RefusesReadRange}
 use Rattle.property_services.specs.Reading.{read_range_of}

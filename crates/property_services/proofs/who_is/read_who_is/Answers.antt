@@ -1,5 +1,5 @@
 use Rattle.std.proofs.Common.{length, arith}
-use Rattle.service_parameters.specs.Refusals.{missing_parameter}
+use Rattle.bac_tags.specs.Refusals.{missing_parameter}
 use Rattle.property_services.specs.Requests.{SpellsWhoIs}
 use Rattle.property_services.specs.Refusals.{RefusesWhoIs}
 use Rattle.property_services.specs.Reading.{who_is_of}
