@@ -19,9 +19,10 @@ pub mod BitOrder
 pub mod RequiredReaders
 pub mod TagReaders
 pub mod ElementReaders
-pub mod ParameterSteps
 pub mod Sequences
 pub mod Balance
 pub mod Between
 pub mod Reasons
 pub mod OptionalReaders
+pub mod ParameterAnswers
+pub mod ElementAnswers

@@ -3,13 +3,12 @@ use Rattle.std.proofs.Common.{◌≡◌, ℕ, ◌<◌, ◌≤◌, eqb, Option, S
 use Rattle.std.proofs.lemmas.Bool.{cases_lt}
 use Rattle.bac_tags.specs.declared.fault.TagFault.{TagFault}
 use Rattle.bac_tags.specs.declared.fault.TagFault.TheVariants.{Truncated, WrongTag, BadLength, NoMemory}
-use Rattle.bac_tags.proofs.Steps.{chosen}
+use Rattle.bac_tags.proofs.Steps.{chosen, ok_is}
 use Rattle.bac_tags.proofs.Standing.{IsBytes, Stands}
 use Rattle.bac_tags.proofs.Answered.{Spelled}
 use Rattle.bac_tags.specs.declared.malformed.Malformed.{Malformed}
 use Rattle.bac_tags.specs.Refusals.{invalid_tag}
 use Rattle.bac_tags.specs.ParameterReading.{or_absent, optional}
-use Rattle.bac_tags.proofs.ParameterSteps.{ok_is}
 use Rattle.bac_tags.proofs.RequiredReaders.{optional_inside, optional_outside, absent_other}
 use Rattle.bac_tags.proofs.ElementReaders.{Reader}
 use Rattle.bac_tags.proofs.Sequences.{stands_inside}

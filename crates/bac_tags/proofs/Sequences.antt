@@ -5,13 +5,12 @@ use Rattle.std.proofs.lemmas.Bool.{lt-ltb, le-ltb, cases_lt}
 use Rattle.std.proofs.lemmas.List.{length-append, length-drop}
 use Rattle.bac_tags.specs.declared.fault.TagFault.{TagFault}
 use Rattle.bac_tags.specs.declared.fault.TagFault.TheVariants.{Truncated, WrongTag, BadLength, NoMemory}
-use Rattle.bac_tags.proofs.Steps.{chosen}
+use Rattle.bac_tags.proofs.Steps.{chosen, ok_is, err_is}
 use Rattle.bac_tags.proofs.Standing.{IsBytes, Stands}
 use Rattle.bac_tags.proofs.Answered.{Spelled}
 use Rattle.bac_tags.specs.declared.malformed.Malformed.{Malformed}
 use Rattle.bac_tags.specs.Refusals.{invalid_tag, missing_parameter, too_many_arguments}
 use Rattle.bac_tags.specs.ParameterReading.{or_invalid, required, or_absent, optional, nothing_follows}
-use Rattle.bac_tags.proofs.ParameterSteps.{ok_is, err_is}
 use Rattle.bac_tags.proofs.RequiredReaders.{required_inside, required_outside, optional_inside, optional_outside}
 use Rattle.bac_tags.proofs.ElementReaders.{Reader}
 

@@ -9,11 +9,14 @@ use Rattle.bac_tags.specs.Tags.{SpellsTag}
 use Rattle.bac_tags.specs.Elements.{SpellsElement, IsBetween}
 use Rattle.bac_tags.specs.Reading.{◌>>=◌, tag_at}
 
+abbrev pub in_context : ℕ → Shape → Tag
+in_context number shape = record { number = number; context = true; shape = shape }
+
 abbrev pub opening : ℕ → Tag
-opening number = record { number = number; context = true; shape = Opening }
+opening number = in_context number Opening
 
 abbrev pub closing : ℕ → Tag
-closing number = record { number = number; context = true; shape = Closing }
+closing number = in_context number Closing
 
 -- a tag, which alone says what there is to say
 abbrev pub SpellsOnly : Tag → List ℕ → Unit {0} → Type 0

@@ -11,3 +11,4 @@ pub mod Balanced
 pub mod Parameters
 pub mod Refusals
 pub mod ParameterReading
+pub mod ParameterWriting

@@ -3,12 +3,8 @@ use Rattle.std.specs.Prelude.{ℕ, ◌==◌, nat_lt, if◌then◌else◌, Option
 use Rattle.bac_tags.specs.declared.fault.TagFault.{TagFault}
 use Rattle.bac_tags.specs.declared.fault.TagFault.TheVariants.{Truncated, WrongTag, BadLength, NoMemory}
 use Rattle.bac_tags.specs.declared.malformed.Malformed.{Malformed}
+use Rattle.bac_tags.specs.Reading.{◌>>=◌}
 use Rattle.bac_tags.specs.Refusals.{invalid_tag, missing_parameter, too_many_arguments}
-
-infixl 10 ◌>>=◌
-abbrev pub ◌>>=◌ : {A B : Type 0} → Result A Malformed → (A → Result B Malformed) → Result B Malformed
-(Ok x) >>= f = f x
-(Err e) >>= f = Err e
 
 -- what a reader of elements refuses is no parameter
 abbrev pub or_invalid : {X : Type 0} → ℕ → Result X TagFault → Result X Malformed
@@ -34,3 +30,10 @@ optional input place read = if nat_lt place (length input) then or_absent place 
 -- the last parameter ends where the octets do
 abbrev pub nothing_follows : List ℕ → ℕ → Result (Unit {0}) Malformed
 nothing_follows input place = if nat_lt place (length input) then Err (too_many_arguments place) else Ok tt
+
+-- what is read and nothing else
+abbrev pub whole : {X : Type 0} → List ℕ → Result (X × ℕ) Malformed → Result X Malformed
+whole input read = do
+  x ← read
+  _ ← nothing_follows input x.1
+  Ok x.0

@@ -1,5 +1,5 @@
 -- Whether a parameter stands at a place.
-use Rattle.std.specs.Prelude.{◌≡◌, ℕ, ◌⊎◌, Option, Some, None, List, length, drop}
+use Rattle.std.specs.Prelude.{◌≡◌, ℕ, ◌⊎◌, Option, Some, None, List, [], length, drop}
 use Rattle.bac_tags.specs.Places.{IsSpelledAt}
 use Rattle.bac_tags.specs.Elements.{HasOtherTag}
 
@@ -17,3 +17,8 @@ IsAbsent number input place = (place ≡ length input) ⊎ HasOtherTag 0 (Some n
 abbrev pub IsOptionalAt : {X : Type 0} → (List ℕ → X → Type 0) → ℕ → List ℕ → ℕ → Option X → ℕ → Type 0
 IsOptionalAt Spells number input place None end = (end ≡ place) × IsAbsent number input place
 IsOptionalAt Spells number input place (Some value) end = IsSpelledAt Spells input place value end
+
+-- a parameter that may be absent
+abbrev pub SpellsIfGiven : {X : Type 0} → (List ℕ → X → Type 0) → List ℕ → Option X → Type 0
+SpellsIfGiven Spells octets None = octets ≡ []
+SpellsIfGiven Spells octets (Some x) = Spells octets x

@@ -3,7 +3,7 @@ ghost use Rattle.bac_tags.specs.Places.{IsSpelledAt};
 ghost use Rattle.bac_tags.specs.Tags.{EndsInTag};
 ghost use Rattle.bac_tags.specs.Reading.{Gives, content_at};
 ghost use Rattle.bac_tags.specs.Writing.{written_tag};
-ghost use Rattle.bac_tags.specs.EnclosingTags.{opening, closing, SpellsOnly, IsOtherTag, opening_at, closing_at};
+ghost use Rattle.bac_tags.specs.EnclosingTags.{in_context, opening, closing, SpellsOnly, IsOtherTag, opening_at, closing_at};
 
 use crate::element::{NULL, content_at};
 use crate::{Shape, Tag, TagFault, read_tag, write_tag};
@@ -82,19 +82,23 @@ pub fn read_octets(
     content_at(input, at, NULL, Some(number), least, most)
 }
 
+/// A tag with that number in a context.
+fn in_context(number: u8, shape: Shape) -> Tag
+    ensures { result ≡ in_context number shape }
+{
+    Tag {
+        number,
+        context: true,
+        shape,
+    }
+}
+
 /// Appends the tag that opens what stands between the tags of a number in a context (20.2.1.3.2).
 pub fn write_opening(out: &mut Vec<u8>, number: u8) -> Result<(), NoMemory>
     ensures written { OnOk result (out.new.items ≡ out.old.items ++ written_tag (opening number)) }
     ensures same { OnErr result (out.new.items ≡ out.old.items) }
 {
-    write_tag(
-        out,
-        Tag {
-            number,
-            context: true,
-            shape: Shape::Opening,
-        },
-    )
+    write_tag(out, in_context(number, Shape::Opening))
 }
 
 /// Appends the tag that closes what stands between the tags of a number in a context (20.2.1.3.2).
@@ -102,12 +106,5 @@ pub fn write_closing(out: &mut Vec<u8>, number: u8) -> Result<(), NoMemory>
     ensures written { OnOk result (out.new.items ≡ out.old.items ++ written_tag (closing number)) }
     ensures same { OnErr result (out.new.items ≡ out.old.items) }
 {
-    write_tag(
-        out,
-        Tag {
-            number,
-            context: true,
-            shape: Shape::Closing,
-        },
-    )
+    write_tag(out, in_context(number, Shape::Closing))
 }

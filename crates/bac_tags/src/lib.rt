@@ -37,7 +37,7 @@ pub use enclosing_tags::{read_closing, read_octets, read_opening, write_closing,
 pub use fault::TagFault;
 pub use malformed::{Malformed, invalid_tag, missing_parameter, too_many_arguments};
 pub use object::{read_object, write_object};
-pub use parameter::{nothing_follows, optional, required};
+pub use parameter::{nothing_follows, optional, or_invalid, required};
 pub use round_trip::{bits_in_order, reads_back};
 pub use signed::{read_signed, write_signed};
 pub use stamp::{read_stamp, write_stamp};

@@ -1,8 +1,18 @@
 ghost use Rattle.std.specs.Prelude.{◌≡◌};
-ghost use Rattle.bac_tags.specs.ParameterReading.{required, optional, nothing_follows};
+ghost use Rattle.bac_tags.specs.ParameterReading.{or_invalid, required, optional, nothing_follows};
 
 use crate::TagFault;
 use crate::malformed::{Malformed, invalid_tag, missing_parameter, too_many_arguments};
+
+/// What a reader of elements refuses is no parameter, which begins at a place.
+pub fn or_invalid<T: Drop>(at: usize, read: Result<T, TagFault>) -> Result<T, Malformed>
+    ensures exact { result ≡ or_invalid at read }
+{
+    match read {
+        Ok(found) => Ok(found),
+        Err(_) => Err(invalid_tag(at)),
+    }
+}
 
 /// A parameter that has to stand at a place, where `read` is what the reader of its element answers there. It is
 /// missing where the octets end.
@@ -12,10 +22,7 @@ pub fn required<T: Drop>(input: &[u8], at: usize, read: Result<T, TagFault>) -> 
     if at >= input.len() {
         return Err(missing_parameter(input.len()));
     }
-    match read {
-        Ok(found) => Ok(found),
-        Err(_) => Err(invalid_tag(at)),
-    }
+    or_invalid(at, read)
 }
 
 /// A parameter that may stand at a place, where `read` is what the reader of its element answers there. It is absent

@@ -5,14 +5,14 @@ use Rattle.std.proofs.lemmas.List.{length-append, length-drop, drop_all, drop_at
 use Rattle.bac_values.specs.Identifier.{Identifier}
 use Rattle.bac_tags.specs.declared.fault.TagFault.{TagFault}
 use Rattle.bac_tags.specs.Contents.{SpellsUnsigned, SpellsObject}
-use Rattle.bac_tags.specs.Reading.{valued, content_at, unsigned_at, object_at}
+use Rattle.bac_tags.specs.Reading.{valued, content_at, unsigned_at, object_at, ◌>>=◌}
 use Rattle.bac_tags.proofs.Standing.{IsBytes, Stands, Stands-from, Stands-then, Stands-front, Stands-back, Stands-within}
 use Rattle.bac_tags.specs.declared.malformed.Malformed.{Malformed}
 use Rattle.bac_tags.specs.Refusals.{invalid_tag, missing_parameter, too_many_arguments}
-use Rattle.bac_tags.specs.ParameterReading.{◌>>=◌, or_invalid, required, nothing_follows}
+use Rattle.bac_tags.specs.ParameterReading.{or_invalid, required, nothing_follows}
 use Rattle.bac_tags.specs.EnclosingTags.{enclosed_at}
 use Rattle.bac_tags.proofs.Reasons.{five_four, five_seven, four_seven}
-use Rattle.bac_tags.proofs.ParameterSteps.{bind_ok, ok_is, err_is}
+use Rattle.bac_tags.proofs.Steps.{bind_ok, ok_is, err_is}
 use Rattle.bac_tags.proofs.ElementReaders.{Reader, whole, unsigned_reader, object_reader, octets_reader}
 use Rattle.bac_tags.proofs.Sequences.{required_ok, required_again, nothing_ok, nothing_err, nothing_more, nothing_none}
 use Rattle.event_services.specs.declared.acknowledge.AckRequest.{AckRequest}

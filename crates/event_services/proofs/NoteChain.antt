@@ -5,7 +5,8 @@ use Rattle.bac_values.specs.Identifier.{Identifier}
 use Rattle.bac_values.specs.declared.event_state.EventState.{EventState}
 use Rattle.bac_values.specs.declared.stamp.Stamp.{Stamp}
 use Rattle.bac_tags.specs.declared.malformed.Malformed.{Malformed}
-use Rattle.bac_tags.specs.ParameterReading.{◌>>=◌, optional, nothing_follows}
+use Rattle.bac_tags.specs.ParameterReading.{optional, nothing_follows}
+use Rattle.bac_tags.specs.Reading.{◌>>=◌}
 use Rattle.event_services.specs.declared.notification.Notification.{Notification}
 use Rattle.event_services.specs.declared.notification.EventValues.{EventValues}
 use Rattle.event_services.specs.declared.read_note.NoteFault.{NoteFault}

@@ -2,19 +2,20 @@
 use Rattle.std.proofs.Common.{◌≡◌, ℕ, ◌≤◌, Bool, Option, Some, None, List, [], ◌++◌, length, Result, Ok, refl, sym, ap, subst, ◌∙◌, arith}
 use Rattle.bac_values.specs.Identifier.{Identifier}
 use Rattle.bac_tags.specs.Contents.{SpellsObject, SpellsBoolean}
-use Rattle.bac_tags.specs.Reading.{object_at, boolean_at}
+use Rattle.bac_tags.specs.Reading.{object_at, boolean_at, ◌>>=◌}
 use Rattle.bac_tags.proofs.Standing.{IsBytes, Stands, Stands-nil, Stands-then, Stands-within}
 use Rattle.bac_tags.proofs.Answered.{Spelled}
 use Rattle.bac_tags.specs.declared.malformed.Malformed.{Malformed}
-use Rattle.bac_tags.specs.ParameterReading.{◌>>=◌, required, optional, nothing_follows}
-use Rattle.bac_tags.proofs.ParameterSteps.{bind_ok, ok_is}
+use Rattle.bac_tags.specs.ParameterReading.{required, optional, nothing_follows}
+use Rattle.bac_tags.proofs.Steps.{bind_ok, ok_is}
 use Rattle.bac_tags.proofs.ElementReaders.{Reader, object_reader, boolean_reader}
 use Rattle.bac_tags.proofs.Sequences.{required_ok, nothing_ok}
 use Rattle.event_services.specs.declared.notification.Notification.{Notification}
 use Rattle.event_services.specs.declared.notification.EventValues.{EventValues}
 use Rattle.event_services.specs.NoteReading.{Reads, number_at, octet_number_at, state_at, text_at, moment_at, values_at}
 use Rattle.event_services.specs.NoteService.{source_at, kind_at, states_at, notification_of}
-use Rattle.event_services.specs.NoteGrammar.{SpellsIf, SpellsNumber, SpellsOctetNumber, SpellsState, SpellsText, SpellsMoment, SpellsValuesOf, SpellsNotification}
+use Rattle.event_services.specs.NoteGrammar.{SpellsNumber, SpellsOctetNumber, SpellsState, SpellsText, SpellsMoment, SpellsValuesOf, SpellsNotification}
+use Rattle.bac_tags.specs.Parameters.{SpellsIfGiven}
 use Rattle.event_services.proofs.AckLaws.{all_there}
 use Rattle.event_services.proofs.NoteChain.{Source, Kind, States, note_of}
 use Rattle.event_services.proofs.NoteReaders.{number_reader, octet_number_reader, state_reader, text_reader, moment_reader}
@@ -36,7 +37,7 @@ allowed read input place = optional input place (read input place)
 finds_needed : {X : Type 0} (Spells : List ℕ → X → Type 0) (read : Reads X) → Reader Spells read → Finds Spells (needed read)
 finds_needed Spells read r input place x bytes le e = required_ok Spells read r input place x bytes le e
 
-finds_allowed : {X : Type 0} (Spells : List ℕ → X → Type 0) (read : Reads X) → Reader Spells read → Finds (SpellsIf Spells) (allowed read)
+finds_allowed : {X : Type 0} (Spells : List ℕ → X → Type 0) (read : Reads X) → Reader Spells read → Finds (SpellsIfGiven Spells) (allowed read)
 finds_allowed Spells read r input place (None, end) bytes le e = let a = optional_ok Spells read r input place (None, end) bytes le e in record { octets = []; stands = subst (Stands input place []) (sym a) (Stands-nil input place); spells = refl }
 finds_allowed Spells read r input place (Some x, end) bytes le e = let a = optional_ok Spells read r input place (Some x, end) bytes le e in record { octets = a.octets; stands = a.stands; spells = a.spells }
 
@@ -147,10 +148,10 @@ find_kind input place z bytes le e =
     (finds_needed (SpellsNumber 4) (number_at 4) (number_reader 4)) (finds_needed (SpellsOctetNumber 5) (octet_number_at 5) (octet_number_reader 5)) (finds_needed (SpellsOctetNumber 6) (octet_number_at 6) (octet_number_reader 6)) input place z bytes le e
 
 find_states : (input : List ℕ) (place : ℕ) (z : States) → IsBytes input → place ≤ length input → states_at input place ≡ Ok z
-    → Between (λ octets. Four (SpellsOctetNumber 8) (SpellsIf (SpellsBoolean (Some 9))) (SpellsIf (SpellsState 10)) (SpellsState 11) octets z.0.0 z.0.1 z.0.2 z.0.3) input place z.1
+    → Between (λ octets. Four (SpellsOctetNumber 8) (SpellsIfGiven (SpellsBoolean (Some 9))) (SpellsIfGiven (SpellsState 10)) (SpellsState 11) octets z.0.0 z.0.1 z.0.2 z.0.3) input place z.1
 unfolding states_at
 find_states input place z bytes le e =
-    find4 (SpellsOctetNumber 8) (SpellsIf (SpellsBoolean (Some 9))) (SpellsIf (SpellsState 10)) (SpellsState 11) (needed (octet_number_at 8)) (allowed (boolean_in 9)) (allowed (state_at 10)) (needed (state_at 11))
+    find4 (SpellsOctetNumber 8) (SpellsIfGiven (SpellsBoolean (Some 9))) (SpellsIfGiven (SpellsState 10)) (SpellsState 11) (needed (octet_number_at 8)) (allowed (boolean_in 9)) (allowed (state_at 10)) (needed (state_at 11))
     (finds_needed (SpellsOctetNumber 8) (octet_number_at 8) (octet_number_reader 8)) (finds_allowed (SpellsBoolean (Some 9)) (boolean_in 9) (boolean_reader 9)) (finds_allowed (SpellsState 10) (state_at 10) (state_reader 10)) (finds_needed (SpellsState 11) (state_at 11) (state_reader 11)) input place z bytes le e
 
 -- ---- what is read is spelled so
@@ -188,9 +189,9 @@ record Whole (input : List ℕ) (note : Notification) : Type 0 where
   past : length input ≤ values.1
   sourced : Between (λ octets. Four (SpellsNumber 0) (SpellsObject (Some 1)) (SpellsObject (Some 2)) (SpellsMoment 3) octets source.0.0 source.0.1 source.0.2 source.0.3) input 0 source.1
   kinds : Between (λ octets. Three (SpellsNumber 4) (SpellsOctetNumber 5) (SpellsOctetNumber 6) octets kind.0.0 kind.0.1 kind.0.2) input source.1 kind.1
-  worded : Spelled (SpellsIf (SpellsText 7)) input kind.1 text.0 text.1
-  stated : Between (λ octets. Four (SpellsOctetNumber 8) (SpellsIf (SpellsBoolean (Some 9))) (SpellsIf (SpellsState 10)) (SpellsState 11) octets states.0.0 states.0.1 states.0.2 states.0.3) input text.1 states.1
-  told : Spelled (SpellsIf (SpellsValuesOf kind.0.2)) input states.1 values.0 values.1
+  worded : Spelled (SpellsIfGiven (SpellsText 7)) input kind.1 text.0 text.1
+  stated : Between (λ octets. Four (SpellsOctetNumber 8) (SpellsIfGiven (SpellsBoolean (Some 9))) (SpellsIfGiven (SpellsState 10)) (SpellsState 11) octets states.0.0 states.0.1 states.0.2 states.0.3) input text.1 states.1
+  told : Spelled (SpellsIfGiven (SpellsValuesOf kind.0.2)) input states.1 values.0 values.1
 
 abbrev given : Notification → Unit {0} → Result Notification Malformed
 given note nothing = Ok note

@@ -3,9 +3,9 @@ use Rattle.std.specs.Prelude.{◌≡◌, ℕ, ◌⊎◌, Bool, Option, Some, Lis
 use Rattle.bac_values.specs.Identifier.{Identifier}
 use Rattle.bac_values.specs.declared.event_state.EventState.{EventState}
 use Rattle.bac_values.specs.declared.stamp.Stamp.{Stamp}
-use Rattle.bac_tags.specs.Reading.{unsigned_at, object_at, boolean_at}
+use Rattle.bac_tags.specs.Reading.{unsigned_at, object_at, boolean_at, ◌>>=◌}
 use Rattle.bac_tags.specs.declared.malformed.Malformed.{Malformed}
-use Rattle.bac_tags.specs.ParameterReading.{◌>>=◌, required, optional, nothing_follows}
+use Rattle.bac_tags.specs.ParameterReading.{required, optional, nothing_follows}
 use Rattle.event_services.specs.declared.notification.Notification.{Notification}
 use Rattle.event_services.specs.declared.read_note.NoteFault.{NoteFault}
 use Rattle.event_services.specs.declared.read_note.NoteFault.TheVariants as faults

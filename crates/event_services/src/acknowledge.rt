@@ -9,11 +9,10 @@ ghost use Rattle.event_services.specs.Acknowledgements.{SpellsAcknowledgement, L
 
 use crate::AckStamp;
 use crate::time_stamp::enclosed_time_stamp;
-use bac_tags::TagFault;
-use bac_values::ObjectId;
 use bac_tags::{
-    Malformed, nothing_follows, read_octets, required, required_object, required_unsigned,
+    Malformed, TagFault, nothing_follows, read_octets, required, required_object, required_unsigned,
 };
+use bac_values::ObjectId;
 
 /// A request to acknowledge an alarm (ANSI/ASHRAE 135-2020, 13.3, AcknowledgeAlarm).
 #[derive(Clone, Copy, Debug, PartialEq, Eq)]

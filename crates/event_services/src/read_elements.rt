@@ -2,9 +2,8 @@ ghost use Rattle.std.specs.Prelude.{◌≡◌, ◌<◌, ◌≤◌, length, IfOk,
 ghost use Rattle.event_services.specs.NoteReading.{GivesRead, octet_number_at, state_at, flags_of, flags_at, text_of, text_at, moment_at};
 
 use crate::time_stamp::enclosed_stamp;
-use bac_tags::{TagFault, read_bits, read_unsigned};
+use bac_tags::{TagFault, read_bits, read_closing, read_octets, read_opening, read_unsigned};
 use bac_values::{Bits, EventState, Stamp, StatusFlags, Text};
-use bac_tags::{read_closing, read_octets, read_opening};
 use std::alloc::Global;
 
 /// The number of one octet with that number in a context, and the place after it.

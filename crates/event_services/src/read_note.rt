@@ -12,11 +12,11 @@ ghost use Rattle.event_services.specs.NoteService.{source_at, kind_at, states_at
 use crate::read_elements::{moment_at, octet_number_at, state_at, text_at};
 use crate::read_values::values_at;
 use crate::{EventValues, Notification};
-use bac_tags::{TagFault, read_bool};
-use bac_values::{EventState, ObjectId, Stamp, Text};
 use bac_tags::{
-    Malformed, nothing_follows, optional, required, required_object, required_unsigned,
+    Malformed, TagFault, nothing_follows, optional, read_bool, required, required_object,
+    required_unsigned,
 };
+use bac_values::{EventState, ObjectId, Stamp, Text};
 use std::alloc::Global;
 
 /// Why octets weren't read as a notification.

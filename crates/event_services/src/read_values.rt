@@ -5,9 +5,11 @@ ghost use Rattle.event_services.specs.NoteReading.{GivesRead, property_state_in,
 
 use crate::EventValues;
 use crate::read_elements::{flags_at, text_at};
-use bac_tags::{Shape, TagFault, read_bits, read_signed, read_tag, read_unsigned, read_value};
+use bac_tags::{
+    Shape, TagFault, read_bits, read_closing, read_opening, read_signed, read_tag, read_unsigned,
+    read_value,
+};
 use bac_values::{Reliability, Value};
-use bac_tags::{read_closing, read_opening};
 use std::alloc::Global;
 
 /// The state of a property whose tag has that number, and the place after it.

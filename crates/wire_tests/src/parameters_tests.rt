@@ -1,7 +1,6 @@
 use crate::comparing::{holds, same};
-use bac_tags::TagFault;
+use bac_tags::{TagFault, *};
 use bac_values::ObjectId;
-use bac_tags::*;
 use std::test::Fail;
 
 const fn malformed(reject: u8, at: usize) -> Malformed {

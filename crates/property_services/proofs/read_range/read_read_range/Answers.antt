@@ -4,7 +4,7 @@ use Rattle.property_services.specs.Requests.{SpellsReadRange}
 use Rattle.property_services.specs.Refusals.{RefusesReadRange}
 use Rattle.property_services.specs.Reading.{read_range_of}
 use Rattle.property_services.proofs.Missing.{missing_in_read_range, both}
-use Rattle.property_services.proofs.Steps.{ReadsWhole, reads_whole}
+use Rattle.bac_tags.proofs.ParameterAnswers.{ReadsWhole, reads_whole}
 use Rattle.property_services.proofs.RangeLaws.{read_range_answers}
 use Rattle.property_services.proofs.read_range.read_read_range.Goals as goal
 

@@ -3,11 +3,10 @@ use Rattle.std.proofs.Common.{◌≡◌, ℕ, ◌<◌, ◌≤◌, List, length, 
 use Rattle.std.specs.Prelude.{◌⊎◌, ◌↔◌, IfOk}
 use Rattle.std.proofs.lemmas.Bool.{cases_lt, lt-ltb, le-ltb}
 use Rattle.bac_tags.specs.declared.malformed.Malformed.{Malformed}
-use Rattle.bac_tags.specs.Refusals.{too_many_arguments}
-use Rattle.bac_tags.specs.ParameterReading.{◌>>=◌, nothing_follows}
-use Rattle.bac_tags.proofs.ParameterSteps.{bind_ok, bind_err, ok_is}
-use Rattle.property_services.specs.Reading.{whole}
-use Rattle.property_services.specs.Refusals.{Behind, RefusesMore}
+use Rattle.bac_tags.specs.Refusals.{too_many_arguments, Behind, RefusesMore}
+use Rattle.bac_tags.specs.ParameterReading.{nothing_follows, whole}
+use Rattle.bac_tags.specs.Reading.{◌>>=◌}
+use Rattle.bac_tags.proofs.Steps.{bind_ok, bind_err, ok_is}
 
 -- what a step answers, and when
 pub record Answers {X : Type 0} (Is : X → ℕ → Type 0) (Refuses : Malformed → Type 0) (read : Result (X × ℕ) Malformed) : Type 0 where

@@ -14,12 +14,11 @@ use Rattle.bac_tags.proofs.Standing.{IsBytes}
 use Rattle.bac_tags.proofs.Readers.{Reads, reads}
 use Rattle.bac_tags.proofs.Numbers.{unsigned_values, identifier_values}
 use Rattle.bac_tags.specs.declared.malformed.Malformed.{Malformed}
-use Rattle.bac_tags.specs.Refusals.{invalid_tag}
+use Rattle.bac_tags.specs.Refusals.{invalid_tag, RefusesRequired, RefusesOptional}
 use Rattle.bac_tags.specs.Parameters.{IsThere, IsOptionalAt}
 use Rattle.bac_tags.specs.ParameterReading.{or_invalid, required, or_absent, optional}
 use Rattle.bac_tags.proofs.RequiredReaders.{ReadsOptional, reads_optional, required_inside, required_outside, optional_inside, optional_outside}
-use Rattle.property_services.specs.Refusals.{RefusesRequired, RefusesOptional}
-use Rattle.property_services.proofs.Steps.{Answers}
+use Rattle.bac_tags.proofs.ParameterAnswers.{Answers}
 
 -- what is known of a reader of elements at a place
 pub record Element {X : Type 0} (Spells : List ℕ → X → Type 0) (input : List ℕ) (place : ℕ) (read : Result (X × ℕ) TagFault) : Type 0 where
