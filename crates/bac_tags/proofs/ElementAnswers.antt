@@ -57,7 +57,7 @@ of_reads type context least most IsContent input place read r =
       some = λ x end s. element_some type context IsContent input place x end s;
     }
 
-unsigned_reads : (input : List ℕ) (place : ℕ) (context : Option ℕ) → IsBytes input → place ≤ length input → Reads 2 context 1 4 IsUnsigned input place (unsigned_at input place context)
+pub unsigned_reads : (input : List ℕ) (place : ℕ) (context : Option ℕ) → IsBytes input → place ≤ length input → Reads 2 context 1 4 IsUnsigned input place (unsigned_at input place context)
 unfolding unsigned_at
 unsigned_reads input place context bytes le = reads 2 context 1 4 unsigned_of IsUnsigned unsigned_values input place (unsigned_at input place context) bytes le refl
 
@@ -133,7 +133,7 @@ optional_err input place read fault e =
       | inr ge ↦ absurd (let bad = sym (optional_outside input place read ge) ∙ e in cc)
     ]
 
-of_optional : {X : Type 0} (Spells : List ℕ → X → Type 0) (number : ℕ) (input : List ℕ) (place : ℕ) (read : Result (X × ℕ) TagFault) → ReadsOptional Spells number input place (optional input place read)
+pub of_optional : {X : Type 0} (Spells : List ℕ → X → Type 0) (number : ℕ) (input : List ℕ) (place : ℕ) (read : Result (X × ℕ) TagFault) → ReadsOptional Spells number input place (optional input place read)
     → Answers (IsOptionalAt Spells number input place) (RefusesOptional Spells number input place) (optional input place read)
 of_optional {X = X} Spells number input place read r =
     record {

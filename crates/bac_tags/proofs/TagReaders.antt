@@ -52,7 +52,7 @@ one_tag_found is tag t input place end bytes e =
 pub one_tag_again : (is : Tag → Bool) (tag : Tag) → Tests is tag → (input : List ℕ) (place : ℕ) (octets : List ℕ) (end : ℕ) → SpellsTag octets tag → Stands input place octets end → one_tag is input place ≡ Ok end
 one_tag_again is tag t input place octets end s p = rw (tag_again input place octets tag end s p, t.same) refl
 
-one_tag_err : (is : Tag → Bool) (tag : Tag) → Tests is tag → (input : List ℕ) (place : ℕ) (e : TagFault) → IsBytes input → one_tag is input place ≡ Err e
+pub one_tag_err : (is : Tag → Bool) (tag : Tag) → Tests is tag → (input : List ℕ) (place : ℕ) (e : TagFault) → IsBytes input → one_tag is input place ≡ Err e
     → (EndsInTag (drop place input) × (e ≡ Truncated (length input))) ⊎ (IsOtherTag tag (drop place input) × (e ≡ WrongTag place))
 one_tag_err is tag t input place e bytes h =
     elim (bind_err (tag_at input place) (after_tag is place) e h) [

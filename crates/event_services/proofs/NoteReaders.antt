@@ -227,7 +227,7 @@ text_one : (content text : List ℕ) → IsTextContent content text → text_of 
 text_one content text h =
     subst (λ (xs : List ℕ). text_of xs ≡ Some text) (sym h.0) (text_from (0 ∷ text) text (omega arith) refl h.1 refl h.2)
 
-text_forms : Forms 1 257 text_of IsTextContent
+pub text_forms : Forms 1 257 text_of IsTextContent
 text_forms = record {
   is = λ content x bytes right e. text_is content x e;
   right = λ content x h. (omega (arith, ap length h.0), omega (arith, ap length h.0, h.1));

@@ -1,4 +1,4 @@
--- The parameters of AcknowledgeAlarm (ANSI/ASHRAE 135-2020, 13.3 and clause 21, AcknowledgeAlarm-Request).
+-- The parameters of AcknowledgeAlarm (ANSI/ASHRAE 135-2020, 13.5 and clause 21, AcknowledgeAlarm-Request).
 use Rattle.std.specs.Prelude.{◌≡◌, ◌≢◌, ℕ, zero, suc, ◌<◌, Some, List, [], ◌++◌, length, Result, Ok, Err}
 use Rattle.bac_values.specs.Identifier.{Identifier}
 use Rattle.bac_tags.specs.declared.fault.TagFault.{TagFault}

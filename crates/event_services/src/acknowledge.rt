@@ -14,7 +14,7 @@ use bac_tags::{
 };
 use bac_values::ObjectId;
 
-/// A request to acknowledge an alarm (ANSI/ASHRAE 135-2020, 13.3, AcknowledgeAlarm).
+/// A request to acknowledge an alarm (ANSI/ASHRAE 135-2020, 13.5, AcknowledgeAlarm).
 #[derive(Clone, Copy, Debug, PartialEq, Eq)]
 pub struct AckRequest {
     /// The process that acknowledges.
