@@ -13,3 +13,5 @@ pub mod NoteWritten
 pub mod NoteLengthLaws
 pub mod LateFaults
 pub mod NoteExact
+pub mod NoteMissing
+pub mod TextPlaces

@@ -8,3 +8,4 @@ pub mod NoteRefusals
 pub mod NoteGrammar
 pub mod NoteRanges
 pub mod NoteLengths
+pub mod NoteTexts

@@ -69,15 +69,3 @@ EndsBeforeRequired input =
     EndsBehind (SpellsBoolean (Some 9)) 9 input place (λ ack_required place.
     EndsBehind (SpellsState 10) 10 input place (λ from place.
     EndsOr (SpellsState 11) input place (λ to place. ⊥))))))))))))
-
--- ---- memory
-
--- the message text, a text of a change of text, or a text as a value stands at the place, well-formed
-abbrev pub IsTextAt : List ℕ → ℕ → Type 0
-IsTextAt input place =
-    IsThere (SpellsText 7) input place
-    ⊎ (IsThere (SpellsText 0) input place ⊎ (IsThere (SpellsText 2) input place ⊎ IsThere (λ octets text. SpellsValue octets (values.Text text)) input place))
-
-pub record HasText (input : List ℕ) : Type 0 where
-  pub place : ℕ
-  pub text : IsTextAt input place

@@ -104,7 +104,7 @@ pub(crate) fn text_at(
     number: u8,
 ) -> Result<(Text, usize), TagFault>
     requires { at ≤ length input.now }
-    ensures exact { GivesRead result (text_at number input.now at) }
+    ensures exact { GivesRead input.now result (text_at number input.now at) }
     ensures within { IfOk result (λ x. (at < x.1) × (x.1 ≤ length input.now)) }
 {
     let (content, after) = read_octets(input, at, number, 1, 257)?;
