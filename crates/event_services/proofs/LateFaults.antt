@@ -1,5 +1,5 @@
 -- What readers fail with: a wrong tag stands where they began to read, or behind, and memory is never what is read.
-use Rattle.std.proofs.Common.{◌≡◌, ℤ, ℕ, ◌<◌, ◌≤◌, Bool, true, false, cond, eqb, Option, Some, None, List, length, drop, Result, Ok, Err, refl, ap, arith, inl, inr, subst, ◌+◌, sym, ◌∙◌}
+use Rattle.std.proofs.Common.{◌≡◌, ℤ, ℕ, ◌≤◌, Bool, true, false, cond, eqb, Option, Some, None, List, length, drop, Result, Ok, Err, refl, ap, arith, inl, inr, subst, ◌+◌, sym}
 use Rattle.std.specs.Prelude.{◌⊎◌, ◌↔◌}
 use Rattle.bac_values.specs.Reliabilities.{reliability_of_number}
 use Rattle.bac_values.specs.declared.value.Value.{Value}

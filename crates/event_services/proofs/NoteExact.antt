@@ -150,11 +150,10 @@ allowed_step {X = X} Spells read number r input bytes wrong =
 
 -- in a context the number says all
 of_type : (type number : ℕ) (octets : List ℕ) → HasOtherTag type (Some number) octets ↔ HasOtherTag 0 (Some number) octets
-of_type type number octets =
-    (
-      λ h. record { header = h.header; rest = h.rest; tag = h.tag; parts = h.parts; tagged = h.tagged; other = h.other },
-      λ h. record { header = h.header; rest = h.rest; tag = h.tag; parts = h.parts; tagged = h.tagged; other = h.other },
-    )
+of_type type number octets = (
+  λ h. record { header = h.header; rest = h.rest; tag = h.tag; parts = h.parts; tagged = h.tagged; other = h.other },
+  λ h. record { header = h.header; rest = h.rest; tag = h.tag; parts = h.parts; tagged = h.tagged; other = h.other },
+)
 
 both : {A B C : Type 0} → A ↔ B → B ↔ C → A ↔ C
 both f g = (λ a. g.0 (f.0 a), λ c. f.1 (g.1 c))

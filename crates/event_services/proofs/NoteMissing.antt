@@ -18,11 +18,10 @@ abbrev missing : List ℕ → Malformed
 missing input = missing_parameter (length input)
 
 behind : {X : Type 0} (IsAt F G : X → ℕ → Type 0) → ((x : X) (place : ℕ) → F x place ↔ G x place) → Behind IsAt F ↔ Behind IsAt G
-behind IsAt F G both =
-    (
-      λ h. record { value = h.value; end = h.end; there = h.there; holds = (both h.value h.end).0 h.holds },
-      λ h. record { value = h.value; end = h.end; there = h.there; holds = (both h.value h.end).1 h.holds },
-    )
+behind IsAt F G both = (
+  λ h. record { value = h.value; end = h.end; there = h.there; holds = (both h.value h.end).0 h.holds },
+  λ h. record { value = h.value; end = h.end; there = h.there; holds = (both h.value h.end).1 h.holds },
+)
 
 needed : {X : Type 0} (Spells : List ℕ → X → Type 0) (input : List ℕ) (place : ℕ) (F G : X → ℕ → Type 0) → ((x : X) (place : ℕ) → F x place ↔ G x place) → RefusesNeeded Spells input place (missing input) F ↔ EndsOr Spells input place G
 needed {X = X} Spells input place F G both = (there, back)

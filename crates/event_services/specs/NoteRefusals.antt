@@ -1,9 +1,7 @@
 -- Why octets aren't a notification: each refusal, exactly where it comes, and where a text takes memory (ANSI/ASHRAE 135-2020, clause 21, BACnetRejectReason).
 use Rattle.std.specs.Prelude.{◌≡◌, ℕ, ◌⊎◌, Option, Some, None, List, length, drop}
-use Rattle.bac_values.specs.declared.value.Value.TheVariants as values
 use Rattle.bac_tags.specs.Places.{IsSpelledAt}
 use Rattle.bac_tags.specs.Contents.{SpellsObject, SpellsBoolean}
-use Rattle.bac_tags.specs.Values.{SpellsValue}
 use Rattle.bac_tags.specs.declared.malformed.Malformed.{Malformed}
 use Rattle.bac_tags.specs.EnclosingTags.{opening, IsOtherTag}
 use Rattle.bac_tags.specs.Parameters.{IsThere, IsOptionalAt}

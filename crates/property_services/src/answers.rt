@@ -4,7 +4,9 @@ ghost use Rattle.bac_tags.specs.Writing.{written_unsigned};
 ghost use Rattle.bac_tags.specs.ParameterWriting.{written_enclosed, written_if_given};
 
 use crate::{RangeRequest, ReadRequest};
-use bac_tags::{write_bits, write_closing, write_object, write_opening, write_unsigned, write_value};
+use bac_tags::{
+    write_bits, write_closing, write_object, write_opening, write_unsigned, write_value,
+};
 use bac_values::{Bits, NoMemory, ObjectId, PropertyId, Value};
 use std::alloc::Global;
 

@@ -1,5 +1,5 @@
-use bac_values::NoMemory;
 use bac_tags::Malformed;
+use bac_values::NoMemory;
 
 /// Why no request was answered.
 #[derive(Clone, Copy, Debug, PartialEq, Eq)]

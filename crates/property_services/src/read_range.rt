@@ -10,8 +10,8 @@ ghost use Rattle.property_services.specs.Reading.{opened, counted_at, dated_at, 
 use crate::reference::reference_at;
 use crate::{RangeBy, RangeRequest};
 use bac_tags::{
-    Malformed, Shape, Tag, nothing_follows, or_invalid, read_closing, read_signed, read_stamp, read_tag,
-    read_unsigned,
+    Malformed, Shape, Tag, nothing_follows, or_invalid, read_closing, read_signed, read_stamp,
+    read_tag, read_unsigned,
 };
 use bac_values::Stamp;
 

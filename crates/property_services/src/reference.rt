@@ -7,10 +7,8 @@ ghost use Rattle.property_services.specs.Refusals.{RefusesReadProperty, EndsBefo
 ghost use Rattle.property_services.specs.Reading.{reference_at, read_property_of};
 
 use crate::ReadRequest;
+use bac_tags::{Malformed, nothing_follows, optional_unsigned, required_object, required_unsigned};
 use bac_values::PropertyId;
-use bac_tags::{
-    Malformed, nothing_follows, optional_unsigned, required_object, required_unsigned,
-};
 
 /// The object, the property and the index at the front of the octets, and the place after them.
 #[tactic(auto, unfolding(crate::specs::Reading::reference_at))]
