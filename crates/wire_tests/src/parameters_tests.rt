@@ -1,5 +1,5 @@
 use crate::comparing::{holds, same};
-use bac_tags::{TagFault, *};
+use bac_tags::*;
 use bac_values::ObjectId;
 use std::test::Fail;
 
