@@ -1,4 +1,4 @@
--- Why octets aren't a notification: each refusal, exactly where it comes, and where a text takes memory (ANSI/ASHRAE 135-2020, clause 21, BACnetRejectReason).
+-- Why octets aren't a notification: each refusal, exactly where it comes (ANSI/ASHRAE 135-2020, clause 21, BACnetRejectReason).
 use Rattle.std.specs.Prelude.{◌≡◌, ℕ, ◌⊎◌, Option, Some, None, List, length, drop}
 use Rattle.bac_tags.specs.Places.{IsSpelledAt}
 use Rattle.bac_tags.specs.Contents.{SpellsObject, SpellsBoolean}
@@ -47,12 +47,15 @@ RefusesNotification input fault =
 
 -- ---- where the octets end before a required parameter
 
+-- the octets end where it should begin, or it is there and what is said holds behind it
 abbrev pub EndsOr : {X : Type 0} → (List ℕ → X → Type 0) → List ℕ → ℕ → (X → ℕ → Type 0) → Type 0
 EndsOr Spells input place Follows = (place ≡ length input) ⊎ Behind (IsSpelledAt Spells input place) Follows
 
+-- it may be absent, and what is said holds behind it
 abbrev pub EndsBehind : {X : Type 0} → (List ℕ → X → Type 0) → ℕ → List ℕ → ℕ → (Option X → ℕ → Type 0) → Type 0
 EndsBehind Spells number input place Follows = Behind (IsOptionalAt Spells number input place) Follows
 
+-- the parameters in their order, of which the text, the acknowledgement and the state before may be absent
 abbrev pub EndsBeforeRequired : List ℕ → Type 0
 EndsBeforeRequired input =
     EndsOr (SpellsNumber 0) input 0 (λ process place.
