@@ -9,7 +9,6 @@ use Rattle.bac_tags.specs.ParameterReading.{required, optional, nothing_follows}
 use Rattle.event_services.specs.declared.notification.Notification.{Notification}
 use Rattle.event_services.specs.declared.read_note.NoteFault.{NoteFault}
 use Rattle.event_services.specs.declared.read_note.NoteFault.TheVariants as faults
-use Rattle.event_services.specs.NoteTexts.{HasText}
 use Rattle.event_services.specs.NoteReading.{octet_number_at, state_at, text_at, moment_at, values_at}
 
 -- [0] to [3]: process, device, object, time stamp
@@ -72,5 +71,5 @@ as_note (Ok x) = Ok x
 as_note (Err why) = Err (fault_of why)
 
 -- what was answered is what reading gives, but that a text may get no memory
-abbrev pub GivesNote : {X : Type 0} → List ℕ → Result X NoteFault → Result X Malformed → Type 0
-GivesNote input answer read = (answer ≡ as_note read) ⊎ ((answer ≡ Err faults.NoMemory) × HasText input)
+abbrev pub GivesNote : {X : Type 0} → Type 0 → Result X NoteFault → Result X Malformed → Type 0
+GivesNote Text answer read = (answer ≡ as_note read) ⊎ ((answer ≡ Err faults.NoMemory) × Text)
