@@ -7,7 +7,7 @@ use Rattle.bac_values.specs.BitString.{BitString}
 use Rattle.bac_values.specs.Identifier.{Identifier}
 use Rattle.bac_values.specs.declared.value.Value.TheVariants as values
 use Rattle.bac_tags.specs.Writing.{written_bits, written_boolean, written_element, written_tag, written_unsigned}
-use Rattle.service_parameters.specs.Tags.{opening, closing}
+use Rattle.bac_tags.specs.EnclosingTags.{opening, closing}
 use Rattle.notify_class.specs.declared.class.Class.{Class}
 use Rattle.notify_class.specs.Recipients.{ListedRecipient}
 use Rattle.object_table.specs.Flags.{string_of}

@@ -11,7 +11,7 @@ use Rattle.bac_values.specs.declared.stamp.Stamp.{Stamp}
 use Rattle.bac_values.specs.declared.value.Value.{Value}
 use Rattle.bac_values.specs.declared.value.Value.TheVariants as values
 use Rattle.bac_tags.specs.Writing.{written_object, written_stamp, written_tag, written_value}
-use Rattle.service_parameters.specs.Tags.{opening, closing}
+use Rattle.bac_tags.specs.EnclosingTags.{opening, closing}
 use Rattle.event_machine.specs.Detection.{is_normal}
 use Rattle.event_machine.specs.Next.{new_alarm}
 use Rattle.event_machine.specs.Summary.{AlarmState}

@@ -10,10 +10,11 @@ use crate::encoding::{
 };
 use crate::growing::add;
 use crate::{ClassSite, Content, ReadFault};
-use bac_tags::{Shape, Tag, write_bits, write_bool, write_tag, write_unsigned};
+use bac_tags::{
+    Shape, Tag, write_bits, write_bool, write_closing, write_opening, write_tag, write_unsigned,
+};
 use bac_values::{Bits, Items, NoMemory, Peer, PropertyId};
 use notify_class::Destination;
-use service_parameters::{write_closing, write_opening};
 use std::alloc::Global;
 
 // The numbers of the types of a station's address and of a Time (20.2.1.4).

@@ -16,3 +16,13 @@ pub mod ContentValues
 pub mod ValueLaws
 pub mod RoundTrip
 pub mod BitOrder
+pub mod RequiredReaders
+pub mod TagReaders
+pub mod ElementReaders
+pub mod Sequences
+pub mod Balance
+pub mod Between
+pub mod Reasons
+pub mod OptionalReaders
+pub mod ParameterAnswers
+pub mod ElementAnswers

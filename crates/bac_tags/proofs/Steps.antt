@@ -5,12 +5,12 @@ use Rattle.bac_tags.specs.declared.fault.TagFault.{TagFault}
 use Rattle.bac_tags.specs.Reading.{◌>>=◌}
 
 -- the value of a step that did not fail
-pub bind_ok : {A B : Type 0} (r : Result A TagFault) (f : A → Result B TagFault) (y : B) → (r >>= f) ≡ Ok y → (x : A) × (r ≡ Ok x) × (f x ≡ Ok y)
+pub bind_ok : {A B E : Type 0} (r : Result A E) (f : A → Result B E) (y : B) → (r >>= f) ≡ Ok y → (x : A) × (r ≡ Ok x) × (f x ≡ Ok y)
 bind_ok (Ok x) f y e = (x, refl, e)
 bind_ok (Err d) f y e = absurd cc
 
 -- where two steps fail, the first does, or the second after it
-pub bind_err : {A B : Type 0} (r : Result A TagFault) (f : A → Result B TagFault) (e : TagFault) → (r >>= f) ≡ Err e → (r ≡ Err e) ⊎ ((x : A) × (r ≡ Ok x) × (f x ≡ Err e))
+pub bind_err : {A B E : Type 0} (r : Result A E) (f : A → Result B E) (e : E) → (r >>= f) ≡ Err e → (r ≡ Err e) ⊎ ((x : A) × (r ≡ Ok x) × (f x ≡ Err e))
 bind_err (Ok x) f e h = inr (x, refl, h)
 bind_err (Err d) f e h = inl cc
 
@@ -19,11 +19,17 @@ pub chosen : {X : Type 0} (b : Bool) (x y z : X) → cond b x y ≡ z → ((b �
 chosen true x y z e = inl (refl, e)
 chosen false x y z e = inr (refl, e)
 
-abbrev done : {A : Type 0} → A → Result A TagFault
+abbrev done : {A E : Type 0} → A → Result A E
 done x = Ok x
 
-pub ok_is : {A : Type 0} (x y : A) → done x ≡ done y → x ≡ y
+pub ok_is : {A E : Type 0} (x y : A) → done {E = E} x ≡ done y → x ≡ y
 ok_is x y e = cc
+
+abbrev failed : {A E : Type 0} → E → Result A E
+failed fault = Err fault
+
+pub err_is : {A E : Type 0} (a b : E) → failed {A = A} a ≡ failed b → a ≡ b
+err_is a b e = cc
 
 -- a test that did not fail
 pub guard_ok : {A : Type 0} (b : Bool) (d : TagFault) (x y : A) → cond b (Err d) (Ok x) ≡ Ok y → (b ≡ false) × (x ≡ y)

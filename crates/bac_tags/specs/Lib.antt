@@ -6,3 +6,9 @@ pub mod Elements
 pub mod Contents
 pub mod Stamps
 pub mod Values
+pub mod EnclosingTags
+pub mod Balanced
+pub mod Parameters
+pub mod Refusals
+pub mod ParameterReading
+pub mod ParameterWriting

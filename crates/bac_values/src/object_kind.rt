@@ -4,7 +4,7 @@ ghost use Rattle.bac_values.specs.Identifier.{number_of_kind, kind_of};
 /// The types of objects that the server knows (ANSI/ASHRAE 135-2020, clause 12).
 #[derive(Clone, Copy, Debug, PartialEq, Eq)]
 pub enum ObjectKind {
-    /// A value that is active or inactive (12.55).
+    /// A value that is active or inactive (12.8).
     BinaryValue,
     /// The device itself (12.11).
     Device,
@@ -16,7 +16,7 @@ pub enum ObjectKind {
     MultiStateValue,
     /// A log of event notifications (12.27).
     EventLog,
-    /// A string of bits (12.38).
+    /// A string of bits (12.40).
     BitStringValue,
     /// A text (12.37).
     CharacterStringValue,

@@ -10,4 +10,4 @@ mod reading;
 mod writing;
 
 pub use reading::{Incoming, unwrap};
-pub use writing::{MAX_APDU, wrap};
+pub use writing::wrap;

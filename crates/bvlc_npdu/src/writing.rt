@@ -1,16 +1,13 @@
-ghost use Rattle.std.specs.Prelude.{◌≡◌, ◌≤◌, ◌<◌, ◌++◌, length, IfOk, OnOk};
+ghost use Rattle.std.specs.Prelude.{◌≡◌, ◌+◌, ◌≤◌, ◌<◌, ◌++◌, length, IfOk, OnOk};
 ghost use Rattle.bac_values.specs.Address.{Address};
 ghost use Rattle.bvlc_npdu.specs.Frame.{IsFrame};
-ghost use Rattle.bvlc_npdu.specs.Writing.{written_control, written_destination, written_frame};
+ghost use Rattle.bvlc_npdu.specs.Writing.{most_octets_of_apdu, written_control, written_destination, written_frame};
 
 use crate::layout::{
     BVLL_OF_IP, EXPECTS_REPLY, HAS_DESTINATION, HOP_COUNT, ORIGINAL_UNICAST, VERSION,
 };
 use bac_values::{NoMemory, Peer};
 use std::alloc::{AllocError, Global};
-
-/// The most octets that an APDU has on BACnet/IP.
-pub const MAX_APDU: usize = 1476;
 
 /// The control octet: whether a destination is named, and whether a reply is expected.
 fn control(peer: &Peer, expects_reply: bool) -> u8
@@ -48,24 +45,32 @@ fn destination_len(peer: &Peer) -> usize
     }
 }
 
-/// The frame that carries an APDU to a peer, which says whether a reply is expected.
+/// How many octets the frame takes that carries an APDU to a peer.
+fn frame_len(peer: &Peer, apdu: &[u8]) -> u16
+    requires short { length apdu.now ≤ most_octets_of_apdu }
+    ensures { result ≡ 6 + length (written_destination peer.now) + length apdu.now }
+{
+    (6 + destination_len(peer) + apdu.len()) as u16
+}
+
+/// The frame that carries an APDU of at most 1476 octets to a peer, which says whether a reply is expected.
 pub fn wrap(
     alloc: Global,
     peer: &Peer,
     expects_reply: bool,
     apdu: &[u8],
 ) -> Result<Vec<u8>, NoMemory>
-    requires { length apdu.now ≤ MAX_APDU }
+    requires { length apdu.now ≤ most_octets_of_apdu }
     ensures text { IfOk result (λ octets. octets.items ≡ written_frame peer.now expects_reply apdu.now) }
 
     // To a peer of the local network it is a frame with this APDU, from whoever sends it.
     ensures read_back { peer.now.net ≡ 0 → (sender : Address) → 0 < sender.port
         → IfOk result (λ octets. IsFrame sender octets.items sender apdu.now) }
 {
-    let len = 6 + destination_len(peer) + apdu.len();
-    let mut octets = Vec::with_capacity(alloc, len)?;
+    let len = frame_len(peer, apdu);
+    let mut octets = Vec::with_capacity(alloc, usize::from(len))?;
     octets.extend_from_slice(&[BVLL_OF_IP, ORIGINAL_UNICAST])?;
-    octets.extend_from_slice(&(len as u16).to_be_bytes())?;
+    octets.extend_from_slice(&len.to_be_bytes())?;
     octets.extend_from_slice(&[VERSION, control(peer, expects_reply)])?;
     append_destination(&mut octets, peer)?;
     octets.extend_from_slice(apdu)?;

@@ -5,16 +5,16 @@ use Rattle.std.proofs.lemmas.List.{length-append, length-drop, drop_all, drop_at
 use Rattle.bac_values.specs.Identifier.{Identifier}
 use Rattle.bac_tags.specs.declared.fault.TagFault.{TagFault}
 use Rattle.bac_tags.specs.Contents.{SpellsUnsigned, SpellsObject}
-use Rattle.bac_tags.specs.Reading.{valued, content_at, unsigned_at, object_at}
+use Rattle.bac_tags.specs.Reading.{valued, content_at, unsigned_at, object_at, ◌>>=◌}
 use Rattle.bac_tags.proofs.Standing.{IsBytes, Stands, Stands-from, Stands-then, Stands-front, Stands-back, Stands-within}
-use Rattle.service_parameters.specs.declared.malformed.Malformed.{Malformed}
-use Rattle.service_parameters.specs.Refusals.{invalid_tag, missing_parameter, too_many_arguments}
-use Rattle.service_parameters.specs.Reading.{◌>>=◌, or_invalid, required, nothing_follows}
-use Rattle.service_parameters.specs.Tags.{enclosed_at}
-use Rattle.service_parameters.proofs.Reasons.{five_four, five_seven, four_seven}
-use Rattle.service_parameters.proofs.Steps.{bind_ok, ok_is, err_is}
-use Rattle.service_parameters.proofs.ElementReaders.{Reader, whole, unsigned_reader, object_reader, octets_reader}
-use Rattle.service_parameters.proofs.Sequences.{required_ok, required_again, nothing_ok, nothing_err, nothing_more, nothing_none}
+use Rattle.bac_tags.specs.declared.malformed.Malformed.{Malformed}
+use Rattle.bac_tags.specs.Refusals.{invalid_tag, missing_parameter, too_many_arguments}
+use Rattle.bac_tags.specs.ParameterReading.{or_invalid, required, nothing_follows}
+use Rattle.bac_tags.specs.EnclosingTags.{enclosed_at}
+use Rattle.bac_tags.proofs.Reasons.{five_four, five_seven, four_seven}
+use Rattle.bac_tags.proofs.Steps.{bind_ok, ok_is, err_is}
+use Rattle.bac_tags.proofs.ElementReaders.{Reader, whole, unsigned_reader, object_reader, octets_reader}
+use Rattle.bac_tags.proofs.Sequences.{required_ok, required_again, nothing_ok, nothing_err, nothing_more, nothing_none}
 use Rattle.event_services.specs.declared.acknowledge.AckRequest.{AckRequest}
 use Rattle.event_services.specs.declared.time_stamp.AckStamp.{AckStamp}
 use Rattle.event_services.specs.TimeStamps.{time_stamp_at}

@@ -3,16 +3,16 @@ use Rattle.std.proofs.Common.{◌≡◌, ℕ, zero, suc, ◌+◌, ◌<◌, ◌�
 use Rattle.std.specs.Prelude.{◌⊎◌}
 use Rattle.bac_tags.specs.declared.fault.TagFault.{TagFault}
 use Rattle.bac_tags.specs.Contents.{SpellsUnsigned, SpellsEnumerated, SpellsObject}
-use Rattle.bac_tags.specs.Reading.{valued, content_at, unsigned_at, object_at}
+use Rattle.bac_tags.specs.Reading.{valued, content_at, unsigned_at, object_at, ◌>>=◌}
 use Rattle.bac_tags.proofs.Standing.{IsBytes, Stands, Stands-nil, Stands-then, Stands-front, Stands-back, Stands-within}
-use Rattle.service_parameters.specs.declared.malformed.Malformed.{Malformed}
-use Rattle.service_parameters.specs.Refusals.{invalid_tag, missing_parameter}
-use Rattle.service_parameters.specs.Reading.{◌>>=◌, required, nothing_follows}
-use Rattle.service_parameters.specs.Tags.{enclosed_at}
-use Rattle.service_parameters.proofs.Steps.{bind_err, ok_is, err_is}
-use Rattle.service_parameters.proofs.RequiredReaders.{required_outside}
-use Rattle.service_parameters.proofs.ElementReaders.{Reader, whole, unsigned_reader, object_reader, octets_reader}
-use Rattle.service_parameters.proofs.Sequences.{required_err, required_ok, required_again}
+use Rattle.bac_tags.specs.declared.malformed.Malformed.{Malformed}
+use Rattle.bac_tags.specs.Refusals.{invalid_tag, missing_parameter}
+use Rattle.bac_tags.specs.ParameterReading.{required, nothing_follows}
+use Rattle.bac_tags.specs.EnclosingTags.{enclosed_at}
+use Rattle.bac_tags.proofs.Steps.{bind_err, ok_is, err_is}
+use Rattle.bac_tags.proofs.RequiredReaders.{required_outside}
+use Rattle.bac_tags.proofs.ElementReaders.{Reader, whole, unsigned_reader, object_reader, octets_reader}
+use Rattle.bac_tags.proofs.Sequences.{required_err, required_ok, required_again}
 use Rattle.event_services.specs.Acknowledgements.{SpellsSource, SpellsStampOf, SpellsParameter, SpellsParameters}
 use Rattle.event_services.specs.TimeStamps.{time_stamp_at}
 use Rattle.event_services.proofs.StampReaders.{stamp_of_reader}

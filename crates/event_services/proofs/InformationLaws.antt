@@ -7,19 +7,19 @@ use Rattle.bac_tags.specs.declared.fault.TagFault.{TagFault}
 use Rattle.bac_tags.specs.Places.{IsSpelledAt}
 use Rattle.bac_tags.specs.Elements.{HasOtherTag}
 use Rattle.bac_tags.specs.Contents.{IsObject, SpellsObject}
-use Rattle.bac_tags.specs.Reading.{identifier_of, object_at}
+use Rattle.bac_tags.specs.Reading.{identifier_of, object_at, ◌>>=◌}
 use Rattle.bac_tags.proofs.Standing.{IsBytes, Stands-within}
 use Rattle.bac_tags.proofs.Readers.{reads}
 use Rattle.bac_tags.proofs.Numbers.{identifier_values}
-use Rattle.service_parameters.specs.declared.malformed.Malformed.{Malformed}
-use Rattle.service_parameters.specs.Refusals.{invalid_tag, too_many_arguments}
-use Rattle.service_parameters.specs.Parameters.{IsOptionalAt}
-use Rattle.service_parameters.specs.Reading.{◌>>=◌, optional, nothing_follows}
-use Rattle.service_parameters.proofs.Reasons.{four_seven}
-use Rattle.service_parameters.proofs.Steps.{bind_ok, bind_err, ok_is}
-use Rattle.service_parameters.proofs.ElementReaders.{spelled_from, element_some, tag_some}
-use Rattle.service_parameters.proofs.RequiredReaders.{ReadsOptional, reads_optional}
-use Rattle.service_parameters.proofs.Sequences.{optional_err, nothing_ok, nothing_err, nothing_more, nothing_none}
+use Rattle.bac_tags.specs.declared.malformed.Malformed.{Malformed}
+use Rattle.bac_tags.specs.Refusals.{invalid_tag, too_many_arguments}
+use Rattle.bac_tags.specs.Parameters.{IsOptionalAt}
+use Rattle.bac_tags.specs.ParameterReading.{optional, nothing_follows}
+use Rattle.bac_tags.proofs.Reasons.{four_seven}
+use Rattle.bac_tags.proofs.Steps.{bind_ok, bind_err, ok_is}
+use Rattle.bac_tags.proofs.ElementReaders.{spelled_from, element_some, tag_some}
+use Rattle.bac_tags.proofs.RequiredReaders.{ReadsOptional, reads_optional}
+use Rattle.bac_tags.proofs.Sequences.{optional_err, nothing_ok, nothing_err, nothing_more, nothing_none}
 use Rattle.event_services.specs.Information.{SpellsInformationRequest, HasMoreThanObject, HasNoObject, information_request_of}
 use Rattle.event_services.proofs.AckLaws.{all_there, more_left, split, some_left}
 

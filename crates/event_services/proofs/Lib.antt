@@ -11,3 +11,7 @@ pub mod NoteLaws
 pub mod NoteAgain
 pub mod NoteWritten
 pub mod NoteLengthLaws
+pub mod LateFaults
+pub mod NoteExact
+pub mod NoteMissing
+pub mod TextPlaces

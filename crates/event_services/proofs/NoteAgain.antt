@@ -12,14 +12,15 @@ use Rattle.bac_tags.specs.Contents.{IsUnsigned, SpellsObject, SpellsBoolean}
 use Rattle.bac_tags.specs.Reading.{content_at, unsigned_at, object_at, boolean_at}
 use Rattle.bac_tags.proofs.Standing.{Stands, Stands-front, Stands-back, Stands-within}
 use Rattle.bac_tags.proofs.ElementLaws.{header_other}
-use Rattle.service_parameters.specs.Reading.{optional}
-use Rattle.service_parameters.proofs.ElementReaders.{Reader, object_reader, boolean_reader}
-use Rattle.service_parameters.proofs.Sequences.{required_again, nothing_none}
-use Rattle.service_parameters.proofs.OptionalReaders.{optional_again, optional_none}
+use Rattle.bac_tags.specs.ParameterReading.{optional}
+use Rattle.bac_tags.proofs.ElementReaders.{Reader, object_reader, boolean_reader}
+use Rattle.bac_tags.proofs.Sequences.{required_again, nothing_none}
+use Rattle.bac_tags.proofs.OptionalReaders.{optional_again, optional_none}
 use Rattle.event_services.specs.declared.notification.Notification.{Notification}
 use Rattle.event_services.specs.NoteReading.{Reads, number_at, octet_number_at, state_at, text_at, moment_at, values_at}
 use Rattle.event_services.specs.NoteService.{source_at, kind_at, states_at, notification_of}
-use Rattle.event_services.specs.NoteGrammar.{SpellsIf, SpellsNumber, SpellsOctetNumber, SpellsState, SpellsText, SpellsMoment, SpellsValuesOf, SpellsNotification}
+use Rattle.event_services.specs.NoteGrammar.{SpellsNumber, SpellsOctetNumber, SpellsState, SpellsText, SpellsMoment, SpellsValuesOf, SpellsNotification}
+use Rattle.bac_tags.specs.Parameters.{SpellsIfGiven}
 use Rattle.event_services.proofs.AckLaws.{from_start}
 use Rattle.event_services.proofs.NoteReaders.{number_reader, octet_number_reader, state_reader, text_reader, moment_reader}
 use Rattle.event_services.proofs.ToldReaders.{values_reader}
@@ -66,7 +67,7 @@ boolean_other input place number h = rw (content_other input place 1 number 1 1 
 
 -- ---- an optional parameter, there or not
 
-allowed_again : {X : Type 0} (Spells : List ℕ → X → Type 0) (read : Reads X) → Reader Spells read → (input : List ℕ) (place : ℕ) (octets : List ℕ) (x : Option X) (end : ℕ) → place ≤ length input → SpellsIf Spells octets x → Stands input place octets end
+allowed_again : {X : Type 0} (Spells : List ℕ → X → Type 0) (read : Reads X) → Reader Spells read → (input : List ℕ) (place : ℕ) (octets : List ℕ) (x : Option X) (end : ℕ) → place ≤ length input → SpellsIfGiven Spells octets x → Stands input place octets end
     → (end ≡ place → place < length input → read input place ≡ Err (WrongTag place)) → optional input place (read input place) ≡ Ok (x, end)
 allowed_again Spells read r input place octets (Some x) end le s p absent = optional_again Spells read r input place octets x end le s p
 allowed_again Spells read r input place octets None end le s p absent =
@@ -119,12 +120,12 @@ kind_again input place a b c end class priority type le sa sb sc p =
     refl
 
 -- what stands behind a notify type: the state before, or the state after
-behind_notify : (input : List ℕ) (place : ℕ) (c d : List ℕ) (end : ℕ) (from : Option EventState) (to : EventState) → SpellsIf (SpellsState 10) c from → SpellsState 11 d to → Stands input place (c ++ d) end → HasOtherTag 1 (Some 9) (drop place input)
+behind_notify : (input : List ℕ) (place : ℕ) (c d : List ℕ) (end : ℕ) (from : Option EventState) (to : EventState) → SpellsIfGiven (SpellsState 10) c from → SpellsState 11 d to → Stands input place (c ++ d) end → HasOtherTag 1 (Some 9) (drop place input)
 behind_notify input place c d end (Some state) to sc sd p = other 10 9 1 input place (λ e. omega (arith, e)) (ahead 10 2 IsUnsigned input place c _ (place + length c) sc (Stands-front input place c d end p))
 behind_notify input place c d end None to sc sd p = other 11 9 1 input place (λ e. omega (arith, e)) (ahead 11 2 IsUnsigned input place d _ end sd (subst (λ (o : List ℕ). Stands input place (o ++ d) end) sc p))
 
 states_again : (input : List ℕ) (place : ℕ) (a b c d : List ℕ) (end notify : ℕ) (ack : Option Bool) (from : Option EventState) (to : EventState) → place ≤ length input
-    → SpellsOctetNumber 8 a notify → SpellsIf (SpellsBoolean (Some 9)) b ack → SpellsIf (SpellsState 10) c from → SpellsState 11 d to → Stands input place (a ++ (b ++ (c ++ d))) end → states_at input place ≡ Ok ((notify, ack, from, to), end)
+    → SpellsOctetNumber 8 a notify → SpellsIfGiven (SpellsBoolean (Some 9)) b ack → SpellsIfGiven (SpellsState 10) c from → SpellsState 11 d to → Stands input place (a ++ (b ++ (c ++ d))) end → states_at input place ≡ Ok ((notify, ack, from, to), end)
 unfolding states_at
 states_again input place a b c d end notify ack from to le sa sb sc sd p =
     let q1 = Stands-front input place a (b ++ (c ++ d)) end p in

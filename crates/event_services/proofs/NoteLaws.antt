@@ -2,24 +2,25 @@
 use Rattle.std.proofs.Common.{◌≡◌, ℕ, ◌≤◌, Bool, Option, Some, None, List, [], ◌++◌, length, Result, Ok, refl, sym, ap, subst, ◌∙◌, arith}
 use Rattle.bac_values.specs.Identifier.{Identifier}
 use Rattle.bac_tags.specs.Contents.{SpellsObject, SpellsBoolean}
-use Rattle.bac_tags.specs.Reading.{object_at, boolean_at}
+use Rattle.bac_tags.specs.Reading.{object_at, boolean_at, ◌>>=◌}
 use Rattle.bac_tags.proofs.Standing.{IsBytes, Stands, Stands-nil, Stands-then, Stands-within}
 use Rattle.bac_tags.proofs.Answered.{Spelled}
-use Rattle.service_parameters.specs.declared.malformed.Malformed.{Malformed}
-use Rattle.service_parameters.specs.Reading.{◌>>=◌, required, optional, nothing_follows}
-use Rattle.service_parameters.proofs.Steps.{bind_ok, ok_is}
-use Rattle.service_parameters.proofs.ElementReaders.{Reader, object_reader, boolean_reader}
-use Rattle.service_parameters.proofs.Sequences.{required_ok, nothing_ok}
+use Rattle.bac_tags.specs.declared.malformed.Malformed.{Malformed}
+use Rattle.bac_tags.specs.ParameterReading.{required, optional, nothing_follows}
+use Rattle.bac_tags.proofs.Steps.{bind_ok, ok_is}
+use Rattle.bac_tags.proofs.ElementReaders.{Reader, object_reader, boolean_reader}
+use Rattle.bac_tags.proofs.Sequences.{required_ok, nothing_ok}
 use Rattle.event_services.specs.declared.notification.Notification.{Notification}
 use Rattle.event_services.specs.declared.notification.EventValues.{EventValues}
 use Rattle.event_services.specs.NoteReading.{Reads, number_at, octet_number_at, state_at, text_at, moment_at, values_at}
 use Rattle.event_services.specs.NoteService.{source_at, kind_at, states_at, notification_of}
-use Rattle.event_services.specs.NoteGrammar.{SpellsIf, SpellsNumber, SpellsOctetNumber, SpellsState, SpellsText, SpellsMoment, SpellsValuesOf, SpellsNotification}
+use Rattle.event_services.specs.NoteGrammar.{SpellsNumber, SpellsOctetNumber, SpellsState, SpellsText, SpellsMoment, SpellsValuesOf, SpellsNotification}
+use Rattle.bac_tags.specs.Parameters.{SpellsIfGiven}
 use Rattle.event_services.proofs.AckLaws.{all_there}
 use Rattle.event_services.proofs.NoteChain.{Source, Kind, States, note_of}
 use Rattle.event_services.proofs.NoteReaders.{number_reader, octet_number_reader, state_reader, text_reader, moment_reader}
 use Rattle.event_services.proofs.ToldReaders.{values_reader}
-use Rattle.service_parameters.proofs.OptionalReaders.{optional_ok}
+use Rattle.bac_tags.proofs.OptionalReaders.{optional_ok}
 
 -- ---- parameters in turn
 
@@ -27,16 +28,16 @@ use Rattle.service_parameters.proofs.OptionalReaders.{optional_ok}
 abbrev pub Finds : {X : Type 0} → (List ℕ → X → Type 0) → (List ℕ → ℕ → Result (X × ℕ) Malformed) → Type 0
 Finds {X = X} Spells read = (input : List ℕ) (place : ℕ) (x : X × ℕ) → IsBytes input → place ≤ length input → read input place ≡ Ok x → Spelled Spells input place x.0 x.1
 
-abbrev needed : {X : Type 0} → Reads X → List ℕ → ℕ → Result (X × ℕ) Malformed
+abbrev pub needed : {X : Type 0} → Reads X → List ℕ → ℕ → Result (X × ℕ) Malformed
 needed read input place = required input place (read input place)
 
-abbrev allowed : {X : Type 0} → Reads X → List ℕ → ℕ → Result (Option X × ℕ) Malformed
+abbrev pub allowed : {X : Type 0} → Reads X → List ℕ → ℕ → Result (Option X × ℕ) Malformed
 allowed read input place = optional input place (read input place)
 
 finds_needed : {X : Type 0} (Spells : List ℕ → X → Type 0) (read : Reads X) → Reader Spells read → Finds Spells (needed read)
 finds_needed Spells read r input place x bytes le e = required_ok Spells read r input place x bytes le e
 
-finds_allowed : {X : Type 0} (Spells : List ℕ → X → Type 0) (read : Reads X) → Reader Spells read → Finds (SpellsIf Spells) (allowed read)
+finds_allowed : {X : Type 0} (Spells : List ℕ → X → Type 0) (read : Reads X) → Reader Spells read → Finds (SpellsIfGiven Spells) (allowed read)
 finds_allowed Spells read r input place (None, end) bytes le e = let a = optional_ok Spells read r input place (None, end) bytes le e in record { octets = []; stands = subst (Stands input place []) (sym a) (Stands-nil input place); spells = refl }
 finds_allowed Spells read r input place (Some x, end) bytes le e = let a = optional_ok Spells read r input place (Some x, end) bytes le e in record { octets = a.octets; stands = a.stands; spells = a.spells }
 
@@ -66,13 +67,13 @@ pub record Between (Says : List ℕ → Type 0) (input : List ℕ) (place end : 
   pub stands : Stands input place octets end
   pub says : Says octets
 
-abbrev last3 : {A B C : Type 0} → A → B → C × ℕ → Result ((A × B × C) × ℕ) Malformed
+abbrev pub last3 : {A B C : Type 0} → A → B → C × ℕ → Result ((A × B × C) × ℕ) Malformed
 last3 a b c = Ok ((a, b, c.0), c.1)
 
-abbrev rest3 : {A B C : Type 0} → (List ℕ → ℕ → Result (C × ℕ) Malformed) → List ℕ → A → B × ℕ → Result ((A × B × C) × ℕ) Malformed
+abbrev pub rest3 : {A B C : Type 0} → (List ℕ → ℕ → Result (C × ℕ) Malformed) → List ℕ → A → B × ℕ → Result ((A × B × C) × ℕ) Malformed
 rest3 rc input a b = rc input b.1 >>= last3 a b.0
 
-abbrev more3 : {A B C : Type 0} → (List ℕ → ℕ → Result (B × ℕ) Malformed) → (List ℕ → ℕ → Result (C × ℕ) Malformed) → List ℕ → A × ℕ → Result ((A × B × C) × ℕ) Malformed
+abbrev pub more3 : {A B C : Type 0} → (List ℕ → ℕ → Result (B × ℕ) Malformed) → (List ℕ → ℕ → Result (C × ℕ) Malformed) → List ℕ → A × ℕ → Result ((A × B × C) × ℕ) Malformed
 more3 rb rc input a = rb input a.1 >>= rest3 rc input a.0
 
 pub find3 : {A B C : Type 0} (SA : List ℕ → A → Type 0) (SB : List ℕ → B → Type 0) (SC : List ℕ → C → Type 0) (ra : List ℕ → ℕ → Result (A × ℕ) Malformed) (rb : List ℕ → ℕ → Result (B × ℕ) Malformed) (rc : List ℕ → ℕ → Result (C × ℕ) Malformed)
@@ -93,16 +94,16 @@ find3 {A = A} {B = B} {C = C} SA SB SC ra rb rc fa fb fc input place z bytes le 
       says = record { first = sa.octets; second = sb.octets; third = sc.octets; parts = refl {a = sa.octets ++ (sb.octets ++ sc.octets)}; is_first = sa.spells; is_second = sb.spells; is_third = sc.spells };
     })
 
-abbrev last4 : {A B C D : Type 0} → A → B → C → D × ℕ → Result ((A × B × C × D) × ℕ) Malformed
+abbrev pub last4 : {A B C D : Type 0} → A → B → C → D × ℕ → Result ((A × B × C × D) × ℕ) Malformed
 last4 a b c d = Ok ((a, b, c, d.0), d.1)
 
-abbrev rest4 : {A B C D : Type 0} → (List ℕ → ℕ → Result (D × ℕ) Malformed) → List ℕ → A → B → C × ℕ → Result ((A × B × C × D) × ℕ) Malformed
+abbrev pub rest4 : {A B C D : Type 0} → (List ℕ → ℕ → Result (D × ℕ) Malformed) → List ℕ → A → B → C × ℕ → Result ((A × B × C × D) × ℕ) Malformed
 rest4 rd input a b c = rd input c.1 >>= last4 a b c.0
 
-abbrev more4 : {A B C D : Type 0} → (List ℕ → ℕ → Result (C × ℕ) Malformed) → (List ℕ → ℕ → Result (D × ℕ) Malformed) → List ℕ → A → B × ℕ → Result ((A × B × C × D) × ℕ) Malformed
+abbrev pub more4 : {A B C D : Type 0} → (List ℕ → ℕ → Result (C × ℕ) Malformed) → (List ℕ → ℕ → Result (D × ℕ) Malformed) → List ℕ → A → B × ℕ → Result ((A × B × C × D) × ℕ) Malformed
 more4 rc rd input a b = rc input b.1 >>= rest4 rd input a b.0
 
-abbrev all4 : {A B C D : Type 0} → (List ℕ → ℕ → Result (B × ℕ) Malformed) → (List ℕ → ℕ → Result (C × ℕ) Malformed) → (List ℕ → ℕ → Result (D × ℕ) Malformed) → List ℕ → A × ℕ → Result ((A × B × C × D) × ℕ) Malformed
+abbrev pub all4 : {A B C D : Type 0} → (List ℕ → ℕ → Result (B × ℕ) Malformed) → (List ℕ → ℕ → Result (C × ℕ) Malformed) → (List ℕ → ℕ → Result (D × ℕ) Malformed) → List ℕ → A × ℕ → Result ((A × B × C × D) × ℕ) Malformed
 all4 rb rc rd input a = rb input a.1 >>= more4 rc rd input a.0
 
 pub find4 : {A B C D : Type 0} (SA : List ℕ → A → Type 0) (SB : List ℕ → B → Type 0) (SC : List ℕ → C → Type 0) (SD : List ℕ → D → Type 0) (ra : List ℕ → ℕ → Result (A × ℕ) Malformed) (rb : List ℕ → ℕ → Result (B × ℕ) Malformed) (rc : List ℕ → ℕ → Result (C × ℕ) Malformed) (rd : List ℕ → ℕ → Result (D × ℕ) Malformed)
@@ -128,10 +129,10 @@ find4 {A = A} {B = B} {C = C} {D = D} SA SB SC SD ra rb rc rd fa fb fc fd input 
 
 -- ---- the groups of parameters
 
-abbrev object_in : ℕ → Reads Identifier
+abbrev pub object_in : ℕ → Reads Identifier
 object_in number input place = object_at input place (Some number)
 
-abbrev boolean_in : ℕ → Reads Bool
+abbrev pub boolean_in : ℕ → Reads Bool
 boolean_in number input place = boolean_at input place (Some number)
 
 find_source : (input : List ℕ) (z : Source) → IsBytes input → source_at input ≡ Ok z → Between (λ octets. Four (SpellsNumber 0) (SpellsObject (Some 1)) (SpellsObject (Some 2)) (SpellsMoment 3) octets z.0.0 z.0.1 z.0.2 z.0.3) input 0 z.1
@@ -147,30 +148,30 @@ find_kind input place z bytes le e =
     (finds_needed (SpellsNumber 4) (number_at 4) (number_reader 4)) (finds_needed (SpellsOctetNumber 5) (octet_number_at 5) (octet_number_reader 5)) (finds_needed (SpellsOctetNumber 6) (octet_number_at 6) (octet_number_reader 6)) input place z bytes le e
 
 find_states : (input : List ℕ) (place : ℕ) (z : States) → IsBytes input → place ≤ length input → states_at input place ≡ Ok z
-    → Between (λ octets. Four (SpellsOctetNumber 8) (SpellsIf (SpellsBoolean (Some 9))) (SpellsIf (SpellsState 10)) (SpellsState 11) octets z.0.0 z.0.1 z.0.2 z.0.3) input place z.1
+    → Between (λ octets. Four (SpellsOctetNumber 8) (SpellsIfGiven (SpellsBoolean (Some 9))) (SpellsIfGiven (SpellsState 10)) (SpellsState 11) octets z.0.0 z.0.1 z.0.2 z.0.3) input place z.1
 unfolding states_at
 find_states input place z bytes le e =
-    find4 (SpellsOctetNumber 8) (SpellsIf (SpellsBoolean (Some 9))) (SpellsIf (SpellsState 10)) (SpellsState 11) (needed (octet_number_at 8)) (allowed (boolean_in 9)) (allowed (state_at 10)) (needed (state_at 11))
+    find4 (SpellsOctetNumber 8) (SpellsIfGiven (SpellsBoolean (Some 9))) (SpellsIfGiven (SpellsState 10)) (SpellsState 11) (needed (octet_number_at 8)) (allowed (boolean_in 9)) (allowed (state_at 10)) (needed (state_at 11))
     (finds_needed (SpellsOctetNumber 8) (octet_number_at 8) (octet_number_reader 8)) (finds_allowed (SpellsBoolean (Some 9)) (boolean_in 9) (boolean_reader 9)) (finds_allowed (SpellsState 10) (state_at 10) (state_reader 10)) (finds_needed (SpellsState 11) (state_at 11) (state_reader 11)) input place z bytes le e
 
 -- ---- what is read is spelled so
 
-abbrev from_values : List ℕ → Source → Kind → Option (List ℕ) → States → Option EventValues × ℕ → Result Notification Malformed
+abbrev pub from_values : List ℕ → Source → Kind → Option (List ℕ) → States → Option EventValues × ℕ → Result Notification Malformed
 from_values input source kind text states values = nothing_follows input values.1 >>= λ nothing. Ok (note_of source kind text states values.0)
 
-abbrev from_states : List ℕ → Source → Kind → Option (List ℕ) → States → Result Notification Malformed
+abbrev pub from_states : List ℕ → Source → Kind → Option (List ℕ) → States → Result Notification Malformed
 from_states input source kind text states = allowed (values_at kind.0.2) input states.1 >>= from_values input source kind text states
 
-abbrev from_text : List ℕ → Source → Kind → Option (List ℕ) × ℕ → Result Notification Malformed
+abbrev pub from_text : List ℕ → Source → Kind → Option (List ℕ) × ℕ → Result Notification Malformed
 from_text input source kind text = states_at input text.1 >>= from_states input source kind text.0
 
-abbrev from_kind : List ℕ → Source → Kind → Result Notification Malformed
+abbrev pub from_kind : List ℕ → Source → Kind → Result Notification Malformed
 from_kind input source kind = allowed (text_at 7) input kind.1 >>= from_text input source kind
 
-abbrev from_source : List ℕ → Source → Result Notification Malformed
+abbrev pub from_source : List ℕ → Source → Result Notification Malformed
 from_source input source = kind_at input source.1 >>= from_kind input source
 
-abbrev chain : List ℕ → Result Notification Malformed
+abbrev pub chain : List ℕ → Result Notification Malformed
 chain input = source_at input >>= from_source input
 
 pub is_chain : (input : List ℕ) → notification_of input ≡ chain input
@@ -188,9 +189,9 @@ record Whole (input : List ℕ) (note : Notification) : Type 0 where
   past : length input ≤ values.1
   sourced : Between (λ octets. Four (SpellsNumber 0) (SpellsObject (Some 1)) (SpellsObject (Some 2)) (SpellsMoment 3) octets source.0.0 source.0.1 source.0.2 source.0.3) input 0 source.1
   kinds : Between (λ octets. Three (SpellsNumber 4) (SpellsOctetNumber 5) (SpellsOctetNumber 6) octets kind.0.0 kind.0.1 kind.0.2) input source.1 kind.1
-  worded : Spelled (SpellsIf (SpellsText 7)) input kind.1 text.0 text.1
-  stated : Between (λ octets. Four (SpellsOctetNumber 8) (SpellsIf (SpellsBoolean (Some 9))) (SpellsIf (SpellsState 10)) (SpellsState 11) octets states.0.0 states.0.1 states.0.2 states.0.3) input text.1 states.1
-  told : Spelled (SpellsIf (SpellsValuesOf kind.0.2)) input states.1 values.0 values.1
+  worded : Spelled (SpellsIfGiven (SpellsText 7)) input kind.1 text.0 text.1
+  stated : Between (λ octets. Four (SpellsOctetNumber 8) (SpellsIfGiven (SpellsBoolean (Some 9))) (SpellsIfGiven (SpellsState 10)) (SpellsState 11) octets states.0.0 states.0.1 states.0.2 states.0.3) input text.1 states.1
+  told : Spelled (SpellsIfGiven (SpellsValuesOf kind.0.2)) input states.1 values.0 values.1
 
 abbrev given : Notification → Unit {0} → Result Notification Malformed
 given note nothing = Ok note

@@ -20,11 +20,12 @@ use Rattle.bac_tags.specs.declared.tag.Shape.TheVariants.{Primitive, Opening, Cl
 use Rattle.bac_tags.specs.Contents.{mirrored}
 use Rattle.bac_tags.specs.Elements.{element_tag}
 use Rattle.bac_tags.specs.Writing.{written_tag, written_number, written_length, written_shape, written_element, unsigned_size, half_size, signed_size, written_unsigned, written_signed, written_object, written_boolean, octets_of_bits, unused_of_bits, written_bits, written_stamp, written_value}
-use Rattle.service_parameters.specs.Tags.{opening, closing}
+use Rattle.bac_tags.specs.EnclosingTags.{opening, closing}
 use Rattle.event_services.specs.declared.notification.Notification.{Notification}
 use Rattle.event_services.specs.declared.notification.EventValues.{EventValues}
 use Rattle.event_services.specs.declared.notification.EventValues.TheVariants.{Bitstring, State, Command, UnsignedRange, SignedOutOfRange, UnsignedOutOfRange, Characterstring, Reliability}
-use Rattle.event_services.specs.Notifications.{type_of_values, written_enclosed, written_text_in, bits_of_flags, written_flags, state_number, written_property, written_told, written_if, written_values, written_source, written_kind, written_event, written_states}
+use Rattle.event_services.specs.Notifications.{type_of_values, written_text_in, bits_of_flags, written_flags, state_number, written_property, written_told, written_values, written_source, written_kind, written_event, written_states}
+use Rattle.bac_tags.specs.ParameterWriting.{written_enclosed, written_if_given}
 use Rattle.event_services.specs.NoteLengths.{most_octets, HasShortText, IsShort, AreShort}
 use Rattle.event_services.specs.NoteRanges.{IfAny}
 
@@ -184,20 +185,20 @@ told_octets (Characterstring changed flags alarm) short =
 told_octets (Reliability reliability flags property) short =
     omega (arith, three_octets (written_unsigned (Some 0) (number_of_reliability reliability)) (written_flags flags) (written_enclosed 2 (written_property property)) 11 9 303 (unsigned_octets (Some 0) (number_of_reliability reliability)) (flags_octets flags) (enclosed_octets 2 (written_property property) 289 (property_octets property short)))
 
-values_octets : (values : Option EventValues) → IfAny AreShort values → length (written_if written_values values) ≤ 593
+values_octets : (values : Option EventValues) → IfAny AreShort values → length (written_if_given written_values values) ≤ 593
 values_octets None short = omega arith
 values_octets (Some told) short =
     enclosed_octets 12 (written_enclosed (type_of_values told) (written_told told)) 579 (enclosed_octets (type_of_values told) (written_told told) 565 (told_octets told short))
 
-message_octets : (text : Option (List ℕ)) → IfAny HasShortText text → length (written_if (written_text_in 7) text) ≤ 264
+message_octets : (text : Option (List ℕ)) → IfAny HasShortText text → length (written_if_given (written_text_in 7) text) ≤ 264
 message_octets None short = omega arith
 message_octets (Some text) short = text_octets 7 text short
 
-ack_octets : (ack_required : Option Bool) → length (written_if (written_boolean (Some 9)) ack_required) ≤ 8
+ack_octets : (ack_required : Option Bool) → length (written_if_given (written_boolean (Some 9)) ack_required) ≤ 8
 ack_octets None = omega arith
 ack_octets (Some required) = boolean_octets (Some 9) required
 
-from_octets : (from : Option EventState) → length (written_if (λ state. written_unsigned (Some 10) (number_of_state state)) from) ≤ 11
+from_octets : (from : Option EventState) → length (written_if_given (λ state. written_unsigned (Some 10) (number_of_state state)) from) ≤ 11
 from_octets None = omega arith
 from_octets (Some state) = unsigned_octets (Some 10) (number_of_state state)
 
@@ -216,11 +217,11 @@ event_octets note eight =
 
 states_octets : (note : Notification) → length (written_states note) ≤ 41
 states_octets note =
-    four_octets (written_unsigned (Some 8) note.notify) (written_if (written_boolean (Some 9)) note.ack_required) (written_if (λ state. written_unsigned (Some 10) (number_of_state state)) note.from) (written_unsigned (Some 11) (number_of_state note.to)) 11 8 11 11
+    four_octets (written_unsigned (Some 8) note.notify) (written_if_given (written_boolean (Some 9)) note.ack_required) (written_if_given (λ state. written_unsigned (Some 10) (number_of_state state)) note.from) (written_unsigned (Some 11) (number_of_state note.to)) 11 8 11 11
     (unsigned_octets (Some 8) note.notify) (ack_octets note.ack_required) (from_octets note.from) (unsigned_octets (Some 11) (number_of_state note.to))
 
 -- what was written part by part, of a notification with a whole stamp and with short texts, has at most 1,014 octets
-pub parts_octets : (note : Notification) (start event message states all : List ℕ) → start ≡ [] → event ≡ start ++ written_event note → message ≡ event ++ written_if (written_text_in 7) note.text → states ≡ message ++ written_states note → all ≡ states ++ written_if written_values note.values
+pub parts_octets : (note : Notification) (start event message states all : List ℕ) → start ≡ [] → event ≡ start ++ written_event note → message ≡ event ++ written_if_given (written_text_in 7) note.text → states ≡ message ++ written_states note → all ≡ states ++ written_if_given written_values note.values
     → length note.stamp.octets ≡ 8 → IfAny HasShortText note.text → IfAny AreShort note.values → length all ≤ most_octets
 parts_octets note start event message states all e f g h i eight text values =
     omega (
@@ -231,9 +232,9 @@ parts_octets note start event message states all e f g h i eight text values =
       ap (λ (xs : List ℕ). length xs) h,
       ap (λ (xs : List ℕ). length xs) i,
       length-append start (written_event note),
-      length-append event (written_if (written_text_in 7) note.text),
+      length-append event (written_if_given (written_text_in 7) note.text),
       length-append message (written_states note),
-      length-append states (written_if written_values note.values),
+      length-append states (written_if_given written_values note.values),
       event_octets note eight,
       message_octets note.text text,
       states_octets note,

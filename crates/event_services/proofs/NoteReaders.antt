@@ -29,8 +29,8 @@ use Rattle.bac_tags.proofs.Readers.{Forms, reads_form, form_again}
 use Rattle.byteorder.specs.Endian.{big_number}
 use Rattle.bac_tags.proofs.Mirror.{mirrored_small}
 use Rattle.bac_tags.proofs.ValueLaws.{value_found, value_again}
-use Rattle.service_parameters.specs.Tags.{SpellsEnclosed, enclosed_at}
-use Rattle.service_parameters.proofs.ElementReaders.{Reader, read_found as spelled_found, element_some, tag_some, unsigned_reader, bits_reader, stamp_reader, enclosed_reader}
+use Rattle.bac_tags.specs.EnclosingTags.{SpellsEnclosed, enclosed_at}
+use Rattle.bac_tags.proofs.ElementReaders.{Reader, read_found as spelled_found, element_some, tag_some, unsigned_reader, bits_reader, stamp_reader, enclosed_reader}
 use Rattle.event_services.specs.Notifications.{bits_of_flags}
 use Rattle.event_services.specs.NoteReading.{Reads, both_at, held_at, number_at, octet_of, octet_number_at, state_at, flags_of, flags_at, text_of, text_at, moment_at}
 use Rattle.event_services.specs.NoteGrammar.{SpellsBoth, SpellsNumber, SpellsOctetNumber, SpellsState, SpellsReliability, SpellsFlags, IsTextContent, SpellsText, SpellsMoment}
@@ -227,7 +227,7 @@ text_one : (content text : List ℕ) → IsTextContent content text → text_of 
 text_one content text h =
     subst (λ (xs : List ℕ). text_of xs ≡ Some text) (sym h.0) (text_from (0 ∷ text) text (omega arith) refl h.1 refl h.2)
 
-text_forms : Forms 1 257 text_of IsTextContent
+pub text_forms : Forms 1 257 text_of IsTextContent
 text_forms = record {
   is = λ content x bytes right e. text_is content x e;
   right = λ content x h. (omega (arith, ap length h.0), omega (arith, ap length h.0, h.1));

@@ -16,13 +16,15 @@ use Rattle.bac_tags.specs.Values.{SpellsValue, IsOneElement}
 use Rattle.bac_tags.specs.Writing.{written_tag, written_unsigned, written_signed, written_object, written_boolean, written_bits, written_stamp, written_value}
 use Rattle.bac_tags.proofs.Written.{tag_written}
 use Rattle.bac_tags.proofs.WrittenElements.{element_written, unsigned_written, signed_written, object_written, boolean_written, bits_written, stamp_written, value_written}
-use Rattle.service_parameters.specs.Tags.{opening, closing, SpellsEnclosed}
+use Rattle.bac_tags.specs.EnclosingTags.{opening, closing, SpellsEnclosed}
 use Rattle.event_services.specs.declared.notification.Notification.{Notification}
 use Rattle.event_services.specs.declared.notification.EventValues.{EventValues}
 use Rattle.event_services.specs.declared.notification.EventValues.TheVariants.{Bitstring, State, Command, UnsignedRange, SignedOutOfRange, UnsignedOutOfRange, Characterstring, Reliability}
-use Rattle.event_services.specs.Notifications.{type_of_values, written_enclosed, written_text_in, bits_of_flags, written_flags, state_number, written_property, written_told, written_if, written_values, written_notification}
+use Rattle.event_services.specs.Notifications.{type_of_values, written_text_in, bits_of_flags, written_flags, state_number, written_property, written_told, written_values, written_notification}
+use Rattle.bac_tags.specs.ParameterWriting.{written_enclosed, written_if_given}
 use Rattle.event_services.specs.NoteService.{notification_of}
-use Rattle.event_services.specs.NoteGrammar.{SpellsBoth, SpellsIf, SpellsNumber, SpellsOctetNumber, SpellsState, SpellsReliability, SpellsFlags, IsTextContent, SpellsText, SpellsMoment, SpellsPropertyState, SpellsPropertyList, SpellsTold, SpellsToldOf, SpellsValuesOf, SpellsNotification}
+use Rattle.event_services.specs.NoteGrammar.{SpellsBoth, SpellsNumber, SpellsOctetNumber, SpellsState, SpellsReliability, SpellsFlags, IsTextContent, SpellsText, SpellsMoment, SpellsPropertyState, SpellsPropertyList, SpellsTold, SpellsToldOf, SpellsValuesOf, SpellsNotification}
+use Rattle.bac_tags.specs.Parameters.{SpellsIfGiven}
 use Rattle.event_services.specs.NoteRanges.{IsLong, IsText, IfAny, IsInRange, IsNotable}
 use Rattle.event_services.proofs.NoteAgain.{note_again}
 
@@ -126,19 +128,19 @@ values_written type told h =
 
 -- ---- parameters that may be absent
 
-if_text : (text : Option (List ℕ)) → IfAny IsText text → SpellsIf (SpellsText 7) (written_if (written_text_in 7) text) text
+if_text : (text : Option (List ℕ)) → IfAny IsText text → SpellsIfGiven (SpellsText 7) (written_if_given (written_text_in 7) text) text
 if_text None h = refl
 if_text (Some text) h = text_written 7 text h
 
-if_required : (required : Option Bool) → SpellsIf (SpellsBoolean (Some 9)) (written_if (written_boolean (Some 9)) required) required
+if_required : (required : Option Bool) → SpellsIfGiven (SpellsBoolean (Some 9)) (written_if_given (written_boolean (Some 9)) required) required
 if_required None = refl
 if_required (Some required) = boolean_written (Some 9) required
 
-if_from : (from : Option EventState) → SpellsIf (SpellsState 10) (written_if (λ state. written_unsigned (Some 10) (number_of_state state)) from) from
+if_from : (from : Option EventState) → SpellsIfGiven (SpellsState 10) (written_if_given (λ state. written_unsigned (Some 10) (number_of_state state)) from) from
 if_from None = refl
 if_from (Some state) = number_written 10 (number_of_state state) (state_small state)
 
-if_values : (type : ℕ) (values : Option EventValues) → IfAny (λ told. (type_of_values told ≡ type) × IsInRange told) values → SpellsIf (SpellsValuesOf type) (written_if written_values values) values
+if_values : (type : ℕ) (values : Option EventValues) → IfAny (λ told. (type_of_values told ≡ type) × IsInRange told) values → SpellsIfGiven (SpellsValuesOf type) (written_if_given written_values values) values
 if_values type None h = refl
 if_values type (Some told) h = values_written type told h
 
@@ -157,15 +159,15 @@ note_written note h = record {
   class = written_unsigned (Some 4) note.class;
   priority = written_unsigned (Some 5) note.priority;
   type = written_unsigned (Some 6) note.event_type;
-  text = written_if (written_text_in 7) note.text;
+  text = written_if_given (written_text_in 7) note.text;
   notify = written_unsigned (Some 8) note.notify;
-  ack = written_if (written_boolean (Some 9)) note.ack_required;
-  from = written_if (λ state. written_unsigned (Some 10) (number_of_state state)) note.from;
+  ack = written_if_given (written_boolean (Some 9)) note.ack_required;
+  from = written_if_given (λ state. written_unsigned (Some 10) (number_of_state state)) note.from;
   to = written_unsigned (Some 11) (number_of_state note.to);
-  values = written_if written_values note.values;
+  values = written_if_given written_values note.values;
   parts =
       grouped (written_unsigned (Some 0) note.process) (written_object (Some 1) note.device) (written_object (Some 2) note.object) (written_enclosed 3 (written_enclosed 2 (written_stamp note.stamp))) (written_unsigned (Some 4) note.class) (written_unsigned (Some 5) note.priority) (written_unsigned (Some 6) note.event_type)
-      (written_if (written_text_in 7) note.text) (written_unsigned (Some 8) note.notify) (written_if (written_boolean (Some 9)) note.ack_required) (written_if (λ state. written_unsigned (Some 10) (number_of_state state)) note.from) (written_unsigned (Some 11) (number_of_state note.to)) (written_if written_values note.values);
+      (written_if_given (written_text_in 7) note.text) (written_unsigned (Some 8) note.notify) (written_if_given (written_boolean (Some 9)) note.ack_required) (written_if_given (λ state. written_unsigned (Some 10) (number_of_state state)) note.from) (written_unsigned (Some 11) (number_of_state note.to)) (written_if_given written_values note.values);
   named_process = number_written 0 note.process h.process;
   named_device = object_written (Some 1) note.device h.device;
   named_object = object_written (Some 2) note.object h.object;

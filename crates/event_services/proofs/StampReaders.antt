@@ -12,8 +12,8 @@ use Rattle.bac_tags.proofs.Steps.{bind_ok, chosen, ok_is}
 use Rattle.bac_tags.proofs.Standing.{IsBytes, Stands, Stands-front}
 use Rattle.bac_tags.proofs.Answered.{Spelled}
 use Rattle.bac_tags.proofs.TagLaws.{tag_again}
-use Rattle.service_parameters.specs.Tags.{opening, SpellsEnclosed, IsOctets, enclosed_at}
-use Rattle.service_parameters.proofs.ElementReaders.{Reader, element_some, whole, unsigned_reader, octets_reader, stamp_reader, enclosed_reader}
+use Rattle.bac_tags.specs.EnclosingTags.{opening, SpellsEnclosed, IsOctets, enclosed_at}
+use Rattle.bac_tags.proofs.ElementReaders.{Reader, element_some, whole, unsigned_reader, octets_reader, stamp_reader, enclosed_reader}
 use Rattle.event_services.specs.declared.time_stamp.AckStamp.{AckStamp}
 use Rattle.event_services.specs.declared.time_stamp.AckStamp.TheVariants.{Time, Sequence, DateTime}
 use Rattle.event_services.specs.TimeStamps.{SpellsTimeStamp, form_at, time_stamp_at}

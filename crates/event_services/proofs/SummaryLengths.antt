@@ -9,9 +9,9 @@ use Rattle.bac_values.specs.declared.event_state.EventState.{EventState}
 use Rattle.bac_values.specs.declared.event_state.EventState.TheVariants.{Normal, Fault, Offnormal, HighLimit, LowLimit}
 use Rattle.bac_values.specs.declared.stamp.Stamp.{Stamp}
 use Rattle.bac_tags.specs.Writing.{written_tag, written_element, written_unsigned, written_object, written_boolean, written_bits}
-use Rattle.service_parameters.specs.Tags.{opening, closing}
+use Rattle.bac_tags.specs.EnclosingTags.{opening, closing}
 use Rattle.event_services.specs.declared.information.EventSummary.{EventSummary}
-use Rattle.event_services.specs.Notifications.{written_enclosed}
+use Rattle.bac_tags.specs.ParameterWriting.{written_enclosed}
 use Rattle.event_services.specs.Information.{string_of_bits, written_moment, written_state, written_notifying, written_summary}
 
 pub object_length : (id : Identifier) → length (written_object (Some 0) id) ≡ 5

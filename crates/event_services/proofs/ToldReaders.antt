@@ -18,8 +18,8 @@ use Rattle.bac_tags.proofs.Steps.{bind_ok, chosen, ok_is}
 use Rattle.bac_tags.proofs.Standing.{IsBytes, Stands, Stands-then, Stands-front, Stands-back, Stands-within}
 use Rattle.bac_tags.proofs.Answered.{Spelled}
 use Rattle.bac_tags.proofs.TagLaws.{tag_again}
-use Rattle.service_parameters.specs.Tags.{opening, closing, SpellsEnclosed, is_closing, opening_at, closing_at, enclosed_at}
-use Rattle.service_parameters.proofs.ElementReaders.{Reader, tag_some, opening_found, opening_again, closing_found, closing_again, signed_reader, bits_reader, enclosed_reader}
+use Rattle.bac_tags.specs.EnclosingTags.{opening, closing, SpellsEnclosed, is_closing, opening_at, closing_at, enclosed_at}
+use Rattle.bac_tags.proofs.ElementReaders.{Reader, tag_some, opening_found, opening_again, closing_found, closing_again, signed_reader, bits_reader, enclosed_reader}
 use Rattle.event_services.specs.declared.notification.EventValues.{EventValues}
 use Rattle.event_services.specs.declared.notification.EventValues.TheVariants.{Bitstring, State, Command, UnsignedRange, SignedOutOfRange, UnsignedOutOfRange, Characterstring, Reliability}
 use Rattle.event_services.specs.Notifications.{state_number}
@@ -71,7 +71,7 @@ state_found : (input : List ℕ) (place : ℕ) (x : (Bool × ℕ) × ℕ) → Is
 unfolding property_state_at
 state_found input place x bytes le e = let a = bind_ok (tag_at input place) (after_tag input place) x e in state_in_found a.0.0.number input place x bytes le a.2
 
-property_state_reader : Reader SpellsPropertyState property_state_at
+pub property_state_reader : Reader SpellsPropertyState property_state_at
 property_state_reader = record {
   found = λ input place x bytes le e. state_found input place x bytes le e;
   again = λ input place octets x end le s p. state_again input place octets x.0 x.1 end le s p;
@@ -80,7 +80,7 @@ property_state_reader = record {
 
 -- ---- the value of a property
 
-reliability_reader : (number : ℕ) → Reader (SpellsReliability number) (reliability_number_at number)
+pub reliability_reader : (number : ℕ) → Reader (SpellsReliability number) (reliability_number_at number)
 unfolding reliability_number_at
 reliability_reader number = held_reader (SpellsNumber number) (number_at number) reliability_of_number (SpellsReliability number) (number_reader number) (reliability_holds number)
 
@@ -90,7 +90,7 @@ present_found n x e = elim (cases_Bool (eqb n 85)) [
   | inr not ↦ absurd (let h = rw not at e in cc)
 ]
 
-present_holds : Holds (SpellsNumber 0) present_value SpellsPresentValue
+pub present_holds : Holds (SpellsNumber 0) present_value SpellsPresentValue
 present_holds = record { to = λ octets x y s e. subst (SpellsNumber 0 octets) (present_found x y e) s; from = λ octets y s. (85, s, refl) }
 
 abbrev made : {X Y : Type 0} → (X → Y) → X × ℕ → Result (Y × ℕ) TagFault
@@ -119,7 +119,7 @@ pair_at = both_at (held_at present_value (number_at 0)) (enclosed_at value_at 2)
 pair_reader : Reader Pair pair_at
 pair_reader = both_reader SpellsPresentValue (SpellsEnclosed 2 SpellsValue) (held_at present_value (number_at 0)) (enclosed_at value_at 2) (held_reader (SpellsNumber 0) (number_at 0) present_value SpellsPresentValue (number_reader 0) present_holds) (enclosed_reader SpellsValue value_at 2 value_reader)
 
-property_value_reader : Reader SpellsPropertyValue property_value_at
+pub property_value_reader : Reader SpellsPropertyValue property_value_at
 unfolding property_value_at
 property_value_reader = record {
   found = λ input place z bytes le e. made_found Pair pair_at pair_reader second SpellsPropertyValue (λ octets x s. s) input place z bytes le e;
@@ -495,7 +495,7 @@ told_some octets (UnsignedOutOfRange value flags deadband limit) s = unsigned_ou
 told_some octets (Characterstring changed flags alarm) s = changed_text_parts.some octets (changed, (flags, alarm)) s
 told_some octets (Reliability reliability flags property) s = reliability_parts.some octets (reliability, (flags, property)) s
 
-told_reader : (type : ℕ) → Reader (SpellsToldOf type) (told_at type)
+pub told_reader : (type : ℕ) → Reader (SpellsToldOf type) (told_at type)
 told_reader type = record {
   found = λ input place z bytes le e. told_found type input place z bytes le e;
   again = λ input place octets told end le s p. told_again type input place octets told end le s p;

@@ -1,12 +1,12 @@
--- The parameters of AcknowledgeAlarm (ANSI/ASHRAE 135-2020, 13.3 and clause 21, AcknowledgeAlarm-Request).
+-- The parameters of AcknowledgeAlarm (ANSI/ASHRAE 135-2020, 13.5 and clause 21, AcknowledgeAlarm-Request).
 use Rattle.std.specs.Prelude.{◌≡◌, ◌≢◌, ℕ, zero, suc, ◌<◌, Some, List, [], ◌++◌, length, Result, Ok, Err}
 use Rattle.bac_values.specs.Identifier.{Identifier}
 use Rattle.bac_tags.specs.declared.fault.TagFault.{TagFault}
 use Rattle.bac_tags.specs.Contents.{SpellsUnsigned, SpellsEnumerated, SpellsObject}
-use Rattle.bac_tags.specs.Reading.{content_at, unsigned_at, object_at}
-use Rattle.service_parameters.specs.declared.malformed.Malformed.{Malformed}
-use Rattle.service_parameters.specs.Reading.{◌>>=◌, required, nothing_follows}
-use Rattle.service_parameters.specs.Tags.{SpellsEnclosed, SpellsOctets, enclosed_at}
+use Rattle.bac_tags.specs.Reading.{content_at, unsigned_at, object_at, ◌>>=◌}
+use Rattle.bac_tags.specs.declared.malformed.Malformed.{Malformed}
+use Rattle.bac_tags.specs.ParameterReading.{required, nothing_follows}
+use Rattle.bac_tags.specs.EnclosingTags.{SpellsEnclosed, SpellsOctets, enclosed_at}
 use Rattle.event_services.specs.declared.acknowledge.AckRequest.{AckRequest}
 use Rattle.event_services.specs.declared.time_stamp.AckStamp.{AckStamp}
 use Rattle.event_services.specs.TimeStamps.{SpellsTimeStamp, time_stamp_at}

@@ -7,13 +7,13 @@ use Rattle.bac_values.specs.Identifier.{Identifier}
 use Rattle.bac_values.specs.declared.stamp.Stamp.{Stamp}
 use Rattle.bac_tags.specs.Elements.{HasOtherTag}
 use Rattle.bac_tags.specs.Contents.{SpellsObject}
-use Rattle.bac_tags.specs.Reading.{object_at}
+use Rattle.bac_tags.specs.Reading.{object_at, ◌>>=◌}
 use Rattle.bac_tags.specs.Writing.{written_unsigned, written_object, written_boolean, written_bits, written_stamp}
-use Rattle.service_parameters.specs.declared.malformed.Malformed.{Malformed}
-use Rattle.service_parameters.specs.Parameters.{IsThere, IsAbsent}
-use Rattle.service_parameters.specs.Reading.{◌>>=◌, optional, nothing_follows}
+use Rattle.bac_tags.specs.declared.malformed.Malformed.{Malformed}
+use Rattle.bac_tags.specs.Parameters.{IsThere, IsAbsent}
+use Rattle.bac_tags.specs.ParameterReading.{optional, nothing_follows}
 use Rattle.event_services.specs.declared.information.EventSummary.{EventSummary}
-use Rattle.event_services.specs.Notifications.{written_enclosed}
+use Rattle.bac_tags.specs.ParameterWriting.{written_enclosed}
 
 -- [0] the last object that was received, if one was
 abbrev pub SpellsInformationRequest : List ℕ → Option Identifier → Type 0

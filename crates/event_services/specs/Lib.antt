@@ -4,6 +4,8 @@ pub mod Notifications
 pub mod Information
 pub mod NoteReading
 pub mod NoteService
+pub mod NoteRefusals
 pub mod NoteGrammar
 pub mod NoteRanges
 pub mod NoteLengths
+pub mod NoteTexts

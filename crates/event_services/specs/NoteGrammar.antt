@@ -1,5 +1,5 @@
 -- Which octets are a notification (ANSI/ASHRAE 135-2020, clause 21, ConfirmedEventNotification-Request and BACnetNotificationParameters), in any spelling of its elements.
-use Rattle.std.specs.Prelude.{◌≡◌, ℕ, ◌<◌, ◌≤◌, Bool, Option, Some, None, List, [], ◌∷◌, ◌++◌, length, IsUtf8}
+use Rattle.std.specs.Prelude.{◌≡◌, ℕ, ◌<◌, ◌≤◌, Bool, Option, Some, List, ◌∷◌, ◌++◌, length, IsUtf8}
 use Rattle.bac_values.specs.EventStates.{number_of_state}
 use Rattle.bac_values.specs.Reliabilities.{number_of_reliability}
 use Rattle.bac_values.specs.declared.event_state.EventState.{EventState}
@@ -11,7 +11,8 @@ use Rattle.bac_tags.specs.Elements.{SpellsElement}
 use Rattle.bac_tags.specs.Contents.{SpellsUnsigned, SpellsSigned, SpellsObject, SpellsBoolean, SpellsBits}
 use Rattle.bac_tags.specs.Stamps.{SpellsStamp}
 use Rattle.bac_tags.specs.Values.{SpellsValue}
-use Rattle.service_parameters.specs.Tags.{SpellsEnclosed}
+use Rattle.bac_tags.specs.EnclosingTags.{SpellsEnclosed}
+use Rattle.bac_tags.specs.Parameters.{SpellsIfGiven}
 use Rattle.event_services.specs.declared.notification.Notification.{Notification}
 use Rattle.event_services.specs.declared.notification.EventValues.{EventValues}
 use Rattle.event_services.specs.declared.notification.EventValues.TheVariants.{Bitstring, State, Command, UnsignedRange, SignedOutOfRange, UnsignedOutOfRange, Characterstring, Reliability}
@@ -24,11 +25,6 @@ pub record SpellsBoth {X Y : Type 0} (First : List ℕ → X → Type 0) (Second
   pub parts : octets ≡ front ++ back
   pub first : First front both.0
   pub second : Second back both.1
-
--- nothing, or the value
-abbrev pub SpellsIf : {X : Type 0} → (List ℕ → X → Type 0) → List ℕ → Option X → Type 0
-SpellsIf Spells octets None = octets ≡ []
-SpellsIf Spells octets (Some x) = Spells octets x
 
 -- ---- elements; in a context an Enumerated is spelled as an Unsigned is
 
@@ -73,7 +69,7 @@ abbrev pub SpellsPropertyValue : List ℕ → Value → Type 0
 SpellsPropertyValue octets value = SpellsBoth SpellsPresentValue (SpellsEnclosed 2 SpellsValue) octets (tt, value)
 
 abbrev pub SpellsPropertyList : List ℕ → Option Value → Type 0
-SpellsPropertyList = SpellsIf SpellsPropertyValue
+SpellsPropertyList = SpellsIfGiven SpellsPropertyValue
 
 abbrev pub SpellsTold : List ℕ → EventValues → Type 0
 SpellsTold octets (Bitstring referenced flags) = SpellsBoth (SpellsBits (Some 0)) SpellsFlags octets (referenced, flags)
@@ -121,9 +117,9 @@ pub record SpellsNotification (octets : List ℕ) (note : Notification) : Type 0
   pub classed : SpellsNumber 4 class note.class
   pub ranked : SpellsOctetNumber 5 priority note.priority
   pub typed : SpellsOctetNumber 6 type note.event_type
-  pub worded : SpellsIf (SpellsText 7) text note.text
+  pub worded : SpellsIfGiven (SpellsText 7) text note.text
   pub notified : SpellsOctetNumber 8 notify note.notify
-  pub required : SpellsIf (SpellsBoolean (Some 9)) ack note.ack_required
-  pub left : SpellsIf (SpellsState 10) from note.from
+  pub required : SpellsIfGiven (SpellsBoolean (Some 9)) ack note.ack_required
+  pub left : SpellsIfGiven (SpellsState 10) from note.from
   pub entered : SpellsState 11 to note.to
-  pub told : SpellsIf (SpellsValuesOf note.event_type) values note.values
+  pub told : SpellsIfGiven (SpellsValuesOf note.event_type) values note.values

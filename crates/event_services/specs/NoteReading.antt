@@ -13,7 +13,7 @@ use Rattle.bac_values.specs.declared.value.Value.{Value}
 use Rattle.bac_tags.specs.declared.fault.TagFault.{TagFault}
 use Rattle.bac_tags.specs.declared.fault.TagFault.TheVariants.{WrongTag, BadLength, NoMemory}
 use Rattle.bac_tags.specs.Reading.{◌>>=◌, content_at, tag_at, unsigned_at, signed_at, bits_at, stamp_at, value_at}
-use Rattle.service_parameters.specs.Tags.{is_closing, opening_at, closing_at, enclosed_at}
+use Rattle.bac_tags.specs.EnclosingTags.{is_closing, opening_at, closing_at, enclosed_at}
 use Rattle.event_services.specs.declared.notification.EventValues.{EventValues}
 use Rattle.event_services.specs.declared.notification.EventValues.TheVariants.{Bitstring, State, Command, UnsignedRange, SignedOutOfRange, UnsignedOutOfRange, Characterstring, Reliability}
 
@@ -140,6 +140,6 @@ told_at type input place =
 unfoldable pub values_at : ℕ → Reads EventValues
 values_at type = enclosed_at (enclosed_at (told_at type) type) 12
 
--- what was answered is what reading gives, or no memory
-abbrev pub GivesRead : {X : Type 0} → Result X TagFault → Result X TagFault → Type 0
-GivesRead answer read = (answer ≡ read) ⊎ (answer ≡ Err NoMemory)
+-- what was answered is what reading gives, but that a text may get no memory
+abbrev pub GivesRead : {X : Type 0} → Type 0 → Result X TagFault → Result X TagFault → Type 0
+GivesRead Text answer read = (answer ≡ read) ⊎ ((answer ≡ Err NoMemory) × Text)

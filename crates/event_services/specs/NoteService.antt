@@ -3,9 +3,9 @@ use Rattle.std.specs.Prelude.{◌≡◌, ℕ, ◌⊎◌, Bool, Option, Some, Lis
 use Rattle.bac_values.specs.Identifier.{Identifier}
 use Rattle.bac_values.specs.declared.event_state.EventState.{EventState}
 use Rattle.bac_values.specs.declared.stamp.Stamp.{Stamp}
-use Rattle.bac_tags.specs.Reading.{unsigned_at, object_at, boolean_at}
-use Rattle.service_parameters.specs.declared.malformed.Malformed.{Malformed}
-use Rattle.service_parameters.specs.Reading.{◌>>=◌, required, optional, nothing_follows}
+use Rattle.bac_tags.specs.Reading.{unsigned_at, object_at, boolean_at, ◌>>=◌}
+use Rattle.bac_tags.specs.declared.malformed.Malformed.{Malformed}
+use Rattle.bac_tags.specs.ParameterReading.{required, optional, nothing_follows}
 use Rattle.event_services.specs.declared.notification.Notification.{Notification}
 use Rattle.event_services.specs.declared.read_note.NoteFault.{NoteFault}
 use Rattle.event_services.specs.declared.read_note.NoteFault.TheVariants as faults
@@ -70,6 +70,6 @@ abbrev pub as_note : {X : Type 0} → Result X Malformed → Result X NoteFault
 as_note (Ok x) = Ok x
 as_note (Err why) = Err (fault_of why)
 
--- what was answered is what reading gives, or no memory
-abbrev pub GivesNote : {X : Type 0} → Result X NoteFault → Result X Malformed → Type 0
-GivesNote answer read = (answer ≡ as_note read) ⊎ (answer ≡ Err faults.NoMemory)
+-- what was answered is what reading gives, but that a text may get no memory
+abbrev pub GivesNote : {X : Type 0} → Type 0 → Result X NoteFault → Result X Malformed → Type 0
+GivesNote Text answer read = (answer ≡ as_note read) ⊎ ((answer ≡ Err faults.NoMemory) × Text)

@@ -7,8 +7,8 @@ use Rattle.bac_values.specs.Reliabilities.{number_of_reliability}
 use Rattle.bac_values.specs.declared.status_flags.StatusFlags.{StatusFlags}
 use Rattle.bac_values.specs.declared.value.Value.{Value}
 use Rattle.bac_values.specs.declared.value.Value.TheVariants as values
-use Rattle.bac_tags.specs.Writing.{written_tag, written_element, written_unsigned, written_signed, written_object, written_boolean, written_bits, written_stamp, written_value}
-use Rattle.service_parameters.specs.Tags.{opening, closing}
+use Rattle.bac_tags.specs.Writing.{written_element, written_unsigned, written_signed, written_object, written_boolean, written_bits, written_stamp, written_value}
+use Rattle.bac_tags.specs.ParameterWriting.{written_enclosed, written_if_given}
 use Rattle.event_services.specs.declared.notification.Notification.{Notification}
 use Rattle.event_services.specs.declared.notification.EventValues.{EventValues}
 use Rattle.event_services.specs.declared.notification.EventValues.TheVariants.{Bitstring, State, Command, UnsignedRange, SignedOutOfRange, UnsignedOutOfRange, Characterstring, Reliability}
@@ -58,10 +58,6 @@ IsTold type (Some told) = (type_of_values told ≡ type) × HasOneValues told
 
 -- ---- the one spelling
 
--- what stands between the tags of a number
-abbrev pub written_enclosed : ℕ → List ℕ → List ℕ
-written_enclosed number inside = written_tag (opening number) ++ inside ++ written_tag (closing number)
-
 -- a text in UTF-8 with a number in a context
 abbrev pub written_text_in : ℕ → List ℕ → List ℕ
 written_text_in number text = written_element 7 (Some number) (0 ∷ text)
@@ -96,11 +92,6 @@ written_told (Characterstring changed flags alarm) = written_text_in 0 changed +
 written_told (Reliability reliability flags property) =
     written_unsigned (Some 0) (number_of_reliability reliability) ++ written_flags flags ++ written_enclosed 2 (written_property property)
 
--- an optional parameter is left out
-abbrev pub written_if : {X : Type 0} → (X → List ℕ) → Option X → List ℕ
-written_if write None = []
-written_if write (Some x) = write x
-
 -- [12], and within it the number of the type
 abbrev pub written_values : EventValues → List ℕ
 written_values told = written_enclosed 12 (written_enclosed (type_of_values told) (written_told told))
@@ -119,8 +110,8 @@ written_event note = written_source note ++ written_enclosed 3 (written_enclosed
 -- from [8] to [11]
 abbrev pub written_states : Notification → List ℕ
 written_states note =
-    written_unsigned (Some 8) note.notify ++ written_if (written_boolean (Some 9)) note.ack_required
-    ++ written_if (λ state. written_unsigned (Some 10) (number_of_state state)) note.from
+    written_unsigned (Some 8) note.notify ++ written_if_given (written_boolean (Some 9)) note.ack_required
+    ++ written_if_given (λ state. written_unsigned (Some 10) (number_of_state state)) note.from
     ++ written_unsigned (Some 11) (number_of_state note.to)
 
 -- a notification as it is told to a process
@@ -129,4 +120,4 @@ told_to process note = record note { process = process }
 
 unfoldable pub written_notification : Notification → List ℕ
 written_notification note =
-    written_event note ++ written_if (written_text_in 7) note.text ++ written_states note ++ written_if written_values note.values
+    written_event note ++ written_if_given (written_text_in 7) note.text ++ written_states note ++ written_if_given written_values note.values

@@ -1,21 +1,20 @@
 ghost use Rattle.std.specs.Prelude.{◌≡◌, ◌↔◌, ◌⊎◌, ℕ, ◌<◌, ◌≤◌, Some, length, IfOk, IfErr};
 ghost use Rattle.bac_tags.specs.Reading.{content_at};
-ghost use Rattle.service_parameters.specs.Refusals.{invalid_tag, missing_parameter, too_many_arguments};
+ghost use Rattle.bac_tags.specs.Refusals.{invalid_tag, missing_parameter, too_many_arguments};
 ghost use Rattle.event_services.specs.declared.acknowledge.AckRequest.{AckRequest};
-ghost use Rattle.service_parameters.specs.Reading.{required};
-ghost use Rattle.service_parameters.specs.Tags.{enclosed_at};
+ghost use Rattle.bac_tags.specs.ParameterReading.{required};
+ghost use Rattle.bac_tags.specs.EnclosingTags.{enclosed_at};
 ghost use Rattle.event_services.specs.TimeStamps.{time_stamp_at};
 ghost use Rattle.event_services.specs.Acknowledgements.{SpellsAcknowledgement, LacksParameter, HasInvalidParameter, HasMore, skipped, acknowledge_request_of};
 
 use crate::AckStamp;
 use crate::time_stamp::enclosed_time_stamp;
-use bac_tags::TagFault;
-use bac_values::ObjectId;
-use service_parameters::{
-    Malformed, nothing_follows, read_octets, required, required_object, required_unsigned,
+use bac_tags::{
+    Malformed, TagFault, nothing_follows, read_octets, required, required_object, required_unsigned,
 };
+use bac_values::ObjectId;
 
-/// A request to acknowledge an alarm (ANSI/ASHRAE 135-2020, 13.3, AcknowledgeAlarm).
+/// A request to acknowledge an alarm (ANSI/ASHRAE 135-2020, 13.5, AcknowledgeAlarm).
 #[derive(Clone, Copy, Debug, PartialEq, Eq)]
 pub struct AckRequest {
     /// The process that acknowledges.

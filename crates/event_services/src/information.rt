@@ -2,16 +2,16 @@ ghost use Rattle.std.specs.Prelude.{◌≡◌, ◌↔◌, ◌⊎◌, ℕ, ◌+�
 ghost use Rattle.bac_values.specs.Identifier.{Identifier};
 ghost use Rattle.bac_tags.specs.Contents.{SpellsObject};
 ghost use Rattle.bac_tags.specs.Writing.{written_unsigned};
-ghost use Rattle.service_parameters.specs.Refusals.{invalid_tag, too_many_arguments};
-ghost use Rattle.event_services.specs.Notifications.{written_enclosed};
+ghost use Rattle.bac_tags.specs.Refusals.{invalid_tag, too_many_arguments};
+ghost use Rattle.bac_tags.specs.ParameterWriting.{written_enclosed};
 ghost use Rattle.event_services.specs.Information.{SpellsInformationRequest, HasMoreThanObject, HasNoObject, information_request_of, string_of_bits, written_moment, written_state, written_notifying, written_summary, written_information};
 
 use crate::write_note::write_enclosed_stamp;
-use bac_tags::{write_bits, write_bool, write_object, write_unsigned};
-use bac_values::{Bits, EventState, NoMemory, ObjectId, Stamp};
-use service_parameters::{
-    Malformed, nothing_follows, optional_object, write_closing, write_opening,
+use bac_tags::{
+    Malformed, nothing_follows, optional_object, write_bits, write_bool, write_closing,
+    write_object, write_opening, write_unsigned,
 };
+use bac_values::{Bits, EventState, NoMemory, ObjectId, Stamp};
 use std::alloc::Global;
 
 /// What is told of one object in answer to a GetEventInformation (BACnetEventSummary). Lists of three are in the order

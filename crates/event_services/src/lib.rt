@@ -12,9 +12,9 @@ mod time_stamp;
 mod write_note;
 
 pub use acknowledge::{AckRequest, read_ack};
+pub use bac_tags::Malformed;
 pub use information::{EventSummary, read_information_request, write_information};
 pub use notification::{EventValues, Notification};
 pub use read_note::{NoteFault, read_notification, reads_back};
-pub use service_parameters::Malformed;
 pub use time_stamp::AckStamp;
 pub use write_note::{write_notification, write_notification_to};

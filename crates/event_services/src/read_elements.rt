@@ -1,10 +1,10 @@
 ghost use Rattle.std.specs.Prelude.{◌≡◌, ◌<◌, ◌≤◌, length, IfOk, IfSome, MatchOption};
+ghost use Rattle.event_services.specs.NoteTexts.{IsText};
 ghost use Rattle.event_services.specs.NoteReading.{GivesRead, octet_number_at, state_at, flags_of, flags_at, text_of, text_at, moment_at};
 
 use crate::time_stamp::enclosed_stamp;
-use bac_tags::{TagFault, read_bits, read_unsigned};
+use bac_tags::{TagFault, read_bits, read_closing, read_octets, read_opening, read_unsigned};
 use bac_values::{Bits, EventState, Stamp, StatusFlags, Text};
-use service_parameters::{read_closing, read_octets, read_opening};
 use std::alloc::Global;
 
 /// The number of one octet with that number in a context, and the place after it.
@@ -105,7 +105,7 @@ pub(crate) fn text_at(
     number: u8,
 ) -> Result<(Text, usize), TagFault>
     requires { at ≤ length input.now }
-    ensures exact { GivesRead result (text_at number input.now at) }
+    ensures exact { GivesRead (IsText number input.now at) result (text_at number input.now at) }
     ensures within { IfOk result (λ x. (at < x.1) × (x.1 ≤ length input.now)) }
 {
     let (content, after) = read_octets(input, at, number, 1, 257)?;

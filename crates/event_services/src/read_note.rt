@@ -1,22 +1,24 @@
-ghost use Rattle.std.specs.Prelude.{◌≡◌, ◌<◌, ◌≤◌, length, IfOk};
+ghost use Rattle.std.specs.Prelude.{◌≡◌, ◌↔◌, ◌⊎◌, ℕ, ◌<◌, ◌≤◌, length, IfOk};
 ghost use Rattle.event_services.specs.declared.read_note.NoteFault.TheVariants as faults;
-ghost use Rattle.service_parameters.specs.Reading.{required, optional};
+ghost use Rattle.bac_tags.specs.ParameterReading.{required, optional};
 ghost use Rattle.bac_tags.specs.Reading.{boolean_at};
 ghost use Rattle.event_services.specs.NoteReading.{octet_number_at, state_at, text_at, moment_at, values_at};
 ghost use Rattle.event_services.specs.declared.notification.Notification.{Notification};
 ghost use Rattle.event_services.specs.Notifications.{written_notification};
 ghost use Rattle.event_services.specs.NoteGrammar.{SpellsNotification};
 ghost use Rattle.event_services.specs.NoteRanges.{IsNotable};
+ghost use Rattle.event_services.specs.NoteTexts.{IsText, IsTextOfValues, HasText};
+ghost use Rattle.event_services.specs.NoteRefusals.{RefusesNotification, EndsBeforeRequired};
 ghost use Rattle.event_services.specs.NoteService.{source_at, kind_at, states_at, notification_of, fault_of, as_note, GivesNote};
 
 use crate::read_elements::{moment_at, octet_number_at, state_at, text_at};
 use crate::read_values::values_at;
 use crate::{EventValues, Notification};
-use bac_tags::{TagFault, read_bool};
-use bac_values::{EventState, ObjectId, Stamp, Text};
-use service_parameters::{
-    Malformed, nothing_follows, optional, required, required_object, required_unsigned,
+use bac_tags::{
+    Malformed, TagFault, nothing_follows, optional, read_bool, required, required_object,
+    required_unsigned,
 };
+use bac_values::{EventState, ObjectId, Stamp, Text};
 use std::alloc::Global;
 
 /// Why octets weren't read as a notification.
@@ -99,7 +101,7 @@ fn optional_bool(input: &[u8], at: usize, number: u8) -> Result<(Option<bool>, u
 /// A text, if one is there, and the place after it.
 fn optional_text(alloc: Global, input: &[u8], at: usize) -> Result<(Option<Text>, usize), NoteFault>
     requires { at ≤ length input.now }
-    ensures exact { GivesNote result (optional input.now at (text_at 7 input.now at)) }
+    ensures exact { GivesNote (IsText 7 input.now at) result (optional input.now at (text_at 7 input.now at)) }
     ensures within { IfOk result (λ x. (at ≤ x.1) × (x.1 ≤ length input.now)) }
 {
     match text_at(alloc, input, at, 7) {
@@ -116,7 +118,7 @@ fn optional_values(
     at: usize,
 ) -> Result<(Option<EventValues>, usize), NoteFault>
     requires { at ≤ length input.now }
-    ensures exact { GivesNote result (optional input.now at (values_at kind input.now at)) }
+    ensures exact { GivesNote (IsTextOfValues kind input.now at) result (optional input.now at (values_at kind input.now at)) }
     ensures within { IfOk result (λ x. (at ≤ x.1) × (x.1 ≤ length input.now)) }
 {
     match values_at(alloc, kind, input, at) {
@@ -171,7 +173,7 @@ fn states_at(bytes: &[u8], at: usize) -> Result<(States, usize), Malformed>
 /// The notification that the octets are.
 #[tactic(auto, unfolding(crate::specs::NoteService::notification_of))]
 fn notification_of(alloc: Global, bytes: &[u8]) -> Result<Notification, NoteFault>
-    ensures exact { GivesNote result (notification_of bytes.now) }
+    ensures exact { GivesNote (HasText bytes.now) result (notification_of bytes.now) }
 {
     let ((process, device, object, stamp), at) = source_at(bytes)?;
     let ((class, priority, event_type), at) = kind_at(bytes, at)?;
@@ -202,9 +204,14 @@ pub fn read_notification(alloc: Global, bytes: &[u8]) -> Result<Notification, No
     // What is read is spelled so.
     ensures found { IfOk result (λ note. SpellsNotification bytes.now note) }
     // What is spelled so is read, but that a text may get no memory.
-    ensures only { (note : Notification) → SpellsNotification bytes.now note → GivesNote result (Ok note) }
-    // A refusal is the first one, with its place.
-    ensures exact { GivesNote result (notification_of bytes.now) }
+    ensures only { (note : Notification) → SpellsNotification bytes.now note → GivesNote (HasText bytes.now) result (Ok note) }
+    // Each refusal, and exactly where it comes, but that a text before it may get no memory.
+    ensures refused { (result ≡ Err NoteFault.NoMemory) ⊎ ((reject at : ℕ) → (result ≡ Err (NoteFault.Malformed reject at)) ↔ RefusesNotification bytes.now (record { reject = reject; at = at })) }
+    ensures missing { (result ≡ Err NoteFault.NoMemory) ⊎ ((result ≡ Err (NoteFault.Malformed 5 (length bytes.now))) ↔ EndsBeforeRequired bytes.now) }
+    // Memory is refused only where the message text stands, or a text in the values of an event.
+    ensures no_memory { result ≡ Err NoteFault.NoMemory → HasText bytes.now }
+
+    ensures exact { GivesNote (HasText bytes.now) result (notification_of bytes.now) }
 {
     notification_of(alloc, bytes)
 }

@@ -1,13 +1,16 @@
 ghost use Rattle.std.specs.Prelude.{◌≡◌, ◌<◌, ◌≤◌, length, IfOk};
 ghost use Rattle.bac_tags.specs.Reading.{value_at};
-ghost use Rattle.service_parameters.specs.Tags.{enclosed_at};
+ghost use Rattle.bac_tags.specs.EnclosingTags.{enclosed_at};
+ghost use Rattle.event_services.specs.NoteTexts.{HoldsText, IsTextOfChange, IsTextOfCommand, IsTextOfProperties, IsTextOfProperty, IsTextOfReliability, IsTextOfValues, IsTextTold};
 ghost use Rattle.event_services.specs.NoteReading.{GivesRead, property_state_in, property_state_at, present_value, property_value_at, properties_at, reliability_number_at, bitstring_at, changed_state_at, commanded_at, unsigned_range_at, signed_out_of_range_at, unsigned_out_of_range_at, changed_text_at, reliability_at, told_at, values_at};
 
 use crate::EventValues;
 use crate::read_elements::{flags_at, text_at};
-use bac_tags::{Shape, TagFault, read_bits, read_signed, read_tag, read_unsigned, read_value};
+use bac_tags::{
+    Shape, TagFault, read_bits, read_closing, read_opening, read_signed, read_tag, read_unsigned,
+    read_value,
+};
 use bac_values::{Reliability, Value};
-use service_parameters::{read_closing, read_opening};
 use std::alloc::Global;
 
 /// The state of a property whose tag has that number, and the place after it.
@@ -60,7 +63,7 @@ fn enclosed_value(
     number: u8,
 ) -> Result<(Value, usize), TagFault>
     requires { at ≤ length input.now }
-    ensures exact { GivesRead result (enclosed_at value_at number input.now at) }
+    ensures exact { GivesRead (HoldsText number input.now at) result (enclosed_at value_at number input.now at) }
     ensures within { IfOk result (λ x. (at < x.1) × (x.1 ≤ length input.now)) }
 {
     let start = read_opening(input, at, number)?;
@@ -91,7 +94,7 @@ fn reliability_number_at(
 #[tactic(auto, unfolding(crate::specs::NoteReading::property_value_at))]
 fn property_value_at(alloc: Global, input: &[u8], at: usize) -> Result<(Value, usize), TagFault>
     requires { at ≤ length input.now }
-    ensures exact { GivesRead result (property_value_at input.now at) }
+    ensures exact { GivesRead (IsTextOfProperty input.now at) result (property_value_at input.now at) }
     ensures within { IfOk result (λ x. (at < x.1) × (x.1 ≤ length input.now)) }
 {
     let (property, after) = read_unsigned(input, at, Some(0))?;
@@ -105,7 +108,7 @@ fn property_value_at(alloc: Global, input: &[u8], at: usize) -> Result<(Value, u
 #[tactic(auto, unfolding(crate::specs::NoteReading::properties_at))]
 fn properties_at(alloc: Global, input: &[u8], at: usize) -> Result<(Option<Value>, usize), TagFault>
     requires { at ≤ length input.now }
-    ensures exact { GivesRead result (properties_at input.now at) }
+    ensures exact { GivesRead (IsTextOfProperties input.now at) result (properties_at input.now at) }
     ensures within { IfOk result (λ x. (at < x.1) × (x.1 ≤ length input.now)) }
 {
     let start = read_opening(input, at, 2)?;
@@ -154,7 +157,7 @@ fn changed_state_at(input: &[u8], at: usize) -> Result<(EventValues, usize), Tag
 #[tactic(auto, unfolding(crate::specs::NoteReading::commanded_at))]
 fn commanded_at(alloc: Global, input: &[u8], at: usize) -> Result<(EventValues, usize), TagFault>
     requires { at ≤ length input.now }
-    ensures exact { GivesRead result (commanded_at input.now at) }
+    ensures exact { GivesRead (IsTextOfCommand input.now at) result (commanded_at input.now at) }
     ensures within { IfOk result (λ x. (at < x.1) × (x.1 ≤ length input.now)) }
 {
     let (command, at) = enclosed_value(alloc, input, at, 0)?;
@@ -238,7 +241,7 @@ fn unsigned_out_of_range_at(input: &[u8], at: usize) -> Result<(EventValues, usi
 #[tactic(auto, unfolding(crate::specs::NoteReading::changed_text_at))]
 fn changed_text_at(alloc: Global, input: &[u8], at: usize) -> Result<(EventValues, usize), TagFault>
     requires { at ≤ length input.now }
-    ensures exact { GivesRead result (changed_text_at input.now at) }
+    ensures exact { GivesRead (IsTextOfChange input.now at) result (changed_text_at input.now at) }
     ensures within { IfOk result (λ x. (at < x.1) × (x.1 ≤ length input.now)) }
 {
     let (changed, at) = text_at(alloc, input, at, 0)?;
@@ -258,7 +261,7 @@ fn changed_text_at(alloc: Global, input: &[u8], at: usize) -> Result<(EventValue
 #[tactic(auto, unfolding(crate::specs::NoteReading::reliability_at))]
 fn reliability_at(alloc: Global, input: &[u8], at: usize) -> Result<(EventValues, usize), TagFault>
     requires { at ≤ length input.now }
-    ensures exact { GivesRead result (reliability_at input.now at) }
+    ensures exact { GivesRead (IsTextOfReliability input.now at) result (reliability_at input.now at) }
     ensures within { IfOk result (λ x. (at < x.1) × (x.1 ≤ length input.now)) }
 {
     let (reliability, at) = reliability_number_at(input, at, 0)?;
@@ -283,7 +286,7 @@ fn told_at(
     at: usize,
 ) -> Result<(EventValues, usize), TagFault>
     requires { at ≤ length input.now }
-    ensures exact { GivesRead result (told_at kind input.now at) }
+    ensures exact { GivesRead (IsTextTold kind input.now at) result (told_at kind input.now at) }
     ensures within { IfOk result (λ x. (at < x.1) × (x.1 ≤ length input.now)) }
 {
     match kind {
@@ -308,7 +311,7 @@ pub(crate) fn values_at(
     at: usize,
 ) -> Result<(EventValues, usize), TagFault>
     requires { at ≤ length input.now }
-    ensures exact { GivesRead result (values_at kind input.now at) }
+    ensures exact { GivesRead (IsTextOfValues kind input.now at) result (values_at kind input.now at) }
     ensures within { IfOk result (λ x. (at < x.1) × (x.1 ≤ length input.now)) }
 {
     let outer = read_opening(input, at, 12)?;

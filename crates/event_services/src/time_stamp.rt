@@ -1,11 +1,12 @@
 ghost use Rattle.std.specs.Prelude.{◌≡◌, ◌<◌, ◌≤◌, length, IfOk};
 ghost use Rattle.bac_tags.specs.Reading.{stamp_at};
-ghost use Rattle.service_parameters.specs.Tags.{enclosed_at};
+ghost use Rattle.bac_tags.specs.EnclosingTags.{enclosed_at};
 ghost use Rattle.event_services.specs.TimeStamps.{form_at, time_stamp_at};
 
-use bac_tags::{TagFault, read_stamp, read_tag, read_unsigned};
+use bac_tags::{
+    TagFault, read_closing, read_octets, read_opening, read_stamp, read_tag, read_unsigned,
+};
 use bac_values::Stamp;
-use service_parameters::{read_closing, read_octets, read_opening};
 
 /// When an alarm was, in one of the three forms of a BACnetTimeStamp.
 #[derive(Clone, Copy, Debug, PartialEq, Eq)]

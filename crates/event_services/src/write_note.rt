@@ -1,17 +1,17 @@
 ghost use Rattle.std.specs.Prelude.{◌≡◌, ◌++◌, List, ◌<◌, ◌≤◌, ◌^◌, length, OnOk, IfOk, MatchOption};
 ghost use Rattle.bac_tags.specs.Writing.{written_unsigned, written_boolean, written_stamp, written_value};
 ghost use Rattle.bac_values.specs.EventStates.{number_of_state};
-ghost use Rattle.event_services.specs.Notifications.{IsOneValue, IsOneOrNone, HasOneValues, IsTold, type_of_values, written_enclosed, written_text_in, bits_of_flags, written_flags, written_property, written_told, written_if, written_values, written_source, written_kind, written_event, written_states, written_notification, told_to};
+ghost use Rattle.event_services.specs.Notifications.{IsOneValue, IsOneOrNone, HasOneValues, IsTold, type_of_values, written_text_in, bits_of_flags, written_flags, written_property, written_told, written_values, written_source, written_kind, written_event, written_states, written_notification, told_to};
+ghost use Rattle.bac_tags.specs.ParameterWriting.{written_enclosed, written_if_given};
 ghost use Rattle.event_services.specs.NoteLengths.{most_octets, IsShort, AreShort, HasShortText};
 ghost use Rattle.event_services.specs.NoteRanges.{IfAny};
 
 use crate::notification::{EventValues, Notification};
 use bac_tags::{
-    Shape, Tag, write_bits, write_bool, write_object, write_signed, write_stamp, write_tag,
-    write_unsigned, write_value,
+    Shape, Tag, write_bits, write_bool, write_closing, write_object, write_opening, write_signed,
+    write_stamp, write_tag, write_unsigned, write_value,
 };
 use bac_values::{Bits, EventState, NoMemory, Reliability, Stamp, StatusFlags, Text, Value};
-use service_parameters::{write_closing, write_opening};
 use std::alloc::Global;
 
 /// The number of Present_Value (BACnetPropertyIdentifier).
@@ -279,7 +279,7 @@ fn type_of_values(told: &EventValues) -> u8
 /// Appends the values of an event, if there are any.
 fn write_values(out: &mut Vec<u8>, values: &Option<EventValues>) -> Result<(), NoMemory>
     requires { MatchOption values.now (Unit {0}) HasOneValues }
-    ensures written { OnOk result (out.new.items ≡ out.old.items ++ written_if written_values values.now) }
+    ensures written { OnOk result (out.new.items ≡ out.old.items ++ written_if_given written_values values.now) }
     ensures short { OnOk result (IfAny AreShort values.now) }
 {
     let Some(told) = values else {
@@ -295,7 +295,7 @@ fn write_values(out: &mut Vec<u8>, values: &Option<EventValues>) -> Result<(), N
 
 /// Appends a text, if there is one.
 fn write_message(out: &mut Vec<u8>, text: &Option<Text>) -> Result<(), NoMemory>
-    ensures written { OnOk result (out.new.items ≡ out.old.items ++ written_if (written_text_in 7) text.now) }
+    ensures written { OnOk result (out.new.items ≡ out.old.items ++ written_if_given (written_text_in 7) text.now) }
     ensures short { OnOk result (IfAny HasShortText text.now) }
 {
     match text {
@@ -344,7 +344,7 @@ fn write_event(out: &mut Vec<u8>, process: u32, note: &Notification) -> Result<(
 
 /// Appends a state with a number in a context, if there is one.
 fn write_from(out: &mut Vec<u8>, from: Option<EventState>) -> Result<(), NoMemory>
-    ensures { OnOk result (out.new.items ≡ out.old.items ++ written_if (λ state. written_unsigned (Some 10) (number_of_state state)) from) }
+    ensures { OnOk result (out.new.items ≡ out.old.items ++ written_if_given (λ state. written_unsigned (Some 10) (number_of_state state)) from) }
 {
     match from {
         Some(state) => write_unsigned(out, Some(10), u32::from(state.number())),
@@ -354,7 +354,7 @@ fn write_from(out: &mut Vec<u8>, from: Option<EventState>) -> Result<(), NoMemor
 
 /// Appends whether the event is to be acknowledged, if it is said.
 fn write_ack_required(out: &mut Vec<u8>, ack_required: Option<bool>) -> Result<(), NoMemory>
-    ensures { OnOk result (out.new.items ≡ out.old.items ++ written_if (written_boolean (Some 9)) ack_required) }
+    ensures { OnOk result (out.new.items ≡ out.old.items ++ written_if_given (written_boolean (Some 9)) ack_required) }
 {
     match ack_required {
         Some(required) => write_bool(out, Some(9), required),

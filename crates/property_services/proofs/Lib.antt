@@ -1,5 +1,3 @@
-pub mod Steps
-pub mod Elements
 pub mod References
 pub mod Limits
 pub mod Ranges

@@ -5,14 +5,15 @@ use Rattle.bac_tags.specs.Places.{IsSpelledAt}
 use Rattle.bac_tags.specs.Contents.{SpellsUnsigned}
 use Rattle.bac_tags.specs.Reading.{unsigned_at}
 use Rattle.bac_tags.proofs.Standing.{IsBytes, Stands, Stands-then, Stands-front, Stands-back}
-use Rattle.service_parameters.specs.declared.malformed.Malformed.{Malformed}
-use Rattle.service_parameters.specs.Parameters.{IsOptionalAt}
-use Rattle.service_parameters.specs.Reading.{required, optional}
+use Rattle.bac_tags.specs.declared.malformed.Malformed.{Malformed}
+use Rattle.bac_tags.specs.Parameters.{IsOptionalAt}
+use Rattle.bac_tags.specs.ParameterReading.{required, optional}
 use Rattle.property_services.specs.Requests.{SpellsWhoIs}
 use Rattle.property_services.specs.Reading.{limits_behind, limits_at, who_is_of}
-use Rattle.property_services.specs.Refusals.{Behind, RefusesRequired, RefusesOptional, IsLimitsAt, RefusesLimits, RefusesWhoIs}
-use Rattle.property_services.proofs.Steps.{Answers, Both, Made, then, mapped, said, Whole, ended, whole_said}
-use Rattle.property_services.proofs.Elements.{ends_within, optional_ends, unsigned_required, unsigned_optional}
+use Rattle.property_services.specs.Refusals.{IsLimitsAt, RefusesLimits, RefusesWhoIs}
+use Rattle.bac_tags.specs.Refusals.{Behind, RefusesRequired, RefusesOptional}
+use Rattle.bac_tags.proofs.ParameterAnswers.{Answers, Both, Made, then, mapped, said, Whole, ended, whole_said}
+use Rattle.bac_tags.proofs.ElementAnswers.{ends_within, optional_ends, unsigned_required, unsigned_optional}
 use Rattle.property_services.proofs.References.{stands, spelled_at, all_of, all_stand}
 
 abbrev SpellsLow : List ℕ → ℕ → Type 0

@@ -5,9 +5,9 @@ use Rattle.std.proofs.lemmas.List.{nil_from_length}
 use Rattle.bac_tags.specs.Places.{IsSpelledAt}
 use Rattle.bac_tags.specs.Contents.{SpellsUnsigned, SpellsObject}
 use Rattle.bac_tags.proofs.Standing.{Stands}
-use Rattle.service_parameters.specs.declared.malformed.Malformed.{Malformed}
-use Rattle.service_parameters.specs.Refusals.{missing_parameter, too_many_arguments}
-use Rattle.service_parameters.proofs.RequiredReaders.{other_reason}
+use Rattle.bac_tags.specs.declared.malformed.Malformed.{Malformed}
+use Rattle.bac_tags.specs.Refusals.{missing_parameter, too_many_arguments}
+use Rattle.bac_tags.proofs.RequiredReaders.{other_reason}
 use Rattle.property_services.specs.Refusals.{IsReferenceAt, RefusesReference, RefusesReadProperty, RefusesReadRange, RefusesWriteProperty, RefusesWhoIs, EndsBeforeProperty, EndsBeforeValue, EndsBeforeHighest}
 use Rattle.property_services.proofs.References.{stands, spelled_at, all_of, all_stand, read_to, read_from}
 

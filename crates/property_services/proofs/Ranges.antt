@@ -5,19 +5,19 @@ use Rattle.bac_tags.specs.Places.{IsSpelledAt}
 use Rattle.bac_tags.specs.Tags.{SpellsTag}
 use Rattle.bac_tags.specs.Contents.{IsSigned, SpellsUnsigned, SpellsSigned}
 use Rattle.bac_tags.specs.Stamps.{SpellsStamp}
-use Rattle.bac_tags.specs.Reading.{signed_of, unsigned_at, signed_at, stamp_at}
+use Rattle.bac_tags.specs.Reading.{signed_of, unsigned_at, signed_at, stamp_at, ◌>>=◌}
 use Rattle.bac_tags.proofs.Standing.{IsBytes, Stands, Stands-then, Stands-front, Stands-back, Stands-within}
 use Rattle.bac_tags.proofs.Readers.{Reads, reads}
 use Rattle.bac_tags.proofs.Numbers.{signed_values}
 use Rattle.bac_tags.proofs.StampLaws.{reads_stamp}
-use Rattle.service_parameters.specs.declared.malformed.Malformed.{Malformed}
-use Rattle.service_parameters.specs.Refusals.{invalid_tag}
-use Rattle.service_parameters.specs.Tags.{closing, SpellsOnly, closing_at}
-use Rattle.service_parameters.specs.Reading.{◌>>=◌, or_invalid}
-use Rattle.service_parameters.proofs.Steps.{bind_ok, bind_err, ok_is}
-use Rattle.service_parameters.proofs.TagReaders.{reads_closing}
+use Rattle.bac_tags.specs.declared.malformed.Malformed.{Malformed}
+use Rattle.bac_tags.specs.Refusals.{invalid_tag}
+use Rattle.bac_tags.specs.EnclosingTags.{closing, SpellsOnly, closing_at}
+use Rattle.bac_tags.specs.ParameterReading.{or_invalid}
+use Rattle.bac_tags.proofs.Steps.{bind_ok, bind_err, ok_is}
+use Rattle.bac_tags.proofs.TagReaders.{reads_closing}
 use Rattle.property_services.specs.Requests.{SpellsCounted}
-use Rattle.property_services.proofs.Elements.{if_ok, invalid_ok, invalid_err, ends_within, unsigned_element}
+use Rattle.bac_tags.proofs.ElementAnswers.{if_ok, invalid_ok, invalid_err, ends_within, unsigned_element}
 use Rattle.property_services.proofs.References.{stands, spelled_at}
 
 -- what is known of a reader at a place

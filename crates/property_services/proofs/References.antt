@@ -5,17 +5,18 @@ use Rattle.std.proofs.lemmas.List.{append-nil, drop_all}
 use Rattle.bac_values.specs.Identifier.{Identifier}
 use Rattle.bac_tags.specs.Places.{IsSpelledAt}
 use Rattle.bac_tags.specs.Contents.{SpellsUnsigned, SpellsObject}
-use Rattle.bac_tags.specs.Reading.{unsigned_at, object_at}
+use Rattle.bac_tags.specs.Reading.{unsigned_at, object_at, ◌>>=◌}
 use Rattle.bac_tags.proofs.Standing.{IsBytes, Stands, Stands-from, Stands-then, Stands-front, Stands-back}
-use Rattle.service_parameters.specs.declared.malformed.Malformed.{Malformed}
-use Rattle.service_parameters.specs.Parameters.{IsAbsent, IsOptionalAt}
-use Rattle.service_parameters.specs.Reading.{◌>>=◌, required, optional}
+use Rattle.bac_tags.specs.declared.malformed.Malformed.{Malformed}
+use Rattle.bac_tags.specs.Parameters.{IsAbsent, IsOptionalAt, SpellsIfGiven}
+use Rattle.bac_tags.specs.ParameterReading.{required, optional}
 use Rattle.property_services.specs.declared.requests.ReadRequest.{ReadRequest}
-use Rattle.property_services.specs.Requests.{SpellsIfGiven, SpellsReference}
+use Rattle.property_services.specs.Requests.{SpellsReference}
 use Rattle.property_services.specs.Reading.{property_id, reference_at, read_property_of}
-use Rattle.property_services.specs.Refusals.{Behind, RefusesRequired, RefusesOptional, RefusesReference, IsReferenceAt, RefusesReadProperty}
-use Rattle.property_services.proofs.Steps.{Answers, Both, Made, then, mapped, said, Whole, ended, whole_said}
-use Rattle.property_services.proofs.Elements.{ends_within, optional_ends, object_required, unsigned_required, unsigned_optional}
+use Rattle.property_services.specs.Refusals.{RefusesReference, IsReferenceAt, RefusesReadProperty}
+use Rattle.bac_tags.specs.Refusals.{Behind, RefusesRequired, RefusesOptional}
+use Rattle.bac_tags.proofs.ParameterAnswers.{Answers, Both, Made, then, mapped, said, Whole, ended, whole_said}
+use Rattle.bac_tags.proofs.ElementAnswers.{ends_within, optional_ends, object_required, unsigned_required, unsigned_optional}
 
 abbrev pub made : Identifier → ℕ → Option ℕ → ReadRequest
 made object property index = record { object = object; property = property_id property; index = index }

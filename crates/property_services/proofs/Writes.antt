@@ -10,28 +10,29 @@ use Rattle.bac_tags.specs.declared.fault.TagFault.{TagFault}
 use Rattle.bac_tags.specs.Places.{IsSpelledAt}
 use Rattle.bac_tags.specs.Contents.{SpellsUnsigned}
 use Rattle.bac_tags.specs.Values.{SpellsValue}
-use Rattle.bac_tags.specs.Reading.{unsigned_at, value_at}
+use Rattle.bac_tags.specs.Reading.{unsigned_at, value_at, ◌>>=◌}
 use Rattle.bac_tags.proofs.Steps as tags
 use Rattle.bac_tags.proofs.Standing.{IsBytes, Stands, Stands-then, Stands-front, Stands-back}
 use Rattle.bac_tags.proofs.Readers.{part_bytes}
 use Rattle.bac_tags.proofs.ValueLaws.{value_found, value_again}
-use Rattle.service_parameters.specs.declared.malformed.Malformed.{Malformed}
-use Rattle.service_parameters.specs.Parameters.{IsOptionalAt}
-use Rattle.service_parameters.specs.Tags.{SpellsEnclosed}
-use Rattle.service_parameters.specs.Balanced.{AreElements, SpellsElements, elements_at}
-use Rattle.service_parameters.specs.Reading.{◌>>=◌, or_invalid, required, optional}
-use Rattle.service_parameters.proofs.Steps.{bind_ok, bind_err, ok_is}
-use Rattle.service_parameters.proofs.RequiredReaders.{required_inside, required_outside}
-use Rattle.service_parameters.proofs.Between.{elements_found, elements_again}
+use Rattle.bac_tags.specs.declared.malformed.Malformed.{Malformed}
+use Rattle.bac_tags.specs.Parameters.{IsOptionalAt, SpellsIfGiven}
+use Rattle.bac_tags.specs.EnclosingTags.{SpellsEnclosed}
+use Rattle.bac_tags.specs.Balanced.{AreElements, SpellsElements, elements_at}
+use Rattle.bac_tags.specs.ParameterReading.{or_invalid, required, optional, whole}
+use Rattle.bac_tags.proofs.Steps.{bind_ok, bind_err, ok_is}
+use Rattle.bac_tags.proofs.RequiredReaders.{required_inside, required_outside}
+use Rattle.bac_tags.proofs.Between.{elements_found, elements_again}
 use Rattle.property_services.specs.declared.fault.ServiceFault.{ServiceFault}
 use Rattle.property_services.specs.declared.fault.ServiceFault.TheVariants as faults
 use Rattle.property_services.specs.declared.requests.ReadRequest.{ReadRequest}
 use Rattle.property_services.specs.declared.requests.WriteRequest.{WriteRequest}
-use Rattle.property_services.specs.Requests.{SpellsIfGiven, IsWritten, SpellsWriteProperty, reference_in}
-use Rattle.property_services.specs.Reading.{reference_at, content_at, write_at, value_or_other, value_of, write_request, write_property_of, whole, GivesWrite}
-use Rattle.property_services.specs.Refusals.{Behind, RefusesRequired, RefusesOptional, IsReferenceAt, RefusesReference, IsWriteAt, RefusesWrite, RefusesWriteProperty}
-use Rattle.property_services.proofs.Steps.{Answers, Both, Made, then, mapped, said, Whole, ended}
-use Rattle.property_services.proofs.Elements.{Element, ends_within, optional_ends, begins_before, tag_some, required_answers, unsigned_optional}
+use Rattle.property_services.specs.Requests.{IsWritten, SpellsWriteProperty, reference_in}
+use Rattle.property_services.specs.Reading.{reference_at, content_at, write_at, value_or_other, value_of, write_request, write_property_of, GivesWrite}
+use Rattle.property_services.specs.Refusals.{IsReferenceAt, RefusesReference, IsWriteAt, RefusesWrite, RefusesWriteProperty}
+use Rattle.bac_tags.specs.Refusals.{Behind, RefusesRequired, RefusesOptional}
+use Rattle.bac_tags.proofs.ParameterAnswers.{Answers, Both, Made, then, mapped, said, Whole, ended}
+use Rattle.bac_tags.proofs.ElementAnswers.{Element, ends_within, optional_ends, begins_before, tag_some, required_answers, unsigned_optional}
 use Rattle.property_services.proofs.References.{stands, spelled_at, given_of, optional_of, reference_answers, reference_within, refers_of, reference_of_octets, all_of, all_stand}
 use Rattle.property_services.proofs.RangeLaws.{opening_is_absent}
 

@@ -8,11 +8,11 @@ use Rattle.bac_values.specs.declared.value.Foreign.TheVariants.{OtherType}
 use Rattle.bac_tags.specs.declared.fault.TagFault.{TagFault}
 use Rattle.bac_tags.specs.declared.tag.Shape.{Shape}
 use Rattle.bac_tags.specs.declared.tag.Shape.TheVariants.{Primitive, Opening, Closing}
-use Rattle.bac_tags.specs.Reading.{tag_at, unsigned_at, signed_at, object_at, stamp_at, value_at}
-use Rattle.service_parameters.specs.declared.malformed.Malformed.{Malformed}
-use Rattle.service_parameters.specs.Reading.{◌>>=◌, or_invalid, required, optional, nothing_follows}
-use Rattle.service_parameters.specs.Tags.{closing_at}
-use Rattle.service_parameters.specs.Balanced.{elements_at}
+use Rattle.bac_tags.specs.Reading.{tag_at, unsigned_at, signed_at, object_at, stamp_at, value_at, ◌>>=◌}
+use Rattle.bac_tags.specs.declared.malformed.Malformed.{Malformed}
+use Rattle.bac_tags.specs.ParameterReading.{or_invalid, required, optional, whole}
+use Rattle.bac_tags.specs.EnclosingTags.{closing_at}
+use Rattle.bac_tags.specs.Balanced.{elements_at}
 use Rattle.property_services.specs.declared.requests.ReadRequest.{ReadRequest}
 use Rattle.property_services.specs.declared.fault.ServiceFault.{ServiceFault}
 use Rattle.property_services.specs.declared.fault.ServiceFault.TheVariants as faults
@@ -31,13 +31,6 @@ reference_at input = do
   property ← required input object.1 (unsigned_at input object.1 (Some 1))
   index ← optional input property.1 (unsigned_at input property.1 (Some 2))
   Ok (record { object = object.0; property = property_id property.0; index = index.0 }, index.1)
-
--- the last parameter ends where the octets do
-abbrev pub whole : {X : Type 0} → List ℕ → Result (X × ℕ) Malformed → Result X Malformed
-whole input read = do
-  x ← read
-  _ ← nothing_follows input x.1
-  Ok x.0
 
 abbrev pub read_property_of : List ℕ → Result ReadRequest Malformed
 read_property_of input = whole input (reference_at input)
@@ -120,12 +113,7 @@ write_request written = record { object = written.0.object; property = written.0
 abbrev pub write_property_of : List ℕ → Result WriteRequest Malformed
 write_property_of input = whole input (write_at input) >>= λ written. Ok (write_request written)
 
--- what a call returned, seen by view, is what reading gives
-abbrev pub Gives : {X Y : Type 0} → (X → Y) → Result X Malformed → Result Y Malformed → Type 0
-Gives view (Ok x) read = read ≡ Ok (view x)
-Gives view (Err fault) read = read ≡ Err fault
-
--- and the same where memory may be refused
+-- what a call returned is what reading gives, where memory may be refused
 abbrev pub GivesWrite : Result WriteRequest ServiceFault → Result WriteRequest Malformed → Type 0
 GivesWrite (Ok request) read = read ≡ Ok request
 GivesWrite (Err (faults.Malformed reject place)) read = read ≡ Err (record { reject = reject; at = place })

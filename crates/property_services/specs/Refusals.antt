@@ -1,40 +1,20 @@
 -- Why octets aren't the parameters of a request: each refusal, exactly where it comes (ANSI/ASHRAE 135-2020, clause 21, BACnetRejectReason).
-use Rattle.std.specs.Prelude.{◌≡◌, ℕ, ◌<◌, ◌⊎◌, Option, Some, None, List, [], length, drop}
+use Rattle.std.specs.Prelude.{◌≡◌, ℕ, ◌⊎◌, Option, Some, None, List, [], length, drop}
 use Rattle.bac_values.specs.Identifier.{Identifier}
 use Rattle.bac_values.specs.declared.value.Value.TheVariants as values
 use Rattle.bac_tags.specs.Places.{IsSpelledAt}
 use Rattle.bac_tags.specs.Values.{SpellsValue}
 use Rattle.bac_tags.specs.Contents.{SpellsUnsigned, SpellsObject}
-use Rattle.service_parameters.specs.declared.malformed.Malformed.{Malformed}
-use Rattle.service_parameters.specs.Refusals.{invalid_tag, missing_parameter, too_many_arguments}
-use Rattle.service_parameters.specs.Parameters.{IsThere, IsAbsent, IsOptionalAt}
-use Rattle.service_parameters.specs.Tags.{opening, IsOtherTag, SpellsEnclosed}
-use Rattle.service_parameters.specs.Balanced.{SpellsElements}
+use Rattle.bac_tags.specs.declared.malformed.Malformed.{Malformed}
+use Rattle.bac_tags.specs.Refusals.{invalid_tag, RefusesRequired, RefusesOptional, RefusesMore, Behind}
+use Rattle.bac_tags.specs.Parameters.{IsThere, IsAbsent, IsOptionalAt}
+use Rattle.bac_tags.specs.EnclosingTags.{opening, IsOtherTag, SpellsEnclosed}
+use Rattle.bac_tags.specs.Balanced.{SpellsElements}
 use Rattle.property_services.specs.declared.requests.ReadRequest.{ReadRequest}
 use Rattle.property_services.specs.declared.requests.RangeRequest.{RangeRequest}
 use Rattle.property_services.specs.declared.requests.RangeBy.{RangeBy}
 use Rattle.property_services.specs.declared.requests.RangeBy.TheVariants.{All}
 use Rattle.property_services.specs.Requests.{SpellsReference, SpellsGivenRange, reference_of}
-
--- where a required parameter should begin, the octets end, or something stands that isn't it
-abbrev pub RefusesRequired : {X : Type 0} → (List ℕ → X → Type 0) → List ℕ → ℕ → Malformed → Type 0
-RefusesRequired Spells input place fault =
-    ((fault ≡ missing_parameter (length input)) × (place ≡ length input)) ⊎ ((fault ≡ invalid_tag place) × (place < length input) × ¬ IsThere Spells input place)
-
--- an optional parameter is neither there nor absent
-abbrev pub RefusesOptional : {X : Type 0} → (List ℕ → X → Type 0) → ℕ → List ℕ → ℕ → Malformed → Type 0
-RefusesOptional Spells number input place fault = (fault ≡ invalid_tag place) × (¬ IsAbsent number input place) × ¬ IsThere Spells input place
-
--- octets follow the last parameter
-abbrev pub RefusesMore : List ℕ → ℕ → Malformed → Type 0
-RefusesMore input place fault = (fault ≡ too_many_arguments place) × (place < length input)
-
--- what is said holds of something that is there and of the place behind it
-pub record Behind {X : Type 0} (IsAt : X → ℕ → Type 0) (Holds : X → ℕ → Type 0) : Type 0 where
-  pub value : X
-  pub end : ℕ
-  pub there : IsAt value end
-  pub holds : Holds value end
 
 -- ---- what is read or written, at the front
 

@@ -6,18 +6,14 @@ use Rattle.bac_values.specs.declared.value.Foreign.TheVariants.{OtherType}
 use Rattle.bac_tags.specs.Contents.{SpellsUnsigned, SpellsSigned, SpellsObject}
 use Rattle.bac_tags.specs.Stamps.{SpellsStamp}
 use Rattle.bac_tags.specs.Values.{SpellsValue}
-use Rattle.service_parameters.specs.Tags.{SpellsEnclosed}
-use Rattle.service_parameters.specs.Balanced.{AreElements}
+use Rattle.bac_tags.specs.EnclosingTags.{SpellsEnclosed}
+use Rattle.bac_tags.specs.Balanced.{AreElements}
+use Rattle.bac_tags.specs.Parameters.{SpellsIfGiven}
 use Rattle.property_services.specs.declared.requests.ReadRequest.{ReadRequest}
 use Rattle.property_services.specs.declared.requests.WriteRequest.{WriteRequest}
 use Rattle.property_services.specs.declared.requests.RangeRequest.{RangeRequest}
 use Rattle.property_services.specs.declared.requests.RangeBy.{RangeBy}
 use Rattle.property_services.specs.declared.requests.RangeBy.TheVariants.{All, Position, Sequence, Time}
-
--- a parameter that may be absent
-abbrev pub SpellsIfGiven : {X : Type 0} → (List ℕ → X → Type 0) → List ℕ → Option X → Type 0
-SpellsIfGiven Spells octets None = octets ≡ []
-SpellsIfGiven Spells octets (Some x) = Spells octets x
 
 -- ---- what is read or written
 

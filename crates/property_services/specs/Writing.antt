@@ -3,28 +3,19 @@ use Rattle.std.specs.Prelude.{ℕ, ◌+◌, ◌*◌, Bool, Option, Some, None, L
 use Rattle.std.specs.Int.{from_bool}
 use Rattle.bac_values.specs.Identifier.{Identifier}
 use Rattle.bac_values.specs.BitString.{BitString}
-use Rattle.bac_tags.specs.Writing.{written_tag, written_unsigned, written_enumerated, written_object, written_bits}
-use Rattle.service_parameters.specs.Tags.{opening, closing}
+use Rattle.bac_tags.specs.Writing.{written_unsigned, written_enumerated, written_object, written_bits}
+use Rattle.bac_tags.specs.ParameterWriting.{written_enclosed, written_if_given}
 use Rattle.property_services.specs.declared.requests.ReadRequest.{ReadRequest}
 use Rattle.property_services.specs.declared.requests.RangeRequest.{RangeRequest}
-
--- elements between an opening and a closing tag of one number
-abbrev pub written_list : ℕ → List ℕ → List ℕ
-written_list number elements = written_tag (opening number) ++ elements ++ written_tag (closing number)
-
--- a parameter that isn't given has no octets
-abbrev pub written_if_given : ℕ → Option ℕ → List ℕ
-written_if_given number None = []
-written_if_given number (Some n) = written_unsigned (Some number) n
 
 -- what was read: [0] the object, [1] the property, [2] the index, if there is one
 unfoldable pub written_reference : Identifier → ℕ → Option ℕ → List ℕ
 written_reference object property index =
-    written_object (Some 0) object ++ written_unsigned (Some 1) property ++ written_if_given 2 index
+    written_object (Some 0) object ++ written_unsigned (Some 1) property ++ written_if_given (written_unsigned (Some 2)) index
 
 -- 15.5: the answer to ReadProperty repeats the request, with [3] the values
 abbrev pub written_read_ack : ReadRequest → List ℕ → List ℕ
-written_read_ack request values = written_reference request.object request.property.0 request.index ++ written_list 3 values
+written_read_ack request values = written_reference request.object request.property.0 request.index ++ written_enclosed 3 values
 
 -- flags as a BitString, the first one the first bit
 abbrev pub number_of_flags : List Bool → ℕ
@@ -37,7 +28,7 @@ string_of_flags flags = record { size = length flags; bits = number_of_flags fla
 -- 15.8: the answer to ReadRange repeats the request, with [3] its flags (first item, last item, more items), [4] the count, [5] the items, [6] the first sequence number, if there is one
 abbrev pub written_range_ack : RangeRequest → List Bool → ℕ → List ℕ → Option ℕ → List ℕ
 written_range_ack request flags count items first =
-    written_reference request.object request.property.0 request.index ++ written_bits (Some 3) (string_of_flags flags) ++ written_unsigned (Some 4) count ++ written_list 5 items ++ written_if_given 6 first
+    written_reference request.object request.property.0 request.index ++ written_bits (Some 3) (string_of_flags flags) ++ written_unsigned (Some 4) count ++ written_enclosed 5 items ++ written_if_given (written_unsigned (Some 6)) first
 
 -- 16.10: I-Am has the device, the longest APDU that it takes, that it takes no segments (3), and the number of its vendor
 abbrev pub written_i_am : Identifier → ℕ → List ℕ

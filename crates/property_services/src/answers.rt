@@ -1,10 +1,13 @@
-ghost use Rattle.std.specs.Prelude.{◌≡◌, ◌++◌, ◌∷◌, [], IfOk, OnOk};
-ghost use Rattle.property_services.specs.Writing.{written_list, written_if_given, written_reference, written_read_ack, string_of_flags, written_range_ack, written_i_am};
+ghost use Rattle.std.specs.Prelude.{◌≡◌, ◌++◌, ◌∷◌, [], Some, IfOk, OnOk};
+ghost use Rattle.property_services.specs.Writing.{written_reference, written_read_ack, string_of_flags, written_range_ack, written_i_am};
+ghost use Rattle.bac_tags.specs.Writing.{written_unsigned};
+ghost use Rattle.bac_tags.specs.ParameterWriting.{written_enclosed, written_if_given};
 
 use crate::{RangeRequest, ReadRequest};
-use bac_tags::{write_bits, write_object, write_unsigned, write_value};
+use bac_tags::{
+    write_bits, write_closing, write_object, write_opening, write_unsigned, write_value,
+};
 use bac_values::{Bits, NoMemory, ObjectId, PropertyId, Value};
-use service_parameters::{write_closing, write_opening};
 use std::alloc::Global;
 
 /// The longest APDU that the server takes, in octets.
@@ -15,7 +18,7 @@ const NO_SEGMENTATION: u32 = 3;
 
 /// Appends elements between an opening and a closing tag.
 fn write_list(out: &mut Vec<u8>, number: u8, elements: &[u8]) -> Result<(), NoMemory>
-    ensures written { OnOk result (out.new.items ≡ out.old.items ++ written_list number elements.now) }
+    ensures written { OnOk result (out.new.items ≡ out.old.items ++ written_enclosed number elements.now) }
 {
     write_opening(out, number)?;
     out.extend_from_slice(elements)?;
@@ -24,7 +27,7 @@ fn write_list(out: &mut Vec<u8>, number: u8, elements: &[u8]) -> Result<(), NoMe
 
 /// Appends a number, if it is given.
 fn write_if_given(out: &mut Vec<u8>, number: u8, given: Option<u32>) -> Result<(), NoMemory>
-    ensures written { OnOk result (out.new.items ≡ out.old.items ++ written_if_given number given) }
+    ensures written { OnOk result (out.new.items ≡ out.old.items ++ written_if_given (written_unsigned (Some number)) given) }
 {
     match given {
         None => Ok(()),

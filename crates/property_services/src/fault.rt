@@ -1,12 +1,12 @@
+use bac_tags::Malformed;
 use bac_values::NoMemory;
-use service_parameters::Malformed;
 
 /// Why no request was answered.
 #[derive(Clone, Copy, Debug, PartialEq, Eq)]
 pub enum ServiceFault {
     /// The octets aren't the parameters of the service.
     Malformed {
-        /// The reason of the Reject, as in `service_parameters::Malformed`.
+        /// The reason of the Reject, as in `bac_tags::Malformed`.
         reject: u8,
         /// The place in the octets.
         at: usize,

@@ -13,10 +13,10 @@ mod who_is;
 mod write_property;
 
 pub use answers::{write_i_am, write_range_ack, write_read_ack};
+pub use bac_tags::Malformed;
 pub use fault::ServiceFault;
 pub use read_range::read_read_range;
 pub use reference::read_read_property;
 pub use requests::{RangeBy, RangeRequest, ReadRequest, WriteRequest};
-pub use service_parameters::Malformed;
 pub use who_is::read_who_is;
 pub use write_property::read_write_property;

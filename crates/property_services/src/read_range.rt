@@ -1,17 +1,19 @@
 ghost use Rattle.std.specs.Prelude.{◌≡◌, ◌≤◌, ◌↔◌, length, IfOk};
-ghost use Rattle.service_parameters.specs.declared.malformed.Malformed.{Malformed};
-ghost use Rattle.service_parameters.specs.Refusals.{missing_parameter};
+ghost use Rattle.bac_tags.specs.declared.malformed.Malformed.{Malformed};
+ghost use Rattle.bac_tags.specs.Refusals.{missing_parameter};
 ghost use Rattle.property_services.specs.declared.requests.RangeRequest.{RangeRequest};
 ghost use Rattle.property_services.specs.Requests.{SpellsReadRange};
 ghost use Rattle.property_services.specs.Refusals.{RefusesReadRange, EndsBeforeProperty};
-ghost use Rattle.service_parameters.specs.Reading.{or_invalid};
+ghost use Rattle.bac_tags.specs.ParameterReading.{or_invalid};
 ghost use Rattle.property_services.specs.Reading.{opened, counted_at, dated_at, range_behind, range_at, range_request_at, read_range_of};
 
 use crate::reference::reference_at;
 use crate::{RangeBy, RangeRequest};
-use bac_tags::{Shape, Tag, TagFault, read_signed, read_stamp, read_tag, read_unsigned};
+use bac_tags::{
+    Malformed, Shape, Tag, nothing_follows, or_invalid, read_closing, read_signed, read_stamp,
+    read_tag, read_unsigned,
+};
 use bac_values::Stamp;
-use service_parameters::{Malformed, invalid_tag, nothing_follows, read_closing};
 
 /// The number of a tag that opens a list.
 fn opened(tag: Tag) -> Option<u8>
@@ -20,16 +22,6 @@ fn opened(tag: Tag) -> Option<u8>
     match tag.shape {
         Shape::Opening if tag.context => Some(tag.number),
         _ => None,
-    }
-}
-
-/// What a reader of elements refuses is no parameter, which begins at a place.
-fn inside<T: Drop>(begin: usize, read: Result<T, TagFault>) -> Result<T, Malformed>
-    ensures { result ≡ or_invalid begin read }
-{
-    match read {
-        Ok(found) => Ok(found),
-        Err(_) => Err(invalid_tag(begin)),
     }
 }
 
@@ -45,9 +37,9 @@ fn counted_at(
     ensures exact { result ≡ counted_at input.now begin at number }
     ensures within { IfOk result (λ x. x.1 ≤ length input.now) }
 {
-    let (reference, count_at) = inside(begin, read_unsigned(input, at, None))?;
-    let (count, closing_at) = inside(begin, read_signed(input, count_at, None))?;
-    let end = inside(begin, read_closing(input, closing_at, number))?;
+    let (reference, count_at) = or_invalid(begin, read_unsigned(input, at, None))?;
+    let (count, closing_at) = or_invalid(begin, read_signed(input, count_at, None))?;
+    let end = or_invalid(begin, read_closing(input, closing_at, number))?;
     Ok(((reference, count), end))
 }
 
@@ -63,9 +55,9 @@ fn dated_at(
     ensures exact { result ≡ dated_at input.now begin at number }
     ensures within { IfOk result (λ x. x.1 ≤ length input.now) }
 {
-    let (reference, count_at) = inside(begin, read_stamp(input, at, None))?;
-    let (count, closing_at) = inside(begin, read_signed(input, count_at, None))?;
-    let end = inside(begin, read_closing(input, closing_at, number))?;
+    let (reference, count_at) = or_invalid(begin, read_stamp(input, at, None))?;
+    let (count, closing_at) = or_invalid(begin, read_signed(input, count_at, None))?;
+    let end = or_invalid(begin, read_closing(input, closing_at, number))?;
     Ok(((reference, count), end))
 }
 
@@ -109,7 +101,7 @@ fn range_at(input: &[u8], at: usize) -> Result<(RangeBy, usize), Malformed>
     if at >= input.len() {
         return Ok((RangeBy::All, at));
     }
-    let (tag, inside_at) = inside(at, read_tag(input, at))?;
+    let (tag, inside_at) = or_invalid(at, read_tag(input, at))?;
     range_behind(input, at, inside_at, opened(tag))
 }
 

@@ -1,16 +1,14 @@
 ghost use Rattle.std.specs.Prelude.{◌≡◌, ◌≤◌, ◌↔◌, length, IfOk};
-ghost use Rattle.service_parameters.specs.declared.malformed.Malformed.{Malformed};
-ghost use Rattle.service_parameters.specs.Refusals.{missing_parameter};
+ghost use Rattle.bac_tags.specs.declared.malformed.Malformed.{Malformed};
+ghost use Rattle.bac_tags.specs.Refusals.{missing_parameter};
 ghost use Rattle.property_services.specs.declared.requests.ReadRequest.{ReadRequest};
 ghost use Rattle.property_services.specs.Requests.{SpellsReadProperty};
 ghost use Rattle.property_services.specs.Refusals.{RefusesReadProperty, EndsBeforeProperty};
 ghost use Rattle.property_services.specs.Reading.{reference_at, read_property_of};
 
 use crate::ReadRequest;
+use bac_tags::{Malformed, nothing_follows, optional_unsigned, required_object, required_unsigned};
 use bac_values::PropertyId;
-use service_parameters::{
-    Malformed, nothing_follows, optional_unsigned, required_object, required_unsigned,
-};
 
 /// The object, the property and the index at the front of the octets, and the place after them.
 #[tactic(auto, unfolding(crate::specs::Reading::reference_at))]

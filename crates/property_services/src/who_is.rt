@@ -1,11 +1,11 @@
 ghost use Rattle.std.specs.Prelude.{◌≡◌, ◌≤◌, ◌↔◌, ℕ, Option, length, IfOk};
-ghost use Rattle.service_parameters.specs.declared.malformed.Malformed.{Malformed};
-ghost use Rattle.service_parameters.specs.Refusals.{missing_parameter};
+ghost use Rattle.bac_tags.specs.declared.malformed.Malformed.{Malformed};
+ghost use Rattle.bac_tags.specs.Refusals.{missing_parameter};
 ghost use Rattle.property_services.specs.Requests.{SpellsWhoIs};
 ghost use Rattle.property_services.specs.Refusals.{RefusesWhoIs, EndsBeforeHighest};
 ghost use Rattle.property_services.specs.Reading.{limits_behind, limits_at, who_is_of};
 
-use service_parameters::{Malformed, nothing_follows, optional_unsigned, required_unsigned};
+use bac_tags::{Malformed, nothing_follows, optional_unsigned, required_unsigned};
 
 /// The limits behind the lowest instance, if that is given, and the place after them.
 #[tactic(auto, unfolding(crate::specs::Reading::limits_behind))]

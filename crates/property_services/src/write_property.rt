@@ -5,13 +5,16 @@ ghost use Rattle.bac_tags.specs.Values.{SpellsValue};
 ghost use Rattle.property_services.specs.declared.requests.WriteRequest.{WriteRequest};
 ghost use Rattle.property_services.specs.Requests.{SpellsWriteProperty};
 ghost use Rattle.property_services.specs.Refusals.{RefusesWriteProperty, EndsBeforeValue, HasText};
-ghost use Rattle.property_services.specs.Reading.{Gives, content_at, write_at, whole, value_of, write_property_of, GivesWrite};
+ghost use Rattle.property_services.specs.Reading.{content_at, write_at, value_of, write_property_of, GivesWrite};
+ghost use Rattle.bac_tags.specs.Reading.{Gives};
+ghost use Rattle.bac_tags.specs.ParameterReading.{whole};
 
 use crate::reference::reference_at;
 use crate::{ReadRequest, ServiceFault, WriteRequest};
-use bac_tags::{TagFault, read_value};
+use bac_tags::{
+    Malformed, TagFault, nothing_follows, optional_unsigned, read_elements, read_value, required,
+};
 use bac_values::{Foreign, NoMemory, Value};
-use service_parameters::{Malformed, nothing_follows, optional_unsigned, read_elements, required};
 use std::alloc::Global;
 
 /// The elements of the value, and the place after its closing tag.

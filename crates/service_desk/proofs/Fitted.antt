@@ -5,7 +5,8 @@ use Rattle.std.proofs.lemmas.Bool.{eqb-true, le-leb, leb-true}
 use Rattle.std.proofs.lemmas.List.{length-append}
 use Rattle.bac_tags.specs.Writing.{unsigned_size, written_bits, written_tag, written_unsigned}
 use Rattle.property_services.specs.declared.requests.RangeRequest.{RangeRequest}
-use Rattle.property_services.specs.Writing.{string_of_flags, written_if_given, written_list, written_range_ack, written_reference}
+use Rattle.property_services.specs.Writing.{string_of_flags, written_range_ack, written_reference}
+use Rattle.bac_tags.specs.ParameterWriting.{written_if_given, written_enclosed}
 use Rattle.event_log.specs.declared.log_range.LogRange.{LogRange}
 use Rattle.event_log.specs.Log.{Log}
 use Rattle.service_desk.specs.declared.replies.Asker.{Asker}
@@ -27,7 +28,7 @@ count_length n =
     by_case (nat_lt n 256) (λ one. rw one refl) (λ more. rw more (by_case (nat_lt n 65536) (λ two. rw two refl) (λ much.
     rw much (by_case (nat_lt n 16777216) (λ three. rw three refl) (λ four. rw four refl)))))
 
-list_length : (inside : List ℕ) → length (written_list 5 inside) ≡ 2 + length inside
+list_length : (inside : List ℕ) → length (written_enclosed 5 inside) ≡ 2 + length inside
 unfolding written_tag
 list_length inside = omega (arith, length-append inside (95 ∷ []))
 
@@ -38,7 +39,7 @@ parts a b c d e = omega (arith, length-append (a ++ b ++ c ++ d) e, length-appen
 ack_length : (request : RangeRequest) (flags : List Bool) (count : ℕ) (items : List ℕ) (first : Option ℕ) → length flags ≡ 3 →
     length (written_range_ack request flags count items first) ≡ length (written_reference request.object request.property.0 request.index) + (6 + unsigned_size count) + length items + length (written_if_given 6 first)
 ack_length request flags count items first three =
-    omega (arith, parts (written_reference request.object request.property.0 request.index) (written_bits (Some 3) (string_of_flags flags)) (written_unsigned (Some 4) count) (written_list 5 items) (written_if_given 6 first), flags_length flags three, count_length count, list_length items)
+    omega (arith, parts (written_reference request.object request.property.0 request.index) (written_bits (Some 3) (string_of_flags flags)) (written_unsigned (Some 4) count) (written_enclosed 5 items) (written_if_given 6 first), flags_length flags three, count_length count, list_length items)
 
 three_flags : (log : Log) (range : LogRange) (sent : ℕ) → length (range_flags log range sent) ≡ 3
 three_flags log range sent = by_case (nat_eq sent 0) (λ none. rw none refl) (λ some. rw some refl)
@@ -51,7 +52,7 @@ body_length : (request : RangeRequest) (log : Log) (range : LogRange) (sent : �
     length (range_body request log range sent) + 1 ≡ octets_round request log range + (unsigned_size sent + length (flat_map written_item (items_from range.first sent log)))
 body_length request log range sent some =
     let items = flat_map written_item (items_from range.first sent log) in
-    let first = ap (λ o. length (written_if_given 6 o)) (same_first request log range sent some) in
+    let first = ap (λ o. length (written_if_given (written_unsigned (Some 6)) o)) (same_first request log range sent some) in
     omega (arith, ack_length request (range_flags log range sent) sent items (first_sequence request log range sent) (three_flags log range sent), ack_length request (false ∷ false ∷ false ∷ []) 0 [] (first_sequence request log range 1) refl, first)
 
 some_octets : (n : ℕ) → 1 ≤ unsigned_size n

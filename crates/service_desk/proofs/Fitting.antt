@@ -2,7 +2,7 @@
 use Rattle.std.proofs.Common.{ℕ, ◌≤◌, Bool, true, false, if◌then◌else◌, Result, Ok, Err, List, Option, bit_and, ◌==◌, sym, subst, lit≤}
 use Rattle.bac_values.specs.Identifier.{Identifier}
 use Rattle.apdu_frame.specs.Headers.{max_apdu_of}
-use Rattle.service_parameters.specs.declared.malformed.Malformed.{Malformed}
+use Rattle.bac_tags.specs.declared.malformed.Malformed.{Malformed}
 use Rattle.event_services.specs.declared.acknowledge.AckRequest.{AckRequest}
 use Rattle.event_services.specs.Acknowledgements.{acknowledge_request_of}
 use Rattle.event_services.specs.Information.{information_request_of}

@@ -5,7 +5,7 @@ use Rattle.std.proofs.lemmas.Bool.{ltb-false}
 use Rattle.bac_values.specs.Identifier.{Identifier}
 use Rattle.bac_values.specs.declared.note.Send.{Send}
 use Rattle.apdu_frame.specs.Writing.{written_abort, written_error, written_reject, written_simple_ack}
-use Rattle.service_parameters.specs.declared.malformed.Malformed.{Malformed}
+use Rattle.bac_tags.specs.declared.malformed.Malformed.{Malformed}
 use Rattle.property_services.specs.declared.requests.RangeRequest.{RangeRequest}
 use Rattle.property_services.specs.Reading.{read_range_of}
 use Rattle.event_log.specs.declared.log_range.LogRange.{LogRange}

@@ -15,7 +15,7 @@ use Rattle.apdu_frame.specs.declared.apdu.Apdu.{Apdu}
 use Rattle.apdu_frame.specs.declared.apdu.Apdu.TheVariants.{Request, Segmented, Unconfirmed, SimpleAck, Error as ErrorAnswer, Reject as RejectAnswer, Abort as AbortAnswer}
 use Rattle.apdu_frame.specs.Reading.{apdu_of}
 use Rattle.apdu_frame.specs.Writing.{written_unconfirmed}
-use Rattle.service_parameters.specs.declared.malformed.Malformed.{Malformed}
+use Rattle.bac_tags.specs.declared.malformed.Malformed.{Malformed}
 use Rattle.event_services.specs.declared.acknowledge.AckRequest.{AckRequest}
 use Rattle.event_services.specs.Acknowledgements.{acknowledge_request_of}
 use Rattle.event_services.specs.Information.{information_request_of}

@@ -4,8 +4,8 @@ use Rattle.bac_values.specs.Identifier.{Identifier}
 use Rattle.bac_values.specs.declared.note.Send.{Send}
 use Rattle.bac_tags.specs.Writing.{written_stamp, written_tag}
 use Rattle.apdu_frame.specs.Writing.{written_complex_ack}
-use Rattle.service_parameters.specs.declared.malformed.Malformed.{Malformed}
-use Rattle.service_parameters.specs.Tags.{closing, opening}
+use Rattle.bac_tags.specs.declared.malformed.Malformed.{Malformed}
+use Rattle.bac_tags.specs.EnclosingTags.{closing, opening}
 use Rattle.property_services.specs.declared.requests.RangeBy.{RangeBy}
 use Rattle.property_services.specs.declared.requests.RangeBy.TheVariants.{All, Position, Sequence, Time}
 use Rattle.property_services.specs.declared.requests.RangeRequest.{RangeRequest}

@@ -8,11 +8,10 @@ ghost use Rattle.service_desk.specs.Ranges.{buffer_answer, first_sequence, great
 use crate::Decision;
 use crate::replies::{Asker, SEGMENTATION_NOT_SUPPORTED};
 use alarm_core::Core;
-use bac_tags::write_stamp;
+use bac_tags::{write_closing, write_opening, write_stamp};
 use bac_values::{NoMemory, PropertyId, Send};
 use event_log::{EventLog, LogRange, LogRecord};
 use property_services::{RangeBy, RangeRequest, read_read_range, write_range_ack};
-use service_parameters::{write_closing, write_opening};
 use std::alloc::Global;
 
 /// The classes of errors.

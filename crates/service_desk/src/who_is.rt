@@ -1,5 +1,5 @@
 ghost use Rattle.std.specs.Prelude.{◌≡◌, IfOk, Option, Result};
-ghost use Rattle.service_parameters.specs.declared.malformed.Malformed.{Malformed};
+ghost use Rattle.bac_tags.specs.declared.malformed.Malformed.{Malformed};
 ghost use Rattle.service_desk.specs.Decisions.{asks, i_am, who_is_decision};
 
 use crate::Decision;

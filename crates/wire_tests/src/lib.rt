@@ -14,6 +14,6 @@ mod comparing;
 #[cfg(test)]
 mod event_services_tests;
 #[cfg(test)]
-mod property_services_tests;
+mod parameters_tests;
 #[cfg(test)]
-mod service_parameters_tests;
+mod property_services_tests;

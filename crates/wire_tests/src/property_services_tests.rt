@@ -1,7 +1,7 @@
 use crate::comparing::{holds, same};
+use bac_tags::{invalid_tag, missing_parameter, too_many_arguments};
 use bac_values::{Foreign, ObjectId, PropertyId, Stamp, Value};
 use property_services::*;
-use service_parameters::{invalid_tag, missing_parameter, too_many_arguments};
 use std::alloc::Global;
 use std::process::Abort;
 use std::test::Fail;

@@ -1,10 +1,10 @@
 use Rattle.std.proofs.Common.{length, arith}
-use Rattle.service_parameters.specs.Refusals.{missing_parameter}
+use Rattle.bac_tags.specs.Refusals.{missing_parameter}
 use Rattle.property_services.specs.Requests.{SpellsReadRange}
 use Rattle.property_services.specs.Refusals.{RefusesReadRange}
 use Rattle.property_services.specs.Reading.{read_range_of}
 use Rattle.property_services.proofs.Missing.{missing_in_read_range, both}
-use Rattle.property_services.proofs.Steps.{ReadsWhole, reads_whole}
+use Rattle.bac_tags.proofs.ParameterAnswers.{ReadsWhole, reads_whole}
 use Rattle.property_services.proofs.RangeLaws.{read_range_answers}
 use Rattle.property_services.proofs.read_range.read_read_range.Goals as goal
 

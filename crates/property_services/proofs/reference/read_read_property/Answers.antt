@@ -1,10 +1,10 @@
 use Rattle.std.proofs.Common.{length, arith}
-use Rattle.service_parameters.specs.Refusals.{missing_parameter}
+use Rattle.bac_tags.specs.Refusals.{missing_parameter}
 use Rattle.property_services.specs.Requests.{SpellsReadProperty}
 use Rattle.property_services.specs.Refusals.{RefusesReadProperty}
 use Rattle.property_services.specs.Reading.{read_property_of}
 use Rattle.property_services.proofs.Missing.{missing_in_read_property, both}
-use Rattle.property_services.proofs.Steps.{ReadsWhole, reads_whole}
+use Rattle.bac_tags.proofs.ParameterAnswers.{ReadsWhole, reads_whole}
 use Rattle.property_services.proofs.References.{read_property_answers}
 use Rattle.property_services.proofs.reference.read_read_property.Goals as goal
 

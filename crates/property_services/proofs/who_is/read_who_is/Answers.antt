@@ -1,10 +1,10 @@
 use Rattle.std.proofs.Common.{length, arith}
-use Rattle.service_parameters.specs.Refusals.{missing_parameter}
+use Rattle.bac_tags.specs.Refusals.{missing_parameter}
 use Rattle.property_services.specs.Requests.{SpellsWhoIs}
 use Rattle.property_services.specs.Refusals.{RefusesWhoIs}
 use Rattle.property_services.specs.Reading.{who_is_of}
 use Rattle.property_services.proofs.Missing.{missing_in_who_is, both}
-use Rattle.property_services.proofs.Steps.{ReadsWhole, reads_whole}
+use Rattle.bac_tags.proofs.ParameterAnswers.{ReadsWhole, reads_whole}
 use Rattle.property_services.proofs.Limits.{who_is_answers}
 use Rattle.property_services.proofs.who_is.read_who_is.Goals as goal
 

@@ -1,0 +1,15 @@
+use Rattle.std.proofs.Common.{Some}
+use Rattle.bac_tags.specs.Contents.{SpellsUnsigned}
+use Rattle.bac_tags.proofs.RequiredReaders.{ReadsRequired, reads_required}
+use Rattle.bac_tags.proofs.element_parameters.required_unsigned.Goals as goal
+
+-- all that the clauses say
+all : (c : goal.After-required) → ReadsRequired (SpellsUnsigned (Some c.args.number)) c.args.input.now c.args.at c.required.result
+all c =
+    reads_required (SpellsUnsigned (Some c.args.number)) c.args.input.now c.args.at c.read_unsigned.result c.required.result c.requires c.read_unsigned.ensures.found c.read_unsigned.ensures.only c.read_unsigned.ensures.within c.required.ensures.exact
+
+pub returns-clause-only : goal.returns-clause-only
+returns-clause-only c = (all c).only
+
+pub returns-clause-invalid : goal.returns-clause-invalid
+returns-clause-invalid c = (all c).invalid

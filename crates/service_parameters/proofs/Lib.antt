@@ -1,9 +1,0 @@
-pub mod RequiredReaders
-pub mod TagReaders
-pub mod ElementReaders
-pub mod Steps
-pub mod Sequences
-pub mod Balance
-pub mod Between
-pub mod Reasons
-pub mod OptionalReaders

@@ -1,5 +1,0 @@
-pub mod Refusals
-pub mod Parameters
-pub mod Tags
-pub mod Reading
-pub mod Balanced
