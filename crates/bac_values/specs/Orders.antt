@@ -1,7 +1,7 @@
 -- The orders of object identifiers, of stations and of peers, and lists of peers.
-use Rattle.std.specs.Prelude.{◌≡◌, ℕ, ◌==◌, Bool, ◌&&◌, List, length, bytes_eq, AllPairs}
+use Rattle.std.specs.Prelude.{◌≡◌, ℕ, ◌==◌, Bool, ◌&&◌, if◌then◌else◌, List, [], ◌∷◌, ◌++◌, length, filter, bytes_eq, AllPairs}
 use Rattle.std.specs.List.{list_any}
-use Rattle.std.specs.Ordering.{nat_cmp, ordering_then}
+use Rattle.std.specs.Ordering.{is_lt, nat_cmp, ordering_then}
 use Rattle.std.specs.Cmp.Lexicographic.{slice_cmp}
 use Rattle.std.specs.declared.cmp.Ordering.{Ordering}
 use Rattle.std.specs.declared.cmp.Ordering.TheVariants.{Less}
@@ -36,3 +36,14 @@ is_among peers peer = list_any (λ other. is_same other peer) peers
 -- each peer is below every later one
 abbrev pub IsAscending : List Address → Type 0
 IsAscending peers = AllPairs (λ earlier later. peer_order earlier later ≡ Less) peers
+
+-- peers that ascend, and one more at its place
+abbrev pub peer_with : Address → List Address → List Address
+peer_with peer known =
+    if is_among known peer then known
+    else filter (λ other. is_lt (peer_order other peer)) known ++ peer ∷ filter (λ other. is_lt (peer_order peer other)) known
+
+-- and others, one after the other
+abbrev pub peers_with : List Address → List Address → List Address
+peers_with [] known = known
+peers_with (peer ∷ others) known = peers_with others (peer_with peer known)

@@ -98,6 +98,29 @@ fn stations_have_at_most_seven_octets(rt: HostRuntime) -> Result<(), Fail> {
 }
 
 #[test]
+fn a_list_of_peers_ascends_and_has_each_once(rt: HostRuntime) -> Result<(), Fail> {
+    let mut list = PeerList::new(rt.alloc());
+    list.insert(Peer::local(8, 47_808))?;
+    list.insert(Peer::local(7, 47_809))?;
+    list.insert(Peer::local(8, 47_808))?;
+    let seven = Peer::local(7, 47_808);
+    holds(&rt, !list.contains(&seven));
+    let more = list.with(rt.alloc(), &[seven, Peer::console(), seven])?;
+    let wanted = [
+        Peer::console(),
+        seven,
+        Peer::local(7, 47_809),
+        Peer::local(8, 47_808),
+    ];
+    same(&rt, &more.as_slice(), &wanted.as_slice());
+    holds(&rt, more.contains(&seven));
+    same(&rt, &list.as_slice(), &wanted[2..]);
+    list.extend(&wanted)?;
+    same(&rt, &list.as_slice(), &wanted.as_slice());
+    Ok(())
+}
+
+#[test]
 fn numbers_name_states_and_reliabilities(rt: HostRuntime) {
     same(&rt, &EventState::of_number(3), &Some(EventState::HighLimit));
     same(&rt, &EventState::of_number(5), &None);
