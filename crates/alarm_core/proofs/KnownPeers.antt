@@ -1,7 +1,6 @@
 -- The peers of a site's notification classes are known.
-use Rattle.std.proofs.Common.{◌≡◌, Bool, true, false, cond, ◌||◌, ◌==◌, IsTrue, if◌then◌else◌, List, [], ◌∷◌, ◌++◌, map, refl, sym, ap, ◌∙◌, subst}
-use Rattle.std.specs.List.{All, filter, flat_map, list_any}
-use Rattle.std.specs.Ordering.{is_lt}
+use Rattle.std.proofs.Common.{◌≡◌, Bool, true, false, ◌||◌, ◌==◌, IsTrue, if◌then◌else◌, List, [], ◌∷◌, ◌++◌, map, refl, sym, ap, ◌∙◌}
+use Rattle.std.specs.List.{All, flat_map}
 use Rattle.std.proofs.lemmas.List.Elements.{All-nil, All-cons, All-head, All-tail, All-map, All-weaker}
 use Rattle.bac_values.specs.Address.{Address}
 use Rattle.bac_values.specs.Orders.{is_among, is_same, peers_with}
@@ -9,8 +8,8 @@ use Rattle.bac_values.proofs.OrderLemmas.{same_is_equivalence}
 use Rattle.notify_class.specs.declared.class.Class.{Class}
 use Rattle.notify_class.specs.Edits.{peers_of}
 use Rattle.notify_class.specs.Recipients.{ListedRecipient}
-use Rattle.outbox.specs.Outboxes.{is_known, peers_of as peers_of_posts, with_peer, with_peers}
-use Rattle.outbox.specs.Posts.{PostState, empty_post}
+use Rattle.outbox.specs.Outboxes.{with_peers}
+use Rattle.outbox.specs.Posts.{empty_post}
 use Rattle.outbox.proofs.Learning.{known_addresses, known_with_all, with_all}
 use Rattle.outbox.proofs.Making.{peers_empty}
 use Rattle.alarm_core.specs.declared.event.Act.{Act}
