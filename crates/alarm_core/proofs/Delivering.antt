@@ -4,23 +4,23 @@ use Rattle.std.proofs.Math.Path.{fun_ext}
 use Rattle.std.specs.List.{All, flat_map}
 use Rattle.std.proofs.lemmas.List.Elements.{All-weaker}
 use Rattle.bac_values.specs.Address.{Address}
+use Rattle.bac_values.specs.Orders.{is_among, peers_with}
 use Rattle.bac_values.specs.declared.note.Note.{Note}
 use Rattle.notify_class.specs.Edits.{peers_of}
 use Rattle.outbox.specs.Delivery.{delivery_after, sent_at}
 use Rattle.outbox.specs.Following.{StandsFor, no_operations}
 use Rattle.outbox.specs.Outboxes.{OutboxState, AreKnown, new_outbox, peers_of as peers_of_posts, sends_of}
 use Rattle.outbox.specs.Posts.{PostState, post_after}
-use Rattle.outbox.proofs.Learning.{learn_learns}
+use Rattle.outbox.proofs.Learning.{learn_learns, known_addresses, with_all}
 use Rattle.outbox.proofs.Standing.{answer_follows, are_sent, new_stands, nothing_kept, pump_follows, queue_follows}
 use Rattle.alarm_core.specs.declared.event.Act.{Act}
 use Rattle.alarm_core.specs.declared.event.Act.TheVariants.{Tick, Write, Ack, Pump, Answer, Edit}
 use Rattle.alarm_core.specs.declared.event.Event.{Event}
 use Rattle.alarm_core.specs.declared.site.Site.{Site}
-use Rattle.alarm_core.specs.Classes.{known_peers_of, learned_with, peers_with}
+use Rattle.alarm_core.specs.Classes.{known_peers_of, learned_with}
 use Rattle.alarm_core.specs.Deliveries.{event_notes, event_sends, operations_of, operations_with, outbox_after, timing_at}
 use Rattle.alarm_core.specs.Next.{outbox_with, sends_with}
-use Rattle.alarm_core.specs.Known.{Knows, holds}
-use Rattle.alarm_core.proofs.KnownPeers.{known_addresses, with_all}
+use Rattle.alarm_core.specs.Known.{Knows}
 use Rattle.alarm_core.proofs.NotesGo.{notes_known}
 
 -- what is kept of a recipient
@@ -39,7 +39,7 @@ are_known : (site : Site) (history : List Event) (notes : List Note) → All (λ
 are_known site history notes known =
     let peers = known_peers_of site history in
     All-weaker (λ (note : Note). Knows peers note.peer) _
-    (λ (note : Note) h. known_addresses note.peer (map (kept site history) peers) ∙ (ap (holds note.peer) (peers_kept site history peers) ∙ h)) notes known
+    (λ (note : Note) h. known_addresses note.peer (map (kept site history) peers) ∙ (ap (λ ps. is_among ps note.peer) (peers_kept site history peers) ∙ h)) notes known
 
 -- after an act the posts are those of the peers known then, and stand for what was done
 record Goes (site : Site) (older : List Event) (moment : ℕ) (act : Act) (notes : List Note) : Type 0 where

@@ -1,100 +1,51 @@
 -- The peers of a site's notification classes are known.
-use Rattle.std.proofs.Common.{◌≡◌, Bool, true, false, cond, ◌||◌, ◌==◌, IsTrue, if◌then◌else◌, List, [], ◌∷◌, ◌++◌, map, refl, sym, ap, ◌∙◌, subst}
-use Rattle.std.specs.List.{All, filter, flat_map, list_any}
-use Rattle.std.specs.Ordering.{is_lt}
+use Rattle.std.proofs.Common.{◌≡◌, Bool, true, false, ◌||◌, ◌==◌, IsTrue, if◌then◌else◌, List, [], ◌∷◌, ◌++◌, map, refl, sym, ap, ◌∙◌}
+use Rattle.std.specs.List.{All, flat_map}
 use Rattle.std.proofs.lemmas.List.Elements.{All-nil, All-cons, All-head, All-tail, All-map, All-weaker}
 use Rattle.bac_values.specs.Address.{Address}
+use Rattle.bac_values.specs.Orders.{is_among, is_same, peers_with}
+use Rattle.bac_values.proofs.OrderLemmas.{same_is_equivalence}
 use Rattle.notify_class.specs.declared.class.Class.{Class}
 use Rattle.notify_class.specs.Edits.{peers_of}
 use Rattle.notify_class.specs.Recipients.{ListedRecipient}
-use Rattle.outbox.specs.Outboxes.{is_known, peers_of as peers_of_posts, with_peer, with_peers}
-use Rattle.outbox.specs.Peers.{IsAscending, is_same, peer_order}
-use Rattle.outbox.specs.Posts.{PostState, empty_post}
-use Rattle.outbox.proofs.Learning.{ascends_with_all, known_with_all}
+use Rattle.outbox.specs.Outboxes.{with_peers}
+use Rattle.outbox.specs.Posts.{empty_post}
+use Rattle.outbox.proofs.Learning.{known_addresses, known_with_all, with_all}
 use Rattle.outbox.proofs.Making.{peers_empty}
-use Rattle.outbox.proofs.PeerLemmas.{eq_is_equivalence}
 use Rattle.alarm_core.specs.declared.event.Act.{Act}
 use Rattle.alarm_core.specs.declared.event.Act.TheVariants.{Tick, Write, Ack, Pump, Answer, Edit}
 use Rattle.alarm_core.specs.declared.event.Event.{Event}
 use Rattle.alarm_core.specs.declared.site.Site.{Site}
-use Rattle.alarm_core.specs.Known.{Knows, KnowsClass, holds}
-use Rattle.alarm_core.specs.Classes.{classes_after, classes_with, edited, first_classes, known_peers_of, learned_with, peer_with, peers_in, peers_with}
+use Rattle.alarm_core.specs.Known.{Knows, KnowsClass}
+use Rattle.alarm_core.specs.Classes.{classes_after, classes_with, edited, first_classes, known_peers_of, learned_with, peers_in}
 
 -- ---- known peers
 
-pub known_addresses : (peer : Address) (posts : List PostState) → is_known peer posts ≡ list_any (λ other. is_same other peer) (peers_of_posts posts)
-known_addresses peer [] = refl
-known_addresses peer (post ∷ posts) = ap (λ b. is_same post.peer peer || b) (known_addresses peer posts)
-
-peers_join : (xs : List PostState) (post : PostState) (ys : List PostState) → peers_of_posts (xs ++ post ∷ ys) ≡ peers_of_posts xs ++ post.peer ∷ peers_of_posts ys
-peers_join [] post ys = refl
-peers_join (x ∷ xs) post ys = ap (λ ps. x.peer ∷ ps) (peers_join xs post ys)
-
-filtered_by : (b : Bool) (post : PostState) (posts : List PostState) (peers : List Address) → peers_of_posts posts ≡ peers → peers_of_posts (cond b (post ∷ posts) posts) ≡ cond b (post.peer ∷ peers) peers
-filtered_by true post posts peers e = ap (λ ps. post.peer ∷ ps) e
-filtered_by false post posts peers e = e
-
-filtered : (test : Address → Bool) (posts : List PostState) → peers_of_posts (filter (λ (post : PostState). test post.peer) posts) ≡ filter test (peers_of_posts posts)
-filtered test [] = refl
-filtered test (post ∷ posts) = filtered_by (test post.peer) post (filter (λ (post : PostState). test post.peer) posts) (filter test (peers_of_posts posts)) (filtered test posts)
-
-either : (b : Bool) (xs ys : List PostState) (us vs : List Address) → peers_of_posts xs ≡ us → peers_of_posts ys ≡ vs → peers_of_posts (if b then xs else ys) ≡ (if b then us else vs)
-either true xs ys us vs e f = e
-either false xs ys us vs e f = f
-
-is_below : Address → Address → Bool
-is_below peer other = is_lt (peer_order other peer)
-
-is_above : Address → Address → Bool
-is_above peer other = is_lt (peer_order peer other)
-
-with_one : (peer : Address) (posts : List PostState) → peers_of_posts (with_peer peer posts) ≡ peer_with peer (peers_of_posts posts)
-unfolding is_below is_above
-with_one peer posts =
-    let peers = peers_of_posts posts in
-    let below = filter (λ (post : PostState). is_below peer post.peer) posts in
-    let above = filter (λ (post : PostState). is_above peer post.peer) posts in
-    let placed : peers_of_posts (below ++ empty_post peer ∷ above) ≡ filter (is_below peer) peers ++ peer ∷ filter (is_above peer) peers =
-    peers_join below (empty_post peer) above
-    ∙ (ap (λ ps. ps ++ peer ∷ peers_of_posts above) (filtered (is_below peer) posts)
-    ∙ ap (λ ps. filter (is_below peer) peers ++ peer ∷ ps) (filtered (is_above peer) posts)) in
-    either (is_known peer posts) posts (below ++ empty_post peer ∷ above) peers (filter (is_below peer) peers ++ peer ∷ filter (is_above peer) peers) refl placed
-    ∙ ap (λ b. if b then peers else filter (is_below peer) peers ++ peer ∷ filter (is_above peer) peers) (known_addresses peer posts)
-
-pub with_all : (others : List Address) (posts : List PostState) → peers_of_posts (with_peers others posts) ≡ peers_with others (peers_of_posts posts)
-with_all [] posts = refl
-with_all (peer ∷ others) posts = with_all others (with_peer peer posts) ∙ ap (peers_with others) (with_one peer posts)
-
-pub ascends_still : (others known : List Address) → IsAscending known → IsAscending (peers_with others known)
-ascends_still others known h =
-    let posts = map empty_post known in
-    subst IsAscending (with_all others posts ∙ ap (peers_with others) (peers_empty known)) (ascends_with_all others posts (subst IsAscending (sym (peers_empty known)) h))
-
-known_more : (others known : List Address) (peer : Address) → holds peer (peers_with others known) ≡ (holds peer known || holds peer others)
+known_more : (others known : List Address) (peer : Address) → is_among (peers_with others known) peer ≡ (is_among known peer || is_among others peer)
 known_more others known peer =
     let posts = map empty_post known in
-    ap (λ ps. holds peer (peers_with others ps)) (sym (peers_empty known))
-    ∙ (ap (holds peer) (sym (with_all others posts))
+    ap (λ ps. is_among (peers_with others ps) peer) (sym (peers_empty known))
+    ∙ (ap (λ ps. is_among ps peer) (sym (with_all others posts))
     ∙ (sym (known_addresses peer (with_peers others posts))
     ∙ (known_with_all others posts peer
-    ∙ ap (λ b. b || holds peer others) (known_addresses peer posts ∙ ap (holds peer) (peers_empty known)))))
+    ∙ ap (λ b. b || is_among others peer) (known_addresses peer posts ∙ ap (λ ps. is_among ps peer) (peers_empty known)))))
 
 or_right : (a b : Bool) → b ≡ true → (a || b) ≡ true
 or_right true b h = refl
 or_right false b h = h
 
 knows_still : (others known : List Address) (peer : Address) → Knows known peer → Knows (peers_with others known) peer
-knows_still others known peer h = known_more others known peer ∙ ap (λ b. b || holds peer others) h
+knows_still others known peer h = known_more others known peer ∙ ap (λ b. b || is_among others peer) h
 
-among_themselves : (peers : List Address) → All (λ peer. IsTrue (holds peer peers)) peers
-among_themselves [] = All-nil (λ peer. IsTrue (holds peer []))
+among_themselves : (peers : List Address) → All (λ peer. IsTrue (is_among peers peer)) peers
+among_themselves [] = All-nil (λ peer. IsTrue (is_among [] peer))
 among_themselves (peer ∷ peers) =
-    All-cons (λ other. IsTrue (holds other (peer ∷ peers))) peer peers (ap (λ b. b || holds peer peers) (eq_is_equivalence.refl peer))
-    (All-weaker (λ other. IsTrue (holds other peers)) (λ other. IsTrue (holds other (peer ∷ peers))) (λ other h. or_right (is_same peer other) (holds other peers) h) peers (among_themselves peers))
+    All-cons (λ other. IsTrue (is_among (peer ∷ peers) other)) peer peers (ap (λ b. b || is_among peers peer) (same_is_equivalence.refl peer))
+    (All-weaker (λ other. IsTrue (is_among peers other)) (λ other. IsTrue (is_among (peer ∷ peers) other)) (λ other h. or_right (is_same peer other) (is_among peers other) h) peers (among_themselves peers))
 
 knows_new : (others known : List Address) → All (Knows (peers_with others known)) others
 knows_new others known =
-    All-weaker (λ peer. IsTrue (holds peer others)) (Knows (peers_with others known)) (λ peer h. known_more others known peer ∙ or_right (holds peer known) (holds peer others) h) others (among_themselves others)
+    All-weaker (λ peer. IsTrue (is_among others peer)) (Knows (peers_with others known)) (λ peer h. known_more others known peer ∙ or_right (is_among known peer) (is_among others peer) h) others (among_themselves others)
 
 -- ---- the peers of the classes are known
 

@@ -3,21 +3,23 @@ use Rattle.std.proofs.Common.{◌≡◌, ℕ, IsTrue, List, [], ◌++◌, ◌∙
 use Rattle.std.specs.List.{All}
 use Rattle.std.proofs.lemmas.List.Elements.{All-append, All-weaker}
 use Rattle.bac_values.specs.Address.{Address}
+use Rattle.bac_values.specs.Orders.{is_among}
 use Rattle.bac_values.specs.declared.note.Note.{Note}
 use Rattle.bac_values.specs.declared.stamp.Stamp.{Stamp}
 use Rattle.notify_class.specs.declared.class.Class.{Class}
 use Rattle.outbox.specs.Outboxes.{AreKnown, is_known, peers_of}
 use Rattle.outbox.specs.Posts.{PostState}
+use Rattle.outbox.proofs.Learning.{known_addresses}
 use Rattle.alarm_core.specs.declared.event.Act.{Act}
 use Rattle.alarm_core.specs.declared.event.Act.TheVariants.{Tick}
 use Rattle.alarm_core.specs.declared.site.Site.{Site}
 use Rattle.alarm_core.specs.Classes.{first_classes, known_peers_of}
-use Rattle.alarm_core.specs.Known.{KnowsClass, holds}
+use Rattle.alarm_core.specs.Known.{KnowsClass}
 use Rattle.alarm_core.specs.Moves.{told_all, told_with}
 use Rattle.alarm_core.specs.Next.{transitions_with}
 use Rattle.alarm_core.specs.State.{Tracked}
 use Rattle.alarm_core.specs.Values.{Values}
-use Rattle.alarm_core.proofs.KnownPeers.{classes_known, known_addresses}
+use Rattle.alarm_core.proofs.KnownPeers.{classes_known}
 use Rattle.alarm_core.proofs.NotesGo.{GoesTo, notes_go_by}
 use Rattle.alarm_core.proofs.Told.{told_is}
 
@@ -34,7 +36,7 @@ module _ (site : Site) (classes : List Class) (peers : List Address) (posts : Li
       subst (All (GoesTo peers)) (told_is site classes moment stamp act values alarms)
       (notes_go_by site peers classes known.knows values moment act (transitions_with moment stamp act values alarms)) in
       All-weaker (GoesTo peers) (λ (note : Note). IsTrue (is_known note.peer posts))
-      (λ (note : Note) k. known_addresses note.peer posts ∙ subst (λ ps. IsTrue (holds note.peer ps)) known.peers_are k) notes go
+      (λ (note : Note) k. known_addresses note.peer posts ∙ subst (λ ps. IsTrue (is_among ps note.peer)) known.peers_are k) notes go
 
   pub look_known : (moment : ℕ) (stamp : Stamp) (values : Values) (alarms : List Tracked) → AreKnown (told_all site classes moment stamp values alarms) posts
   look_known moment stamp values alarms = told_known moment stamp Tick values alarms

@@ -1,12 +1,11 @@
 -- The notification classes of a site after a history (ANSI/ASHRAE 135-2020, 12.21), and the peers that it knows.
-use Rattle.std.specs.Prelude.{ℕ, ◌==◌, Bool, false, if◌then◌else◌, Option, Some, None, List, [], ◌∷◌, ◌++◌, map, filter, find}
-use Rattle.std.specs.List.{flat_map, list_any}
-use Rattle.std.specs.Ordering.{is_lt}
+use Rattle.std.specs.Prelude.{ℕ, ◌==◌, Bool, false, if◌then◌else◌, Option, Some, None, List, [], ◌∷◌, map, find}
+use Rattle.std.specs.List.{flat_map}
 use Rattle.bac_values.specs.Address.{Address}
+use Rattle.bac_values.specs.Orders.{peers_with}
 use Rattle.notify_class.specs.declared.class.Class.{Class}
 use Rattle.notify_class.specs.Edits.{peers_of}
 use Rattle.notify_class.specs.Recipients.{ListedRecipient}
-use Rattle.outbox.specs.Peers.{is_same, peer_order}
 use Rattle.alarm_core.specs.declared.event.Act.{Act}
 use Rattle.alarm_core.specs.declared.event.Act.TheVariants.{Edit}
 use Rattle.alarm_core.specs.declared.event.Event.{Event}
@@ -41,17 +40,6 @@ class_in number classes = find (λ (class : Class). class.instance == number) cl
 -- the peers of the lists of some classes
 abbrev pub peers_in : List Class → List Address
 peers_in classes = flat_map (λ (class : Class). peers_of class.destinations) classes
-
--- some peers that ascend, and one more at its place
-abbrev pub peer_with : Address → List Address → List Address
-peer_with peer known =
-    if list_any (λ other. is_same other peer) known then known
-    else filter (λ other. is_lt (peer_order other peer)) known ++ peer ∷ filter (λ other. is_lt (peer_order peer other)) known
-
--- and others, one after the other
-abbrev pub peers_with : List Address → List Address → List Address
-peers_with [] known = known
-peers_with (peer ∷ others) known = peers_with others (peer_with peer known)
 
 abbrev pub learned_with : Act → List Address → List Address
 learned_with (Edit number recipients) known = peers_with (peers_of recipients) known

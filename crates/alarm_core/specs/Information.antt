@@ -4,10 +4,10 @@ use Rattle.std.specs.List.{list_any}
 use Rattle.std.specs.Option.{option_and_then}
 use Rattle.std.specs.Ordering.{is_lt}
 use Rattle.bac_values.specs.Identifier.{Identifier}
+use Rattle.bac_values.specs.Orders.{identifier_order}
 use Rattle.event_machine.specs.Detection.{is_normal}
 use Rattle.event_services.specs.declared.information.EventSummary.{EventSummary}
 use Rattle.notify_class.specs.declared.class.Class.{Class}
-use Rattle.object_table.specs.Rows.{identifier_order}
 use Rattle.alarm_core.specs.Notes.{class_for}
 use Rattle.alarm_core.specs.State.{State, Tracked}
 use Rattle.alarm_core.specs.declared.subject.Subject.{Subject}

@@ -1,8 +1,8 @@
 ghost use Rattle.std.specs.Prelude.{◌≡◌, ◌↔◌, ◌<◌, ◌^◌, ◌∷◌, ◌++◌, [], All, List, None, Ok, max, map, IfOk, IsFalse, IsTrue, OnErr, OnOk};
 ghost use Rattle.bac_values.specs.Moments.{IsMoment};
+ghost use Rattle.bac_values.specs.Orders.{IsAscending};
 ghost use Rattle.notify_class.specs.Edits.{peers_of};
 ghost use Rattle.outbox.specs.Outboxes.{AreKnown, answered, has_in_flight, is_idle, learned, new_outbox, peers_of as peers_of_posts, pumped, queued, sends_of, unfinished_in};
-ghost use Rattle.outbox.specs.Peers.{IsAscending};
 ghost use Rattle.alarm_core.specs.declared.event.Act.TheVariants.{Tick, Write, Ack};
 ghost use Rattle.alarm_core.specs.declared.event.Event.{Event as Happening};
 ghost use Rattle.alarm_core.specs.Allowed.{IsAllowed, Represents};
@@ -29,7 +29,7 @@ use crate::classes::{classes_of, edited_classes};
 use crate::copying::{copy_of_change, copy_of_site};
 use crate::device_content::device_object;
 use crate::finding::{is_other_object, watched_in};
-use crate::knowing::{peers_in, peers_of, peers_with};
+use crate::knowing::{peers_in, peers_of};
 use crate::logs::{SiteLog, change_all, enter_all, first_logs, kept_log};
 use crate::looking::{Looked, acknowledge_in, are_still, look_at_all};
 use crate::objects::Objects;
@@ -39,7 +39,7 @@ use crate::telling::notes_of_acknowledgement;
 use crate::watched::Watched;
 use crate::{Act, Event, Outcome, Site, StepFault};
 use bac_values::{
-    EventState, Items, Moved, NoMemory, Note, ObjectId, Peer, Send, Stamp, Transition,
+    EventState, Items, Moved, NoMemory, Note, ObjectId, Peer, PeerList, Send, Stamp, Transition,
 };
 use civil_stamp::{Zone, stamp_of};
 use enrollment::Enrollments;
@@ -63,7 +63,7 @@ pub struct Core {
     pub(crate) objects: Objects,
     pub(crate) alarms: Vec<Watched>,
     pub(crate) classes: Vec<Class>,
-    pub(crate) peers: Vec<Peer>,
+    peers: PeerList,
     pub(crate) outbox: Outbox,
     pub(crate) logs: Vec<SiteLog>,
 }
@@ -94,8 +94,8 @@ impl Model for Core {
       zone : core.zone ≡ core.site.device.zone_minutes;
       moment : IsMoment core.last_moment;
       limit : core.outbox.limit ≡ core.site.device.outbox;
-      peers : core.peers.items ≡ peers_of core.outbox.posts;
-      known : All (KnowsClass core.peers.items) core.classes.items;
+      peers : core.peers ≡ peers_of core.outbox.posts;
+      known : All (KnowsClass core.peers) core.classes.items;
     } };
 }
 
@@ -143,8 +143,9 @@ impl Core {
         let objects = Objects::first(alloc, site)?;
         let alarms = first_alarms(alloc, site, &objects, stamp_of(start, &zone))?;
         let classes = classes_of(alloc, site.classes.as_slice())?;
-        let peers = peers_with(alloc, &[], &peers_in(alloc, &classes)?)?;
-        let outbox = first_outbox(alloc, site, &peers)?;
+        let listed = peers_in(alloc, &classes)?;
+        let peers = PeerList::new(alloc).with(alloc, &listed)?;
+        let outbox = first_outbox(alloc, site, peers.as_slice())?;
         let logs = first_logs(alloc, site)?;
         let site = copy_of_site(alloc, site)?;
         Ok(Core {
@@ -511,7 +512,7 @@ impl Core {
     {
         let classes = edited_classes(self.alloc, class, destinations, &self.classes)?;
         let others = peers_of(self.alloc, destinations)?;
-        let peers = peers_with(self.alloc, &self.peers, &others)?;
+        let peers = self.peers.with(self.alloc, &others)?;
         self.outbox.learn(self.alloc, &others)?;
         self.classes = classes;
         self.peers = peers;

@@ -4,8 +4,9 @@ use Rattle.std.proofs.lemmas.List.Elements.{All-cons, All-nil}
 use Rattle.std.proofs.lemmas.List.Kept.{AllPairs-cons}
 use Rattle.std.specs.declared.cmp.Ordering.TheVariants.{Less}
 use Rattle.bac_values.specs.Identifier.{Identifier}
+use Rattle.bac_values.specs.Orders.{identifier_order}
 use Rattle.object_table.specs.Objects.{IsObject}
-use Rattle.object_table.specs.Rows.{Ascends, AscendsById, identifier_order, object_of}
+use Rattle.object_table.specs.Rows.{Ascends, AscendsById, object_of}
 use Rattle.alarm_server.specs.BenchSites.{plain_bits, plain_flow, plain_mode, plain_note, plain_pump, six_kinds, tank}
 
 abbrev IsBelow : Identifier → Identifier → Type 0

@@ -5,3 +5,4 @@ pub mod Padding
 pub mod EventStates
 pub mod Reliabilities
 pub mod Moments
+pub mod Orders

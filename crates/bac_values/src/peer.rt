@@ -1,5 +1,6 @@
 ghost use Rattle.std.specs.Prelude.{◌≡◌, []};
 ghost use Rattle.bac_values.specs.Address.{console};
+ghost use Rattle.bac_values.specs.Orders.{is_same};
 
 use crate::Mac;
 use std::marker::Model;
@@ -31,6 +32,13 @@ impl Model for Peer {
 }
 
 impl Peer {
+    /// Whether it is the same peer: all fields are equal, as `==` says.
+    pub fn is_same(&self, other: &Peer) -> bool
+        ensures same { result ≡ is_same self.now other.now }
+    {
+        self == other
+    }
+
     /// The console, which is the peer of zeros.
     pub fn console() -> Peer
         ensures console { result ≡ console }

@@ -8,8 +8,9 @@ use Rattle.std.proofs.lemmas.List.{drop-map, take-map}
 use Rattle.std.proofs.lemmas.List.Elements.{filter_agree}
 use Rattle.std.proofs.lemmas.List.Sorted.{ranks_by, sorted_far}
 use Rattle.bac_values.specs.Identifier.{Identifier}
-use Rattle.object_table.specs.Rows.{identifier_order, is_object}
-use Rattle.object_table.proofs.Order.{order_is_total}
+use Rattle.bac_values.specs.Orders.{identifier_order}
+use Rattle.bac_values.proofs.OrderLemmas.{identifiers_are_total}
+use Rattle.object_table.specs.Rows.{is_object}
 use Rattle.enrollment.specs.declared.references.Reference.{Reference}
 use Rattle.enrollment.specs.References.{is_below, is_to, is_up_to, referred_by, watcher_of, watchers_in}
 
@@ -36,11 +37,11 @@ up_to_down a b object h below = grind (arith, nat_tests)
 module _ (object : Identifier) (references : List Reference) (ascending : IsSortedByKey referred_by identifier_order references) where
   pub parted_below : IsPartitionedBy (is_below object) references
   parted_below i j d le high below =
-      below_down _ _ object (sorted_far (λ x y. is_lt (identifier_order (referred_by x) (referred_by y))) (ranks_by order_is_total referred_by) references ascending i j d le high) below
+      below_down _ _ object (sorted_far (λ x y. is_lt (identifier_order (referred_by x) (referred_by y))) (ranks_by identifiers_are_total referred_by) references ascending i j d le high) below
 
   pub parted_up_to : IsPartitionedBy (is_up_to object) references
   parted_up_to i j d le high up_to =
-      up_to_down _ _ object (sorted_far (λ x y. is_lt (identifier_order (referred_by x) (referred_by y))) (ranks_by order_is_total referred_by) references ascending i j d le high) up_to
+      up_to_down _ _ object (sorted_far (λ x y. is_lt (identifier_order (referred_by x) (referred_by y))) (ranks_by identifiers_are_total referred_by) references ascending i j d le high) up_to
 
 -- a list whose elements up to a place alone pass a test
 filter_none : {X : Type 0} (p : X → Bool) (xs : List X) → ((k : ℕ) (d : X) → k < length xs → p (get_or xs k d) ≡ false) → filter p xs ≡ []

@@ -11,10 +11,12 @@ use Rattle.std.proofs.lemmas.List.Kept.{AllPairs-filter}
 use Rattle.std.proofs.Math.Seq.{map-set_same}
 use Rattle.std.proofs.lemmas.Cmp.{alike_right}
 use Rattle.bac_values.specs.Identifier.{Identifier}
+use Rattle.bac_values.specs.Orders.{identifier_order}
+use Rattle.bac_values.proofs.OrderLemmas.{identifiers_are_total, rises}
 use Rattle.object_table.specs.declared.change.Change.{Change}
 use Rattle.object_table.specs.declared.change.What.{What}
-use Rattle.object_table.specs.Rows.{Ascends, identifier_order, is_object}
-use Rattle.object_table.proofs.Order.{above, order_is_total, equal_is_object, less_is_other, greater_is_other, rises}
+use Rattle.object_table.specs.Rows.{Ascends, is_object}
+use Rattle.object_table.proofs.Order.{above, equal_is_object, less_is_other, greater_is_other}
 use Rattle.object_table.proofs.Places.{find_at, find_none}
 use Rattle.enrollment.specs.declared.enrollment_site.EnrollmentSite.{EnrollmentSite}
 use Rattle.enrollment.specs.declared.references.Reference.{Reference}
@@ -52,13 +54,13 @@ searched object sites (Ok place) ascending within equal = record {
 }
   where
     other_side : (a b : Identifier) → identifier_order a b ≡ Less → identifier_order b object ≡ Equal → identifier_order a object ≡ Less
-    other_side a b lt same = sym (alike_right order_is_total b object a same) ∙ lt
+    other_side a b lt same = sym (alike_right identifiers_are_total b object a same) ∙ lt
 
     this_side : (a b : Identifier) → identifier_order a b ≡ Less → identifier_order a object ≡ Equal → identifier_order b object ≡ Greater
-    this_side a b lt same = sym (alike_right order_is_total a object b same) ∙ above a b lt
+    this_side a b lt same = sym (alike_right identifiers_are_total a object b same) ∙ above a b lt
 searched object sites (Err place) ascending within parted =
     let point = parted (λ i j d low high. elim (leb_tells (suc i) j) [
-      | inl before ↦ rises _ _ object (below sites ascending i j d before.1 high)
+      | inl before ↦ rises identifiers_are_total _ _ object (below sites ascending i j d before.1 high)
       | inr same ↦ let after = same.1 in let e : i ≡ j = omega arith in no_more _ _ (ap (λ n. ordering_index (identifier_order (get_or sites n d).object object)) e)
     ]) in
     record {

@@ -3,7 +3,8 @@ use Rattle.std.specs.Prelude.{◌≡◌, Bool, Option, Some, None, List, [], ◌
 use Rattle.std.specs.List.Sorted.{IsSortedByKey}
 use Rattle.std.specs.Ordering.{is_le, is_lt}
 use Rattle.bac_values.specs.Identifier.{Identifier}
-use Rattle.object_table.specs.Rows.{is_object, identifier_order}
+use Rattle.bac_values.specs.Orders.{identifier_order}
+use Rattle.object_table.specs.Rows.{is_object}
 use Rattle.enrollment.specs.declared.enrollment_site.EnrollmentSite.{EnrollmentSite}
 use Rattle.enrollment.specs.declared.references.Reference.{Reference}
 use Rattle.enrollment.specs.Enrollments.{AscendById, IsEnrollment}

@@ -2,7 +2,7 @@ ghost use Rattle.std.specs.Prelude.{◌≡◌, ◌≤◌, ◌++◌, ◌∷◌, [
 ghost use Rattle.std.specs.List.{flat_map};
 ghost use Rattle.std.specs.List.Sorted.{IsPartitionPoint, IsSortedByKey};
 ghost use Rattle.bac_values.specs.Identifier.{Identifier};
-ghost use Rattle.object_table.specs.Rows.{identifier_order};
+ghost use Rattle.bac_values.specs.Orders.{identifier_order};
 ghost use Rattle.enrollment.specs.References.{is_below, is_to, is_up_to, reference_to, referred_by, references_of, watcher_of, watchers_in};
 ghost use Rattle.enrollment.specs.Watchers.{watchers};
 

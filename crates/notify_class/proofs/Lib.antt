@@ -1,4 +1,3 @@
 pub mod Positions
 pub mod ChoiceLemmas
-pub mod PeerLemmas
 pub mod UnionLemmas

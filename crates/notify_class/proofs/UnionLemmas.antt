@@ -7,17 +7,18 @@ use Rattle.std.proofs.lemmas.List.Folds.{list_any-append, list_any_at, Any-from_
 use Rattle.std.proofs.lemmas.List.Quantifiers.{all_pairs_push}
 use Rattle.std.proofs.lemmas.List.{map-append, take_more}
 use Rattle.bac_values.specs.Address.{Address}
-use Rattle.notify_class.specs.Edits.{IsAscending, is_among, known_with, peers_of, IsUnion}
+use Rattle.bac_values.specs.Orders.{IsAscending, is_among, is_same}
+use Rattle.bac_values.proofs.OrderLemmas.{below_is_other, peers_are_total, same_is_equivalence, tied}
+use Rattle.notify_class.specs.Edits.{known_with, peers_of, IsUnion}
 use Rattle.notify_class.specs.Recipients.{ListedRecipient}
-use Rattle.notify_class.proofs.PeerLemmas.{eq, tied, eq_is_equivalence, below_is_other}
 
 -- what is among a list, and what is one of its elements
 pub among_contained : (peers : List Address) (peer : Address) → Contains peers peer → is_among peers peer ≡ true
-among_contained peers peer h = list_any_at (λ other. eq other peer) peers h.0 peer h.1 (ap (λ other. eq other peer) h.2 ∙ eq_is_equivalence.refl peer)
+among_contained peers peer h = list_any_at (λ other. is_same other peer) peers h.0 peer h.1 (ap (λ other. is_same other peer) h.2 ∙ same_is_equivalence.refl peer)
 
 pub contained_among : (peers : List Address) (peer : Address) → is_among peers peer ≡ true → Contains peers peer
 contained_among peers peer h =
-    let found = Any-from_list_any (λ other. eq other peer) peers h in
+    let found = Any-from_list_any (λ other. is_same other peer) peers h in
     let same : found.1 ≡ peer = tied found.1 peer found.4 in
     subst (Contains peers) same (found.0, found.2, found.3)
 
@@ -28,8 +29,8 @@ module _ (known : List Address) (peer : Address) (peers : List Address) where
   added : is_among known peer ≡ false → known_with known (peer ∷ peers) ≡ known_with (known ++ peer ∷ []) peers
   added h = rw h refl
 
-one_more : (known : List Address) (peer other : Address) → is_among (known ++ peer ∷ []) other ≡ (is_among known other || eq peer other)
-one_more known peer other = list_any-append (λ it. eq it other) known (peer ∷ []) ∙ ap (λ b. is_among known other || b) (or-false (eq peer other))
+one_more : (known : List Address) (peer other : Address) → is_among (known ++ peer ∷ []) other ≡ (is_among known other || is_same peer other)
+one_more known peer other = list_any-append (λ it. is_same it other) known (peer ∷ []) ∙ ap (λ b. is_among known other || b) (or-false (is_same peer other))
 
 absorb : (a b c : Bool) → (b ≡ true → a ≡ true) → (a || c) ≡ (a || (b || c))
 absorb true b c h = refl
@@ -43,12 +44,12 @@ among_both known (peer ∷ peers) other = elim (cases_Bool (is_among known peer)
   | inl there ↦
       ap (λ together. is_among together other) (passed known peer peers there)
       ∙ (among_both known peers other
-      ∙ absorb (is_among known other) (eq peer other) (is_among peers other) (λ same. ap (is_among known) (sym (tied peer other same)) ∙ there))
+      ∙ absorb (is_among known other) (is_same peer other) (is_among peers other) (λ same. ap (is_among known) (sym (tied peer other same)) ∙ there))
   | inr new ↦
       ap (λ together. is_among together other) (added known peer peers new)
       ∙ (among_both (known ++ peer ∷ []) peers other
       ∙ (ap (λ b. b || is_among peers other) (one_more known peer other)
-      ∙ or_assoc (is_among known other) (eq peer other) (is_among peers other)))
+      ∙ or_assoc (is_among known other) (is_same peer other) (is_among peers other)))
 ]
 
 -- the peers with one more, unless it is there
@@ -98,7 +99,7 @@ distinct_with known (peer ∷ peers) h = elim (cases_Bool (is_among known peer))
   | inl there ↦ rw (passed known peer peers there) (distinct_with known peers h)
   | inr new ↦
       let others : (k : ℕ) (d : Address) → k < length known → get_or known k d ≡ peer → ⊥ = λ k d within same.
-      true≢false (sym (list_any_at (λ other. eq other peer) known k d within (ap (λ other. eq other peer) same ∙ eq_is_equivalence.refl peer)) ∙ new) in
+      true≢false (sym (list_any_at (λ other. is_same other peer) known k d within (ap (λ other. is_same other peer) same ∙ same_is_equivalence.refl peer)) ∙ new) in
       rw (added known peer peers new) (distinct_with (known ++ peer ∷ []) peers (all_pairs_push (λ (earlier later : Address). earlier ≡ later → ⊥) known peer h others))
 ]
 
@@ -109,7 +110,7 @@ one_of_both false b h = inr h
 -- the known peers with the others are the union of both
 pub union_of : (known peers : List Address) → IsAscending known → IsUnion known peers (known_with known peers)
 union_of known peers ascending = record {
-  distinct = distinct_with known peers (λ i j d before within. below_is_other (get_or known i d) (get_or known j d) (ascending i j d before within));
+  distinct = distinct_with known peers (λ i j d before within. below_is_other peers_are_total (get_or known i d) (get_or known j d) (ascending i j d before within));
   members = λ peer. (
     λ in_union. elim (one_of_both _ _ (sym (among_both known peers peer) ∙ among_contained (known_with known peers) peer in_union)) [
       | inl in_known ↦ inl (contained_among known peer in_known)

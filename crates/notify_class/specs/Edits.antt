@@ -1,11 +1,7 @@
 -- The limits of a Recipient_List that is edited.
-use Rattle.std.specs.Prelude.{◌≡◌, ℕ, ◌*◌, ◌↔◌, ◌⊎◌, Bool, List, [], ◌∷◌, ◌++◌, length, map, Result, Ok, Err, Contains, AllPairs, nat_lt, if◌then◌else◌}
-use Rattle.std.specs.List.{list_any}
-use Rattle.std.specs.declared.cmp.Ordering.{Ordering}
-use Rattle.std.specs.declared.cmp.Ordering.TheVariants.{Less}
+use Rattle.std.specs.Prelude.{◌≡◌, ℕ, ◌*◌, ◌↔◌, ◌⊎◌, List, [], ◌∷◌, ◌++◌, length, map, Result, Ok, Err, Contains, AllPairs, nat_lt, if◌then◌else◌}
 use Rattle.bac_values.specs.Address.{Address}
-use Rattle.bac_values.specs.contracts.peer.PeerOrd.TheImpl as peer_ord
-use Rattle.bac_values.specs.contracts.peer.PeerPartialEq.TheImpl as peer_eq
+use Rattle.bac_values.specs.Orders.{is_among}
 use Rattle.notify_class.specs.declared.edit.EditFault.{EditFault}
 use Rattle.notify_class.specs.declared.edit.EditFault.TheVariants.{TooMany, TooManyPeers, TooManyNotes}
 use Rattle.notify_class.specs.Recipients.{ListedRecipient}
@@ -17,21 +13,9 @@ most_destinations = 32
 abbrev pub most_peers : ℕ
 most_peers = 8_192
 
--- the order of peers: by address, port, network and station
-abbrev pub peer_order : Address → Address → Ordering
-peer_order = (peer_ord.ghosts).cmp
-
--- each peer is below every later one
-abbrev pub IsAscending : List Address → Type 0
-IsAscending peers = AllPairs (λ earlier later. peer_order earlier later ≡ Less) peers
-
 -- the peers of a list of recipients, in its order
 abbrev pub peers_of : List ListedRecipient → List Address
 peers_of recipients = map (λ (recipient : ListedRecipient). recipient.peer) recipients
-
--- whether the peer is among these
-abbrev pub is_among : List Address → Address → Bool
-is_among peers peer = list_any (λ other. (peer_eq.ghosts).eq other peer) peers
 
 -- the known peers, once each of the others has been added that is not there yet
 abbrev pub known_with : List Address → List Address → List Address

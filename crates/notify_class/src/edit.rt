@@ -1,10 +1,11 @@
 ghost use Rattle.std.specs.Prelude.{◌≡◌, ◌↔◌, ◌+◌, ◌<◌, ◌≤◌, ◌^◌, IsTrue, length, not, ◌&&◌};
 ghost use Rattle.bac_values.specs.Address.{Address};
+ghost use Rattle.bac_values.specs.Orders.{IsAscending, is_among};
 ghost use Rattle.notify_class.specs.Recipients.{ListedRecipient};
-ghost use Rattle.notify_class.specs.Edits.{IsAscending, IsUnion, is_among, known_with, peers_of, edit_verdict};
+ghost use Rattle.notify_class.specs.Edits.{IsUnion, known_with, peers_of, edit_verdict};
 
 use crate::Destination;
-use bac_values::Peer;
+use bac_values::{Peer, is_among};
 
 /// The most destinations of a class.
 const MOST_DESTINATIONS: usize = 32;
@@ -32,14 +33,6 @@ pub enum EditFault {
     },
 }
 
-/// Whether the peer is among the known ones.
-fn is_known(known: &[Peer], peer: &Peer) -> bool
-    requires ascending { IsAscending known.now }
-    ensures known { result ≡ is_among known.now peer.now }
-{
-    known.binary_search(peer).is_ok()
-}
-
 /// Whether one of the destinations has the peer.
 fn has_peer(destinations: &[Destination], peer: &Peer) -> bool
     ensures has { result ≡ is_among (peers_of destinations.now) peer.now }
@@ -47,7 +40,7 @@ fn has_peer(destinations: &[Destination], peer: &Peer) -> bool
     destinations
         .iter()
         .map(|destination| destination.peer)
-        .any(|other| other == *peer)
+        .any(|other| other.is_same(peer))
 }
 
 /// Whether the peer is neither known nor that of an earlier destination.
@@ -56,7 +49,7 @@ fn is_new(known: &[Peer], earlier: &[Destination], peer: &Peer) -> bool
     requires ascending { IsAscending known.now }
     ensures new { result ≡ not (is_among (known_with known.now (peers_of earlier.now)) peer.now) }
 {
-    !is_known(known, peer) && !has_peer(earlier, peer)
+    !is_among(known, peer) && !has_peer(earlier, peer)
 }
 
 /// How many peers of the destinations are not known.

@@ -11,6 +11,8 @@ use Rattle.std.proofs.lemmas.Simd.{map-map}
 use Rattle.std.proofs.Math.Seq.{map-set_same}
 use Rattle.std.proofs.lemmas.Cmp.{alike_right}
 use Rattle.bac_values.specs.Identifier.{Identifier}
+use Rattle.bac_values.specs.Orders.{identifier_order}
+use Rattle.bac_values.proofs.OrderLemmas.{identifiers_are_total, rises}
 use Rattle.object_table.specs.declared.change.Change.{Change}
 use Rattle.object_table.specs.declared.change.What.{What}
 use Rattle.object_table.specs.declared.object_site.ObjectSite.{ObjectSite}
@@ -18,8 +20,8 @@ use Rattle.object_table.specs.declared.row.Row.{Row}
 use Rattle.object_table.specs.Objects.{IsObject, IsRow}
 use Rattle.object_table.specs.Tables.{IsTable}
 use Rattle.object_table.specs.Writes.{IsTaken, changed, takes, written}
-use Rattle.object_table.specs.Rows.{Ascends, AscendsById, first_row, rows_of, identifier_order, is_object, row_of, object_in, RowsAscend, StandsAt}
-use Rattle.object_table.proofs.Order.{above, order_is_total, equal_is_object, less_is_other, greater_is_other, rises}
+use Rattle.object_table.specs.Rows.{Ascends, AscendsById, first_row, rows_of, is_object, row_of, object_in, RowsAscend, StandsAt}
+use Rattle.object_table.proofs.Order.{above, equal_is_object, less_is_other, greater_is_other}
 
 -- the identifier at a place
 get_or-object : (rows : List Row) (k : ℕ) (d : Row) → get_or (map object_in rows) k (object_in d) ≡ object_in (get_or rows k d)
@@ -72,13 +74,13 @@ searched object rows (Ok place) ascending within equal = record {
 }
   where
     other_side : (a b : Identifier) → identifier_order a b ≡ Less → identifier_order b object ≡ Equal → identifier_order a object ≡ Less
-    other_side a b lt same = sym (alike_right order_is_total b object a same) ∙ lt
+    other_side a b lt same = sym (alike_right identifiers_are_total b object a same) ∙ lt
 
     this_side : (a b : Identifier) → identifier_order a b ≡ Less → identifier_order a object ≡ Equal → identifier_order b object ≡ Greater
-    this_side a b lt same = sym (alike_right order_is_total a object b same) ∙ above a b lt
+    this_side a b lt same = sym (alike_right identifiers_are_total a object b same) ∙ above a b lt
 searched object rows (Err place) ascending within parted =
     let point = parted (λ i j d low high. elim (leb_tells (suc i) j) [
-      | inl before ↦ rises _ _ object (below rows ascending i j d before.1 high)
+      | inl before ↦ rises identifiers_are_total _ _ object (below rows ascending i j d before.1 high)
       | inr same ↦ let after = same.1 in let e : i ≡ j = omega arith in no_more _ _ (ap (λ n. ordering_index (identifier_order (get_or rows n d).site.object object)) e)
     ]) in
     record {

@@ -1,9 +1,8 @@
 -- Tables of value objects: rows that ascend by identifier.
 use Rattle.std.specs.Prelude.{◌≡◌, ℕ, ◌==◌, ◌<◌, ◌≢◌, Bool, true, false, ◌&&◌, Option, List, length, map, find, slice_index_or, AllPairs}
-use Rattle.std.specs.Ordering.{nat_cmp, ordering_then}
-use Rattle.std.specs.declared.cmp.Ordering.{Ordering}
 use Rattle.std.specs.declared.cmp.Ordering.TheVariants.{Less}
 use Rattle.bac_values.specs.Identifier.{Identifier}
+use Rattle.bac_values.specs.Orders.{identifier_order}
 use Rattle.object_table.specs.declared.object_site.ObjectSite.{ObjectSite}
 use Rattle.object_table.specs.declared.row.Row.{Row}
 
@@ -21,10 +20,6 @@ first_row site = record { site = site; field_fault = 0 }
 
 abbrev pub rows_of : List ObjectSite → List Row
 rows_of sites = map first_row sites
-
--- the order of identifiers: by number, then by instance
-abbrev pub identifier_order : Identifier → Identifier → Ordering
-identifier_order first second = ordering_then (nat_cmp first.number second.number) (nat_cmp first.instance second.instance)
 
 -- each identifier is below every later one
 abbrev pub Ascends : List Identifier → Type 0

@@ -5,11 +5,11 @@ use Rattle.std.specs.Option.{option_map}
 use Rattle.std.proofs.lemmas.Bool.{or_right}
 use Rattle.std.proofs.lemmas.List.Elements.{All-cons, All-nil}
 use Rattle.bac_values.specs.declared.note.Note.{Note}
+use Rattle.bac_values.specs.Orders.{is_same}
+use Rattle.bac_values.proofs.OrderLemmas.{same_is_equivalence}
 use Rattle.outbox.specs.declared.post.Post.{Post}
-use Rattle.outbox.specs.Peers.{is_same}
 use Rattle.outbox.specs.Posts.{PostState}
 use Rattle.outbox.specs.Outboxes.{AreKnown, is_known, shown}
-use Rattle.outbox.proofs.PeerLemmas.{eq_is_equivalence}
 
 abbrev of_some : Option Post → Post → Post
 of_some (Some post) other = post
@@ -24,7 +24,7 @@ pub shown_known : (posts : List PostState) (place : ℕ) (post : Post) → Some 
 shown_known [] place post told = absurd (true≢false (ap has_one told))
 shown_known (first ∷ posts) zero post told =
     let same : first.peer ≡ post.peer = sym (ap (λ (o : Option Post). (of_some o post).peer) told) in
-    let there : is_same first.peer post.peer ≡ true = ap (λ p. is_same first.peer p) (sym same) ∙ eq_is_equivalence.refl first.peer in
+    let there : is_same first.peer post.peer ≡ true = ap (λ p. is_same first.peer p) (sym same) ∙ same_is_equivalence.refl first.peer in
     rw there refl
 shown_known (first ∷ posts) (suc place) post told = or_right (is_same first.peer post.peer) (is_known post.peer posts) (shown_known posts place post told)
 

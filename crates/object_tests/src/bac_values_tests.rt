@@ -51,6 +51,42 @@ fn texts_have_at_most_256_octets(rt: HostRuntime) -> Result<(), Fail> {
 }
 
 #[test]
+fn a_shorter_station_is_below_a_longer_one(rt: HostRuntime) -> Result<(), Fail> {
+    let short = Mac::new(&[9, 9]).ok_or("no station")?;
+    let long = Mac::new(&[1, 1, 1]).ok_or("no station")?;
+    let later = Mac::new(&[1, 2, 0]).ok_or("no station")?;
+    holds(&rt, short < long);
+    holds(&rt, long < later);
+    holds(&rt, later > short);
+    Ok(())
+}
+
+#[test]
+fn peers_are_ordered_by_address_then_port_then_network(rt: HostRuntime) -> Result<(), Fail> {
+    let peer = |ip, port, net| Peer {
+        ip,
+        port,
+        net,
+        mac: Mac::none(),
+    };
+    holds(&rt, Peer::local(7, 47_808) < Peer::local(7, 47_809));
+    holds(&rt, Peer::local(7, 47_809) < Peer::local(8, 47_808));
+    holds(&rt, peer(7, 47_808, 9) < peer(7, 47_809, 1));
+    holds(&rt, peer(7, 47_808, 1) < peer(7, 47_808, 9));
+    let station = |octet| {
+        Some(Peer {
+            ip: 7,
+            port: 47_808,
+            net: 9,
+            mac: Mac::new(&[octet])?,
+        })
+    };
+    holds(&rt, station(1) < station(2));
+    holds(&rt, station(1) != station(2));
+    Ok(())
+}
+
+#[test]
 fn stations_have_at_most_seven_octets(rt: HostRuntime) -> Result<(), Fail> {
     let station = Mac::new(&[1, 2, 3]).ok_or("no station")?;
     same(&rt, &station.octets(), &[1, 2, 3].as_slice());
@@ -58,6 +94,29 @@ fn stations_have_at_most_seven_octets(rt: HostRuntime) -> Result<(), Fail> {
     holds(&rt, Mac::none() < station);
     holds(&rt, Peer::console() < Peer::local(1, 0));
     same(&rt, &Peer::local(0, 0), &Peer::console());
+    Ok(())
+}
+
+#[test]
+fn a_list_of_peers_ascends_and_has_each_once(rt: HostRuntime) -> Result<(), Fail> {
+    let mut list = PeerList::new(rt.alloc());
+    list.insert(Peer::local(8, 47_808))?;
+    list.insert(Peer::local(7, 47_809))?;
+    list.insert(Peer::local(8, 47_808))?;
+    let seven = Peer::local(7, 47_808);
+    holds(&rt, !list.contains(&seven));
+    let more = list.with(rt.alloc(), &[seven, Peer::console(), seven])?;
+    let wanted = [
+        Peer::console(),
+        seven,
+        Peer::local(7, 47_809),
+        Peer::local(8, 47_808),
+    ];
+    same(&rt, &more.as_slice(), &wanted.as_slice());
+    holds(&rt, more.contains(&seven));
+    same(&rt, &list.as_slice(), &&wanted[2..]);
+    list.extend(&wanted)?;
+    same(&rt, &list.as_slice(), &wanted.as_slice());
     Ok(())
 }
 

@@ -1,7 +1,7 @@
 ghost use Rattle.std.specs.Prelude.{◌≡◌, IfOk};
 ghost use Rattle.std.specs.declared.cmp.Ordering.TheVariants.{Less};
+ghost use Rattle.bac_values.specs.Orders.{identifier_order};
 ghost use Rattle.object_table.specs.Objects.{IsObject};
-ghost use Rattle.object_table.specs.Rows.{identifier_order};
 
 use crate::comparing::{holds, same};
 use bac_values::{Bits, Foreign, Items, ObjectId, ObjectKind, PropertyId, SetFault, Text, Value};

@@ -6,7 +6,7 @@ use Rattle.std.proofs.lemmas.List.{get_or_default, length-drop}
 use Rattle.std.proofs.lemmas.List.Sums.{sum_by-set}
 use Rattle.std.proofs.lemmas.List.Elements.{All-get_or}
 use Rattle.bac_values.specs.Address.{Address}
-use Rattle.outbox.specs.Peers.{is_same, IsAscending}
+use Rattle.bac_values.specs.Orders.{is_same, IsAscending}
 use Rattle.outbox.specs.Posts.{PostState, is_in_flight, post_answered}
 use Rattle.outbox.specs.Outboxes.{peers_of, unfinished_in, answered_by}
 use Rattle.outbox.specs.Places.{IsPlaceOf, IsGapFor}

@@ -8,7 +8,7 @@ use Rattle.std.proofs.lemmas.List.Elements.{All-map, All-weaker, All-drop}
 use Rattle.std.proofs.lemmas.List.Sums.{sum_by-cons}
 use Rattle.bac_values.specs.Address.{Address}
 use Rattle.bac_values.specs.declared.note.Note.{Note}
-use Rattle.outbox.specs.Peers.{is_same, IsAscending}
+use Rattle.bac_values.specs.Orders.{is_same, IsAscending}
 use Rattle.outbox.specs.Delivery.{Timing, is_confirmed, is_awaited, is_repeated}
 use Rattle.outbox.specs.Posts.{PostState, IsPost, without_first, unsent, post_sent, post_pumped, post_answered, is_in_flight, most_octets}
 use Rattle.outbox.specs.Outboxes.{OutboxState, IsOutbox, timing_of, unfinished_in, pumped, answered, answered_by, is_flight_to}

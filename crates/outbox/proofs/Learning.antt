@@ -1,36 +1,27 @@
 -- Peers that are learned get their places.
-use Rattle.std.proofs.Common.{◌≡◌, ℕ, zero, suc, Bool, true, false, true≢false, not, ◌||◌, List, [], ◌∷◌, ◌++◌, length, take, drop, filter, get_or, refl, sym, ◌∙◌, ap, subst, inl, inr, arith, Result, Ok, Err, if◌then◌else◌}
-use Rattle.std.specs.Result.{IsOk, is_ok}
-use Rattle.std.specs.List.{All, AllPairs, list_any, insert}
+use Rattle.std.proofs.Common.{◌≡◌, ℕ, Bool, true, false, true≢false, not, cond, ◌||◌, List, [], ◌∷◌, ◌++◌, length, filter, refl, sym, ◌∙◌, ap, subst, inl, inr, arith, if◌then◌else◌}
+use Rattle.std.specs.List.{All, list_any, insert}
 use Rattle.std.specs.List.Sorted.{IsPermutation}
-use Rattle.std.specs.Ordering.{is_lt, is_eq, ordering_reverse}
+use Rattle.std.specs.Ordering.{is_lt, is_eq}
 use Rattle.std.specs.declared.cmp.Ordering.{Ordering}
 use Rattle.std.specs.declared.cmp.Ordering.TheVariants.{Less, Equal, Greater}
 use Rattle.std.proofs.lemmas.Bool.{cases_Bool, or_parts}
-use Rattle.std.proofs.lemmas.List.Elements.{All-append, All-cons, filter_passes, All-weaker}
-use Rattle.std.proofs.lemmas.List.Kept.{AllPairs-cons, AllPairs-filter}
+use Rattle.std.proofs.lemmas.List.Elements.{All-cons}
 use Rattle.std.proofs.lemmas.List.Folds.{list_any_none, list_any_at}
 use Rattle.std.proofs.lemmas.List.Sorted.{IsPermutation-trans, IsPermutation-middle, IsPermutation-sym, IsPermutation-cons, IsPermutation-filter_both, All-permutation, sum_by-IsPermutation, list_any-IsPermutation}
 use Rattle.std.proofs.lemmas.List.Sums.{sum_by-cons}
 use Rattle.bac_values.specs.Address.{Address}
-use Rattle.outbox.specs.Peers.{peer_order, is_same, IsAscending}
+use Rattle.bac_values.specs.Orders.{peer_with, peers_with, peer_order, is_same, IsAscending}
+use Rattle.bac_values.proofs.OrderLemmas.{same_by_order, tied}
+use Rattle.bac_values.proofs.Placing.{inserted, turned, is_above as above, is_below as below}
+use Rattle.bac_values.proofs.Inserting.{ascends_with as peers_ascend}
 use Rattle.outbox.specs.Posts.{PostState, IsPost, empty_post, post_after}
 use Rattle.outbox.specs.Outboxes.{OutboxState, IsOutbox, timing_of, peers_of, unfinished_in, is_known, with_peer, with_peers, learned}
 use Rattle.outbox.specs.Places.{IsPlaceOf, IsGapFor}
-use Rattle.outbox.proofs.PeerLemmas.{order_is_total, matches, tied}
-use Rattle.outbox.proofs.PlaceLemmas.{in_order, here, nowhere}
+use Rattle.outbox.proofs.PlaceLemmas.{peer_of, here, nowhere}
 use Rattle.outbox.proofs.Making.{empty_is}
 use Rattle.outbox.specs.Following.{Learns}
 use Rattle.outbox.proofs.Standing.{Fits, fits_from, fits_to, nothing_kept}
-
-abbrev is_below : Address → PostState → Bool
-is_below peer post = is_lt (peer_order post.peer peer)
-
-abbrev is_above : Address → PostState → Bool
-is_above peer post = is_lt (peer_order peer post.peer)
-
-turned : (a b : Address) (o : Ordering) → peer_order a b ≡ o → peer_order b a ≡ ordering_reverse o
-turned a b o e = order_is_total.antisymm b a ∙ ap ordering_reverse e
 
 -- a peer that is known stays as it was
 pub known_same : (peer : Address) (posts : List PostState) → is_known peer posts ≡ true → with_peer peer posts ≡ posts
@@ -39,42 +30,16 @@ known_same peer posts known = rw known refl
 pub at_place : (peer : Address) (posts : List PostState) (place : ℕ) → IsPlaceOf peer posts place → (d : PostState) → posts ≡ with_peer peer posts
 at_place peer posts place there d = sym (known_same peer posts (list_any_at (λ (post : PostState). is_same post.peer peer) posts place d there.0 (here posts peer place there d)))
 
--- the posts before a gap are those below the peer, and those behind it those above
-gap_next : (peer : Address) (post : PostState) (posts : List PostState) (place : ℕ) → IsGapFor peer (post ∷ posts) (suc place) → IsGapFor peer posts place
-gap_next peer post posts place gap = (omega (arith, gap.0), λ i d low high. gap.1 (suc i) d (omega arith) (omega (arith, high)), λ i d low high. gap.2 (suc i) d (omega (arith, low)) (omega (arith, high)))
-
-gap_first : (peer : Address) (post : PostState) (posts : List PostState) → IsGapFor peer (post ∷ posts) 0 → IsGapFor peer posts 0
-gap_first peer post posts gap = (omega arith, λ i d low high. absurd (omega (arith, high)), λ i d low high. gap.2 (suc i) d (omega arith) (omega (arith, high)))
-
-below_gap : (peer : Address) (posts : List PostState) (place : ℕ) → IsGapFor peer posts place → filter (is_below peer) posts ≡ take place posts
-below_gap peer [] zero gap = refl
-below_gap peer [] (suc place) gap = refl
-below_gap peer (post ∷ posts) zero gap =
-    let e : is_below peer post ≡ false = ap is_lt (gap.2 0 post (omega arith) (omega arith)) in
-    rw e (below_gap peer posts 0 (gap_first peer post posts gap))
-below_gap peer (post ∷ posts) (suc place) gap =
-    let e : is_below peer post ≡ true = ap is_lt (gap.1 0 post (omega arith) (omega arith)) in
-    rw e (ap (λ ps. post ∷ ps) (below_gap peer posts place (gap_next peer post posts place gap)))
-
-above_gap : (peer : Address) (posts : List PostState) (place : ℕ) → IsGapFor peer posts place → filter (is_above peer) posts ≡ drop place posts
-above_gap peer [] zero gap = refl
-above_gap peer [] (suc place) gap = refl
-above_gap peer (post ∷ posts) zero gap =
-    let e : is_above peer post ≡ true = ap is_lt (turned post.peer peer Greater (gap.2 0 post (omega arith) (omega arith))) in
-    rw e (ap (λ ps. post ∷ ps) (above_gap peer posts 0 (gap_first peer post posts gap)))
-above_gap peer (post ∷ posts) (suc place) gap =
-    let e : is_above peer post ≡ false = ap is_lt (turned post.peer peer Less (gap.1 0 post (omega arith) (omega arith))) in
-    rw e (above_gap peer posts place (gap_next peer post posts place gap))
-
 pub at_gap : (peer : Address) (posts : List PostState) (place : ℕ) → IsGapFor peer posts place → insert posts place (empty_post peer) ≡ with_peer peer posts
 at_gap peer posts place gap =
     let unknown : is_known peer posts ≡ false = list_any_none (λ (post : PostState). is_same post.peer peer) posts (λ j d within. nowhere posts peer place gap j d within) in
-    rw unknown (λ k. sym (below_gap peer posts place gap) k ++ empty_post peer ∷ sym (above_gap peer posts place gap) k)
+    rw unknown (inserted peer_of peer posts place (empty_post peer) gap)
 
--- what succeeds is made
-pub made_sure : {T E X : Type 0} (r : Result T E) (a b : X) → IsOk r → (if is_ok r then a else b) ≡ a
-made_sure (Ok x) a b sure = refl
-made_sure (Err x) a b sure = absurd (true≢false (sym sure))
+abbrev is_below : Address → PostState → Bool
+is_below = below peer_of
+
+abbrev is_above : Address → PostState → Bool
+is_above = above peer_of
 
 -- a peer that is unknown: each post is either below it or above
 module _ (peer : Address) where
@@ -83,7 +48,7 @@ module _ (peer : Address) where
     where
       by_order : (o : Ordering) → peer_order post.peer peer ≡ o → is_above peer post ≡ not (is_below peer post)
       by_order Less e = ap is_lt (turned post.peer peer Less e) ∙ sym (ap (λ o. not (is_lt o)) e)
-      by_order Equal e = absurd (true≢false (sym (matches post.peer peer ∙ ap is_eq e) ∙ other))
+      by_order Equal e = absurd (true≢false (sym (same_by_order post.peer peer ∙ ap is_eq e) ∙ other))
       by_order Greater e = ap is_lt (turned post.peer peer Greater e) ∙ sym (ap (λ o. not (is_lt o)) e)
 
   above_by_not : (posts : List PostState) → is_known peer posts ≡ false → filter (is_above peer) posts ≡ filter (λ post. not (is_below peer post)) posts
@@ -104,47 +69,52 @@ module _ (peer : Address) where
       let same : low ++ empty_post peer ∷ high ≡ with_peer peer posts = rw none (ap (λ ps. low ++ empty_post peer ∷ ps) (sym (above_by_not posts none))) in
       subst (IsPermutation (empty_post peer ∷ posts)) same whole
 
--- one post after the other in order
-abbrev Rises : PostState → PostState → Type 0
-Rises a b = peer_order a.peer b.peer ≡ Less
+-- the peers of the posts are those that were there with the others
+pub known_addresses : (peer : Address) (posts : List PostState) → is_known peer posts ≡ list_any (λ other. is_same other peer) (peers_of posts)
+known_addresses peer [] = refl
+known_addresses peer (post ∷ posts) = ap (λ b. is_same post.peer peer || b) (known_addresses peer posts)
 
-is_less : (o : Ordering) → is_lt o ≡ true → o ≡ Less
-is_less Less e = refl
-is_less Equal e = absurd (true≢false (sym e))
-is_less Greater e = absurd (true≢false (sym e))
+peers_join : (xs : List PostState) (post : PostState) (ys : List PostState) → peers_of (xs ++ post ∷ ys) ≡ peers_of xs ++ post.peer ∷ peers_of ys
+peers_join [] post ys = refl
+peers_join (x ∷ xs) post ys = ap (λ ps. x.peer ∷ ps) (peers_join xs post ys)
 
-all_pairs_append : {X : Type 0} (R : X → X → Type 0) (xs ys : List X) → AllPairs R xs → AllPairs R ys → All (λ x. All (R x) ys) xs → AllPairs R (xs ++ ys)
-all_pairs_append R [] ys front back cross = back
-all_pairs_append R (x ∷ xs) ys front back cross =
-    AllPairs-cons R x (xs ++ ys) (All-append (R x) xs ys (λ k d within. front 0 (suc k) d (omega arith) (omega (arith, within))) (cross 0 x (omega arith)))
-    (all_pairs_append R xs ys (λ i j d low within. front (suc i) (suc j) d (omega (arith, low)) (omega (arith, within))) back (λ k d within. cross (suc k) d (omega (arith, within))))
+filtered_by : (b : Bool) (post : PostState) (posts : List PostState) (peers : List Address) → peers_of posts ≡ peers → peers_of (cond b (post ∷ posts) posts) ≡ cond b (post.peer ∷ peers) peers
+filtered_by true post posts peers e = ap (λ ps. post.peer ∷ ps) e
+filtered_by false post posts peers e = e
 
-first_rises : (post : PostState) (posts : List PostState) → All (Rises post) posts → All (λ peer. peer_order post.peer peer ≡ Less) (peers_of posts)
-first_rises post [] all = λ k d within. absurd (omega (arith, within))
-first_rises post (next ∷ posts) all = All-cons (λ peer. peer_order post.peer peer ≡ Less) next.peer (peers_of posts) (all 0 next (omega arith)) (first_rises post posts (λ k d within. all (suc k) d (omega (arith, within))))
+filtered : (test : Address → Bool) (posts : List PostState) → peers_of (filter (λ (post : PostState). test post.peer) posts) ≡ filter test (peers_of posts)
+filtered test [] = refl
+filtered test (post ∷ posts) = filtered_by (test post.peer) post (filter (λ (post : PostState). test post.peer) posts) (filter test (peers_of posts)) (filtered test posts)
 
-ascending_from : (posts : List PostState) → AllPairs Rises posts → IsAscending (peers_of posts)
-ascending_from [] rises = λ i j d low within. absurd (omega (arith, within))
-ascending_from (post ∷ posts) rises = AllPairs-cons (λ a b. peer_order a b ≡ Less) post.peer (peers_of posts)
-    (first_rises post posts (λ k d within. rises 0 (suc k) d (omega arith) (omega (arith, within))))
-    (ascending_from posts (λ i j d low within. rises (suc i) (suc j) d (omega (arith, low)) (omega (arith, within))))
+either : (b : Bool) (xs ys : List PostState) (us vs : List Address) → peers_of xs ≡ us → peers_of ys ≡ vs → peers_of (if b then xs else ys) ≡ (if b then us else vs)
+either true xs ys us vs e f = e
+either false xs ys us vs e f = f
+
+is_lower : Address → Address → Bool
+is_lower peer other = is_lt (peer_order other peer)
+
+is_higher : Address → Address → Bool
+is_higher peer other = is_lt (peer_order peer other)
+
+with_one : (peer : Address) (posts : List PostState) → peers_of (with_peer peer posts) ≡ peer_with peer (peers_of posts)
+unfolding is_lower is_higher
+with_one peer posts =
+    let peers = peers_of posts in
+    let below = filter (λ (post : PostState). is_lower peer post.peer) posts in
+    let above = filter (λ (post : PostState). is_higher peer post.peer) posts in
+    let placed : peers_of (below ++ empty_post peer ∷ above) ≡ filter (is_lower peer) peers ++ peer ∷ filter (is_higher peer) peers =
+    peers_join below (empty_post peer) above
+    ∙ (ap (λ ps. ps ++ peer ∷ peers_of above) (filtered (is_lower peer) posts)
+    ∙ ap (λ ps. filter (is_lower peer) peers ++ peer ∷ ps) (filtered (is_higher peer) posts)) in
+    either (is_known peer posts) posts (below ++ empty_post peer ∷ above) peers (filter (is_lower peer) peers ++ peer ∷ filter (is_higher peer) peers) refl placed
+    ∙ ap (λ b. if b then peers else filter (is_lower peer) peers ++ peer ∷ filter (is_higher peer) peers) (known_addresses peer posts)
+
+pub with_all : (others : List Address) (posts : List PostState) → peers_of (with_peers others posts) ≡ peers_with others (peers_of posts)
+with_all [] posts = refl
+with_all (peer ∷ others) posts = with_all others (with_peer peer posts) ∙ ap (peers_with others) (with_one peer posts)
 
 pub ascends_with : (peer : Address) (posts : List PostState) → IsAscending (peers_of posts) → IsAscending (peers_of (with_peer peer posts))
-ascends_with peer posts ascending = elim (cases_Bool (is_known peer posts)) [
-  | inl known ↦ subst (λ ps. IsAscending (peers_of ps)) (sym (known_same peer posts known)) ascending
-  | inr unknown ↦
-      let rises : AllPairs Rises posts = λ i j d low within. in_order posts ascending i j d low within in
-      let low = filter (is_below peer) posts in
-      let high = filter (is_above peer) posts in
-      let under : All (λ post. is_below peer post ≡ true) low = filter_passes (is_below peer) posts in
-      let over : All (λ post. is_above peer post ≡ true) high = filter_passes (is_above peer) posts in
-      let up : All (Rises (empty_post peer)) high = All-weaker (λ post. is_above peer post ≡ true) (Rises (empty_post peer)) (λ post e. is_less (peer_order peer post.peer) e) high over in
-      let back : AllPairs Rises (empty_post peer ∷ high) = AllPairs-cons Rises (empty_post peer) high up (AllPairs-filter Rises (is_above peer) posts rises) in
-      let cross : All (λ post. All (Rises post) (empty_post peer ∷ high)) low = All-weaker (λ post. is_below peer post ≡ true) (λ post. All (Rises post) (empty_post peer ∷ high))
-      (λ post e. let down = is_less (peer_order post.peer peer) e in All-cons (Rises post) (empty_post peer) high down (λ k d within. order_is_total.trans post.peer peer (get_or high k d).peer down (up k d within))) low under in
-      let whole : AllPairs Rises (low ++ empty_post peer ∷ high) = all_pairs_append Rises low (empty_post peer ∷ high) (AllPairs-filter Rises (is_below peer) posts rises) back cross in
-      ascending_from (with_peer peer posts) (rw unknown whole)
-]
+ascends_with peer posts ascending = subst IsAscending (sym (with_one peer posts)) (peers_ascend peer (peers_of posts) ascending)
 
 pub ascends_still : (peer : Address) (posts now : List PostState) → now ≡ with_peer peer posts → IsAscending (peers_of posts) → IsAscending (peers_of now)
 ascends_still peer posts now same ascending = subst (λ ps. IsAscending (peers_of ps)) (sym same) (ascends_with peer posts ascending)

@@ -2,7 +2,6 @@ mod Fronts
 mod Pumping
 mod Laws
 pub mod Standing
-pub mod PeerLemmas
 mod PlaceLemmas
 mod Keeping
 mod Answering

@@ -1,21 +1,21 @@
 -- Posts whose peers ascend: at most one is that of a peer.
-use Rattle.std.proofs.Common.{◌≡◌, ◌≢◌, ◌⊎◌, ℕ, suc, ◌<◌, Bool, true, false, true≢false, ◌&&◌, List, length, map, get_or, set, Result, Ok, Err, refl, sym, ◌∙◌, ap, inl, inr, arith}
+use Rattle.std.proofs.Common.{◌≡◌, ◌≢◌, ◌⊎◌, ℕ, ◌<◌, Bool, true, false, true≢false, ◌&&◌, List, length, map, get_or, set, Result, refl, sym, ◌∙◌, ap, inl, inr, arith}
 use Rattle.std.specs.List.{list_any}
 use Rattle.std.specs.List.Sorted.{IsSearchInRange, IsBinarySearchResult}
-use Rattle.std.specs.Ordering.{is_eq, ordering_index}
 use Rattle.std.specs.declared.cmp.Ordering.TheVariants.{Less}
 use Rattle.std.proofs.lemmas.Bool.{cases_Bool, cases_lt, cases_eq}
-use Rattle.std.proofs.lemmas.Bool.Decides.{leb_tells}
 use Rattle.std.proofs.lemmas.List.{get_or-map, length-map, length-set, get_or-set_same, get_or-set_other, get_or_default, same_lists}
 use Rattle.std.proofs.lemmas.List.Folds.{list_any_at, list_any_none}
 use Rattle.bac_values.specs.Address.{Address}
-use Rattle.outbox.specs.Peers.{peer_order, is_same, IsAscending}
+use Rattle.bac_values.specs.Orders.{peer_order, is_same, IsAscending}
+use Rattle.bac_values.specs.contracts.peer.PeerOrd.TheImpl as peer_ord
+use Rattle.bac_values.proofs.OrderLemmas.{below_is_other, peers_are_total, tied}
+use Rattle.bac_values.proofs.Placing.{searched as searched_for, here as stands_here, nowhere as stands_nowhere}
 use Rattle.outbox.specs.Posts.{PostState}
 use Rattle.outbox.specs.Outboxes.{peers_of}
 use Rattle.outbox.specs.Places.{IsPlaceOf, IsGapFor, IsSearched}
-use Rattle.outbox.proofs.PeerLemmas.{tied, matches, rises, no_more, below_is_other, eq_is_equivalence}
 
-abbrev peer_of : PostState → Address
+abbrev pub peer_of : PostState → Address
 peer_of post = post.peer
 
 pub in_order : (posts : List PostState) → IsAscending (peers_of posts) → (i j : ℕ) (d : PostState) → i < j → j < length posts → peer_order (get_or posts i d).peer (get_or posts j d).peer ≡ Less
@@ -25,15 +25,9 @@ in_order posts ascending i j d before within =
     let second = get_or-map peer_of posts j d d.peer within in
     (λ k. peer_order (sym first k) (sym second k)) ∙ ascending i j d.peer before (omega (arith, size, within))
 
-pub searched : (posts : List PostState) (peer : Address) (answer : Result ℕ ℕ) → IsAscending (peers_of posts) → IsSearchInRange answer (length posts) → IsBinarySearchResult (λ (post : PostState). peer_order post.peer peer) posts answer → IsSearched peer posts answer
-searched posts peer (Ok k) ascending within found =
-    (within, λ d. tied (get_or posts k d).peer peer (matches (get_or posts k d).peer peer ∙ ap is_eq (found d)))
-searched posts peer (Err k) ascending within found =
-    let point = found (λ i j d low high. elim (leb_tells (suc i) j) [
-      | inl before ↦ rises (get_or posts i d).peer (get_or posts j d).peer peer (in_order posts ascending i j d before.1 high)
-      | inr same ↦ let after = same.1 in let e : i ≡ j = omega arith in no_more _ _ (ap (λ n. ordering_index (peer_order (get_or posts n d).peer peer)) e)
-    ]) in
-    (within, point.0, point.1)
+pub searched : (posts : List PostState) (peer : Address) (answer : Result ℕ ℕ) → IsAscending (peers_of posts) → IsSearchInRange answer (length posts) →
+    IsBinarySearchResult (λ (post : PostState). (peer_ord.ghosts).cmp post.peer peer) posts answer → IsSearched peer posts answer
+searched posts peer answer ascending within found = searched_for peer_of peer posts answer (in_order posts ascending) within found
 
 -- no post but the one at its place is the peer's
 pub others : (posts : List PostState) (peer : Address) (k : ℕ) → IsAscending (peers_of posts) → IsPlaceOf peer posts k →
@@ -42,21 +36,18 @@ others posts peer k ascending place j d within other = elim (cases_Bool (is_same
   | inl same ↦
       let e : (get_or posts j d).peer ≡ (get_or posts k d).peer = tied (get_or posts j d).peer peer same ∙ sym (place.1 d) in
       elim (cases_lt j k) [
-        | inl before ↦ absurd (below_is_other _ _ (in_order posts ascending j k d before place.0) e)
-        | inr after ↦ absurd (below_is_other _ _ (in_order posts ascending k j d (omega (arith, after, other)) within) (sym e))
+        | inl before ↦ absurd (below_is_other peers_are_total _ _ (in_order posts ascending j k d before place.0) e)
+        | inr after ↦ absurd (below_is_other peers_are_total _ _ (in_order posts ascending k j d (omega (arith, after, other)) within) (sym e))
       ]
   | inr different ↦ different
 ]
 
 pub here : (posts : List PostState) (peer : Address) (k : ℕ) → IsPlaceOf peer posts k → (d : PostState) → is_same (get_or posts k d).peer peer ≡ true
-here posts peer k place d = ap (λ other. is_same other peer) (place.1 d) ∙ eq_is_equivalence.refl peer
+here posts peer = stands_here peer_of peer posts
 
 -- no post is the peer's
 pub nowhere : (posts : List PostState) (peer : Address) (k : ℕ) → IsGapFor peer posts k → (j : ℕ) (d : PostState) → j < length posts → is_same (get_or posts j d).peer peer ≡ false
-nowhere posts peer k gap j d within = elim (cases_lt j k) [
-  | inl before ↦ matches (get_or posts j d).peer peer ∙ ap is_eq (gap.1 j d (omega arith) before)
-  | inr after ↦ matches (get_or posts j d).peer peer ∙ ap is_eq (gap.2 j d after within)
-]
+nowhere posts peer = stands_nowhere peer_of peer posts
 
 -- a change of this post alone
 module _ (change : PostState → PostState) (peer : Address) (does : (post : PostState) → is_same post.peer peer ≡ false → change post ≡ post) where

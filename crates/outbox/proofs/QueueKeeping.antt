@@ -8,11 +8,11 @@ use Rattle.std.proofs.lemmas.List.Folds.{Any-from_list_any}
 use Rattle.std.proofs.lemmas.List.Sums.{sum_by-set}
 use Rattle.bac_values.specs.Address.{Address}
 use Rattle.bac_values.specs.declared.note.Note.{Note}
-use Rattle.outbox.specs.Peers.{is_same, IsAscending}
+use Rattle.bac_values.specs.Orders.{is_same, IsAscending}
+use Rattle.bac_values.proofs.OrderLemmas.{tied}
 use Rattle.outbox.specs.Posts.{PostState, IsPost, with_note, most_octets}
 use Rattle.outbox.specs.Outboxes.{OutboxState, IsOutbox, peers_of, unfinished_in, notes_for, with_notes, queued, is_known, AreKnown}
 use Rattle.outbox.specs.Places.{IsPlaceOf}
-use Rattle.outbox.proofs.PeerLemmas.{tied}
 use Rattle.outbox.proofs.QueueLemmas.{put_one, more_notes, no_notes, known_after, rising_still}
 use Rattle.outbox.proofs.Standing.{peers_stay}
 

@@ -7,7 +7,7 @@ use Rattle.std.proofs.lemmas.List.Elements.{filter-append}
 use Rattle.std.proofs.lemmas.List.Folds.{list_any_none}
 use Rattle.bac_values.specs.Address.{Address}
 use Rattle.bac_values.specs.declared.note.Note.{Note}
-use Rattle.outbox.specs.Peers.{is_same, IsAscending}
+use Rattle.bac_values.specs.Orders.{is_same, IsAscending}
 use Rattle.outbox.specs.Posts.{PostState, with_note}
 use Rattle.outbox.specs.Outboxes.{peers_of, notes_for, with_notes, is_known, without_body}
 use Rattle.outbox.specs.Places.{IsPlaceOf, IsGapFor}

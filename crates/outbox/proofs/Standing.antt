@@ -6,12 +6,12 @@ use Rattle.std.proofs.lemmas.List.{get_or-map, length-map}
 use Rattle.bac_values.specs.Address.{Address}
 use Rattle.bac_values.specs.declared.note.Note.{Note}
 use Rattle.bac_values.specs.declared.note.Send.{Send}
-use Rattle.outbox.specs.Peers.{is_same}
+use Rattle.bac_values.specs.Orders.{is_same}
+use Rattle.bac_values.proofs.OrderLemmas.{tied}
 use Rattle.outbox.specs.Delivery.{Operation, NoteQueued, PumpedAt, AnswerCame, Timing, nothing_queued, pumped_at, answered_with, delivery_after, sent_at, is_awaited, is_repeated}
 use Rattle.outbox.specs.Posts.{PostState, empty_post, post_of, post_after, post_pumped, post_sends, is_in_flight}
 use Rattle.outbox.specs.Outboxes.{OutboxState, timing_of, peers_of, notes_for, is_known, AreKnown, new_outbox, with_notes, queued, pumped, sends_of, answered_by, answered}
 use Rattle.outbox.specs.Following.{Operations, StandsFor, no_operations, after_queue, after_pump, after_answer, Follows, AreSent}
-use Rattle.outbox.proofs.PeerLemmas.{tied}
 use Rattle.outbox.proofs.Laws.{after_pump_law, after_answer_law, after_sends_law, after_queue_law}
 
 -- a change of each post alone

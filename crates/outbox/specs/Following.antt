@@ -4,7 +4,7 @@ use Rattle.std.specs.List.{list_any}
 use Rattle.bac_values.specs.Address.{Address}
 use Rattle.bac_values.specs.declared.note.Note.{Note}
 use Rattle.bac_values.specs.declared.note.Send.{Send}
-use Rattle.outbox.specs.Peers.{is_same}
+use Rattle.bac_values.specs.Orders.{is_same}
 use Rattle.outbox.specs.Delivery.{Operation, NoteQueued, PumpedAt, AnswerCame, nothing_queued, delivery_after, sent_at}
 use Rattle.outbox.specs.Posts.{post_after}
 use Rattle.outbox.specs.Outboxes.{OutboxState, timing_of, peers_of, notes_for, is_known}

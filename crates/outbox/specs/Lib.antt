@@ -1,4 +1,3 @@
-pub mod Peers
 pub mod Notifying
 pub mod Delivery
 pub mod Posts

@@ -5,7 +5,7 @@ use Rattle.std.specs.List.{list_any, list_all}
 use Rattle.bac_values.specs.Address.{Address}
 use Rattle.bac_values.specs.declared.note.Note.{Note}
 use Rattle.bac_values.specs.declared.note.Send.{Send}
-use Rattle.outbox.specs.Peers.{peer_order, is_same, IsAscending}
+use Rattle.bac_values.specs.Orders.{peer_order, is_same, IsAscending}
 use Rattle.outbox.specs.declared.post.Post.{Post}
 use Rattle.outbox.specs.Delivery.{Timing}
 use Rattle.outbox.specs.Posts.{PostState, IsPost, empty_post, is_in_flight, post_answered, post_pumped, post_sends, is_post_idle}

@@ -3,7 +3,7 @@ use Rattle.std.specs.Prelude.{◌≡◌, ℕ, ◌<◌, ◌≤◌, List, length, 
 use Rattle.std.specs.List.{AllWithin}
 use Rattle.std.specs.declared.cmp.Ordering.TheVariants.{Less, Greater}
 use Rattle.bac_values.specs.Address.{Address}
-use Rattle.outbox.specs.Peers.{peer_order}
+use Rattle.bac_values.specs.Orders.{peer_order}
 use Rattle.outbox.specs.Posts.{PostState}
 
 -- its post stands at the place

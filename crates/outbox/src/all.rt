@@ -2,7 +2,7 @@
 ghost use Rattle.std.specs.Prelude.{◌≡◌, ℕ, ◌+◌, ◌<◌, ◌≤◌, if◌then◌else◌, ◌++◌, IfOk, All, length, map, flat_map, vec_len, vec_capacity};
 ghost use Rattle.std.specs.List.{list_all, list_any};
 ghost use Rattle.bac_values.specs.Moments.{IsMoment};
-ghost use Rattle.outbox.specs.Peers.{IsAscending};
+ghost use Rattle.bac_values.specs.Orders.{IsAscending};
 ghost use Rattle.outbox.specs.Places.{IsSearched};
 ghost use Rattle.outbox.specs.Posts.{PostState, IsPost, empty_post, post_pumped, post_sends, is_post_idle};
 ghost use Rattle.outbox.specs.Outboxes.{peers_of, unfinished_in, with_peer, with_peers, is_flight_to, answered_by};

@@ -2,7 +2,7 @@ ghost use Rattle.std.specs.Prelude.{◌≡◌, ◌&&◌, nat_lt, ℕ, ◌+◌, �
 ghost use Rattle.bac_values.specs.Address.{Address};
 ghost use Rattle.bac_values.specs.Moments.{IsMoment};
 ghost use Rattle.bac_values.specs.declared.note.Note.{Note};
-ghost use Rattle.outbox.specs.Peers.{IsAscending};
+ghost use Rattle.bac_values.specs.Orders.{IsAscending};
 ghost use Rattle.outbox.specs.Posts.{PostState, most_octets};
 ghost use Rattle.outbox.specs.Outboxes.{OutboxState, AreSettings, IsOutbox, peers_of, unfinished_in, new_outbox, queued, pumped, sends_of, has_in_flight, answered, is_idle, AreKnown, learned, shown, restored, notes_told, notes_of};
 ghost use Rattle.outbox.specs.Following.{StandsFor, Follows, Learns, AreSent, no_operations, after_queue, after_pump, after_answer};

@@ -1,7 +1,7 @@
 //! Notes go into their recipients' mailboxes, all of them or none.
 ghost use Rattle.std.specs.Prelude.{◌≡◌, List, ◌∷◌, [], ◌++◌, ◌≤◌, IsTrue, IfErr, OnOk, OnErr, map, take, drop, length};
 ghost use Rattle.bac_values.specs.declared.note.Note.{Note};
-ghost use Rattle.outbox.specs.Peers.{IsAscending};
+ghost use Rattle.bac_values.specs.Orders.{IsAscending};
 ghost use Rattle.outbox.specs.Posts.{PostState};
 ghost use Rattle.outbox.specs.Outboxes.{peers_of, with_notes, is_known, without_body, AreKnown};
 

@@ -10,12 +10,13 @@ use Rattle.algorithm_rules.specs.declared.table.Algorithm.TheVariants.{ChangeOfB
 use Rattle.bac_values.specs.Identifier.{Identifier, kind_of}
 use Rattle.bac_values.specs.declared.object_kind.ObjectKind.{ObjectKind}
 use Rattle.bac_values.specs.declared.object_kind.ObjectKind.TheVariants.{BinaryValue, Device, EventEnrollment, NotificationClass, MultiStateValue, EventLog, BitStringValue, CharacterStringValue, IntegerValue, PositiveIntegerValue}
+use Rattle.bac_values.specs.Orders.{identifier_order}
+use Rattle.bac_values.proofs.OrderLemmas.{identifiers_are_total}
 use Rattle.object_table.specs.declared.object_site.ObjectSite.{ObjectSite}
 use Rattle.object_table.specs.Objects.{IsObject}
 use Rattle.object_table.specs.Properties.{kind_in}
-use Rattle.object_table.specs.Rows.{is_object, identifier_order, first_row, row_of, rows_of}
+use Rattle.object_table.specs.Rows.{is_object, first_row, row_of, rows_of}
 use Rattle.object_table.specs.Values.{is_present_value}
-use Rattle.object_table.proofs.Order.{order_is_total}
 use Rattle.enrollment.specs.declared.enrollment_site.EnrollmentSite.{EnrollmentSite}
 use Rattle.enrollment.specs.Enrollments.{is_value_kind, is_unsigned_kind, KeepsAlgorithm, IsEnrollment}
 use Rattle.enrollment.specs.Snapshots.{HasObjects}
@@ -119,7 +120,7 @@ same_ids a b h =
     ∙ ap (λ (i : ℕ). let made : Identifier = record { number = b.number; instance = i } in made) instances
 
 has_row : (object : Identifier) (sites : List ObjectSite) → is_there sites object ≡ true → IsSome (row_of object (rows_of (in_order id_of_object sites)))
-has_row object sites h = row_there object (in_order id_of_object sites) (fold_holds order_is_total same_ids id_of_object (is_object object) sites h)
+has_row object sites h = row_there object (in_order id_of_object sites) (fold_holds identifiers_are_total same_ids id_of_object (is_object object) sites h)
 
 -- ---- an enrollment whose references don't dangle
 

@@ -7,11 +7,11 @@ use Rattle.toml.specs.Data.{Members, as_bool, get_member, Items, no_items, item,
 use Rattle.bac_values.specs.Identifier.{Identifier}
 use Rattle.bac_values.specs.Moments.{IsMoment}
 use Rattle.bac_values.specs.declared.object_kind.ObjectKind.TheVariants as kinds
+use Rattle.bac_values.proofs.OrderLemmas.{identifiers_are_total}
 use Rattle.civil_stamp.specs.LocalTime.{IsZone}
 use Rattle.object_table.specs.declared.object_site.ObjectSite.{ObjectSite}
 use Rattle.object_table.specs.Objects.{IsObject}
 use Rattle.object_table.specs.Rows.{rows_of}
-use Rattle.object_table.proofs.Order.{order_is_total}
 use Rattle.outbox.specs.Outboxes.{AreSettings}
 use Rattle.alarm_core.specs.declared.site.DeviceSite.{DeviceSite}
 use Rattle.alarm_core.specs.declared.site.Site.{Site}
@@ -199,15 +199,15 @@ of_draft_kept draft kept refer = record {
   instance = kept.device.instance;
   settings = kept.device.settings;
   classes = All-map HasInstance (with_destinations draft.destinations) (in_order id_of_class draft.classes)
-      (fold_keeps order_is_total same_ids id_of_class HasGoodInstance [] draft.classes (All-nil HasGoodInstance) kept.classes);
-  ascending = fold_ascends order_is_total same_ids id_of_object draft.objects;
-  objects = fold_keeps order_is_total same_ids id_of_object IsObject [] draft.objects (All-nil IsObject) kept.objects;
-  enrollments_ascend = fold_ascends order_is_total same_ids id_of_enrollment draft.enrollments;
-  enrollments = fold_keeps order_is_total same_ids id_of_enrollment IsEnrollment [] draft.enrollments (All-nil IsEnrollment)
+      (fold_keeps identifiers_are_total same_ids id_of_class HasGoodInstance [] draft.classes (All-nil HasGoodInstance) kept.classes);
+  ascending = fold_ascends identifiers_are_total same_ids id_of_object draft.objects;
+  objects = fold_keeps identifiers_are_total same_ids id_of_object IsObject [] draft.objects (All-nil IsObject) kept.objects;
+  enrollments_ascend = fold_ascends identifiers_are_total same_ids id_of_enrollment draft.enrollments;
+  enrollments = fold_keeps identifiers_are_total same_ids id_of_enrollment IsEnrollment [] draft.enrollments (All-nil IsEnrollment)
       (are_enrollments draft.classes draft.objects draft.enrollments kept.objects kept.enrollments refer);
-  referred = fold_keeps order_is_total same_ids id_of_enrollment (HasObjects (rows_of (in_order id_of_object draft.objects))) [] draft.enrollments (All-nil (HasObjects (rows_of (in_order id_of_object draft.objects))))
+  referred = fold_keeps identifiers_are_total same_ids id_of_enrollment (HasObjects (rows_of (in_order id_of_object draft.objects))) [] draft.enrollments (All-nil (HasObjects (rows_of (in_order id_of_object draft.objects))))
       (have_objects draft.classes draft.objects draft.enrollments refer);
-  logs = fold_keeps order_is_total same_ids id_of_log IsLogSite [] draft.logs (All-nil IsLogSite) kept.logs;
+  logs = fold_keeps identifiers_are_total same_ids id_of_log IsLogSite [] draft.logs (All-nil IsLogSite) kept.logs;
 }
 
 document_kept : (document : Members) (site : Site) → site_of_document document ≡ Ok site → IsSite site

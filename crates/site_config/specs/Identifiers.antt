@@ -2,9 +2,10 @@
 use Rattle.std.specs.Prelude.{nat_lt, Bool, Option, Some, None, List, ◌++◌, map, filter, fold, count_by, if◌then◌else◌}
 use Rattle.std.specs.Ordering.{is_lt}
 use Rattle.bac_values.specs.Identifier.{Identifier}
+use Rattle.bac_values.specs.Orders.{identifier_order}
 use Rattle.enrollment.specs.declared.enrollment_site.EnrollmentSite.{EnrollmentSite}
 use Rattle.alarm_core.specs.declared.site.LogSite.{LogSite}
-use Rattle.object_table.specs.Rows.{identifier_order, is_object}
+use Rattle.object_table.specs.Rows.{is_object}
 use Rattle.object_table.specs.declared.object_site.ObjectSite.{ObjectSite}
 use Rattle.site_config.specs.declared.class.ClassItem.{ClassItem}
 use Rattle.site_config.specs.declared.draft.Draft.{Draft}

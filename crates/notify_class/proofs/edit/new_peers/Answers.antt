@@ -1,6 +1,7 @@
 use Rattle.std.proofs.Common.{arith, ◌∙◌, Bool, not, take, ap}
+use Rattle.bac_values.specs.Orders.{is_among}
 use Rattle.notify_class.specs.Recipients.{ListedRecipient}
-use Rattle.notify_class.specs.Edits.{is_among, known_with, peers_of}
+use Rattle.notify_class.specs.Edits.{known_with, peers_of}
 use Rattle.notify_class.proofs.UnionLemmas.{length-new, length-known}
 use Rattle.notify_class.proofs.edit.new_peers.Goals as goal
 use Rattle.notify_class.proofs.edit.new_peers.Goals.{then-is_new, else-is_new}

@@ -1,6 +1,6 @@
 use Rattle.std.proofs.Common.{◌≡◌, ◌+◌, ◌≤◌, drop, length}
 use Rattle.std.specs.Prelude.{vec_len, vec_capacity}
-use Rattle.outbox.specs.Peers.{IsAscending}
+use Rattle.bac_values.specs.Orders.{IsAscending}
 use Rattle.outbox.specs.Outboxes.{peers_of, with_peers}
 use Rattle.outbox.proofs.all.add_all.Given as goal
 

@@ -2,7 +2,8 @@ use Rattle.std.proofs.Common.{◌∙◌, List, sym, ap}
 use Rattle.std.specs.List.{insert}
 use Rattle.outbox.specs.Posts.{PostState, empty_post}
 use Rattle.outbox.specs.Outboxes.{with_peer}
-use Rattle.outbox.proofs.Learning.{at_place, at_gap, made_sure}
+use Rattle.bac_values.proofs.Inserting.{made_sure}
+use Rattle.outbox.proofs.Learning.{at_place, at_gap}
 use Rattle.outbox.proofs.all.add_one.Goals as goal
 
 pub returns-in-Err-clause-added : goal.returns-in-Err-clause-added

@@ -1,7 +1,7 @@
 use Rattle.std.proofs.Common.{◌≡◌, ◌∙◌, [], ◌∷◌, List, map, get_or, set, ap, subst}
 use Rattle.bac_values.specs.Address.{Address}
 use Rattle.bac_values.specs.declared.note.Note.{Note}
-use Rattle.outbox.specs.Peers.{IsAscending}
+use Rattle.bac_values.specs.Orders.{IsAscending}
 use Rattle.outbox.specs.Posts.{PostState, with_note}
 use Rattle.outbox.specs.Outboxes.{peers_of, with_notes}
 use Rattle.outbox.specs.Places.{IsPlaceOf, IsGapFor}

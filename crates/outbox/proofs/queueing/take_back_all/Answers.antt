@@ -1,6 +1,6 @@
 use Rattle.std.proofs.Common.{◌≡◌, ◌∙◌, ◌+◌, ◌-◌, ◌<◌, ◌++◌, List, length, take, drop, map, get_or, set, ap, sym, subst, arith}
 use Rattle.bac_values.specs.declared.note.Note.{Note}
-use Rattle.outbox.specs.Peers.{IsAscending}
+use Rattle.bac_values.specs.Orders.{IsAscending}
 use Rattle.outbox.specs.Outboxes.{with_notes, without_body}
 use Rattle.outbox.proofs.QueueLemmas.{step_posts, moved_at, put_back, moved_long, known_after, no_notes}
 use Rattle.outbox.proofs.queueing.take_back_all.Goals as goal

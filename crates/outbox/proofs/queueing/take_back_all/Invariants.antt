@@ -1,6 +1,6 @@
 use Rattle.std.proofs.Common.{◌≡◌, ◌≤◌, ◌++◌, List, map, take, drop}
 use Rattle.bac_values.specs.declared.note.Note.{Note}
-use Rattle.outbox.specs.Peers.{IsAscending}
+use Rattle.bac_values.specs.Orders.{IsAscending}
 use Rattle.outbox.specs.Posts.{PostState}
 use Rattle.outbox.specs.Outboxes.{peers_of, with_notes, without_body, AreKnown}
 use Rattle.outbox.proofs.queueing.take_back_all.Given as goal

@@ -13,7 +13,7 @@ queue_all-requires-clause-known c =
     let act = Ack c.args.object c.args.transition c.args.named in
     let told : c.in_ok-told.told.items ≡ told_with core.site core.classes.items c.args.moment c.args.stamp act core.objects core.alarms.items = search rules in
     subst (λ notes. AreKnown notes core.outbox.posts) (sym told)
-    (told_known core.site core.classes.items core.peers.items core.outbox.posts (record { peers_are = c.self.invariant.peers; knows = c.self.invariant.known })
+    (told_known core.site core.classes.items core.peers core.outbox.posts (record { peers_are = c.self.invariant.peers; knows = c.self.invariant.known })
     c.args.moment c.args.stamp act core.objects core.alarms.items)
 
 pub returns-clause-state : goal.returns-clause-state

@@ -19,7 +19,7 @@ queue_all-requires-clause-known c =
     let told : c.look.new.notes.items ≡ c.args.notes.items ++ told_all core.site core.classes.items c.args.moment c.args.stamp core.objects c.args.before.alarms.items = search rules in
     let before : AreKnown c.args.notes.items core.outbox.posts = subst (λ (s : State). AreKnown c.args.notes.items s.outbox.posts) (sym c.self.view_is) c.requires.known in
     subst (λ notes. AreKnown notes core.outbox.posts) (sym told)
-    (more_known core.site core.classes.items core.peers.items core.outbox.posts (record { peers_are = c.self.invariant.peers; knows = c.self.invariant.known })
+    (more_known core.site core.classes.items core.peers core.outbox.posts (record { peers_are = c.self.invariant.peers; knows = c.self.invariant.known })
     c.args.notes.items c.args.moment c.args.stamp core.objects c.args.before.alarms.items before)
 
 pub returns-clause-state : goal.returns-clause-state

@@ -1,9 +1,10 @@
 use Rattle.std.proofs.Common.{◌≡◌, ◌∙◌, [], map, sym, ap, subst, rules}
 use Rattle.bac_values.specs.declared.stamp.Stamp.{Stamp}
+use Rattle.bac_values.specs.Orders.{peers_with}
 use Rattle.outbox.specs.Outboxes.{new_outbox, peers_of}
 use Rattle.outbox.proofs.Making.{peers_empty}
 use Rattle.alarm_core.specs.declared.site.ClassSite.{ClassSite}
-use Rattle.alarm_core.specs.Classes.{first_classes, known_peers_of, peers_in, peers_with}
+use Rattle.alarm_core.specs.Classes.{first_classes, known_peers_of, peers_in}
 use Rattle.alarm_core.specs.Next.{first_kept, first_with}
 use Rattle.alarm_core.specs.Sights.{site_stamp}
 use Rattle.alarm_core.specs.Sites.{IsSite}
@@ -20,17 +21,17 @@ invariant_of-result c =
     let same : c.in_ok-site.site ≡ site = search rules in
     let sites : c.as_slice.result.now ≡ site.classes = c.as_slice.ensures.same in
     let classes : c.in_ok-classes.classes.items ≡ first_classes site = c.in_ok-classes.ensures.classes ∙ ap (map (λ (listed : ClassSite). listed.class)) sites in
-    let listed : c.in_ok-peers_in.field-0.items ≡ peers_in c.in_ok-classes.classes.items = search rules in
-    let peers : c.in_ok-peers.peers.items ≡ peers_with c.in_ok-peers_in.field-0.items [] = search rules in
-    let known : c.in_ok-peers.peers.items ≡ known_peers_of site [] = peers ∙ ap (λ ps. peers_with ps []) (listed ∙ ap peers_in classes) in
-    let outbox : c.in_ok-outbox.outbox ≡ new_outbox c.in_ok-peers.peers.items site.device.outbox site.device.apdu_timeout site.device.retries = search rules in
+    let listed : c.in_ok-listed.listed.items ≡ peers_in c.in_ok-classes.classes.items = search rules in
+    let peers : c.in_ok-peers.peers ≡ peers_with c.in_ok-listed.listed.items [] = search rules in
+    let known : c.in_ok-peers.peers ≡ known_peers_of site [] = peers ∙ ap (λ ps. peers_with ps []) (listed ∙ ap peers_in classes) in
+    let outbox : c.in_ok-outbox.outbox ≡ new_outbox c.in_ok-peers.peers site.device.outbox site.device.apdu_timeout site.device.retries = search rules in
     record {
       site = subst IsSite (sym same) c.requires.site;
       zone = c.zone_of-zone.ensures.zone ∙ sym (ap (λ s. s.device.zone_minutes) same);
       moment = c.requires.site.start;
       limit = ap (λ o. o.limit) outbox ∙ sym (ap (λ s. s.device.outbox) same);
-      peers = sym (ap (λ o. peers_of o.posts) outbox ∙ peers_empty c.in_ok-peers.peers.items);
-      known = first_known site c.in_ok-peers.peers.items c.in_ok-classes.classes.items known classes;
+      peers = sym (ap (λ o. peers_of o.posts) outbox ∙ peers_empty c.in_ok-peers.peers);
+      known = first_known site c.in_ok-peers.peers c.in_ok-classes.classes.items known classes;
     }
 
 pub returns-clause-starts : goal.returns-clause-starts
@@ -44,10 +45,10 @@ returns-clause-starts c =
     let alarms = c.in_ok-alarms.ensures.alarms ∙ (ap (tracked c.stamp_of.result) values ∙ ap (λ s. tracked s (first_values site)) stamp) in
     let sites : c.as_slice.result.now ≡ site.classes = c.as_slice.ensures.same in
     let classes : c.in_ok-classes.classes.items ≡ first_classes site = c.in_ok-classes.ensures.classes ∙ ap (map (λ (listed : ClassSite). listed.class)) sites in
-    let listed : c.in_ok-peers_in.field-0.items ≡ peers_in c.in_ok-classes.classes.items = search rules in
-    let peers : c.in_ok-peers.peers.items ≡ peers_with c.in_ok-peers_in.field-0.items [] = search rules in
-    let known : c.in_ok-peers.peers.items ≡ known_peers_of site [] = peers ∙ ap (λ ps. peers_with ps []) (listed ∙ ap peers_in classes) in
-    let outbox : c.in_ok-outbox.outbox ≡ new_outbox c.in_ok-peers.peers.items site.device.outbox site.device.apdu_timeout site.device.retries = search rules in
+    let listed : c.in_ok-listed.listed.items ≡ peers_in c.in_ok-classes.classes.items = search rules in
+    let peers : c.in_ok-peers.peers ≡ peers_with c.in_ok-listed.listed.items [] = search rules in
+    let known : c.in_ok-peers.peers ≡ known_peers_of site [] = peers ∙ ap (λ ps. peers_with ps []) (listed ∙ ap peers_in classes) in
+    let outbox : c.in_ok-outbox.outbox ≡ new_outbox c.in_ok-peers.peers site.device.outbox site.device.apdu_timeout site.device.retries = search rules in
     let logs : c.in_ok-logs.logs.items ≡ map first_kept site.logs = search rules in
     started site c.in_ok-site.site c.in_ok-objects.objects c.in_ok-alarms.alarms.items c.in_ok-classes.classes.items c.in_ok-outbox.outbox c.in_ok-logs.logs.items
     same values alarms classes (outbox ∙ ap (λ ps. new_outbox ps site.device.outbox site.device.apdu_timeout site.device.retries) known) logs

@@ -15,7 +15,7 @@ queue_all-requires-clause-known c =
     let core = c.self.inside in
     let told : c.look.new.notes.items ≡ told_all core.site core.classes.items c.args.moment c.args.stamp core.objects core.alarms.items = search rules in
     subst (λ notes. AreKnown notes core.outbox.posts) (sym told)
-    (look_known core.site core.classes.items core.peers.items core.outbox.posts (record { peers_are = c.self.invariant.peers; knows = c.self.invariant.known })
+    (look_known core.site core.classes.items core.peers core.outbox.posts (record { peers_are = c.self.invariant.peers; knows = c.self.invariant.known })
     c.args.moment c.args.stamp core.objects core.alarms.items)
 
 pub returns-clause-state : goal.returns-clause-state

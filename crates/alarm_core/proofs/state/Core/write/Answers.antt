@@ -19,7 +19,7 @@ finish_write-requires-clause-known c =
     let told : c.look.new.notes.items ≡ told_all old.site old.classes c.args.moment c.args.stamp old.values old.alarms = search rules in
     subst (λ notes. AreKnown notes old.outbox.posts) (sym told)
     (subst (λ (s : State). AreKnown (told_all s.site s.classes c.args.moment c.args.stamp s.values s.alarms) s.outbox.posts) c.self.view_is
-    (look_known core.site core.classes.items core.peers.items core.outbox.posts (record { peers_are = c.self.invariant.peers; knows = c.self.invariant.known })
+    (look_known core.site core.classes.items core.peers core.outbox.posts (record { peers_are = c.self.invariant.peers; knows = c.self.invariant.known })
     c.args.moment c.args.stamp core.objects core.alarms.items))
 
 pub returns-then-is_of_log-clause-state : goal.returns-then-is_of_log-clause-state
@@ -54,7 +54,7 @@ write_object-requires-clause-known c =
     let told : c.look.new.notes.items ≡ told_all old.site old.classes c.args.moment c.args.stamp old.values old.alarms = search rules in
     subst (λ notes. AreKnown notes old.outbox.posts) (sym told)
     (subst (λ (s : State). AreKnown (told_all s.site s.classes c.args.moment c.args.stamp s.values s.alarms) s.outbox.posts) c.self.view_is
-    (look_known core.site core.classes.items core.peers.items core.outbox.posts (record { peers_are = c.self.invariant.peers; knows = c.self.invariant.known })
+    (look_known core.site core.classes.items core.peers core.outbox.posts (record { peers_are = c.self.invariant.peers; knows = c.self.invariant.known })
     c.args.moment c.args.stamp core.objects core.alarms.items))
 
 pub returns-clause-state : goal.returns-clause-state

@@ -1,6 +1,6 @@
 use Rattle.std.proofs.Common.{◌<◌, List, length, map, sym, ◌∙◌, ap, subst, arith, if◌then◌else◌}
 use Rattle.std.specs.List.{list_any, All}
-use Rattle.outbox.specs.Peers.{IsAscending}
+use Rattle.bac_values.specs.Orders.{IsAscending}
 use Rattle.outbox.specs.Posts.{PostState}
 use Rattle.outbox.specs.Outboxes.{OutboxState, peers_of, unfinished_in, answered_by, answered, is_flight_to}
 use Rattle.outbox.specs.declared.answers.Answered.TheVariants.{Answered as Finishing, Stray}

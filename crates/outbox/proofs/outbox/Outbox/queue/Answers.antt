@@ -1,9 +1,9 @@
 use Rattle.std.proofs.Common.{◌≡◌, ◌+◌, ◌<◌, ◌≤◌, List, Ok, Err, length, sym, ◌∙◌, ap, subst, arith}
 use Rattle.std.proofs.lemmas.List.{map-id}
 use Rattle.std.specs.Result.{IsErrOf}
+use Rattle.bac_values.specs.Orders.{IsAscending}
 use Rattle.outbox.specs.declared.answers.QueueFault.{QueueFault}
 use Rattle.outbox.specs.declared.answers.QueueFault.TheVariants.{Full, NoMemory}
-use Rattle.outbox.specs.Peers.{IsAscending}
 use Rattle.outbox.specs.Posts.{PostState}
 use Rattle.outbox.specs.Outboxes.{OutboxState, peers_of, unfinished_in, with_notes, queued, AreKnown}
 use Rattle.outbox.specs.Following.{Follows, after_queue}

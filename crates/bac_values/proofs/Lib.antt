@@ -1,0 +1,4 @@
+pub mod Orders
+pub mod OrderLemmas
+pub mod Placing
+pub mod Inserting
