@@ -1,4 +1,4 @@
--- Peers that ascend still do with others, and then just those and these are among them.
+-- Peers that ascend, with others put in at their places: they still ascend.
 use Rattle.std.specs.Prelude.{MatchResult}
 use Rattle.std.specs.Result.{IsOk, is_ok}
 use Rattle.std.proofs.Common.{arith, ◌≡◌, ℕ, suc, Result, Ok, Err, if◌then◌else◌, Bool, true, false, true≢false, List, [], ◌∷◌, ◌++◌, filter, get_or, refl, sym, subst, inl, inr}
