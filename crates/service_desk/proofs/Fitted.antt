@@ -37,9 +37,9 @@ parts : (a b c d e : List ℕ) → length (a ++ b ++ c ++ d ++ e) ≡ length a +
 parts a b c d e = omega (arith, length-append (a ++ b ++ c ++ d) e, length-append (a ++ b ++ c) d, length-append (a ++ b) c, length-append a b)
 
 ack_length : (request : RangeRequest) (flags : List Bool) (count : ℕ) (items : List ℕ) (first : Option ℕ) → length flags ≡ 3 →
-    length (written_range_ack request flags count items first) ≡ length (written_reference request.object request.property.0 request.index) + (6 + unsigned_size count) + length items + length (written_if_given 6 first)
+    length (written_range_ack request flags count items first) ≡ length (written_reference request.object request.property.0 request.index) + (6 + unsigned_size count) + length items + length (written_if_given (written_unsigned (Some 6)) first)
 ack_length request flags count items first three =
-    omega (arith, parts (written_reference request.object request.property.0 request.index) (written_bits (Some 3) (string_of_flags flags)) (written_unsigned (Some 4) count) (written_enclosed 5 items) (written_if_given 6 first), flags_length flags three, count_length count, list_length items)
+    omega (arith, parts (written_reference request.object request.property.0 request.index) (written_bits (Some 3) (string_of_flags flags)) (written_unsigned (Some 4) count) (written_enclosed 5 items) (written_if_given (written_unsigned (Some 6)) first), flags_length flags three, count_length count, list_length items)
 
 three_flags : (log : Log) (range : LogRange) (sent : ℕ) → length (range_flags log range sent) ≡ 3
 three_flags log range sent = by_case (nat_eq sent 0) (λ none. rw none refl) (λ some. rw some refl)
