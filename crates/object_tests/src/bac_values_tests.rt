@@ -1,4 +1,4 @@
-use crate::comparing::{holds, same};
+use crate::comparing::{counts, holds, same};
 use bac_values::*;
 use std::test::Fail;
 
@@ -32,7 +32,7 @@ fn bit_strings_have_no_bit_past_their_length(rt: HostRuntime) -> Result<(), Fail
 #[test]
 fn texts_have_at_most_256_octets(rt: HostRuntime) -> Result<(), Fail> {
     let text = Text::new(rt.alloc(), "Lüfter")?;
-    same(&rt, &text.octets().len(), &7);
+    counts(&rt, text.octets().len(), 7);
     same(&rt, &text.as_str(), &"Lüfter");
     holds(&rt, text == text.clone()?);
     let long = String::from_str(rt.alloc(), "0123456789abcdef")?.repeat(rt.alloc(), 16)?;

@@ -1,6 +1,6 @@
 ghost use Rattle.std.specs.Prelude.{◌≤◌, length};
 
-use crate::comparing::{holds, same};
+use crate::comparing::{counts, holds, same};
 use bac_values::{Items, Note, Peer, Send};
 use outbox::*;
 use std::alloc::Global;
@@ -120,7 +120,7 @@ fn pump_at(alloc: Global, outbox: &mut Outbox, after: u32) -> Result<Vec<Send>, 
 }
 
 fn sent(rt: &impl Abort, sends: &[Send], to: &Peer, octets: &[u8]) {
-    same(rt, &sends.len(), &1);
+    counts(rt, sends.len(), 1);
     same(rt, &sends[0].peer, &*to);
     same(rt, &sends[0].bytes.as_slice(), &octets);
 }
@@ -168,7 +168,7 @@ fn a_note_without_an_answer_is_repeated_until_its_last_deadline(
         if sends_it {
             sent(&rt, &sends, &five, &ALARM_SENT);
         } else {
-            same(&rt, &sends.len(), &0);
+            counts(&rt, sends.len(), 0);
         }
     }
     same(&rt, &outbox.post(0).map(|post| post.attempts), &Some(4));
@@ -203,7 +203,7 @@ fn notes_above_the_limit_come_back(rt: HostRuntime) -> Result<(), Fail> {
         return Err(Fail::from("not full"));
     };
     same(&rt, &(would, limit), &(65, 64));
-    same(&rt, &notes.as_slice().len(), &2);
+    counts(&rt, notes.as_slice().len(), 2);
     same(&rt, &outbox.room(), &1);
     let sends = pump_at(alloc, &mut outbox, 64)?;
     sent(&rt, &sends, &peer(6), &ALARM_SENT);
@@ -223,7 +223,7 @@ fn unconfirmed_notes_go_before_a_confirmed_one_and_wait_behind_it(
         queue_at(alloc, &mut outbox, 0, confirmed, &[0x09, 0x01])?;
     }
     let sends = pump_at(alloc, &mut outbox, 0)?;
-    same(&rt, &sends.len(), &2);
+    counts(&rt, sends.len(), 2);
     same(
         &rt,
         &sends[0].bytes.as_slice(),
@@ -236,7 +236,7 @@ fn unconfirmed_notes_go_before_a_confirmed_one_and_wait_behind_it(
     );
     holds(&rt, outbox.note(0, 3).is_none());
     same(&rt, &outbox.answer(&peer(5), 0), &Answered::Answered);
-    same(&rt, &pump_at(alloc, &mut outbox, 0)?.len(), &2);
+    counts(&rt, pump_at(alloc, &mut outbox, 0)?.len(), 2);
     Ok(())
 }
 

@@ -1,4 +1,4 @@
-use crate::comparing::{holds, same};
+use crate::comparing::{counts, holds, same};
 use alarm_journal::*;
 use bac_values::{Items, Peer, Send};
 use ground_io::{Filling, Ground, MemoryGround};
@@ -171,7 +171,7 @@ fn octets_lie_as_the_layout_says(rt: HostRuntime) -> Result<(), Fail> {
     let alloc = rt.alloc();
     let (device, _) = run(alloc, device_of(alloc, 91, &[])?);
     let contents = device.contents();
-    same(&rt, &contents.len(), &91);
+    counts(&rt, contents.len(), 91);
     same(&rt, &&contents[..9], &b"\x01BACALRM1".as_slice());
     same(
         &rt,
@@ -210,7 +210,7 @@ fn refusals_come_in_their_order(rt: HostRuntime) -> Result<(), Fail> {
     let alloc = rt.alloc();
     let (device, _) = run(alloc, device_of(alloc, 91, &[])?);
     let octets = device.contents();
-    same(&rt, &octets.len(), &91);
+    counts(&rt, octets.len(), 91);
     let mut small = octets.to_vec(alloc)?;
     small.truncate(59);
     let fault = OpenFault::SmallDevice { size: 59, need: 60 };
@@ -232,7 +232,7 @@ fn refusals_come_in_their_order(rt: HostRuntime) -> Result<(), Fail> {
         &Some(OpenFault::Foreign { at: 20 }),
     );
     let mut formatted = octets.to_vec(alloc)?;
-    same(&rt, &formatted.len(), &91);
+    counts(&rt, formatted.len(), 91);
     formatted[16] = 59;
     same(
         &rt,
@@ -240,7 +240,7 @@ fn refusals_come_in_their_order(rt: HostRuntime) -> Result<(), Fail> {
         &Some(OpenFault::Damaged { at: 9 }),
     );
     let mut snapshot = octets.to_vec(alloc)?;
-    same(&rt, &snapshot.len(), &91);
+    counts(&rt, snapshot.len(), 91);
     snapshot[29] = 29;
     same(
         &rt,
@@ -248,7 +248,7 @@ fn refusals_come_in_their_order(rt: HostRuntime) -> Result<(), Fail> {
         &Some(OpenFault::Damaged { at: 26 }),
     );
     let mut batch = octets.to_vec(alloc)?;
-    same(&rt, &batch.len(), &91);
+    counts(&rt, batch.len(), 91);
     batch[36] = 22;
     same(
         &rt,

@@ -1,4 +1,4 @@
-use crate::comparing::{holds, same};
+use crate::comparing::{counts, holds, same};
 use alarm_core::Site;
 use algorithm_rules::Algorithm;
 use bac_values::{Bits, ObjectId, ObjectKind, Peer, Value};
@@ -154,16 +154,16 @@ fn a_site_is_read_with_its_defaults(rt: HostRuntime) -> Result<(), Fail> {
     same(&rt, &device.apdu_timeout, &3000);
     same(&rt, &device.retries, &3);
     same(&rt, &device.outbox, &256);
-    same(&rt, &site.classes.as_slice().len(), &1);
+    counts(&rt, site.classes.as_slice().len(), 1);
     let class = &site.classes.as_slice()[0];
     same(&rt, &class.name.as_str(), &"notification-class:7");
     same(&rt, &class.class.instance, &7);
     holds(&rt, class.class.priority == [100, 90, 200]);
     holds(&rt, class.class.ack_required == [true, true, false]);
-    same(&rt, &class.class.destinations.as_slice().len(), &1);
+    counts(&rt, class.class.destinations.as_slice().len(), 1);
     let destination = &class.class.destinations.as_slice()[0];
     holds(&rt, is_always_told(destination, 0x0A00_0005, 1, true));
-    same(&rt, &site.objects.as_slice().len(), &1);
+    counts(&rt, site.objects.as_slice().len(), 1);
     let tank = &site.objects.as_slice()[0];
     holds(&rt, is_tank(tank, 1, 7, 10));
     holds(&rt, site.enrollments.as_slice().is_empty());
@@ -203,7 +203,7 @@ time_delay = 0
 fn a_tank_may_be_without_delay(rt: HostRuntime) -> Result<(), Fail> {
     let site = site_of(rt.alloc(), &[SURROUNDINGS, PROMPT_TANK])?;
     let objects = site.objects.as_slice();
-    same(&rt, &objects.len(), &1);
+    counts(&rt, objects.len(), 1);
     holds(&rt, is_tank(&objects[0], 1, 7, 0));
     Ok(())
 }
@@ -212,7 +212,7 @@ fn a_tank_may_be_without_delay(rt: HostRuntime) -> Result<(), Fail> {
 fn objects_ascend_whatever_their_order_in_the_text(rt: HostRuntime) -> Result<(), Fail> {
     let site = site_of(rt.alloc(), &[SURROUNDINGS, SECOND_TANK, PROMPT_TANK])?;
     let objects = site.objects.as_slice();
-    same(&rt, &objects.len(), &2);
+    counts(&rt, objects.len(), 2);
     holds(&rt, is_tank(&objects[0], 1, 7, 0));
     holds(&rt, is_tank(&objects[1], 2, 7, 10));
     Ok(())
@@ -236,7 +236,7 @@ time_delay = 10
 fn three_tanks_are_read(rt: HostRuntime) -> Result<(), Fail> {
     let site = site_of(rt.alloc(), &[SURROUNDINGS, TANK, SECOND_TANK, THIRD_TANK])?;
     let objects = site.objects.as_slice();
-    same(&rt, &objects.len(), &3);
+    counts(&rt, objects.len(), 3);
     for place in 0..3 {
         holds(&rt, is_tank(&objects[place], place as u32 + 1, 7, 10));
     }
@@ -281,7 +281,7 @@ value = \"ok\"
 fn objects_of_every_kind_are_read(rt: HostRuntime) -> Result<(), Fail> {
     let site = site_of(rt.alloc(), &[SURROUNDINGS, TANK, OTHER_KINDS])?;
     let objects = site.objects.as_slice();
-    same(&rt, &objects.len(), &6);
+    counts(&rt, objects.len(), 6);
     let text = bac_values::Text::new(rt.alloc(), "ok")?;
     let bits = Value::Bits(Bits::new(4, 0)?);
     holds(
@@ -350,7 +350,7 @@ time_delay = 5
 #[test]
 fn alarm_values_stand_in_the_order_of_the_text(rt: HostRuntime) -> Result<(), Fail> {
     let site = site_of(rt.alloc(), &[SURROUNDINGS, MODE])?;
-    same(&rt, &site.objects.as_slice().len(), &1);
+    counts(&rt, site.objects.as_slice().len(), 1);
     let mode = &site.objects.as_slice()[0];
     holds(
         &rt,
@@ -367,7 +367,7 @@ fn alarm_values_stand_in_the_order_of_the_text(rt: HostRuntime) -> Result<(), Fa
     holds(&rt, mode.limit_enable == [false, false]);
     same(&rt, &mode.states, &5);
     let values = mode.alarm_values.as_slice();
-    same(&rt, &values.len(), &2);
+    counts(&rt, values.len(), 2);
     holds(&rt, values[0] == Value::Unsigned(2));
     holds(&rt, values[1] == Value::Unsigned(3));
     Ok(())
@@ -425,14 +425,14 @@ fn objects_are_in_the_one_class_or_the_other(rt: HostRuntime) -> Result<(), Fail
     let site = site_of_two_classes(rt.alloc())?;
     same(&rt, &site.device.outbox, &64);
     let classes = site.classes.as_slice();
-    same(&rt, &classes.len(), &2);
+    counts(&rt, classes.len(), 2);
     same(&rt, &classes[0].class.instance, &7);
     same(&rt, &classes[1].class.instance, &8);
     same(&rt, &classes[1].name.as_str(), &"notification-class:8");
     holds(&rt, classes[1].class.priority == [100, 90, 200]);
     holds(&rt, classes[1].class.ack_required == [true, true, false]);
     let objects = site.objects.as_slice();
-    same(&rt, &objects.len(), &2);
+    counts(&rt, objects.len(), 2);
     holds(&rt, is_tank(&objects[0], 1, 8, 0));
     holds(&rt, is_tank(&objects[1], 2, 7, 0));
     Ok(())
@@ -442,13 +442,13 @@ fn objects_are_in_the_one_class_or_the_other(rt: HostRuntime) -> Result<(), Fail
 fn classes_have_their_destinations_in_order(rt: HostRuntime) -> Result<(), Fail> {
     let site = site_of_two_classes(rt.alloc())?;
     let classes = site.classes.as_slice();
-    same(&rt, &classes.len(), &2);
+    counts(&rt, classes.len(), 2);
     let first = classes[0].class.destinations.as_slice();
-    same(&rt, &first.len(), &2);
+    counts(&rt, first.len(), 2);
     holds(&rt, is_always_told(&first[0], 0x0A00_0005, 1, true));
     holds(&rt, is_always_told(&first[1], 0x0A00_0007, 0, false));
     let second = classes[1].class.destinations.as_slice();
-    same(&rt, &second.len(), &1);
+    counts(&rt, second.len(), 1);
     holds(&rt, is_always_told(&second[0], 0x0A00_0006, 1, true));
     Ok(())
 }
@@ -464,7 +464,7 @@ priority = [100, 90, 200]
 fn classes_ascend_whatever_their_order_in_the_text(rt: HostRuntime) -> Result<(), Fail> {
     let site = site_of(rt.alloc(), &[SURROUNDINGS, UNSORTED_CLASSES])?;
     let classes = site.classes.as_slice();
-    same(&rt, &classes.len(), &2);
+    counts(&rt, classes.len(), 2);
     same(&rt, &classes[0].class.instance, &3);
     holds(&rt, classes[0].class.ack_required == [false, false, false]);
     same(&rt, &classes[1].class.instance, &7);
@@ -492,7 +492,7 @@ high = 80
 #[test]
 fn an_enrollment_is_read(rt: HostRuntime) -> Result<(), Fail> {
     let site = site_of(rt.alloc(), &[SURROUNDINGS, PROMPT_TANK, RANGE])?;
-    same(&rt, &site.objects.as_slice().len(), &2);
+    counts(&rt, site.objects.as_slice().len(), 2);
     holds(&rt, is_tank(&site.objects.as_slice()[0], 1, 7, 0));
     let flow = &site.objects.as_slice()[1];
     let value = Value::Unsigned(50);
@@ -501,7 +501,7 @@ fn an_enrollment_is_read(rt: HostRuntime) -> Result<(), Fail> {
         is_object(flow, ObjectKind::PositiveIntegerValue, 1, "Flow", &value),
     );
     holds(&rt, is_without_class(flow));
-    same(&rt, &site.enrollments.as_slice().len(), &1);
+    counts(&rt, site.enrollments.as_slice().len(), 1);
     let range = &site.enrollments.as_slice()[0];
     holds(
         &rt,
@@ -538,10 +538,10 @@ classes = [7]
 #[test]
 fn a_log_is_read(rt: HostRuntime) -> Result<(), Fail> {
     let site = site_of(rt.alloc(), &[SURROUNDINGS, TANK, LOG])?;
-    same(&rt, &site.objects.as_slice().len(), &1);
+    counts(&rt, site.objects.as_slice().len(), 1);
     holds(&rt, is_tank(&site.objects.as_slice()[0], 1, 7, 10));
     holds(&rt, site.enrollments.as_slice().is_empty());
-    same(&rt, &site.logs.as_slice().len(), &1);
+    counts(&rt, site.logs.as_slice().len(), 1);
     let log = &site.logs.as_slice()[0];
     holds(
         &rt,
@@ -558,12 +558,12 @@ fn a_log_is_read(rt: HostRuntime) -> Result<(), Fail> {
 fn the_example_of_a_plant_is_a_site(rt: HostRuntime) -> Result<(), Fail> {
     let site = site_of(rt.alloc(), &[PLANT])?;
     same(&rt, &site.device.zone_minutes, &60);
-    same(&rt, &site.objects.as_slice().len(), &8);
-    same(&rt, &site.enrollments.as_slice().len(), &2);
-    same(&rt, &site.logs.as_slice().len(), &1);
-    same(&rt, &site.classes.as_slice().len(), &2);
+    counts(&rt, site.objects.as_slice().len(), 8);
+    counts(&rt, site.enrollments.as_slice().len(), 2);
+    counts(&rt, site.logs.as_slice().len(), 1);
+    counts(&rt, site.classes.as_slice().len(), 2);
     let destinations = site.classes.as_slice()[0].class.destinations.as_slice();
-    same(&rt, &destinations.len(), &2);
+    counts(&rt, destinations.len(), 2);
     let watch = destinations[1];
     same(&rt, &watch.days, &0b001_1111);
     same(&rt, &watch.from, &6_480_000);
@@ -575,7 +575,7 @@ fn the_example_of_a_plant_is_a_site(rt: HostRuntime) -> Result<(), Fail> {
 fn objects_of_the_plant_have_their_values(rt: HostRuntime) -> Result<(), Fail> {
     let site = site_of(rt.alloc(), &[PLANT])?;
     let objects = site.objects.as_slice();
-    same(&rt, &objects.len(), &8);
+    counts(&rt, objects.len(), 8);
     holds(&rt, objects[0].alarm_value == Some(Value::Enumerated(1)));
     holds(&rt, objects[4].mask == Some(Bits::new(4, 0b0011)?));
     holds(

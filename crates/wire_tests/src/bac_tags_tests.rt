@@ -1,4 +1,4 @@
-use crate::comparing::{holds, same};
+use crate::comparing::{counts, holds, same};
 use bac_tags::*;
 use bac_values::{Bits, Foreign, ObjectId, Stamp, Text, Value};
 use std::alloc::Global;
@@ -324,7 +324,7 @@ fn texts_of_256_octets_are_the_longest(rt: HostRuntime) -> Result<(), Fail> {
     let text = Value::Text(Text::new(rt.alloc(), letters.as_str())?);
     let mut octets = Vec::new(rt.alloc());
     write_value(&mut octets, &text)?;
-    same(&rt, &octets.len(), &261);
+    counts(&rt, octets.len(), 261);
     holds(
         &rt,
         octets

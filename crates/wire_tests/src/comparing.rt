@@ -1,3 +1,5 @@
+ghost use Rattle.std.specs.Prelude.{◌≡◌, IsTrue};
+
 use std::fmt::Debug;
 use std::process::Abort;
 
@@ -8,6 +10,15 @@ pub(crate) fn same<T: PartialEq + Debug>(rt: &impl Abort, answered: &T, wanted: 
 }
 
 /// That this is so.
-pub(crate) fn holds(rt: &impl Abort, it: bool) {
+pub(crate) fn holds(rt: &impl Abort, it: bool)
+    ensures so { IsTrue it }
+{
     assert!(rt; it);
+}
+
+/// That there are so many; what comes behind may rest on that.
+pub(crate) fn counts(rt: &impl Abort, found: usize, wanted: usize)
+    ensures so_many { found ≡ wanted }
+{
+    assert_eq!(rt; found, wanted);
 }
