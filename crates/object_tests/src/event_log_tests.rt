@@ -1,4 +1,4 @@
-use crate::comparing::{counts, holds, same};
+use crate::comparing::{holds, same};
 use bac_values::{Items, Stamp};
 use event_log::*;
 use std::alloc::{AllocError, Global};
@@ -30,7 +30,7 @@ fn range(first: u32, count: u32) -> LogRange {
 
 fn answers_for_three_in_two(rt: &impl Abort, log: &EventLog) {
     same(rt, &log.total(), &3);
-    counts(rt, log.len(), 2);
+    same(rt, &log.len(), &2);
     same(rt, &log.range_by_sequence(2, 2), &range(0, 2));
     same(rt, &log.range_by_position(3, 1), &range(0, 0));
     same(rt, &log.item(1).map(|entry| entry.sequence), &Some(3));
@@ -122,7 +122,7 @@ fn a_cleared_log_keeps_its_total(rt: HostRuntime) -> Result<(), Fail> {
     let alloc = rt.alloc();
     let mut log = three_in_two(alloc, false)?;
     log.clear();
-    counts(&rt, log.len(), 0);
+    same(&rt, &log.len(), &0);
     same(&rt, &log.total(), &3);
     log.set_enabled(false);
     put(alloc, &mut log, 4)?;
