@@ -114,7 +114,8 @@ fn a_list_of_peers_ascends_and_has_each_once(rt: HostRuntime) -> Result<(), Fail
     ];
     same(&rt, &more.as_slice(), &wanted.as_slice());
     holds(&rt, more.contains(&seven));
-    same(&rt, &list.as_slice(), &&wanted[2..]);
+    let last = &wanted[2..];
+    same(&rt, &list.as_slice(), &last);
     list.extend(&wanted)?;
     same(&rt, &list.as_slice(), &wanted.as_slice());
     Ok(())

@@ -122,7 +122,8 @@ fn file_ground_keeps_a_file_and_sends_to_peers(rt: HostRuntime) -> Result<(), Fa
     let mut into = [0u8; 8];
     let (length, _) = peer.recv_from(&mut into)?;
     same(&rt, &length, &4);
-    same(&rt, &&into[..4], &b"note".as_slice());
+    let heard = &into[..4];
+    same(&rt, &heard, &b"note".as_slice());
     drop(device);
     same(&rt, &console.as_slice(), &b"line\n".as_slice());
     fs::remove_file(&rt, path)?;
