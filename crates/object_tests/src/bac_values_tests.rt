@@ -114,8 +114,8 @@ fn a_list_of_peers_ascends_and_has_each_once(rt: HostRuntime) -> Result<(), Fail
     ];
     same(&rt, &more.as_slice(), &wanted.as_slice());
     holds(&rt, more.contains(&seven));
-    let last = &wanted[2..];
-    same(&rt, &list.as_slice(), &last);
+    let two = [Peer::local(7, 47_809), Peer::local(8, 47_808)];
+    same(&rt, &list.as_slice(), &two.as_slice());
     list.extend(&wanted)?;
     same(&rt, &list.as_slice(), &wanted.as_slice());
     Ok(())
