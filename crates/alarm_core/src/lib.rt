@@ -35,7 +35,7 @@ mod subjects;
 mod telling;
 mod watched;
 
-pub use content::{Content, ReadFault};
+pub use content::ReadFault;
 pub use enrollment::EnrollmentSite;
 pub use event::{Act, Event, Outcome, StepFault};
 pub use laws::{
@@ -44,4 +44,6 @@ pub use laws::{
 };
 pub use site::{ClassSite, DeviceSite, LogSite, Site};
 pub use state::Core;
-pub use subject::Subject;
+
+pub(crate) use content::Content;
+pub(crate) use subject::Subject;
