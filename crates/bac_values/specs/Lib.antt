@@ -6,3 +6,10 @@ pub mod EventStates
 pub mod Reliabilities
 pub mod Moments
 pub mod Orders
+pub mod ApplicationTags
+pub mod Properties
+pub mod Pdus
+pub mod Services
+pub mod Errors
+pub mod Reasons
+pub mod EventTypes

@@ -1,5 +1,5 @@
-ghost use Rattle.std.specs.Prelude.{◌≡◌, ◌↔◌, OkIff};
-ghost use Rattle.bac_values.specs.BitString.{IsBitString};
+ghost use Rattle.std.specs.Prelude.{◌≡◌, ◌^◌, ◌<◌, ◌≤◌, ◌↔◌, OkIff, length};
+ghost use Rattle.bac_values.specs.BitString.{IsBitString, flags_number, four_flags, string_of_flags, three_flags, two_flags};
 
 use std::marker::Model;
 
@@ -54,5 +54,54 @@ impl Bits {
         ensures range { IsBitString self.now.size self.now.bits }
     {
         self.bits
+    }
+
+    /// The string of flags, the first flag first.
+    pub fn of_flags(flags: &[bool]) -> Bits
+        requires few { length flags.now ≤ 64 }
+        ensures string { result ≡ string_of_flags flags.now }
+    {
+        Bits {
+            size: flags.len() as u8,
+            bits: flags_number(flags),
+        }
+    }
+
+    /// The first two flags, the first one first.
+    pub fn two_flags(self) -> [bool; 2]
+        ensures flags { result ≡ two_flags self }
+    {
+        [self.bits & 1 != 0, self.bits & 2 != 0]
+    }
+
+    /// The first three flags, the first one first.
+    pub fn three_flags(self) -> [bool; 3]
+        ensures flags { result ≡ three_flags self }
+    {
+        [self.bits & 1 != 0, self.bits & 2 != 0, self.bits & 4 != 0]
+    }
+
+    /// The first four flags, the first one first.
+    pub fn four_flags(self) -> [bool; 4]
+        ensures flags { result ≡ four_flags self }
+    {
+        [
+            self.bits & 1 != 0,
+            self.bits & 2 != 0,
+            self.bits & 4 != 0,
+            self.bits & 8 != 0,
+        ]
+    }
+}
+
+// The number whose lowest bit is the first flag.
+fn flags_number(flags: &[bool]) -> u64
+    requires few { length flags.now ≤ 64 }
+    ensures number { result ≡ flags_number flags.now }
+    ensures range { result < 2 ^ length flags.now }
+{
+    match flags {
+        [] => 0,
+        [flag, rest @ ..] => u64::from(*flag) + 2 * flags_number(rest),
     }
 }

@@ -5,8 +5,11 @@
 //! contracts see every type as plain data.
 #![tactic(auto)]
 
+mod application_tag;
 mod bits;
 mod event_state;
+mod event_type;
+mod growing;
 mod input;
 mod items;
 mod laws;
@@ -15,21 +18,29 @@ mod moment;
 mod moved;
 mod no_memory;
 mod note;
+mod numbers;
 mod object_id;
 mod object_kind;
+mod pdu_type;
 mod peer;
 mod peer_list;
 mod property_id;
+mod reasons;
 mod reliability;
 mod report;
+mod service_error;
+mod services;
 mod stamp;
 mod status_flags;
 mod text;
 mod transition;
 mod value;
 
+pub use application_tag::ApplicationTag;
 pub use bits::{Bits, TooManyBits};
 pub use event_state::EventState;
+pub use event_type::{EventType, NotifyType};
+pub use growing::{push, single};
 pub use input::{Input, SetFault};
 pub use items::Items;
 pub use laws::{equal_peers_are_one, orders_are_by_fields};
@@ -38,13 +49,22 @@ pub use moment::{FIRST_MOMENT, LAST_MOMENT};
 pub use moved::Moved;
 pub use no_memory::NoMemory;
 pub use note::{Note, Send};
+pub use numbers::{
+    errors_have_their_numbers, event_types_have_their_numbers, kinds_are_all,
+    pdus_have_their_numbers, properties_have_their_numbers, reasons_have_their_numbers,
+    services_have_their_numbers, tags_have_their_numbers,
+};
 pub use object_id::{InstanceRange, ObjectId};
 pub use object_kind::ObjectKind;
+pub use pdu_type::PduType;
 pub use peer::Peer;
 pub use peer_list::{PeerList, is_among};
 pub use property_id::PropertyId;
+pub use reasons::{AbortReason, RejectReason};
 pub use reliability::Reliability;
 pub use report::ReportLine;
+pub use service_error::ServiceError;
+pub use services::{ConfirmedService, LONGEST_APDU, NO_SEGMENTATION, UnconfirmedService};
 pub use stamp::Stamp;
 pub use status_flags::StatusFlags;
 pub use text::{Text, TextFault};

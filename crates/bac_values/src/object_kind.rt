@@ -27,6 +27,20 @@ pub enum ObjectKind {
 }
 
 impl ObjectKind {
+    /// All of them, ascending by number.
+    pub const ALL: [ObjectKind; 10] = [
+        ObjectKind::BinaryValue,
+        ObjectKind::Device,
+        ObjectKind::EventEnrollment,
+        ObjectKind::NotificationClass,
+        ObjectKind::MultiStateValue,
+        ObjectKind::EventLog,
+        ObjectKind::BitStringValue,
+        ObjectKind::CharacterStringValue,
+        ObjectKind::IntegerValue,
+        ObjectKind::PositiveIntegerValue,
+    ];
+
     /// The number of the type.
     pub fn number(self) -> u16
         ensures number { result ≡ number_of_kind self }

@@ -3,20 +3,38 @@
 pub struct PropertyId(pub u32);
 
 impl PropertyId {
+    /// Acked_Transitions.
+    pub const ACKED_TRANSITIONS: PropertyId = PropertyId(0);
     /// Ack_Required.
     pub const ACK_REQUIRED: PropertyId = PropertyId(1);
+    /// Alarm_Value.
+    pub const ALARM_VALUE: PropertyId = PropertyId(6);
+    /// Alarm_Values.
+    pub const ALARM_VALUES: PropertyId = PropertyId(7);
     /// Notification_Class.
     pub const NOTIFICATION_CLASS: PropertyId = PropertyId(17);
+    /// Deadband.
+    pub const DEADBAND: PropertyId = PropertyId(25);
     /// Event_Enable.
     pub const EVENT_ENABLE: PropertyId = PropertyId(35);
     /// Event_State.
     pub const EVENT_STATE: PropertyId = PropertyId(36);
+    /// Event_Type.
+    pub const EVENT_TYPE: PropertyId = PropertyId(37);
+    /// Fault_Values.
+    pub const FAULT_VALUES: PropertyId = PropertyId(39);
     /// High_Limit.
     pub const HIGH_LIMIT: PropertyId = PropertyId(45);
     /// Limit_Enable.
     pub const LIMIT_ENABLE: PropertyId = PropertyId(52);
+    /// Low_Limit.
+    pub const LOW_LIMIT: PropertyId = PropertyId(59);
     /// Max_APDU_Length_Accepted.
     pub const MAX_APDU_LENGTH_ACCEPTED: PropertyId = PropertyId(62);
+    /// Notify_Type.
+    pub const NOTIFY_TYPE: PropertyId = PropertyId(72);
+    /// Number_Of_States.
+    pub const NUMBER_OF_STATES: PropertyId = PropertyId(74);
     /// Object_Identifier.
     pub const OBJECT_IDENTIFIER: PropertyId = PropertyId(75);
     /// Object_List.
@@ -33,8 +51,14 @@ impl PropertyId {
     pub const PRIORITY: PropertyId = PropertyId(86);
     /// Recipient_List.
     pub const RECIPIENT_LIST: PropertyId = PropertyId(102);
+    /// Reliability.
+    pub const RELIABILITY: PropertyId = PropertyId(103);
     /// Segmentation_Supported.
     pub const SEGMENTATION_SUPPORTED: PropertyId = PropertyId(107);
+    /// Status_Flags.
+    pub const STATUS_FLAGS: PropertyId = PropertyId(111);
+    /// Time_Delay.
+    pub const TIME_DELAY: PropertyId = PropertyId(113);
     /// Vendor_Identifier.
     pub const VENDOR_IDENTIFIER: PropertyId = PropertyId(120);
     /// Buffer_Size.
@@ -51,6 +75,12 @@ impl PropertyId {
     pub const STOP_WHEN_FULL: PropertyId = PropertyId(144);
     /// Total_Record_Count.
     pub const TOTAL_RECORD_COUNT: PropertyId = PropertyId(145);
+    /// Event_Detection_Enable.
+    pub const EVENT_DETECTION_ENABLE: PropertyId = PropertyId(353);
     /// Event_Algorithm_Inhibit.
     pub const EVENT_ALGORITHM_INHIBIT: PropertyId = PropertyId(354);
+    /// Time_Delay_Normal.
+    pub const TIME_DELAY_NORMAL: PropertyId = PropertyId(356);
+    /// Reliability_Evaluation_Inhibit.
+    pub const RELIABILITY_EVALUATION_INHIBIT: PropertyId = PropertyId(357);
 }
