@@ -1,6 +1,7 @@
 -- Which events may come after a state, and what it means that a state represents a history.
 use Rattle.std.specs.Prelude.{◌≡◌, ◌⊎◌, ◌≤◌, ℕ, ◌+◌, ◌*◌, ◌-◌, ◌==◌, ◌||◌, not, IsTrue, IsSome, Ok, List, [], ◌∷◌, length, filter, count_by, sum_by}
 use Rattle.bac_values.specs.Moments.{IsMoment}
+use Rattle.bac_values.specs.Pdus.{abort_pdu, error_pdu, reject_pdu, simple_ack_pdu}
 use Rattle.event_machine.specs.Finding.{MayAcknowledge}
 use Rattle.notify_class.specs.Edits.{edit_verdict}
 use Rattle.notify_class.specs.declared.class.Class.{Class}
@@ -21,7 +22,7 @@ use Rattle.alarm_core.specs.Values.{IsTaken}
 
 -- the kinds of PDU by which a confirmed request is answered (20.1.2): SimpleACK, Error, Reject and Abort
 abbrev pub IsAnswer : ℕ → Type 0
-IsAnswer kind = IsTrue (kind == 2 || (kind == 5 || (kind == 6 || kind == 7)))
+IsAnswer kind = IsTrue (kind == simple_ack_pdu || (kind == error_pdu || (kind == reject_pdu || kind == abort_pdu)))
 
 -- how many objects have a class
 abbrev pub members_of : State → ℕ → ℕ

@@ -2,6 +2,7 @@
 use Rattle.std.specs.Prelude.{◌≡◌, ℕ, ◌==◌, if◌then◌else◌, Some, None, Ok, List, [], ◌∷◌}
 use Rattle.std.specs.List.{flat_map}
 use Rattle.bac_values.specs.Identifier.{Identifier}
+use Rattle.bac_values.specs.Properties.{recipient_list_property}
 use Rattle.notify_class.specs.Recipients.{ListedRecipient}
 use Rattle.alarm_core.specs.declared.event.Act.{Act}
 use Rattle.alarm_core.specs.declared.event.Act.TheVariants.{Edit}
@@ -26,4 +27,4 @@ last_list listed (event ∷ older) = list_with event.act listed.class.instance (
 -- what is read of the Recipient_List of a class
 pub record ReadsTheLastList : Type 0 where
   pub lists : (site : Site) → IsSite site → (history : List Event) (object : Identifier) (listed : ClassSite) → listed_class object site.classes ≡ Some listed →
-      read_of (state_of site history) object 102 None ≡ Ok (flat_map written_recipient (last_list listed history))
+      read_of (state_of site history) object recipient_list_property None ≡ Ok (flat_map written_recipient (last_list listed history))

@@ -3,6 +3,7 @@ use Rattle.std.specs.Prelude.{◌≡◌, ◌↔◌, ◌<◌, ℕ, ◌+◌, Bool,
 use Rattle.bac_values.specs.Address.{Address}
 use Rattle.bac_values.specs.Identifier.{Identifier}
 use Rattle.bac_values.specs.Orders.{IsAscending}
+use Rattle.bac_values.specs.Properties.{present_value_property}
 use Rattle.bac_values.specs.declared.value.Value.{Value}
 use Rattle.object_table.specs.Rows.{Ascends}
 use Rattle.object_table.specs.Verdicts.{checked_fault, checked_set, fault_change, property_change}
@@ -73,4 +74,4 @@ pub record AllowsWhatChecksAccept : Type 0 where
       IsAllowed (state_of site history) (Write (property_change object number value)) ↔ IsOk (write_of (state_of site history) object number None value)
   pub field_faults : (state : State) (object : Identifier) (reliability : ℕ) →
       IsAllowed state (Write (fault_change object reliability)) ↔ IsOk (checked_fault state.values.rows object reliability)
-  pub sets : (state : State) (object : Identifier) (value : Value) → IsOk (checked_set state.values.rows object value) → IsAllowed state (Write (property_change object 85 value))
+  pub sets : (state : State) (object : Identifier) (value : Value) → IsOk (checked_set state.values.rows object value) → IsAllowed state (Write (property_change object present_value_property value))

@@ -4,6 +4,7 @@ use Rattle.std.specs.List.{flat_map, list_any}
 use Rattle.std.specs.Option.{option_map}
 use Rattle.bac_values.specs.EventStates.{transition_to}
 use Rattle.bac_values.specs.Identifier.{Identifier}
+use Rattle.bac_values.specs.Properties.{enable_property, record_count_property}
 use Rattle.bac_values.specs.declared.value.Value.{Value}
 use Rattle.bac_values.specs.declared.value.Value.TheVariants.{Bool as Truth, Unsigned}
 use Rattle.event_log.specs.History.{Call, Cleared, Recorded, Switched, log_after}
@@ -63,13 +64,6 @@ abbrev pub records_of : Site → List Class → LogSite → List StateTransition
 records_of site classes listed transitions = flat_map (record_of_transition site classes listed) transitions
 
 -- ---- what is written
-
--- Enable and Record_Count
-abbrev pub enable_property : ℕ
-enable_property = 133
-
-abbrev pub record_count_property : ℕ
-record_count_property = 141
 
 -- a value of Enable turns a log on or off, and a Record_Count of 0 clears it
 abbrev pub call_of_value : ℕ → Value → List Call

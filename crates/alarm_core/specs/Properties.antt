@@ -1,12 +1,17 @@
 -- The properties of objects as they are read (ANSI/ASHRAE 135-2020, clause 12).
 use Rattle.std.specs.Prelude.{ℕ, ◌==◌, ℤ, pos, negsuc, Bool, false, not, if◌then◌else◌, Option, Some, None, Result, Ok, Err, List, [], ◌∷◌, ◌++◌, map, filter}
 use Rattle.std.specs.List.{flat_map}
+use Rattle.bac_values.specs.BitString.{string_of_flags}
+use Rattle.bac_values.specs.Errors.{invalid_array_index_error, property_is_not_an_array_error, unknown_object_error, unknown_property_error}
 use Rattle.bac_values.specs.EventStates.{number_of_state}
 use Rattle.bac_values.specs.Identifier.{Identifier, known_kinds, number_of_kind}
+use Rattle.bac_values.specs.Properties.{max_apdu_length_accepted_property, object_identifier_property, object_list_property, object_name_property, object_type_property, segmentation_supported_property, vendor_identifier_property}
 use Rattle.bac_values.specs.Reliabilities.{number_of_reliability}
+use Rattle.bac_values.specs.Services.{longest_apdu, no_segmentation}
 use Rattle.bac_values.specs.declared.event_state.EventState.{EventState as State'}
 use Rattle.bac_values.specs.declared.object_kind.ObjectKind.{ObjectKind}
-use Rattle.bac_values.specs.declared.object_kind.ObjectKind.TheVariants.{IntegerValue, MultiStateValue}
+use Rattle.bac_values.specs.declared.object_kind.ObjectKind.TheVariants.{Device, IntegerValue, MultiStateValue}
+use Rattle.bac_values.specs.declared.service_error.ServiceError.{ServiceError}
 use Rattle.bac_values.specs.declared.stamp.Stamp.{Stamp}
 use Rattle.bac_values.specs.declared.value.Value.{Value}
 use Rattle.bac_values.specs.declared.value.Value.TheVariants as values
@@ -21,7 +26,6 @@ use Rattle.object_table.specs.declared.object_site.ObjectSite.{ObjectSite}
 use Rattle.object_table.specs.declared.row.Row.{Row}
 use Rattle.object_table.specs.declared.faults.WriteFault.{WriteFault}
 use Rattle.object_table.specs.declared.faults.WriteFault.TheVariants as write_faults
-use Rattle.object_table.specs.Flags.{string_of}
 use Rattle.object_table.specs.Properties.{has, kind_in, property_of}
 use Rattle.reliability_eval.specs.Reliability.{reliability_of}
 use Rattle.alarm_core.specs.declared.content.Content.{Content}
@@ -39,7 +43,7 @@ abbrev pub one : Value → Content
 one value = Whole (written_value value)
 
 abbrev pub flags : List Bool → Content
-flags bits = one (values.Bits (string_of bits))
+flags bits = one (values.Bits (string_of_flags bits))
 
 -- a list of values, whose elements stand one after the other; and an array of values
 abbrev pub list_of_values : List Value → Content
@@ -113,18 +117,21 @@ abbrev pub as_write_fault : ReadFault → WriteFault
 as_write_fault (Error class code) = write_faults.Error class code
 as_write_fault NoMemory = write_faults.NoMemory
 
--- the errors, by class and code (clause 18)
+-- an error, as it is answered
+abbrev pub error_of : ServiceError → ReadFault
+error_of error = Error error.class error.code
+
 abbrev pub unknown_object : ReadFault
-unknown_object = Error 1 31
+unknown_object = error_of unknown_object_error
 
 abbrev pub unknown_property : ReadFault
-unknown_property = Error 2 32
+unknown_property = error_of unknown_property_error
 
 abbrev pub property_is_not_an_array : ReadFault
-property_is_not_an_array = Error 2 50
+property_is_not_an_array = error_of property_is_not_an_array_error
 
 abbrev pub invalid_array_index : ReadFault
-invalid_array_index = Error 2 42
+invalid_array_index = error_of invalid_array_index_error
 
 -- a property that value objects know, where the object has it
 abbrev pub known_content : Option ObjectKind → AlarmState → Row → Option ObjectProperty → Result Content ReadFault
@@ -155,14 +162,14 @@ identifiers_of site =
 abbrev pub object_list : Site → List Identifier
 object_list site = flat_map (λ kind. filter (λ (object : Identifier). object.number == number_of_kind kind) (identifiers_of site)) known_kinds
 
--- the properties of the device (12.11): it takes and sends no segments (3)
+-- the properties of the device (12.11): it takes and sends no segments
 abbrev pub device_content : Site → ℕ → Result Content ReadFault
 device_content site number =
-    if number == 75 then Ok (one (values.Object (device_object site)))
-    else (if number == 77 then Ok (one (values.Text site.device.name))
-    else (if number == 79 then Ok (one (values.Enumerated 8))
-    else (if number == 76 then Ok (Elements (map (written_object None) (object_list site)))
-    else (if number == 62 then Ok (one (values.Unsigned 1476))
-    else (if number == 107 then Ok (one (values.Enumerated 3))
-    else (if number == 120 then Ok (one (values.Unsigned site.device.vendor))
+    if number == object_identifier_property then Ok (one (values.Object (device_object site)))
+    else (if number == object_name_property then Ok (one (values.Text site.device.name))
+    else (if number == object_type_property then Ok (one (values.Enumerated (number_of_kind Device)))
+    else (if number == object_list_property then Ok (Elements (map (written_object None) (object_list site)))
+    else (if number == max_apdu_length_accepted_property then Ok (one (values.Unsigned longest_apdu))
+    else (if number == segmentation_supported_property then Ok (one (values.Enumerated no_segmentation))
+    else (if number == vendor_identifier_property then Ok (one (values.Unsigned site.device.vendor))
     else Err unknown_property))))))

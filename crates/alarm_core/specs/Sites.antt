@@ -1,6 +1,8 @@
 -- What a site keeps to.
 use Rattle.std.specs.Prelude.{◌≡◌, ◌≤◌, All}
+use Rattle.bac_values.specs.Identifier.{number_of_kind}
 use Rattle.bac_values.specs.Moments.{IsMoment}
+use Rattle.bac_values.specs.declared.object_kind.ObjectKind.TheVariants.{EventLog}
 use Rattle.civil_stamp.specs.LocalTime.{IsZone}
 use Rattle.object_table.specs.Objects.{IsObject}
 use Rattle.object_table.specs.Rows.{AscendsById, rows_of}
@@ -15,9 +17,9 @@ use Rattle.alarm_core.specs.declared.site.Site.{Site}
 abbrev pub HasInstance : ClassSite → Type 0
 HasInstance listed = listed.class.instance ≤ 4194302
 
--- an event log that a site may have: its type is 25, and it holds from 1 to 16,384 records
+-- an event log that a site may have: it holds from 1 to 16,384 records
 pub record IsLogSite (listed : LogSite) : Type 0 where
-  pub number : listed.object.number ≡ 25
+  pub number : listed.object.number ≡ number_of_kind EventLog
   pub instance : listed.object.instance ≤ 4194302
   pub least : 1 ≤ listed.size
   pub most : listed.size ≤ 16384

@@ -5,27 +5,19 @@ ghost use Rattle.alarm_core.specs.Reading.{AnswersContent};
 ghost use Rattle.alarm_core.specs.Sites.{HasInstance};
 
 use crate::device_content::class_object;
-use crate::encoding::{
-    enumerated, object, string_of_three, string_with, text, three_flags, unsigned,
-};
-use crate::growing::add;
+use crate::encoding::{enumerated, object, string_with, text, three_flags, unsigned};
 use crate::{ClassSite, Content, ReadFault};
 use bac_tags::{
     Shape, Tag, write_bits, write_bool, write_closing, write_opening, write_tag, write_unsigned,
 };
-use bac_values::{Bits, Items, NoMemory, Peer, PropertyId};
+use bac_values::{ApplicationTag, Bits, Items, NoMemory, ObjectKind, Peer, PropertyId, push};
 use notify_class::Destination;
 use std::alloc::Global;
 
-// The numbers of the types of a station's address and of a Time (20.2.1.4).
-const OCTET_STRING: u8 = 6;
-
-const TIME: u8 = 11;
-
 // Puts an element of a type with a short content behind the others.
-fn write_content(out: &mut Vec<u8>, kind: u8, content: &[u8]) -> Result<(), NoMemory>
+fn write_content(out: &mut Vec<u8>, kind: ApplicationTag, content: &[u8]) -> Result<(), NoMemory>
     requires short { length content.now ≤ 7 }
-    ensures written { OnOk result (out.new.items ≡ out.old.items ++ written_element kind None content.now) }
+    ensures written { OnOk result (out.new.items ≡ out.old.items ++ written_element kind.0 None content.now) }
 {
     let shape = Shape::Primitive {
         length: content.len() as u32,
@@ -33,7 +25,7 @@ fn write_content(out: &mut Vec<u8>, kind: u8, content: &[u8]) -> Result<(), NoMe
     write_tag(
         out,
         Tag {
-            number: kind,
+            number: kind.0,
             context: false,
             shape,
         },
@@ -59,7 +51,7 @@ fn write_time(out: &mut Vec<u8>, time: u32) -> Result<(), NoMemory>
     requires day { time < 8640000 }
     ensures written { OnOk result (out.new.items ≡ out.old.items ++ written_time time) }
 {
-    write_content(out, TIME, &clock_of(time))
+    write_content(out, ApplicationTag::TIME, &clock_of(time))
 }
 
 // The station of a peer: on the local network its IP address and its port.
@@ -67,12 +59,12 @@ fn write_station(out: &mut Vec<u8>, peer: Peer) -> Result<(), NoMemory>
     ensures written { OnOk result (out.new.items ≡ out.old.items ++ written_station peer) }
 {
     if peer.net != 0 {
-        return write_content(out, OCTET_STRING, peer.mac.octets());
+        return write_content(out, ApplicationTag::OCTET_STRING, peer.mac.octets());
     }
     let [first, second, third, fourth] = peer.ip.to_be_bytes();
     let [high, low] = peer.port.to_be_bytes();
     let octets = [first, second, third, fourth, high, low];
-    write_content(out, OCTET_STRING, &octets)
+    write_content(out, ApplicationTag::OCTET_STRING, &octets)
 }
 
 // The number of a peer's network and its station there.
@@ -110,7 +102,7 @@ fn write_recipient(out: &mut Vec<u8>, recipient: &Destination) -> Result<(), NoM
     write_peer(out, recipient.peer)?;
     write_unsigned(out, None, recipient.process)?;
     write_bool(out, None, recipient.confirmed)?;
-    write_bits(out, None, string_of_three(recipient.transitions))
+    write_bits(out, None, Bits::of_flags(&recipient.transitions))
 }
 
 fn list_of_recipients(alloc: Global, recipients: &[Destination]) -> Result<Content, NoMemory>
@@ -138,7 +130,7 @@ fn array_of_numbers(alloc: Global, numbers: &[u8]) -> Result<Content, NoMemory>
 {
     let mut elements = Vec::new(alloc);
     for number in numbers {
-        add(&mut elements, number_octets(alloc, *number)?)?;
+        push(&mut elements, number_octets(alloc, *number)?)?;
     }
     Ok(Content::Elements {
         elements: Items::of(elements),
@@ -159,7 +151,10 @@ pub(crate) fn class_content(
     match property {
         PropertyId::OBJECT_IDENTIFIER => Ok(object(alloc, class_object(listed))?),
         PropertyId::OBJECT_NAME => Ok(text(alloc, &listed.name)?),
-        PropertyId::OBJECT_TYPE => Ok(enumerated(alloc, 15)?),
+        PropertyId::OBJECT_TYPE => Ok(enumerated(
+            alloc,
+            u32::from(ObjectKind::NotificationClass.number()),
+        )?),
         PropertyId::NOTIFICATION_CLASS => Ok(unsigned(alloc, class.instance)?),
         PropertyId::PRIORITY => Ok(array_of_numbers(alloc, &class.priority)?),
         PropertyId::ACK_REQUIRED => Ok(three_flags(alloc, class.ack_required)?),

@@ -4,8 +4,7 @@ ghost use Rattle.alarm_core.specs.declared.site.ClassSite.{ClassSite as Named};
 ghost use Rattle.alarm_core.specs.Classes.{edited};
 
 use crate::ClassSite;
-use crate::growing::add;
-use bac_values::{Items, NoMemory};
+use bac_values::{Items, NoMemory, push};
 use notify_class::{Class, Destination};
 use std::alloc::Global;
 
@@ -29,7 +28,7 @@ pub(crate) fn classes_of(alloc: Global, sites: &[ClassSite]) -> Result<Vec<Class
     let mut classes = Vec::new(alloc);
     for listed in sites {
         let class = class_with(alloc, &listed.class, listed.class.destinations.as_slice())?;
-        add(&mut classes, class)?;
+        push(&mut classes, class)?;
     }
     Ok(classes)
 }
@@ -60,7 +59,7 @@ pub(crate) fn edited_classes(
 {
     let mut made = Vec::new(alloc);
     for class in classes {
-        add(&mut made, edited(alloc, instance, destinations, class)?)?;
+        push(&mut made, edited(alloc, instance, destinations, class)?)?;
     }
     Ok(made)
 }

@@ -1,4 +1,4 @@
-use bac_values::{Items, NoMemory};
+use bac_values::{Items, NoMemory, ServiceError};
 use object_table::WriteFault;
 use std::alloc::AllocError;
 
@@ -33,13 +33,25 @@ pub enum ReadFault {
 
 impl ReadFault {
     /// There is no such object.
-    pub const UNKNOWN_OBJECT: ReadFault = ReadFault::Error { class: 1, code: 31 };
+    pub const UNKNOWN_OBJECT: ReadFault = ReadFault::Error {
+        class: ServiceError::UNKNOWN_OBJECT.class,
+        code: ServiceError::UNKNOWN_OBJECT.code,
+    };
     /// The object has no such property.
-    pub const UNKNOWN_PROPERTY: ReadFault = ReadFault::Error { class: 2, code: 32 };
+    pub const UNKNOWN_PROPERTY: ReadFault = ReadFault::Error {
+        class: ServiceError::UNKNOWN_PROPERTY.class,
+        code: ServiceError::UNKNOWN_PROPERTY.code,
+    };
     /// An index is given for a property that is no array.
-    pub const PROPERTY_IS_NOT_AN_ARRAY: ReadFault = ReadFault::Error { class: 2, code: 50 };
+    pub const PROPERTY_IS_NOT_AN_ARRAY: ReadFault = ReadFault::Error {
+        class: ServiceError::PROPERTY_IS_NOT_AN_ARRAY.class,
+        code: ServiceError::PROPERTY_IS_NOT_AN_ARRAY.code,
+    };
     /// The index is above the length of the array.
-    pub const INVALID_ARRAY_INDEX: ReadFault = ReadFault::Error { class: 2, code: 42 };
+    pub const INVALID_ARRAY_INDEX: ReadFault = ReadFault::Error {
+        class: ServiceError::INVALID_ARRAY_INDEX.class,
+        code: ServiceError::INVALID_ARRAY_INDEX.code,
+    };
 }
 
 impl From<AllocError> for ReadFault {

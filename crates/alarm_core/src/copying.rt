@@ -1,8 +1,7 @@
 ghost use Rattle.std.specs.Prelude.{◌≡◌, IfOk};
 
-use crate::growing::add;
 use crate::{ClassSite, DeviceSite, EnrollmentSite, LogSite, Site};
-use bac_values::{Items, NoMemory, Value};
+use bac_values::{Items, NoMemory, Value, push};
 use notify_class::Class;
 use object_table::{Change, ObjectSite};
 use std::alloc::Global;
@@ -25,7 +24,7 @@ fn copy_of_values(alloc: Global, values: &[Value]) -> Result<Items<Value>, NoMem
 {
     let mut copy = Vec::new(alloc);
     for value in values {
-        add(&mut copy, copy_of_value(value)?)?;
+        push(&mut copy, copy_of_value(value)?)?;
     }
     Ok(Items::of(copy))
 }
@@ -74,7 +73,7 @@ pub(crate) fn copy_of_objects(
 {
     let mut copy = Vec::new(alloc);
     for site in sites {
-        add(&mut copy, copy_of_object(alloc, site)?)?;
+        push(&mut copy, copy_of_object(alloc, site)?)?;
     }
     Ok(copy)
 }
@@ -98,7 +97,7 @@ fn copy_of_classes(alloc: Global, sites: &[ClassSite]) -> Result<Items<ClassSite
 {
     let mut copy = Vec::new(alloc);
     for site in sites {
-        add(&mut copy, copy_of_class(alloc, site)?)?;
+        push(&mut copy, copy_of_class(alloc, site)?)?;
     }
     Ok(Items::of(copy))
 }
@@ -118,7 +117,7 @@ pub(crate) fn copy_of_enrollments(
 {
     let mut copy = Vec::new(alloc);
     for site in sites {
-        add(&mut copy, copy_of_enrollment(site)?)?;
+        push(&mut copy, copy_of_enrollment(site)?)?;
     }
     Ok(copy)
 }
@@ -144,7 +143,7 @@ fn copy_of_logs(alloc: Global, sites: &[LogSite]) -> Result<Items<LogSite>, NoMe
 {
     let mut copy = Vec::new(alloc);
     for site in sites {
-        add(&mut copy, copy_of_log(alloc, site)?)?;
+        push(&mut copy, copy_of_log(alloc, site)?)?;
     }
     Ok(Items::of(copy))
 }

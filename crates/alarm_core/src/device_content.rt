@@ -1,14 +1,13 @@
 ghost use Rattle.std.specs.Prelude.{◌≡◌, ◌==◌, ◌++◌, All, IfOk, OnOk, filter, map};
-ghost use Rattle.bac_values.specs.Identifier.{Identifier, known_kinds, number_of_kind};
+ghost use Rattle.bac_values.specs.Identifier.{Identifier, number_of_kind};
 ghost use Rattle.alarm_core.specs.Found.{class_object, device_object};
 ghost use Rattle.alarm_core.specs.Properties.{device_content, identifiers_of, object_list};
 ghost use Rattle.alarm_core.specs.Reading.{AnswersContent};
 ghost use Rattle.alarm_core.specs.Sites.{HasInstance, IsSite};
 
 use crate::encoding::{array_of_objects, enumerated, object, text, unsigned};
-use crate::growing::add;
 use crate::{ClassSite, Content, EnrollmentSite, LogSite, ReadFault, Site};
-use bac_values::{NoMemory, ObjectId, ObjectKind, PropertyId};
+use bac_values::{LONGEST_APDU, NO_SEGMENTATION, NoMemory, ObjectId, ObjectKind, PropertyId, push};
 use object_table::ObjectSite;
 use std::alloc::Global;
 
@@ -32,7 +31,7 @@ fn add_objects(identifiers: &mut Vec<ObjectId>, objects: &[ObjectSite]) -> Resul
     ensures added { OnOk result (identifiers.new.items ≡ identifiers.old.items ++ map (λ (object : ObjectSite). object.object) objects.now) }
 {
     for object in objects {
-        add(identifiers, object.object)?;
+        push(identifiers, object.object)?;
     }
     Ok(())
 }
@@ -42,7 +41,7 @@ fn add_classes(identifiers: &mut Vec<ObjectId>, classes: &[ClassSite]) -> Result
     ensures added { OnOk result (identifiers.new.items ≡ identifiers.old.items ++ map class_object classes.now) }
 {
     for listed in classes {
-        add(identifiers, class_object(listed))?;
+        push(identifiers, class_object(listed))?;
     }
     Ok(())
 }
@@ -54,7 +53,7 @@ fn add_enrollments(
     ensures added { OnOk result (identifiers.new.items ≡ identifiers.old.items ++ map (λ (enrollment : EnrollmentSite). enrollment.object) enrollments.now) }
 {
     for enrollment in enrollments {
-        add(identifiers, enrollment.object)?;
+        push(identifiers, enrollment.object)?;
     }
     Ok(())
 }
@@ -63,7 +62,7 @@ fn add_logs(identifiers: &mut Vec<ObjectId>, logs: &[LogSite]) -> Result<(), NoM
     ensures added { OnOk result (identifiers.new.items ≡ identifiers.old.items ++ map (λ (log : LogSite). log.object) logs.now) }
 {
     for log in logs {
-        add(identifiers, log.object)?;
+        push(identifiers, log.object)?;
     }
     Ok(())
 }
@@ -74,29 +73,12 @@ fn identifiers_of(alloc: Global, site: &Site) -> Result<Vec<ObjectId>, NoMemory>
     ensures identifiers { IfOk result (λ identifiers. identifiers.items ≡ identifiers_of site.now) }
 {
     let mut identifiers = Vec::new(alloc);
-    add(&mut identifiers, device_object(site))?;
+    push(&mut identifiers, device_object(site))?;
     add_objects(&mut identifiers, site.objects.as_slice())?;
     add_classes(&mut identifiers, site.classes.as_slice())?;
     add_enrollments(&mut identifiers, site.enrollments.as_slice())?;
     add_logs(&mut identifiers, site.logs.as_slice())?;
     Ok(identifiers)
-}
-
-fn known_kinds() -> [ObjectKind; 10]
-    ensures kinds { result ≡ known_kinds }
-{
-    [
-        ObjectKind::BinaryValue,
-        ObjectKind::Device,
-        ObjectKind::EventEnrollment,
-        ObjectKind::NotificationClass,
-        ObjectKind::MultiStateValue,
-        ObjectKind::EventLog,
-        ObjectKind::BitStringValue,
-        ObjectKind::CharacterStringValue,
-        ObjectKind::IntegerValue,
-        ObjectKind::PositiveIntegerValue,
-    ]
 }
 
 // Puts the identifiers of one type behind the others.
@@ -109,7 +91,7 @@ fn add_of_kind(
 {
     for object in identifiers {
         if object.number() == kind.number() {
-            add(list, *object)?;
+            push(list, *object)?;
         }
     }
     Ok(())
@@ -121,7 +103,7 @@ fn object_list(alloc: Global, site: &Site) -> Result<Vec<ObjectId>, NoMemory>
     ensures list { IfOk result (λ list. list.items ≡ object_list site.now) }
 {
     let identifiers = identifiers_of(alloc, site)?;
-    let kinds = known_kinds();
+    let kinds = ObjectKind::ALL;
     let mut list = Vec::new(alloc);
     for kind in &kinds {
         add_of_kind(&mut list, *kind, &identifiers)?;
@@ -141,10 +123,13 @@ pub(crate) fn device_content(
     match property {
         PropertyId::OBJECT_IDENTIFIER => Ok(object(alloc, device_object(site))?),
         PropertyId::OBJECT_NAME => Ok(text(alloc, &site.device.name)?),
-        PropertyId::OBJECT_TYPE => Ok(enumerated(alloc, 8)?),
+        PropertyId::OBJECT_TYPE => Ok(enumerated(
+            alloc,
+            u32::from(ObjectKind::Device.number()),
+        )?),
         PropertyId::OBJECT_LIST => Ok(array_of_objects(alloc, &object_list(alloc, site)?)?),
-        PropertyId::MAX_APDU_LENGTH_ACCEPTED => Ok(unsigned(alloc, 1476)?),
-        PropertyId::SEGMENTATION_SUPPORTED => Ok(enumerated(alloc, 3)?),
+        PropertyId::MAX_APDU_LENGTH_ACCEPTED => Ok(unsigned(alloc, u32::from(LONGEST_APDU))?),
+        PropertyId::SEGMENTATION_SUPPORTED => Ok(enumerated(alloc, u32::from(NO_SEGMENTATION))?),
         PropertyId::VENDOR_IDENTIFIER => Ok(unsigned(alloc, u32::from(site.device.vendor))?),
         _ => Err(ReadFault::UNKNOWN_PROPERTY),
     }

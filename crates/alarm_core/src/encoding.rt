@@ -1,17 +1,15 @@
-ghost use Rattle.std.specs.Prelude.{◌≡◌, ◌++◌, All, IfOk, if◌then◌else◌, map};
+ghost use Rattle.std.specs.Prelude.{◌≡◌, ◌++◌, All, IfOk, map};
 ghost use Rattle.std.specs.List.{flat_map};
 ghost use Rattle.bac_values.specs.BitString.{IsBitString};
 ghost use Rattle.bac_values.specs.declared.value.Value.TheVariants as values;
 ghost use Rattle.bac_tags.specs.Values.{IsWritable};
 ghost use Rattle.bac_tags.specs.Writing.{written_object, written_value};
-ghost use Rattle.object_table.specs.Flags.{string_of};
 ghost use Rattle.alarm_core.specs.declared.content.Content.TheVariants.{Elements};
 ghost use Rattle.alarm_core.specs.Properties.{array_of_values, flags, list_of_values, one, written_time_stamp};
 
 use crate::Content;
-use crate::growing::add;
 use bac_tags::{write_closing, write_object, write_opening, write_stamp, write_value};
-use bac_values::{Bits, Items, NoMemory, ObjectId, Stamp, Text, Value};
+use bac_values::{Bits, Items, NoMemory, ObjectId, Stamp, Text, Value, push};
 use std::alloc::Global;
 
 fn octets_of(alloc: Global, value: &Value) -> Result<Items<u8>, NoMemory>
@@ -67,12 +65,6 @@ pub(crate) fn object(alloc: Global, object: ObjectId) -> Result<Content, NoMemor
     one(alloc, &Value::Object(object))
 }
 
-fn weight(flag: bool, bit: u64) -> u64
-    ensures weight { result ≡ (if flag then bit else 0) }
-{
-    if flag { bit } else { 0 }
-}
-
 /// The string of so many bits, the first one lowest.
 pub(crate) fn string_with(length: u8, bits: u64) -> Bits
     requires string { IsBitString length bits }
@@ -84,50 +76,25 @@ pub(crate) fn string_with(length: u8, bits: u64) -> Bits
     }
 }
 
-fn string_of_two(flags: [bool; 2]) -> Bits
-    ensures string { result ≡ string_of flags }
-{
-    let [first, second] = flags;
-    string_with(2, weight(first, 1) + weight(second, 2))
-}
-
-/// The string of three flags, the first flag first.
-pub(crate) fn string_of_three(flags: [bool; 3]) -> Bits
-    ensures string { result ≡ string_of flags }
-{
-    let [first, second, third] = flags;
-    string_with(3, weight(first, 1) + weight(second, 2) + weight(third, 4))
-}
-
-fn string_of_four(flags: [bool; 4]) -> Bits
-    ensures string { result ≡ string_of flags }
-{
-    let [first, second, third, fourth] = flags;
-    string_with(
-        4,
-        weight(first, 1) + weight(second, 2) + weight(third, 4) + weight(fourth, 8),
-    )
-}
-
 /// A string of two bits, the first flag first.
 pub(crate) fn two_flags(alloc: Global, bits: [bool; 2]) -> Result<Content, NoMemory>
     ensures one { IfOk result (λ content. content ≡ flags bits) }
 {
-    one(alloc, &Value::Bits(string_of_two(bits)))
+    one(alloc, &Value::Bits(Bits::of_flags(&bits)))
 }
 
 /// A string of three bits, the first flag first.
 pub(crate) fn three_flags(alloc: Global, bits: [bool; 3]) -> Result<Content, NoMemory>
     ensures one { IfOk result (λ content. content ≡ flags bits) }
 {
-    one(alloc, &Value::Bits(string_of_three(bits)))
+    one(alloc, &Value::Bits(Bits::of_flags(&bits)))
 }
 
 /// A string of four bits, the first flag first.
 pub(crate) fn four_flags(alloc: Global, bits: [bool; 4]) -> Result<Content, NoMemory>
     ensures one { IfOk result (λ content. content ≡ flags bits) }
 {
-    one(alloc, &Value::Bits(string_of_four(bits)))
+    one(alloc, &Value::Bits(Bits::of_flags(&bits)))
 }
 
 /// A list of values, whose elements stand one after the other.
@@ -151,7 +118,7 @@ pub(crate) fn array_of_values(alloc: Global, values: &[Value]) -> Result<Content
 {
     let mut elements = Vec::new(alloc);
     for value in values {
-        add(&mut elements, octets_of(alloc, value)?)?;
+        push(&mut elements, octets_of(alloc, value)?)?;
     }
     Ok(Content::Elements {
         elements: Items::of(elements),
@@ -177,7 +144,7 @@ pub(crate) fn array_of_stamps(alloc: Global, stamps: &[Stamp]) -> Result<Content
 {
     let mut elements = Vec::new(alloc);
     for stamp in stamps {
-        add(&mut elements, time_stamp(alloc, *stamp)?)?;
+        push(&mut elements, time_stamp(alloc, *stamp)?)?;
     }
     Ok(Content::Elements {
         elements: Items::of(elements),
@@ -198,7 +165,7 @@ pub(crate) fn array_of_objects(alloc: Global, objects: &[ObjectId]) -> Result<Co
 {
     let mut elements = Vec::new(alloc);
     for object in objects {
-        add(&mut elements, object_octets(alloc, *object)?)?;
+        push(&mut elements, object_octets(alloc, *object)?)?;
     }
     Ok(Content::Elements {
         elements: Items::of(elements),

@@ -3,11 +3,10 @@ ghost use Rattle.std.specs.Option.{option_and_then, option_copied, option_map};
 ghost use Rattle.alarm_core.specs.Notes.{class_for};
 ghost use Rattle.alarm_core.specs.Information.{enable_of, has_more, is_active, is_behind, is_told, notify_of, priority_of, summaries_of, summary_of};
 
-use crate::growing::add;
 use crate::telling::class_for;
 use crate::watched::Watched;
 use crate::{Core, Subject};
-use bac_values::{EventState, NoMemory, ObjectId};
+use bac_values::{EventState, NoMemory, ObjectId, push};
 use event_services::EventSummary;
 use notify_class::Class;
 use std::alloc::Global;
@@ -114,7 +113,7 @@ impl Core {
                 return Ok((summaries, true));
             }
             left -= 1;
-            add(&mut summaries, self.summary_of(watched))?;
+            push(&mut summaries, self.summary_of(watched))?;
         }
         Ok((summaries, false))
     }

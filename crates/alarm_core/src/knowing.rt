@@ -2,8 +2,7 @@ ghost use Rattle.std.specs.Prelude.{◌≡◌, ◌++◌, IfOk, OnOk};
 ghost use Rattle.notify_class.specs.Edits.{peers_of};
 ghost use Rattle.alarm_core.specs.Classes.{peers_in};
 
-use crate::growing::add;
-use bac_values::{NoMemory, Peer};
+use bac_values::{NoMemory, Peer, push};
 use notify_class::{Class, Destination};
 use std::alloc::Global;
 
@@ -11,7 +10,7 @@ fn add_peers(peers: &mut Vec<Peer>, destinations: &[Destination]) -> Result<(), 
     ensures added { OnOk result (peers.new.items ≡ peers.old.items ++ peers_of destinations.now) }
 {
     for destination in destinations {
-        add(peers, destination.peer)?;
+        push(peers, destination.peer)?;
     }
     Ok(())
 }

@@ -14,7 +14,6 @@ mod encoding;
 mod enrollment_content;
 mod event;
 mod finding;
-mod growing;
 mod informing;
 mod knowing;
 mod laws;

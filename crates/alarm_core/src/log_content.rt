@@ -1,13 +1,15 @@
 ghost use Rattle.std.specs.Prelude.{◌≡◌, Err, IfOk, IsFalse, IsOk, IsTrue, OnOk};
+ghost use Rattle.bac_values.specs.Identifier.{number_of_kind};
+ghost use Rattle.bac_values.specs.declared.object_kind.ObjectKind.TheVariants.{EventLog};
 ghost use Rattle.alarm_core.specs.LogProperties.{log_content, log_write, writable_tag, write_with};
 ghost use Rattle.alarm_core.specs.Logs.{KeptLog, takes, takes_value};
 ghost use Rattle.alarm_core.specs.Properties.{unknown_property};
 ghost use Rattle.alarm_core.specs.Reading.{AnswersContent};
 
 use crate::encoding::{boolean, enumerated, object, text, unsigned};
-use crate::logs::{ENABLE, RECORD_COUNT, SiteLog};
+use crate::logs::SiteLog;
 use crate::{Content, ReadFault};
-use bac_values::{PropertyId, Value};
+use bac_values::{ApplicationTag, ObjectKind, PropertyId, Value};
 use object_table::{Change, What, WriteFault, check_index, check_value};
 use std::alloc::Global;
 
@@ -24,7 +26,10 @@ pub(crate) fn log_content(
     match property {
         PropertyId::OBJECT_IDENTIFIER => Ok(object(alloc, site.object)?),
         PropertyId::OBJECT_NAME => Ok(text(alloc, &site.name)?),
-        PropertyId::OBJECT_TYPE => Ok(enumerated(alloc, 25)?),
+        PropertyId::OBJECT_TYPE => Ok(enumerated(
+            alloc,
+            u32::from(ObjectKind::EventLog.number()),
+        )?),
         PropertyId::ENABLE => Ok(boolean(alloc, log.enabled())?),
         PropertyId::RECORD_COUNT => Ok(unsigned(alloc, log.len())?),
         PropertyId::BUFFER_SIZE => Ok(unsigned(alloc, site.size)?),
@@ -56,9 +61,9 @@ fn is_known(property: PropertyId) -> bool
 fn writable_tag(property: PropertyId) -> Option<u8>
     ensures tag { result ≡ writable_tag property.0 }
 {
-    match property.0 {
-        ENABLE => Some(1),
-        RECORD_COUNT => Some(2),
+    match property {
+        PropertyId::ENABLE => Some(ApplicationTag::BOOLEAN.0),
+        PropertyId::RECORD_COUNT => Some(ApplicationTag::UNSIGNED.0),
         _ => None,
     }
 }
@@ -68,8 +73,8 @@ fn can_be(property: PropertyId, value: &Value) -> bool
     ensures possible { result ≡ takes_value property.0 value.now }
 {
     match value {
-        Value::Bool(_) => property.0 == ENABLE,
-        Value::Unsigned(0) => property.0 == RECORD_COUNT,
+        Value::Bool(_) => property == PropertyId::ENABLE,
+        Value::Unsigned(0) => property == PropertyId::RECORD_COUNT,
         _ => false,
     }
 }
@@ -114,7 +119,7 @@ pub(crate) fn log_write(
     ensures answer { result ≡ log_write kept.now property.0 index value.now }
     ensures takes { IfOk result (λ change. IsTrue (takes change.what)) }
     ensures object { IfOk result (λ change. change.object ≡ kept.now.site.object) }
-    ensures number { IfOk result (λ change. change.object.number ≡ 25) }
+    ensures number { IfOk result (λ change. change.object.number ≡ number_of_kind EventLog) }
 {
     check_log(kept, property, index, value)?;
     Ok(Change {

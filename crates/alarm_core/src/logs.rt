@@ -2,6 +2,8 @@ ghost use Rattle.std.specs.Prelude.{◌≡◌, ◌==◌, ◌∷◌, All, List, I
 ghost use Rattle.std.specs.declared.alloc.Global.{Global};
 ghost use Rattle.std.specs.List.{list_any};
 ghost use Rattle.std.specs.Option.{option_map};
+ghost use Rattle.bac_values.specs.Identifier.{number_of_kind};
+ghost use Rattle.bac_values.specs.declared.object_kind.ObjectKind.TheVariants.{EventLog as Logging};
 ghost use Rattle.event_log.specs.History.{Call};
 ghost use Rattle.object_table.specs.Rows.{is_object};
 ghost use Rattle.alarm_core.specs.Logs.{KeptLog, call_of_change, call_of_value, call_of_what, kept_log, records_class};
@@ -9,21 +11,14 @@ ghost use Rattle.alarm_core.specs.Next.{after_calls, first_kept};
 ghost use Rattle.alarm_core.specs.Sites.{IsLogSite};
 
 use crate::copying::copy_of_log;
-use crate::growing::add;
 use crate::{LogSite, Site};
-use bac_values::{NoMemory, ObjectId, Stamp, Value};
+use bac_values::{NoMemory, ObjectId, PropertyId, Stamp, Value, push};
 use event_log::EventLog;
 use notify_class::Class;
 use object_table::{Change, What};
 use std::alloc::Global;
 use std::marker::Model;
 use std::vec::IntoIter;
-
-/// The number of Enable (ANSI/ASHRAE 135-2020, 12.27).
-pub(crate) const ENABLE: u32 = 133;
-
-/// The number of Record_Count.
-pub(crate) const RECORD_COUNT: u32 = 141;
 
 /// A record that a log is to be given: its local date and time, and the octets of the notification.
 #[derive(Drop)]
@@ -56,13 +51,15 @@ pub(crate) struct SiteLog {
 
 impl Model for SiteLog {
     ghost use Rattle.std.specs.Prelude.{◌≡◌};
+    ghost use Rattle.bac_values.specs.Identifier.{number_of_kind};
+    ghost use Rattle.bac_values.specs.declared.object_kind.ObjectKind.TheVariants.{EventLog as Logging};
     ghost use Rattle.alarm_core.specs.Logs.{KeptLog};
 
     ghost Value = { KeptLog };
 
     ghost view = { λ kept. record { site = kept.site; log = kept.log } };
 
-    ghost invariant = { λ kept. kept.site.object.number ≡ 25 };
+    ghost invariant = { λ kept. kept.site.object.number ≡ number_of_kind Logging };
 }
 
 impl SiteLog {
@@ -80,7 +77,7 @@ impl SiteLog {
     /// What the site says of it.
     pub(crate) fn site(&self) -> &LogSite
         ensures site { result.now ≡ self.now.site }
-        ensures number { self.now.site.object.number ≡ 25 }
+        ensures number { self.now.site.object.number ≡ number_of_kind Logging }
     {
         &self.site
     }
@@ -113,8 +110,8 @@ impl SiteLog {
         ensures log { self.new ≡ record self.old { log = after_calls (call_of_value property value.now) self.old.log } }
     {
         match value {
-            Value::Bool(on) if property == ENABLE => self.log.set_enabled(*on),
-            Value::Unsigned(0) if property == RECORD_COUNT => self.log.clear(),
+            Value::Bool(on) if property == PropertyId::ENABLE.0 => self.log.set_enabled(*on),
+            Value::Unsigned(0) if property == PropertyId::RECORD_COUNT.0 => self.log.clear(),
             _ => {}
         }
     }
@@ -145,7 +142,7 @@ pub(crate) fn first_logs(alloc: Global, site: &Site) -> Result<Vec<SiteLog>, NoM
 {
     let mut logs = Vec::new(alloc);
     for listed in site.logs.as_slice() {
-        add(&mut logs, SiteLog::first(alloc, listed)?)?;
+        push(&mut logs, SiteLog::first(alloc, listed)?)?;
     }
     Ok(logs)
 }

@@ -11,13 +11,12 @@ ghost use Rattle.alarm_core.specs.Sites.{IsSite};
 ghost use Rattle.alarm_core.specs.Turns.{moved_turn, told_turn, turn_at};
 
 use crate::Site;
-use crate::growing::add;
 use crate::logs::{Entry, SiteLog};
 use crate::objects::Objects;
 use crate::recording::entries_of_logs;
 use crate::telling::add_notes;
 use crate::watched::{Turned, Watched};
-use bac_values::{Moved, NoMemory, Note, ObjectId, Stamp, Transition};
+use bac_values::{Moved, NoMemory, Note, ObjectId, Stamp, Transition, push};
 use civil_stamp::Zone;
 use event_machine::Move;
 use notify_class::Class;
@@ -48,7 +47,7 @@ fn add_move(moves: &mut Vec<Moved>, object: ObjectId, found: Option<Move>) -> Re
         from: found.from,
         to: found.to,
     };
-    add(moves, moved)
+    push(moves, moved)
 }
 
 // The moves of an object go behind the others.
@@ -112,8 +111,8 @@ fn look_at_each(
     let (mut next, mut turns) = (Vec::new(alloc), Vec::new(alloc));
     for watched in alarms {
         let look = watched.looked(alloc, objects, moment, stamp)?;
-        add(&mut next, look.watched)?;
-        add(&mut turns, look.turned)?;
+        push(&mut next, look.watched)?;
+        push(&mut turns, look.turned)?;
     }
     Ok(Looks { next, turns })
 }
@@ -179,7 +178,7 @@ pub(crate) fn acknowledge_in(
 {
     let mut next = Vec::new(alloc);
     for watched in alarms {
-        add(&mut next, watched.acknowledged(alloc, object, transition)?)?;
+        push(&mut next, watched.acknowledged(alloc, object, transition)?)?;
     }
     Ok(next)
 }

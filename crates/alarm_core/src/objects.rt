@@ -1,5 +1,7 @@
 ghost use Rattle.std.specs.Prelude.{◌≡◌, ◌≤◌, IfOk, IfSome, IsFalse, IsTrue, None, length};
 ghost use Rattle.std.specs.Option.{option_map};
+ghost use Rattle.bac_values.specs.Identifier.{number_of_kind};
+ghost use Rattle.bac_values.specs.declared.object_kind.ObjectKind.TheVariants.{EventLog};
 ghost use Rattle.algorithm_rules.specs.Facts.{facts_of};
 ghost use Rattle.object_table.specs.Rows.{row_of};
 ghost use Rattle.enrollment.specs.Enrollments.{site_of};
@@ -141,7 +143,7 @@ impl Objects {
 
     /// A change of an event log changes no property of these objects. It does nothing.
     pub(crate) fn passes_by(&self, change: &Change)
-        requires log { change.now.object.number ≡ 25 }
+        requires log { change.now.object.number ≡ number_of_kind EventLog }
         ensures same { written change.now self.now ≡ self.now }
     {
         let _rows = self.table.rows();

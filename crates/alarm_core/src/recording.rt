@@ -10,12 +10,11 @@ ghost use Rattle.alarm_core.specs.Sites.{IsSite};
 ghost use Rattle.alarm_core.specs.Turns.{recorded_turn};
 
 use crate::Site;
-use crate::growing::add;
 use crate::logs::{Entry, SiteLog};
 use crate::objects::Objects;
 use crate::telling::{class_for, is_enabled, notification_of_move};
 use crate::watched::{Turned, Watched};
-use bac_values::{NoMemory, ObjectId, Stamp};
+use bac_values::{NoMemory, ObjectId, Stamp, push};
 use event_machine::Move;
 use event_services::write_notification;
 use notify_class::Class;
@@ -61,7 +60,7 @@ fn add_if(entries: &mut Vec<Entry>, entry: Option<Entry>) -> Result<(), NoMemory
     ensures added { OnOk result (entries.new.items ≡ entries.old.items ++ option_to_list entry) }
 {
     match entry {
-        Some(entry) => add(entries, entry),
+        Some(entry) => push(entries, entry),
         None => Ok(()),
     }
 }
@@ -170,7 +169,7 @@ pub(crate) fn entries_of_logs(
     let mut lists = Vec::new(alloc);
     for kept in logs {
         let entries = entries_of_log(alloc, site, classes, objects, alarms, kept, turns, stamp)?;
-        add(&mut lists, entries)?;
+        push(&mut lists, entries)?;
     }
     Ok(lists)
 }

@@ -4,14 +4,13 @@ ghost use Rattle.alarm_core.specs.declared.site.ClassSite.{ClassSite as Listed};
 ghost use Rattle.alarm_core.specs.Next.{first_with};
 ghost use Rattle.alarm_core.specs.Subjects.{ack_required_of, detecting_subjects, is_before_enrollments, is_behind_enrollments, is_detecting, site_class_of, subject_of_enrollment, subject_of_object, subjects_of};
 
-use crate::growing::add;
 use crate::objects::Objects;
 use crate::subjects::{
     is_before_enrollments, is_detecting, subject_of_enrollment, subject_of_object,
 };
 use crate::watched::Watched;
 use crate::{ClassSite, EnrollmentSite, Site, Subject};
-use bac_values::{NoMemory, Stamp};
+use bac_values::{NoMemory, Stamp, push};
 use object_table::ObjectSite;
 use std::alloc::Global;
 
@@ -45,7 +44,7 @@ fn add_if(subjects: &mut Vec<Subject>, subject: Subject, is_there: bool) -> Resu
     ensures added { OnOk result (subjects.new.items ≡ subjects.old.items ++ (if is_there then subject ∷ [] else [])) }
 {
     if is_there {
-        add(subjects, subject)?;
+        push(subjects, subject)?;
     }
     Ok(())
 }
@@ -68,7 +67,7 @@ fn add_enrollments(subjects: &mut Vec<Subject>, sites: &[EnrollmentSite]) -> Res
     ensures added { OnOk result (subjects.new.items ≡ subjects.old.items ++ map subject_of_enrollment sites.now) }
 {
     for site in sites {
-        add(subjects, subject_of_enrollment(site))?;
+        push(subjects, subject_of_enrollment(site))?;
     }
     Ok(())
 }
@@ -116,7 +115,7 @@ fn add_first(
     let ack_required = ack_required_of(site, subject);
     let start = site.device.start;
     let first = Watched::first(alloc, subject, ack_required, objects, start, stamp)?;
-    add(alarms, first)
+    push(alarms, first)
 }
 
 fn alarms_of(

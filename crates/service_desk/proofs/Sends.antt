@@ -2,6 +2,9 @@
 use Rattle.std.proofs.Common.{◌≡◌, ℕ, ◌≤◌, ◌&&◌, Bool, true, false, if◌then◌else◌, List, length, refl, arith, Option, Some, None}
 use Rattle.std.specs.Prelude.{is_some, nat_eq, nat_lt, Result, Ok, Err}
 use Rattle.std.proofs.lemmas.Bool.{ltb-false}
+use Rattle.bac_values.specs.Errors.{property_is_not_an_array_error, unknown_object_error, unknown_property_error, value_out_of_range_error}
+use Rattle.bac_values.specs.Properties.{log_buffer_property}
+use Rattle.bac_values.specs.Reasons.{segmentation_not_supported_reason}
 use Rattle.bac_values.specs.Identifier.{Identifier}
 use Rattle.bac_values.specs.declared.note.Send.{Send}
 use Rattle.apdu_frame.specs.Writing.{written_abort, written_error, written_reject, written_simple_ack}
@@ -14,8 +17,8 @@ use Rattle.event_services.specs.declared.information.EventSummary.{EventSummary}
 use Rattle.service_desk.specs.declared.replies.Asker.{Asker}
 use Rattle.service_desk.specs.Information.{information_reply}
 use Rattle.service_desk.specs.Laws.{FitsAsker}
-use Rattle.service_desk.specs.Ranges.{buffer_answer, has_zero_count, log_buffer, object_answer, object_class, property_class, property_is_not_an_array, range_answer, range_decided, range_reply, range_with, sent_of, unknown_object, unknown_property, value_out_of_range, wanted}
-use Rattle.service_desk.specs.Replies.{aborted, acknowledged, fitting, refused, rejected, reply_to, segmentation_not_supported}
+use Rattle.service_desk.specs.Ranges.{buffer_answer, has_zero_count, object_answer, range_answer, range_decided, range_reply, range_with, sent_of, wanted}
+use Rattle.service_desk.specs.Replies.{aborted, acknowledged, fitting, refused, rejected, reply_to}
 
 pub acknowledged_fits : (asker : Asker) → 50 ≤ asker.max_apdu → FitsAsker asker (acknowledged asker)
 acknowledged_fits asker least = record { apdu = written_simple_ack asker.invoke asker.service; framed = refl; short = omega (arith, least) }
@@ -31,8 +34,8 @@ aborted_fits asker reason least = record { apdu = written_abort asker.invoke rea
 
 -- an answer is as short, or it is not sent
 chosen : (asker : Asker) (apdu : List ℕ) (long : Bool) → nat_lt asker.max_apdu (length apdu) ≡ long → 50 ≤ asker.max_apdu →
-    FitsAsker asker (if long then aborted asker segmentation_not_supported else reply_to asker.peer apdu)
-chosen asker apdu true is least = aborted_fits asker segmentation_not_supported least
+    FitsAsker asker (if long then aborted asker segmentation_not_supported_reason else reply_to asker.peer apdu)
+chosen asker apdu true is least = aborted_fits asker segmentation_not_supported_reason least
 chosen asker apdu false is least = record { apdu = apdu; framed = refl; short = ltb-false asker.max_apdu (length apdu) is }
 
 pub fitting_fits : (asker : Asker) (apdu : List ℕ) → 50 ≤ asker.max_apdu → FitsAsker asker (fitting asker apdu)
@@ -46,26 +49,26 @@ either asker false first second a b = b
 -- the answer to GetEventInformation
 pub information_reply_fits : (asker : Asker) (summaries : List EventSummary) (more : Bool) → 50 ≤ asker.max_apdu → FitsAsker asker (information_reply asker summaries more)
 information_reply_fits asker summaries more least =
-    either asker (more && nat_eq (length summaries) 0) _ _ (aborted_fits asker segmentation_not_supported least) (fitting_fits asker _ least)
+    either asker (more && nat_eq (length summaries) 0) _ _ (aborted_fits asker segmentation_not_supported_reason least) (fitting_fits asker _ least)
 
 -- a range
 pub range_reply_fits : (asker : Asker) (request : RangeRequest) (log : Log) (range : LogRange) → 50 ≤ asker.max_apdu → FitsAsker asker (range_reply asker request log range)
 range_reply_fits asker request log range least =
-    either asker (nat_lt 0 range.count && nat_eq (sent_of asker request log range) 0) _ _ (aborted_fits asker segmentation_not_supported least) (fitting_fits asker _ least)
+    either asker (nat_lt 0 range.count && nat_eq (sent_of asker request log range) 0) _ _ (aborted_fits asker segmentation_not_supported_reason least) (fitting_fits asker _ least)
 
 buffer_answer_fits : (asker : Asker) (request : RangeRequest) (log : Log) → 50 ≤ asker.max_apdu → FitsAsker asker (buffer_answer asker request log)
 buffer_answer_fits asker request log least =
-    either asker (is_some request.index) _ _ (refused_fits asker property_class property_is_not_an_array least)
-    (either asker (has_zero_count request.range) _ _ (refused_fits asker property_class value_out_of_range least) (range_reply_fits asker request log (wanted request.range log) least))
+    either asker (is_some request.index) _ _ (refused_fits asker property_is_not_an_array_error.class property_is_not_an_array_error.code least)
+    (either asker (has_zero_count request.range) _ _ (refused_fits asker value_out_of_range_error.class value_out_of_range_error.code least) (range_reply_fits asker request log (wanted request.range log) least))
 
 object_answer_fits : (asker : Asker) (request : RangeRequest) (log : Option Log) → 50 ≤ asker.max_apdu → FitsAsker asker (object_answer asker request log)
-object_answer_fits asker request None least = refused_fits asker property_class unknown_property least
+object_answer_fits asker request None least = refused_fits asker unknown_property_error.class unknown_property_error.code least
 object_answer_fits asker request (Some log) least =
-    either asker (nat_eq request.property.0 log_buffer) _ _ (buffer_answer_fits asker request log least) (refused_fits asker property_class unknown_property least)
+    either asker (nat_eq request.property.0 log_buffer_property) _ _ (buffer_answer_fits asker request log least) (refused_fits asker unknown_property_error.class unknown_property_error.code least)
 
 pub range_answer_fits : (asker : Asker) (request : RangeRequest) (there : Bool) (log : Option Log) → 50 ≤ asker.max_apdu → FitsAsker asker (range_answer asker request there log)
 range_answer_fits asker request there log least =
-    either asker there _ _ (object_answer_fits asker request log least) (refused_fits asker object_class unknown_object least)
+    either asker there _ _ (object_answer_fits asker request log least) (refused_fits asker unknown_object_error.class unknown_object_error.code least)
 
 range_with_fits : (asker : Asker) (is_there : Identifier → Bool) (log_of : Identifier → Option Log) (read : Result RangeRequest Malformed) → 50 ≤ asker.max_apdu →
     FitsAsker asker (range_with asker is_there log_of read)

@@ -2,6 +2,9 @@
 use Rattle.std.specs.Prelude.{◌≡◌, ℕ, max, ◌==◌, nat_le, ◌&&◌, Bool, true, false, if◌then◌else◌, Option, Some, None, is_none, Result, Ok, Err, List, [], ◌∷◌, drop}
 use Rattle.bac_values.specs.Address.{Address}
 use Rattle.bac_values.specs.Identifier.{Identifier}
+use Rattle.bac_values.specs.Pdus.{abort_pdu, error_pdu, reject_pdu, simple_ack_pdu}
+use Rattle.bac_values.specs.Reasons.{other_reason, segmentation_not_supported_reason, unrecognized_service_reason}
+use Rattle.bac_values.specs.Services.{acknowledge_alarm_service, confirmed_event_notification_service, get_event_information_service, i_am_service, read_property_service, read_range_service, who_is_service, write_property_service}
 use Rattle.bac_values.specs.declared.event_state.EventState.{EventState}
 use Rattle.bac_values.specs.declared.input.Input.{Input}
 use Rattle.bac_values.specs.declared.input.Input.TheVariants.{Tick, Pump, Set, Fault, Datagram}
@@ -50,11 +53,7 @@ use Rattle.service_desk.specs.declared.decision.Decision.TheVariants.{Ignore, Id
 use Rattle.service_desk.specs.declared.replies.Asker.{Asker}
 use Rattle.service_desk.specs.Information.{information_reply, information_room}
 use Rattle.service_desk.specs.Ranges.{range_decided}
-use Rattle.service_desk.specs.Replies.{abort_to, aborted, acknowledged, answered, other, refused, rejected, reply_to, segmentation_not_supported}
-
--- the reason of a Reject
-abbrev pub unrecognized_service : ℕ
-unrecognized_service = 9
+use Rattle.service_desk.specs.Replies.{abort_to, aborted, acknowledged, answered, refused, rejected, reply_to}
 
 -- a tick is an event where some object would move
 abbrev pub tick_with : List StateTransition → ℕ → Decision
@@ -92,7 +91,7 @@ ack_at moment object transition named = record { moment = moment; act = Ack obje
 
 -- a verdict on an acknowledgement, as it is answered
 abbrev pub verdict_decision : ℕ → Asker → Identifier → Verdict → Decision
-verdict_decision moment asker object (Accept transition named) = Enter (ack_at moment object transition named) (Some (acknowledged asker)) (Some (aborted asker other))
+verdict_decision moment asker object (Accept transition named) = Enter (ack_at moment object transition named) (Some (acknowledged asker)) (Some (aborted asker other_reason))
 verdict_decision moment asker object Already = Reply (acknowledged asker)
 verdict_decision moment asker object (Error class code) = Reply (refused asker class code)
 
@@ -108,7 +107,7 @@ acknowledge_decision state moment asker parameters = acknowledge_with state mome
 abbrev pub read_reply : Asker → ReadRequest → Result (List ℕ) ReadFault → Send
 read_reply asker request (Ok octets) = answered asker (written_read_ack request octets)
 read_reply asker request (Err (read_faults.Error class code)) = refused asker class code
-read_reply asker request (Err read_faults.NoMemory) = aborted asker other
+read_reply asker request (Err read_faults.NoMemory) = aborted asker other_reason
 
 -- ReadProperty (15.5)
 abbrev pub read_with : State → Asker → Result ReadRequest Malformed → Decision
@@ -120,9 +119,9 @@ read_decision state asker parameters = read_with state asker (read_property_of p
 
 -- a write that makes a change, or the error; no verdict on a write is want of memory
 abbrev pub change_decision : ℕ → Asker → Result Change WriteFault → Decision
-change_decision moment asker (Ok change) = Enter (write_at moment change) (Some (acknowledged asker)) (Some (aborted asker other))
+change_decision moment asker (Ok change) = Enter (write_at moment change) (Some (acknowledged asker)) (Some (aborted asker other_reason))
 change_decision moment asker (Err (write_faults.Error class code)) = Reply (refused asker class code)
-change_decision moment asker (Err write_faults.NoMemory) = Reply (aborted asker other)
+change_decision moment asker (Err write_faults.NoMemory) = Reply (aborted asker other_reason)
 
 -- WriteProperty (15.9)
 abbrev pub write_with : State → ℕ → Asker → Result WriteRequest Malformed → Decision
@@ -147,12 +146,12 @@ information_decision state asker parameters = information_with state asker (info
 -- a confirmed request, by its service
 abbrev pub request_decision : State → ℕ → Asker → List ℕ → Decision
 request_decision state moment asker parameters =
-    if asker.service == 0 then acknowledge_decision state moment asker parameters
-    else (if asker.service == 12 then read_decision state asker parameters
-    else (if asker.service == 15 then write_decision state moment asker parameters
-    else (if asker.service == 26 then range_decision state asker parameters
-    else (if asker.service == 29 then information_decision state asker parameters
-    else Reply (rejected asker unrecognized_service)))))
+    if asker.service == acknowledge_alarm_service then acknowledge_decision state moment asker parameters
+    else (if asker.service == read_property_service then read_decision state asker parameters
+    else (if asker.service == write_property_service then write_decision state moment asker parameters
+    else (if asker.service == read_range_service then range_decision state asker parameters
+    else (if asker.service == get_event_information_service then information_decision state asker parameters
+    else Reply (rejected asker unrecognized_service_reason)))))
 
 -- whether the devices that are asked include the site's
 abbrev pub asks : Result (Option (ℕ × ℕ)) Malformed → ℕ → Bool
@@ -162,7 +161,7 @@ asks (Ok (Some limits)) instance = nat_le limits.0 instance && nat_le instance l
 
 -- I-Am (16.10), to the peer that asked
 abbrev pub i_am : Site → Address → Send
-i_am site peer = reply_to peer (written_unconfirmed 0 (written_i_am (device_object site) site.device.vendor))
+i_am site peer = reply_to peer (written_unconfirmed i_am_service (written_i_am (device_object site) site.device.vendor))
 
 -- Who-Is (16.10)
 abbrev pub who_is_decision : Site → Address → List ℕ → Decision
@@ -170,24 +169,7 @@ who_is_decision site peer parameters = if asks (who_is_of parameters) site.devic
 
 -- an unconfirmed request, by its service
 abbrev pub unconfirmed_decision : Site → Address → ℕ → List ℕ → Decision
-unconfirmed_decision site peer service parameters = if service == 8 then who_is_decision site peer parameters else Ignore
-
--- the service of confirmed notifications (13.8)
-abbrev pub confirmed_event_notification : ℕ
-confirmed_event_notification = 2
-
--- the numbers of the PDUs that answer a confirmed request without a result (20.1.4, 20.1.7 to 20.1.9)
-abbrev pub simple_ack_pdu : ℕ
-simple_ack_pdu = 2
-
-abbrev pub error_pdu : ℕ
-error_pdu = 5
-
-abbrev pub reject_pdu : ℕ
-reject_pdu = 6
-
-abbrev pub abort_pdu : ℕ
-abort_pdu = 7
+unconfirmed_decision site peer service parameters = if service == who_is_service then who_is_decision site peer parameters else Ignore
 
 abbrev pub answer_at : ℕ → Address → ℕ → ℕ → Event
 answer_at moment peer invoke kind = record { moment = moment; act = Answer peer invoke kind }
@@ -199,7 +181,7 @@ answer_decision state moment peer invoke kind = if has_in_flight peer invoke sta
 -- one that names its service answers a notification where that is the service of confirmed notifications
 abbrev pub named_answer_decision : State → ℕ → Address → ℕ → ℕ → ℕ → Decision
 named_answer_decision state moment peer invoke service kind =
-    if service == confirmed_event_notification then answer_decision state moment peer invoke kind else Ignore
+    if service == confirmed_event_notification_service then answer_decision state moment peer invoke kind else Ignore
 
 abbrev pub asker_of : Address → ℕ → ℕ → ℕ → Asker
 asker_of peer max_apdu invoke service = record { peer = peer; max_apdu = max_apdu; invoke = invoke; service = service }
@@ -207,7 +189,7 @@ asker_of peer max_apdu invoke service = record { peer = peer; max_apdu = max_apd
 -- an APDU, by its header
 abbrev pub apdu_decision : State → ℕ → Address → List ℕ → Apdu → Decision
 apdu_decision state moment peer octets (Request max_apdu invoke service start) = request_decision state moment (asker_of peer max_apdu invoke service) (drop start octets)
-apdu_decision state moment peer octets (Segmented invoke) = Reply (abort_to peer invoke segmentation_not_supported)
+apdu_decision state moment peer octets (Segmented invoke) = Reply (abort_to peer invoke segmentation_not_supported_reason)
 apdu_decision state moment peer octets (Unconfirmed service start) = unconfirmed_decision state.site peer service (drop start octets)
 apdu_decision state moment peer octets (SimpleAck invoke service) = named_answer_decision state moment peer invoke service simple_ack_pdu
 apdu_decision state moment peer octets (ErrorAnswer invoke service) = named_answer_decision state moment peer invoke service error_pdu

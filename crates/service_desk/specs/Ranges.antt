@@ -1,6 +1,9 @@
 -- Ranges of a log, as they are answered (ANSI/ASHRAE 135-2020, 15.8).
 use Rattle.std.specs.Prelude.{ℕ, zero, suc, ◌+◌, ◌==◌, ◌&&◌, nat_lt, nat_le, Bool, true, false, ℤ, pos, negsuc, if◌then◌else◌, Option, Some, None, is_some, Result, Ok, Err, List, [], ◌∷◌, ◌++◌, length, take, drop, flat_map, slice_get}
+use Rattle.bac_values.specs.Errors.{property_is_not_an_array_error, unknown_object_error, unknown_property_error, value_out_of_range_error}
 use Rattle.bac_values.specs.Identifier.{Identifier}
+use Rattle.bac_values.specs.Properties.{log_buffer_property}
+use Rattle.bac_values.specs.Reasons.{segmentation_not_supported_reason}
 use Rattle.bac_values.specs.declared.note.Send.{Send}
 use Rattle.bac_tags.specs.Writing.{written_stamp, written_tag}
 use Rattle.apdu_frame.specs.Writing.{written_complex_ack}
@@ -16,7 +19,7 @@ use Rattle.event_log.specs.declared.log_record.LogRecord.{LogRecord}
 use Rattle.event_log.specs.Log.{Log}
 use Rattle.event_log.specs.Ranges.{place_by_time, place_of_position, place_of_sequence, range_from, range_of}
 use Rattle.service_desk.specs.declared.replies.Asker.{Asker}
-use Rattle.service_desk.specs.Replies.{aborted, answered, refused, rejected, segmentation_not_supported}
+use Rattle.service_desk.specs.Replies.{aborted, answered, refused_by, rejected}
 
 -- the octets of a log record (BACnetEventLogRecord, 12.27.13): [0] its date and time, [1] the notification that it records
 unfoldable pub written_item : LogRecord → List ℕ
@@ -75,34 +78,11 @@ sent_of asker request log range = greatest (range_fits asker request log range) 
 -- a range, where so many of its records are sent; where there are some and none fits, the device would have to send segments
 abbrev pub range_sent : Asker → RangeRequest → Log → LogRange → ℕ → Send
 range_sent asker request log range sent =
-    if nat_lt 0 range.count && sent == 0 then aborted asker segmentation_not_supported else answered asker (range_body request log range sent)
+    if nat_lt 0 range.count && sent == 0 then aborted asker segmentation_not_supported_reason else answered asker (range_body request log range sent)
 
 -- a range, as it is answered
 abbrev pub range_reply : Asker → RangeRequest → Log → LogRange → Send
 range_reply asker request log range = range_sent asker request log range (sent_of asker request log range)
-
--- the classes and the codes of the errors (clause 18)
-abbrev pub object_class : ℕ
-object_class = 1
-
-abbrev pub property_class : ℕ
-property_class = 2
-
-abbrev pub unknown_object : ℕ
-unknown_object = 31
-
-abbrev pub unknown_property : ℕ
-unknown_property = 32
-
-abbrev pub value_out_of_range : ℕ
-value_out_of_range = 37
-
-abbrev pub property_is_not_an_array : ℕ
-property_is_not_an_array = 50
-
--- the number of the property Log_Buffer
-abbrev pub log_buffer : ℕ
-log_buffer = 131
 
 -- how many records a request asks for, where it says so
 abbrev pub count_of : RangeBy → Option ℤ
@@ -123,18 +103,18 @@ has_zero_count range = is_zero_count (count_of range)
 -- of a log: Log_Buffer is no array, and a count isn't 0
 abbrev pub buffer_answer : Asker → RangeRequest → Log → Send
 buffer_answer asker request log =
-    if is_some request.index then refused asker property_class property_is_not_an_array
-    else (if has_zero_count request.range then refused asker property_class value_out_of_range
+    if is_some request.index then refused_by asker property_is_not_an_array_error
+    else (if has_zero_count request.range then refused_by asker value_out_of_range_error
     else range_reply asker request log (wanted request.range log))
 
 -- of an object: only the Log_Buffer of a log has a range
 abbrev pub object_answer : Asker → RangeRequest → Option Log → Send
-object_answer asker request None = refused asker property_class unknown_property
-object_answer asker request (Some log) = if request.property.0 == log_buffer then buffer_answer asker request log else refused asker property_class unknown_property
+object_answer asker request None = refused_by asker unknown_property_error
+object_answer asker request (Some log) = if request.property.0 == log_buffer_property then buffer_answer asker request log else refused_by asker unknown_property_error
 
 -- by whether there is such an object, and its log, where it is one
 abbrev pub range_answer : Asker → RangeRequest → Bool → Option Log → Send
-range_answer asker request there log = if there then object_answer asker request log else refused asker object_class unknown_object
+range_answer asker request there log = if there then object_answer asker request log else refused_by asker unknown_object_error
 
 -- ReadRange (15.8), by which objects there are, and their logs
 abbrev pub range_with : Asker → (Identifier → Bool) → (Identifier → Option Log) → Result RangeRequest Malformed → Send

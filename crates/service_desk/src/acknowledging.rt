@@ -4,10 +4,10 @@ ghost use Rattle.alarm_core.specs.Found.{found_in};
 ghost use Rattle.service_desk.specs.Decisions.{EntersAllowed, acknowledge_decision, verdict_decision};
 
 use crate::Decision;
-use crate::replies::{Asker, OTHER};
+use crate::replies::Asker;
 use ack_alarm::{Verdict, judge};
 use alarm_core::{Act, Core, Event};
-use bac_values::{NoMemory, ObjectId};
+use bac_values::{AbortReason, NoMemory, ObjectId};
 use event_services::read_ack;
 use std::alloc::Global;
 
@@ -29,7 +29,7 @@ fn verdict_decision(
                 state,
             };
             let reply = asker.acknowledged(alloc)?;
-            let full = asker.aborted(alloc, OTHER)?;
+            let full = asker.aborted(alloc, AbortReason::OTHER.0)?;
             Ok(Decision::Enter {
                 event: Event { moment, act },
                 reply: Some(reply),

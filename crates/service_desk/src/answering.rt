@@ -4,10 +4,7 @@ ghost use Rattle.service_desk.specs.Decisions.{EntersAllowed, answer_decision, n
 
 use crate::Decision;
 use alarm_core::{Act, Core, Event};
-use bac_values::Peer;
-
-/// The service of ConfirmedEventNotification (ANSI/ASHRAE 135-2020, 13.8).
-const CONFIRMED_EVENT_NOTIFICATION: u8 = 2;
+use bac_values::{ConfirmedService, Peer};
 
 /// An answer of a peer to the request with this invoke ID, by the number of its PDU.
 pub(crate) fn answer_decision(
@@ -45,7 +42,7 @@ pub(crate) fn named_answer_decision(
     ensures decision { result ≡ named_answer_decision core.now moment peer invoke service kind }
     ensures allowed { EntersAllowed core.now moment result }
 {
-    if service != CONFIRMED_EVENT_NOTIFICATION {
+    if service != ConfirmedService::CONFIRMED_EVENT_NOTIFICATION.0 {
         return Decision::Ignore;
     }
     answer_decision(core, moment, peer, invoke, kind)

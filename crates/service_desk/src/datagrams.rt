@@ -9,26 +9,16 @@ use crate::answering::{answer_decision, named_answer_decision};
 use crate::informing::event_information;
 use crate::ranging::read_range;
 use crate::reading::read_property;
-use crate::replies::{Asker, SEGMENTATION_NOT_SUPPORTED, abort_to};
+use crate::replies::{Asker, abort_to};
 use crate::who_is::who_is;
 use crate::writing::write_property;
 use alarm_core::Core;
 use apdu_frame::{Apdu, read_apdu};
-use bac_values::{NoMemory, Peer};
+use bac_values::{
+    AbortReason, ConfirmedService, NoMemory, PduType, Peer, RejectReason, UnconfirmedService,
+};
 use bvlc_npdu::unwrap;
 use std::alloc::Global;
-
-// The numbers of the PDUs that answer a request without a result: of a SimpleACK (ANSI/ASHRAE 135-2020, 20.1.4),
-const SIMPLE_ACK: u8 = 2;
-
-// an Error (20.1.7),
-const ERROR: u8 = 5;
-
-// a Reject (20.1.8),
-const REJECT: u8 = 6;
-
-// and an Abort (20.1.9).
-const ABORT: u8 = 7;
 
 // A confirmed request, by its service.
 fn request_decision(
@@ -42,14 +32,18 @@ fn request_decision(
     ensures decision { IfOk result (λ decision. decision ≡ request_decision core.now moment asker.now parameters.now) }
     ensures allowed { IfOk result (EntersAllowed core.now moment) }
 {
-    match asker.service {
-        0 => acknowledge(alloc, core, moment, asker, parameters),
-        12 => read_property(alloc, core, asker, parameters),
-        15 => write_property(alloc, core, moment, asker, parameters),
-        26 => read_range(alloc, core, asker, parameters),
-        29 => event_information(alloc, core, asker, parameters),
+    match ConfirmedService(asker.service) {
+        ConfirmedService::ACKNOWLEDGE_ALARM => acknowledge(alloc, core, moment, asker, parameters),
+        ConfirmedService::READ_PROPERTY => read_property(alloc, core, asker, parameters),
+        ConfirmedService::WRITE_PROPERTY => {
+            write_property(alloc, core, moment, asker, parameters)
+        }
+        ConfirmedService::READ_RANGE => read_range(alloc, core, asker, parameters),
+        ConfirmedService::GET_EVENT_INFORMATION => {
+            event_information(alloc, core, asker, parameters)
+        }
         _ => Ok(Decision::Reply {
-            send: asker.rejected(alloc, 9)?,
+            send: asker.rejected(alloc, RejectReason::UNRECOGNIZED_SERVICE.0)?,
         }),
     }
 }
@@ -65,8 +59,8 @@ fn unconfirmed_decision(
     ensures decision { IfOk result (λ decision. decision ≡ unconfirmed_decision core.now.site peer service parameters.now) }
     ensures allowed { (moment : ℕ) → IfOk result (EntersAllowed core.now moment) }
 {
-    match service {
-        8 => who_is(alloc, core, peer, parameters),
+    match UnconfirmedService(service) {
+        UnconfirmedService::WHO_IS => who_is(alloc, core, peer, parameters),
         _ => Ok(Decision::Ignore),
     }
 }
@@ -104,19 +98,29 @@ fn apdu_decision(
             request_decision(alloc, core, moment, &asker, &octets[start..])
         }
         Apdu::Segmented { invoke } => Ok(Decision::Reply {
-            send: abort_to(alloc, peer, invoke, SEGMENTATION_NOT_SUPPORTED)?,
+            send: abort_to(alloc, peer, invoke, AbortReason::SEGMENTATION_NOT_SUPPORTED.0)?,
         }),
         Apdu::Unconfirmed { service, start } => {
             unconfirmed_decision(alloc, core, peer, service, &octets[start..])
         }
         Apdu::SimpleAck { invoke, service } => Ok(named_answer_decision(
-            core, moment, peer, invoke, service, SIMPLE_ACK,
+            core,
+            moment,
+            peer,
+            invoke,
+            service,
+            PduType::SIMPLE_ACK.0,
         )),
         Apdu::Error { invoke, service } => Ok(named_answer_decision(
-            core, moment, peer, invoke, service, ERROR,
+            core,
+            moment,
+            peer,
+            invoke,
+            service,
+            PduType::ERROR.0,
         )),
-        Apdu::Reject { invoke } => Ok(answer_decision(core, moment, peer, invoke, REJECT)),
-        Apdu::Abort { invoke } => Ok(answer_decision(core, moment, peer, invoke, ABORT)),
+        Apdu::Reject { invoke } => Ok(answer_decision(core, moment, peer, invoke, PduType::REJECT.0)),
+        Apdu::Abort { invoke } => Ok(answer_decision(core, moment, peer, invoke, PduType::ABORT.0)),
         Apdu::Other => Ok(Decision::Ignore),
     }
 }

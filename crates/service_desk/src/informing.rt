@@ -4,9 +4,9 @@ ghost use Rattle.service_desk.specs.Decisions.{information_decision};
 ghost use Rattle.service_desk.specs.Information.{information_reply, information_room};
 
 use crate::Decision;
-use crate::replies::{Asker, SEGMENTATION_NOT_SUPPORTED};
+use crate::replies::Asker;
 use alarm_core::Core;
-use bac_values::{NoMemory, ObjectId, Send};
+use bac_values::{AbortReason, NoMemory, ObjectId, Send};
 use event_services::{EventSummary, read_information_request, write_information};
 use std::alloc::Global;
 
@@ -31,7 +31,7 @@ fn information_reply(
     ensures reply { IfOk result (λ send. send ≡ information_reply asker.now summaries.now more) }
 {
     if more && summaries.is_empty() {
-        return asker.aborted(alloc, SEGMENTATION_NOT_SUPPORTED);
+        return asker.aborted(alloc, AbortReason::SEGMENTATION_NOT_SUPPORTED.0);
     }
     let body = write_information(alloc, summaries, more)?;
     asker.answered(alloc, body.as_slice())

@@ -6,27 +6,13 @@ ghost use Rattle.service_desk.specs.Decisions.{range_decision};
 ghost use Rattle.service_desk.specs.Ranges.{buffer_answer, first_sequence, greatest, has_zero_count, items_from, names_sequence, object_answer, range_answer, range_body, range_flags, range_reply, range_sent, sent_of, wanted, written_item};
 
 use crate::Decision;
-use crate::replies::{Asker, SEGMENTATION_NOT_SUPPORTED};
+use crate::replies::Asker;
 use alarm_core::Core;
 use bac_tags::{write_closing, write_opening, write_stamp};
-use bac_values::{NoMemory, PropertyId, Send};
+use bac_values::{AbortReason, NoMemory, PropertyId, Send, ServiceError};
 use event_log::{EventLog, LogRange, LogRecord};
 use property_services::{RangeBy, RangeRequest, read_read_range, write_range_ack};
 use std::alloc::Global;
-
-/// The classes of errors.
-const OBJECT: u8 = 1;
-
-const PROPERTY: u8 = 2;
-
-/// The codes of errors.
-const UNKNOWN_OBJECT: u8 = 31;
-
-const UNKNOWN_PROPERTY: u8 = 32;
-
-const VALUE_OUT_OF_RANGE: u8 = 37;
-
-const PROPERTY_IS_NOT_AN_ARRAY: u8 = 50;
 
 // Appends a record of a log.
 #[tactic(auto, unfolding(crate::specs::Ranges::written_item))]
@@ -219,7 +205,7 @@ fn range_sent(
     ensures reply { IfOk result (λ send. send ≡ range_sent asker.now request.now log.now range leading.now.count) }
 {
     if range.count > 0 && leading.count == 0 {
-        return asker.aborted(alloc, SEGMENTATION_NOT_SUPPORTED);
+        return asker.aborted(alloc, AbortReason::SEGMENTATION_NOT_SUPPORTED.0);
     }
     let body = range_body(alloc, request, log, range, leading)?;
     asker.answered(alloc, body.as_slice())
@@ -263,10 +249,10 @@ fn buffer_answer(
     ensures reply { IfOk result (λ send. send ≡ buffer_answer asker.now request.now log.now) }
 {
     if request.index.is_some() {
-        return asker.refused(alloc, PROPERTY, PROPERTY_IS_NOT_AN_ARRAY);
+        return asker.refused_by(alloc, ServiceError::PROPERTY_IS_NOT_AN_ARRAY);
     }
     if has_zero_count(&request.range) {
-        return asker.refused(alloc, PROPERTY, VALUE_OUT_OF_RANGE);
+        return asker.refused_by(alloc, ServiceError::VALUE_OUT_OF_RANGE);
     }
     range_reply(alloc, asker, request, log)
 }
@@ -285,7 +271,7 @@ fn object_answer(
         Some(found) if request.property == PropertyId::LOG_BUFFER => {
             buffer_answer(alloc, asker, request, found)
         }
-        _ => asker.refused(alloc, PROPERTY, UNKNOWN_PROPERTY),
+        _ => asker.refused_by(alloc, ServiceError::UNKNOWN_PROPERTY),
     }
 }
 
@@ -301,7 +287,7 @@ pub(crate) fn range_answer(
     ensures reply { IfOk result (λ send. send ≡ range_answer asker.now request.now is_there (option_copied log.entry)) }
 {
     if !is_there {
-        return asker.refused(alloc, OBJECT, UNKNOWN_OBJECT);
+        return asker.refused_by(alloc, ServiceError::UNKNOWN_OBJECT);
     }
     object_answer(alloc, asker, request, log)
 }

@@ -1,16 +1,10 @@
 ghost use Rattle.std.specs.Prelude.{◌≡◌, ◌≤◌, IfOk, length};
-ghost use Rattle.service_desk.specs.Replies.{abort_to, aborted, acknowledged, answered, fitting, refused, rejected, reply_to};
+ghost use Rattle.service_desk.specs.Replies.{abort_to, aborted, acknowledged, answered, fitting, refused, refused_by, rejected, reply_to};
 
 use apdu_frame::{abort, complex_ack, error, reject, simple_ack};
-use bac_values::{Items, NoMemory, Peer, Send};
+use bac_values::{AbortReason, Items, NoMemory, Peer, Send, ServiceError};
 use bvlc_npdu::wrap;
 use std::alloc::Global;
-
-/// The reason of an Abort (ANSI/ASHRAE 135-2020, clause 18.10) for which there is no other.
-pub(crate) const OTHER: u8 = 0;
-
-/// The reason of an Abort: the device would have to send segments, or to take them.
-pub(crate) const SEGMENTATION_NOT_SUPPORTED: u8 = 4;
 
 /// Who asks by a confirmed request, the most octets that it takes in an answer, the number of the request, and the
 /// service.
@@ -60,6 +54,13 @@ impl Asker {
         )
     }
 
+    /// The request is answered with an error of the standard.
+    pub(crate) fn refused_by(&self, alloc: Global, error: ServiceError) -> Result<Send, NoMemory>
+        ensures reply { IfOk result (λ send. send ≡ refused_by self.now error) }
+    {
+        self.refused(alloc, error.class, error.code)
+    }
+
     /// The request isn't understood.
     pub(crate) fn rejected(&self, alloc: Global, reason: u8) -> Result<Send, NoMemory>
         ensures reply { IfOk result (λ send. send ≡ rejected self.now reason) }
@@ -81,7 +82,7 @@ impl Asker {
         ensures reply { IfOk result (λ send. send ≡ fitting self.now apdu.now) }
     {
         if apdu.len() > usize::from(self.max_apdu) {
-            return self.aborted(alloc, SEGMENTATION_NOT_SUPPORTED);
+            return self.aborted(alloc, AbortReason::SEGMENTATION_NOT_SUPPORTED.0);
         }
         reply_to(alloc, self.peer, apdu)
     }

@@ -6,12 +6,9 @@ use crate::Decision;
 use crate::replies::reply_to;
 use alarm_core::Core;
 use apdu_frame::unconfirmed;
-use bac_values::{NoMemory, Peer, Send};
+use bac_values::{NoMemory, Peer, Send, UnconfirmedService};
 use property_services::{Malformed, read_who_is, write_i_am};
 use std::alloc::Global;
-
-/// The service of I-Am.
-const I_AM: u8 = 0;
 
 // Whether the devices that are asked include one of this instance.
 fn asks(limits: Result<Option<(u32, u32)>, Malformed>, instance: u32) -> bool
@@ -29,7 +26,7 @@ fn i_am(alloc: Global, core: &Core, peer: Peer) -> Result<Send, NoMemory>
     ensures reply { IfOk result (λ send. send ≡ i_am core.now.site peer) }
 {
     let body = write_i_am(alloc, core.device(), core.site().device.vendor)?;
-    let apdu = unconfirmed(alloc, I_AM, body.as_slice())?;
+    let apdu = unconfirmed(alloc, UnconfirmedService::I_AM.0, body.as_slice())?;
     reply_to(alloc, peer, apdu.as_slice())
 }
 

@@ -6,9 +6,9 @@ ghost use Rattle.alarm_core.specs.State.{State};
 ghost use Rattle.service_desk.specs.Decisions.{EntersAllowed, change_decision, write_decision};
 
 use crate::Decision;
-use crate::replies::{Asker, OTHER};
+use crate::replies::Asker;
 use alarm_core::{Act, Core, Event};
-use bac_values::NoMemory;
+use bac_values::{AbortReason, NoMemory};
 use object_table::{Change, WriteFault};
 use property_services::{ServiceFault, WriteRequest, read_write_property};
 use std::alloc::Global;
@@ -24,7 +24,7 @@ fn enter_change(
     ensures allowed { (state : State) → IsAllowed state (Write change) → IfOk result (EntersAllowed state moment) }
 {
     let reply = asker.acknowledged(alloc)?;
-    let full = asker.aborted(alloc, OTHER)?;
+    let full = asker.aborted(alloc, AbortReason::OTHER.0)?;
     let act = Act::Write { change };
     Ok(Decision::Enter {
         event: Event { moment, act },

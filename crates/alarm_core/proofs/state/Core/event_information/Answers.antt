@@ -46,7 +46,7 @@ loop-watched-preserved c =
     let active : told item ≡ true = search rules in
     let room : left ≡ suc (left - 1) = omega arith in
     let here : filter told (drop index alarms) ≡ item ∷ rest = kept_here told alarms index item within is active in
-    let added : c.add.new.items.items ≡ c.loop-watched.summaries.items ++ tell item ∷ [] = search rules in (
+    let added : c.push.new.items.items ≡ c.loop-watched.summaries.items ++ tell item ∷ [] = search rules in (
       ap (λ items. items ++ map tell (take (left - 1) rest)) added
           ∙ (told_one tell (left - 1) item rest c.loop-watched.summaries.items
           ∙ (ap (λ n. c.loop-watched.summaries.items ++ map tell (take n (item ∷ rest))) (sym room)
