@@ -1,9 +1,11 @@
 -- The verdict on a request to acknowledge an alarm (ANSI/ASHRAE 135-2020, 13.5): the first case that applies.
 use Rattle.std.specs.Prelude.{◌≡◌, ℕ, ◌==◌, ◌||◌, ◌&&◌, Bool, true, false, not, if◌then◌else◌, Option, Some, None, is_some, slice_index_or}
 use Rattle.std.specs.Str.{bytes_eq}
+use Rattle.bac_values.specs.Errors.{unknown_object_error, no_alarm_configured_error, invalid_time_stamp_error, invalid_event_state_error}
 use Rattle.bac_values.specs.EventStates.{number_of_state, place_of_transition, state_of_number}
 use Rattle.bac_values.specs.declared.event_state.EventState.{EventState}
 use Rattle.bac_values.specs.declared.event_state.EventState.TheVariants.{Normal, Fault, Offnormal, HighLimit, LowLimit}
+use Rattle.bac_values.specs.declared.service_error.ServiceError.{ServiceError}
 use Rattle.bac_values.specs.declared.transition.Transition.{Transition}
 use Rattle.bac_values.specs.declared.transition.Transition.TheVariants.{ToOffnormal, ToFault, ToNormal}
 use Rattle.event_machine.specs.AlarmRecord.{never}
@@ -19,18 +21,21 @@ use Rattle.ack_alarm.specs.declared.verdict.Verdict.TheVariants.{Accept, Already
 abbrev pub transition_named : ℕ → Transition
 transition_named number = if number_of_state Normal == number then ToNormal else (if number_of_state Fault == number then ToFault else ToOffnormal)
 
--- the errors, by class and code
+-- an error, as it is answered
+abbrev pub error_of : ServiceError → Verdict
+error_of error = Error error.class error.code
+
 abbrev pub unknown_object : Verdict
-unknown_object = Error 1 31
+unknown_object = error_of unknown_object_error
 
 abbrev pub no_alarm_configured : Verdict
-no_alarm_configured = Error 1 74
+no_alarm_configured = error_of no_alarm_configured_error
 
 abbrev pub invalid_time_stamp : Verdict
-invalid_time_stamp = Error 5 14
+invalid_time_stamp = error_of invalid_time_stamp_error
 
 abbrev pub invalid_event_state : Verdict
-invalid_event_state = Error 5 73
+invalid_event_state = error_of invalid_event_state_error
 
 -- whether the request's stamp is a date and a time, and that of a transition that came
 abbrev pub is_stamp : AlarmState → Transition → AckStamp → Bool

@@ -1,9 +1,9 @@
 ghost use Rattle.std.specs.Prelude.{◌≡◌};
 ghost use Rattle.event_machine.specs.Finding.{as_finding, names_last, names_state};
-ghost use Rattle.ack_alarm.specs.Verdicts.{AcceptsAllowed, acknowledgement_verdict, is_stamp, transition_named, verdict_on, verdict_with};
+ghost use Rattle.ack_alarm.specs.Verdicts.{AcceptsAllowed, acknowledgement_verdict, error_of, is_stamp, transition_named, verdict_on, verdict_with};
 
 use crate::Verdict;
-use bac_values::{EventState, Transition};
+use bac_values::{EventState, ServiceError, Transition};
 use event_machine::{Alarm, Found};
 use event_services::{AckRequest, AckStamp};
 
@@ -52,6 +52,16 @@ fn names_last(last: Option<EventState>, named: EventState) -> bool
     }
 }
 
+// An error, as it is answered.
+fn error_of(error: ServiceError) -> Verdict
+    ensures error { result ≡ error_of error }
+{
+    Verdict::Error {
+        class: error.class,
+        code: error.code,
+    }
+}
+
 // The verdict where the stamp is right.
 fn verdict_with(
     last: Option<EventState>,
@@ -62,10 +72,10 @@ fn verdict_with(
     ensures verdict { result ≡ verdict_with last acked transition named }
 {
     let Some(state) = named else {
-        return Verdict::Error { class: 5, code: 73 };
+        return error_of(ServiceError::INVALID_EVENT_STATE);
     };
     if !names_last(last, state) {
-        return Verdict::Error { class: 5, code: 73 };
+        return error_of(ServiceError::INVALID_EVENT_STATE);
     }
     if acked {
         return Verdict::Already;
@@ -77,7 +87,7 @@ fn verdict_on(alarm: &Alarm, transition: Transition, request: &AckRequest) -> Ve
     ensures verdict { result ≡ verdict_on alarm.now transition request.now }
 {
     if !is_stamp(alarm, transition, request.stamp) {
-        return Verdict::Error { class: 5, code: 14 };
+        return error_of(ServiceError::INVALID_TIME_STAMP);
     }
     let place = transition.place();
     let named = EventState::of_number(request.state);
@@ -97,8 +107,8 @@ pub fn judge(found: Found<'_>, request: &AckRequest) -> Verdict
     ensures accepts { AcceptsAllowed (as_finding found.entry) result }
 {
     match found {
-        Found::NoObject => Verdict::Error { class: 1, code: 31 },
-        Found::NoAlarm => Verdict::Error { class: 1, code: 74 },
+        Found::NoObject => error_of(ServiceError::UNKNOWN_OBJECT),
+        Found::NoAlarm => error_of(ServiceError::NO_ALARM_CONFIGURED),
         Found::Has(alarm) => verdict_on(alarm, transition_named(request.state), request),
     }
 }

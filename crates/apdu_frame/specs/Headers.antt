@@ -1,5 +1,7 @@
 -- The headers of APDUs (ANSI/ASHRAE 135-2020, clause 20.1). The high four bits of the first octet say which APDU it is; what a header doesn't name here isn't looked at.
 use Rattle.std.specs.Prelude.{◌≡◌, ◌≢◌, ℕ, ◌≤◌, ◌/◌, List, ◌∷◌, length, bit_and, ◌==◌, if◌then◌else◌}
+use Rattle.bac_values.specs.Pdus.{confirmed_request_pdu, unconfirmed_request_pdu, simple_ack_pdu, error_pdu, reject_pdu, abort_pdu}
+use Rattle.bac_values.specs.Services.{longest_apdu}
 use Rattle.apdu_frame.specs.declared.apdu.Apdu.{Apdu}
 use Rattle.apdu_frame.specs.declared.apdu.Apdu.TheVariants.{Request, Segmented, Unconfirmed, SimpleAck, Error, Reject, Abort, Other}
 
@@ -12,7 +14,7 @@ max_apdu_of second =
     else if code == 2 then 206
     else if code == 3 then 480
     else if code == 4 then 1024
-    else 1476
+    else longest_apdu
 
 -- 20.1.2: a confirmed request that is not segmented (bit 3 of the first octet): max segments and max APDU, invoke ID, service, and from place 4 on the parameters
 pub record IsRequest (octets : List ℕ) (max_apdu invoke service start : ℕ) : Type 0 where
@@ -20,7 +22,7 @@ pub record IsRequest (octets : List ℕ) (max_apdu invoke service start : ℕ) :
   pub second : ℕ
   pub parameters : List ℕ
   pub spelled : octets ≡ first ∷ second ∷ invoke ∷ service ∷ parameters
-  pub kind : first / 16 ≡ 0
+  pub kind : first / 16 ≡ confirmed_request_pdu
   pub whole : bit_and first 0x08 ≡ 0
   pub accepts : max_apdu ≡ max_apdu_of second
   pub begins : start ≡ 4
@@ -34,7 +36,7 @@ pub record IsSegment (octets : List ℕ) (invoke : ℕ) : Type 0 where
   pub service : ℕ
   pub parameters : List ℕ
   pub spelled : octets ≡ first ∷ second ∷ invoke ∷ sequence ∷ window ∷ service ∷ parameters
-  pub kind : first / 16 ≡ 0
+  pub kind : first / 16 ≡ confirmed_request_pdu
   pub segmented : bit_and first 0x08 ≢ 0
 
 -- 20.1.3: an unconfirmed request: service, and from place 2 on the parameters
@@ -42,7 +44,7 @@ pub record IsUnconfirmed (octets : List ℕ) (service start : ℕ) : Type 0 wher
   pub first : ℕ
   pub parameters : List ℕ
   pub spelled : octets ≡ first ∷ service ∷ parameters
-  pub kind : first / 16 ≡ 1
+  pub kind : first / 16 ≡ unconfirmed_request_pdu
   pub begins : start ≡ 2
 
 -- 20.1.4 and 20.1.7: an answer of this kind that names the service: invoke ID, service
@@ -65,10 +67,10 @@ abbrev pub IsApdu : List ℕ → Apdu → Type 0
 IsApdu octets (Request max_apdu invoke service start) = IsRequest octets max_apdu invoke service start
 IsApdu octets (Segmented invoke) = IsSegment octets invoke
 IsApdu octets (Unconfirmed service start) = IsUnconfirmed octets service start
-IsApdu octets (SimpleAck invoke service) = IsAnswer 2 octets invoke service
-IsApdu octets (Error invoke service) = IsAnswer 5 octets invoke service
-IsApdu octets (Reject invoke) = IsRefusal 6 octets invoke
-IsApdu octets (Abort invoke) = IsRefusal 7 octets invoke
+IsApdu octets (SimpleAck invoke service) = IsAnswer simple_ack_pdu octets invoke service
+IsApdu octets (Error invoke service) = IsAnswer error_pdu octets invoke service
+IsApdu octets (Reject invoke) = IsRefusal reject_pdu octets invoke
+IsApdu octets (Abort invoke) = IsRefusal abort_pdu octets invoke
 IsApdu octets Other = ⊥
 
 -- the parameters of a request begin within the octets, or at their end

@@ -1,5 +1,6 @@
 -- Which header octets have, by the table of ANSI/ASHRAE 135-2020, clause 20.1. An APDU that isn't in it, or is cut within its header, is none of these.
 use Rattle.std.specs.Prelude.{ℕ, ◌/◌, List, [], ◌∷◌, bit_and, ◌==◌, if◌then◌else◌}
+use Rattle.bac_values.specs.Pdus.{confirmed_request_pdu, unconfirmed_request_pdu, simple_ack_pdu, error_pdu, reject_pdu, abort_pdu}
 use Rattle.apdu_frame.specs.declared.apdu.Apdu.{Apdu}
 use Rattle.apdu_frame.specs.declared.apdu.Apdu.TheVariants.{Request, Segmented, Unconfirmed, SimpleAck, Error, Reject, Abort, Other}
 use Rattle.apdu_frame.specs.Headers.{max_apdu_of}
@@ -24,10 +25,10 @@ abbrev pub apdu_of : List ℕ → Apdu
 apdu_of [] = Other
 apdu_of (first ∷ rest) =
     let kind = first / 16 in
-    if kind == 0 then request_of first rest
-    else if kind == 1 then unconfirmed_of rest
-    else if kind == 2 then answer_of (λ invoke service. SimpleAck invoke service) rest
-    else if kind == 5 then answer_of (λ invoke service. Error invoke service) rest
-    else if kind == 6 then answer_of (λ invoke reason. Reject invoke) rest
-    else if kind == 7 then answer_of (λ invoke reason. Abort invoke) rest
+    if kind == confirmed_request_pdu then request_of first rest
+    else if kind == unconfirmed_request_pdu then unconfirmed_of rest
+    else if kind == simple_ack_pdu then answer_of (λ invoke service. SimpleAck invoke service) rest
+    else if kind == error_pdu then answer_of (λ invoke service. Error invoke service) rest
+    else if kind == reject_pdu then answer_of (λ invoke reason. Reject invoke) rest
+    else if kind == abort_pdu then answer_of (λ invoke reason. Abort invoke) rest
     else Other

@@ -4,6 +4,7 @@ ghost use Rattle.apdu_frame.specs.Headers.{BeginsWithin, IsApdu, max_apdu_of};
 ghost use Rattle.apdu_frame.specs.Reading.{apdu_of, request_of};
 
 use crate::Apdu;
+use bac_values::{LONGEST_APDU, PduType};
 
 /// The bit of a confirmed request's first octet that marks a segment.
 const IS_SEGMENTED: u8 = 0x08;
@@ -18,7 +19,7 @@ fn read_max_apdu(second: u8) -> u16
         2 => 206,
         3 => 480,
         4 => 1024,
-        _ => 1476,
+        _ => LONGEST_APDU,
     }
 }
 
@@ -55,22 +56,22 @@ pub fn read_apdu(bytes: &[u8]) -> Apdu
     let Some((first, rest)) = bytes.split_first() else {
         return Apdu::Other;
     };
-    match (*first >> 4, rest) {
-        (0, _) => read_request(*first, rest),
-        (1, [service, ..]) => Apdu::Unconfirmed {
+    match (PduType(*first >> 4), rest) {
+        (PduType::CONFIRMED_REQUEST, _) => read_request(*first, rest),
+        (PduType::UNCONFIRMED_REQUEST, [service, ..]) => Apdu::Unconfirmed {
             service: *service,
             start: 2,
         },
-        (2, [invoke, service, ..]) => Apdu::SimpleAck {
+        (PduType::SIMPLE_ACK, [invoke, service, ..]) => Apdu::SimpleAck {
             invoke: *invoke,
             service: *service,
         },
-        (5, [invoke, service, ..]) => Apdu::Error {
+        (PduType::ERROR, [invoke, service, ..]) => Apdu::Error {
             invoke: *invoke,
             service: *service,
         },
-        (6, [invoke, _, ..]) => Apdu::Reject { invoke: *invoke },
-        (7, [invoke, _, ..]) => Apdu::Abort { invoke: *invoke },
+        (PduType::REJECT, [invoke, _, ..]) => Apdu::Reject { invoke: *invoke },
+        (PduType::ABORT, [invoke, _, ..]) => Apdu::Abort { invoke: *invoke },
         _ => Apdu::Other,
     }
 }

@@ -1,6 +1,7 @@
 -- Elements of any kind, one after the other, which are looked at no further (ANSI/ASHRAE 135-2020, 20.2.1).
 use Rattle.std.specs.Prelude.{◌≡◌, ℕ, zero, suc, ◌+◌, ◌==◌, nat_lt, ◌&&◌, not, if◌then◌else◌, Option, Some, None, List, [], ◌++◌, length, Result, Ok, Err}
 use Rattle.std.specs.Option.{ok_or}
+use Rattle.bac_values.specs.ApplicationTags.{boolean_tag}
 use Rattle.bac_tags.specs.declared.fault.TagFault.{TagFault}
 use Rattle.bac_tags.specs.declared.fault.TagFault.TheVariants.{BadLength}
 use Rattle.bac_tags.specs.declared.tag.Tag.{Tag}
@@ -12,7 +13,7 @@ use Rattle.bac_tags.specs.EnclosingTags.{opening, closing, opening_at}
 
 -- how many octets of content stand behind the tag of a primitive element; the value of an application's Boolean is in its tag (20.2.3)
 abbrev pub content_size : Tag → ℕ → ℕ
-content_size tag n = if not tag.context && tag.number == 1 then 0 else n
+content_size tag n = if not tag.context && tag.number == boolean_tag then 0 else n
 
 -- a tag of a primitive element, and as many octets as it says
 pub record IsPrimitive (header content : List ℕ) : Type 0 where

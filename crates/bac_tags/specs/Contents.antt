@@ -2,6 +2,7 @@
 use Rattle.std.specs.Prelude.{◌≡◌, ℕ, zero, suc, ◌+◌, ◌*◌, ◌/◌, ◌%◌, ◌^◌, ◌≤◌, ◌⊎◌, ℤ, Bool, Option, Some, None, List, [], ◌∷◌, length}
 use Rattle.std.specs.Int.{from_bool}
 use Rattle.byteorder.specs.Endian.{big_number, twos_complement}
+use Rattle.bac_values.specs.ApplicationTags.{boolean_tag, unsigned_tag, signed_tag, bit_string_tag, enumerated_tag, object_identifier_tag}
 use Rattle.bac_values.specs.Identifier.{Identifier, IsIdentifier}
 use Rattle.bac_values.specs.BitString.{BitString}
 use Rattle.bac_tags.specs.Tags.{SpellsTag, EndsInTag}
@@ -21,16 +22,16 @@ IsObject content id = (length content ≡ 4) × (id.number * 4194304 + id.instan
 
 -- whole elements, with the number of their type (20.2.1.4) or one in a context
 abbrev pub SpellsUnsigned : Option ℕ → List ℕ → ℕ → Type 0
-SpellsUnsigned context = SpellsElement 2 context IsUnsigned
+SpellsUnsigned context = SpellsElement unsigned_tag context IsUnsigned
 
 abbrev pub SpellsSigned : Option ℕ → List ℕ → ℤ → Type 0
-SpellsSigned context = SpellsElement 3 context IsSigned
+SpellsSigned context = SpellsElement signed_tag context IsSigned
 
 abbrev pub SpellsEnumerated : Option ℕ → List ℕ → ℕ → Type 0
-SpellsEnumerated context = SpellsElement 9 context IsUnsigned
+SpellsEnumerated context = SpellsElement enumerated_tag context IsUnsigned
 
 abbrev pub SpellsObject : Option ℕ → List ℕ → Identifier → Type 0
-SpellsObject context = SpellsElement 12 context IsObject
+SpellsObject context = SpellsElement object_identifier_tag context IsObject
 
 -- a Boolean in a context (20.2.3): one octet, 0 or 1
 abbrev pub IsBoolean : List ℕ → Bool → Type 0
@@ -38,17 +39,17 @@ IsBoolean content value = content ≡ from_bool value ∷ []
 
 -- an application's Boolean has no content: the length in its tag is the value (20.2.3)
 abbrev pub SpellsBoolean : Option ℕ → List ℕ → Bool → Type 0
-SpellsBoolean None octets value = SpellsTag octets (element_tag 1 None (from_bool value))
-SpellsBoolean (Some number) octets value = SpellsElement 1 (Some number) IsBoolean octets value
+SpellsBoolean None octets value = SpellsTag octets (element_tag boolean_tag None (from_bool value))
+SpellsBoolean (Some number) octets value = SpellsElement boolean_tag (Some number) IsBoolean octets value
 
 -- where the octets of a Boolean end too early, and where its length or its content is none of a Boolean
 abbrev pub EndsInBoolean : Option ℕ → List ℕ → Type 0
 EndsInBoolean None octets = EndsInTag octets
-EndsInBoolean (Some number) octets = EndsInElement 1 (Some number) 1 1 octets
+EndsInBoolean (Some number) octets = EndsInElement boolean_tag (Some number) 1 1 octets
 
 abbrev pub IsNoBoolean : Option ℕ → List ℕ → Type 0
-IsNoBoolean None octets = HasOtherLength 1 None 0 1 octets
-IsNoBoolean (Some number) octets = HasOtherLength 1 (Some number) 1 1 octets ⊎ HasOtherForm 1 (Some number) 1 1 IsBoolean octets
+IsNoBoolean None octets = HasOtherLength boolean_tag None 0 1 octets
+IsNoBoolean (Some number) octets = HasOtherLength boolean_tag (Some number) 1 1 octets ⊎ HasOtherForm boolean_tag (Some number) 1 1 IsBoolean octets
 
 -- the lowest bits of a number, the last of them first
 unfoldable pub mirrored : ℕ → ℕ → ℕ
@@ -62,4 +63,4 @@ IsBits (unused ∷ octets) string =
     (unused ≤ 7) × (string.size + unused ≡ 8 * length octets) × (string.size ≤ 64) × (string.bits ≡ mirrored string.size (big_number (length octets) octets / 2 ^ unused))
 
 abbrev pub SpellsBits : Option ℕ → List ℕ → BitString → Type 0
-SpellsBits context = SpellsElement 8 context IsBits
+SpellsBits context = SpellsElement bit_string_tag context IsBits

@@ -4,6 +4,7 @@ use Rattle.std.specs.Option.{ok_or}
 use Rattle.std.specs.Bool.{beq}
 use Rattle.std.specs.Str.{is_utf8}
 use Rattle.byteorder.specs.Endian.{big_number, twos_complement}
+use Rattle.bac_values.specs.ApplicationTags.{null_tag, boolean_tag, unsigned_tag, signed_tag, character_string_tag, bit_string_tag, enumerated_tag, date_tag, time_tag, object_identifier_tag}
 use Rattle.bac_values.specs.Identifier.{Identifier}
 use Rattle.bac_values.specs.BitString.{BitString}
 use Rattle.bac_values.specs.declared.stamp.Stamp.{Stamp}
@@ -93,13 +94,13 @@ abbrev pub identifier_of : List ℕ → Identifier
 identifier_of content = record { number = big_number 4 content / 4194304; instance = big_number 4 content % 4194304 }
 
 unfoldable pub unsigned_at : List ℕ → ℕ → Option ℕ → Result (ℕ × ℕ) TagFault
-unsigned_at input place context = valued unsigned_of (content_at input place 2 context 1 4)
+unsigned_at input place context = valued unsigned_of (content_at input place unsigned_tag context 1 4)
 
 unfoldable pub signed_at : List ℕ → ℕ → Option ℕ → Result (ℤ × ℕ) TagFault
-signed_at input place context = valued signed_of (content_at input place 3 context 1 4)
+signed_at input place context = valued signed_of (content_at input place signed_tag context 1 4)
 
 unfoldable pub object_at : List ℕ → ℕ → Option ℕ → Result (Identifier × ℕ) TagFault
-object_at input place context = valued identifier_of (content_at input place 12 context 4 4)
+object_at input place context = valued identifier_of (content_at input place object_identifier_tag context 4 4)
 
 -- the value of a content of its form
 abbrev pub formed : {X : Type 0} → (List ℕ → Option X) → ℕ → Result (List ℕ × ℕ) TagFault → Result (X × ℕ) TagFault
@@ -115,8 +116,8 @@ boolean_of [] = None
 boolean_of (octet ∷ octets) = boolean_in octet
 
 unfoldable pub boolean_at : List ℕ → ℕ → Option ℕ → Result (Bool × ℕ) TagFault
-boolean_at input place None = header_at input place 1 None >>= λ header. ok_or (boolean_in header.0) (BadLength place) >>= λ value. Ok (value, header.1)
-boolean_at input place (Some number) = formed boolean_of place (content_at input place 1 (Some number) 1 1)
+boolean_at input place None = header_at input place boolean_tag None >>= λ header. ok_or (boolean_in header.0) (BadLength place) >>= λ value. Ok (value, header.1)
+boolean_at input place (Some number) = formed boolean_of place (content_at input place boolean_tag (Some number) 1 1)
 
 abbrev pub string_of : ℕ → List ℕ → BitString
 string_of unused octets =
@@ -131,12 +132,12 @@ bits_of (unused ∷ octets) =
     if nat_lt 7 unused || nat_lt (8 * length octets) unused then None else Some (string_of unused octets)
 
 unfoldable pub bits_at : List ℕ → ℕ → Option ℕ → Result (BitString × ℕ) TagFault
-bits_at input place context = formed bits_of place (content_at input place 8 context 1 9)
+bits_at input place context = formed bits_of place (content_at input place bit_string_tag context 1 9)
 
 unfoldable pub stamp_at : List ℕ → ℕ → Result (Stamp × ℕ) TagFault
 stamp_at input place = do
-  date ← content_at input place 10 None 4 4
-  time ← content_at input date.1 11 None 4 4
+  date ← content_at input place date_tag None 4 4
+  time ← content_at input date.1 time_tag None 4 4
   Ok (record { octets = date.0 ++ time.0 }, time.1)
 
 -- ---- one application value
@@ -153,35 +154,35 @@ number_in type value content = if nat_lt 4 (length content) then values.Opaque t
 
 abbrev pub characters_in : List ℕ → Value
 characters_in octets =
-    if nat_lt 256 (length octets) then values.Opaque 7 TooLong else (if is_utf8 octets then values.Text octets else values.Opaque 7 NotUtf8)
+    if nat_lt 256 (length octets) then values.Opaque character_string_tag TooLong else (if is_utf8 octets then values.Text octets else values.Opaque character_string_tag NotUtf8)
 
 abbrev pub text_in : List ℕ → Value
-text_in [] = values.Opaque 7 CharacterSet
-text_in (set ∷ octets) = if set == 0 then characters_in octets else values.Opaque 7 CharacterSet
+text_in [] = values.Opaque character_string_tag CharacterSet
+text_in (set ∷ octets) = if set == 0 then characters_in octets else values.Opaque character_string_tag CharacterSet
 
 abbrev pub string_in : List ℕ → Option Value
 string_in [] = None
 string_in (unused ∷ octets) =
     if nat_lt 7 unused || nat_lt (8 * length octets) unused then None
-    else Some (if nat_lt 8 (length octets) then values.Opaque 8 OutOfRange else values.Bits (string_of unused octets))
+    else Some (if nat_lt 8 (length octets) then values.Opaque bit_string_tag OutOfRange else values.Bits (string_of unused octets))
 
 -- the value of a content of this type, if the content has the type's form
 unfoldable pub value_in : ℕ → List ℕ → Option Value
 value_in type content =
-    if type == 0 then Some values.Null
-    else (if type == 2 then Some (number_in 2 (values.Unsigned (unsigned_of content)) content)
-    else (if type == 3 then Some (number_in 3 (values.Signed (signed_of content)) content)
-    else (if type == 7 then Some (text_in content)
-    else (if type == 8 then string_in content
-    else (if type == 9 then Some (number_in 9 (values.Enumerated (unsigned_of content)) content)
-    else (if type == 12 then Some (values.Object (identifier_of content))
+    if type == null_tag then Some values.Null
+    else (if type == unsigned_tag then Some (number_in unsigned_tag (values.Unsigned (unsigned_of content)) content)
+    else (if type == signed_tag then Some (number_in signed_tag (values.Signed (signed_of content)) content)
+    else (if type == character_string_tag then Some (text_in content)
+    else (if type == bit_string_tag then string_in content
+    else (if type == enumerated_tag then Some (number_in enumerated_tag (values.Enumerated (unsigned_of content)) content)
+    else (if type == object_identifier_tag then Some (values.Object (identifier_of content))
     else Some (values.Opaque type OtherType)))))))
 
 unfoldable pub value_at : List ℕ → ℕ → Result (Value × ℕ) TagFault
 value_at input place = do
   header ← application_at input place
   if not (has_length header.0 header.1) then Err (BadLength place)
-      else (if header.0 == 1 then Ok (values.Bool (header.1 == 1), header.2)
+      else (if header.0 == boolean_tag then Ok (values.Bool (header.1 == 1), header.2)
       else (octets_at input header.2 header.1 >>= λ content. ok_or (value_in header.0 content) (BadLength place) >>= λ value. Ok (value, header.2 + header.1)))
 
 -- a text takes memory

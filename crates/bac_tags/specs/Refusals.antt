@@ -1,19 +1,20 @@
 -- Why octets aren't the parameters of a service (ANSI/ASHRAE 135-2020, clause 21, BACnetRejectReason).
 use Rattle.std.specs.Prelude.{◌≡◌, ℕ, ◌<◌, ◌⊎◌, List, length}
+use Rattle.bac_values.specs.Reasons.{invalid_tag_reason, missing_required_parameter_reason, too_many_arguments_reason}
 use Rattle.bac_tags.specs.declared.malformed.Malformed.{Malformed}
 use Rattle.bac_tags.specs.Parameters.{IsThere, IsAbsent}
 
 -- invalid-tag: what stands at the place isn't the parameter that should
 abbrev pub invalid_tag : ℕ → Malformed
-invalid_tag place = record { reject = 4; at = place }
+invalid_tag place = record { reject = invalid_tag_reason; at = place }
 
 -- missing-required-parameter: the octets end at the place, where one should begin
 abbrev pub missing_parameter : ℕ → Malformed
-missing_parameter place = record { reject = 5; at = place }
+missing_parameter place = record { reject = missing_required_parameter_reason; at = place }
 
 -- too-many-arguments: the first place behind the last parameter
 abbrev pub too_many_arguments : ℕ → Malformed
-too_many_arguments place = record { reject = 7; at = place }
+too_many_arguments place = record { reject = too_many_arguments_reason; at = place }
 
 -- ---- exactly where
 

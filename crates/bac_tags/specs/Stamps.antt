@@ -1,5 +1,6 @@
 -- A date and a time behind it (ANSI/ASHRAE 135-2020, 20.2.12 and 20.2.13).
 use Rattle.std.specs.Prelude.{◌≡◌, ℕ, None, List, ◌++◌, length}
+use Rattle.bac_values.specs.ApplicationTags.{date_tag, time_tag}
 use Rattle.bac_values.specs.declared.stamp.Stamp.{Stamp}
 use Rattle.bac_tags.specs.Places.{IsSpelledAt}
 use Rattle.bac_tags.specs.Elements.{SpellsElement}
@@ -9,10 +10,10 @@ abbrev pub IsFour : List ℕ → List ℕ → Type 0
 IsFour content octets = (length content ≡ 4) × (octets ≡ content)
 
 abbrev pub SpellsDate : List ℕ → List ℕ → Type 0
-SpellsDate = SpellsElement 10 None IsFour
+SpellsDate = SpellsElement date_tag None IsFour
 
 abbrev pub SpellsTime : List ℕ → List ℕ → Type 0
-SpellsTime = SpellsElement 11 None IsFour
+SpellsTime = SpellsElement time_tag None IsFour
 
 pub record SpellsStamp (octets : List ℕ) (stamp : Stamp) : Type 0 where
   pub date_octets : List ℕ

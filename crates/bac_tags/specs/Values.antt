@@ -1,6 +1,7 @@
 -- One application value (ANSI/ASHRAE 135-2020, 20.2.1.4 and 20.2.2 to 20.2.14).
 use Rattle.std.specs.Prelude.{◌≡◌, ◌≢◌, ℕ, ◌*◌, ◌^◌, ◌<◌, ◌≤◌, ◌==◌, nat_le, ◌||◌, ◌⊎◌, IsTrue, Bool, true, if◌then◌else◌, None, List, [], ◌∷◌, ◌++◌, length, IsUtf8, FitsSigned}
 use Rattle.std.specs.Int.{w32}
+use Rattle.bac_values.specs.ApplicationTags.{null_tag, boolean_tag, unsigned_tag, signed_tag, real_tag, double_tag, character_string_tag, bit_string_tag, enumerated_tag, date_tag, time_tag, object_identifier_tag}
 use Rattle.bac_values.specs.Identifier.{IsIdentifier}
 use Rattle.bac_values.specs.BitString.{IsBitString}
 use Rattle.bac_values.specs.declared.stamp.Stamp.{Stamp}
@@ -17,23 +18,23 @@ use Rattle.bac_tags.specs.Stamps.{SpellsStamp}
 -- the lengths that a type has: Null 0, Boolean 0 and 1 (which are its values), Real, Date, Time and ObjectIdentifier 4, Double 8, and at least 1 those whose content begins with a number. An OctetString has any, and so has a type without a name
 abbrev pub has_length : ℕ → ℕ → Bool
 has_length type n =
-    if type == 0 then n == 0
-    else (if type == 1 then nat_le n 1
-    else (if type == 4 || type == 10 || type == 11 || type == 12 then n == 4
-    else (if type == 5 then n == 8
-    else (if type == 2 || type == 3 || type == 7 || type == 8 || type == 9 then nat_le 1 n
+    if type == null_tag then n == 0
+    else (if type == boolean_tag then nat_le n 1
+    else (if type == real_tag || type == date_tag || type == time_tag || type == object_identifier_tag then n == 4
+    else (if type == double_tag then n == 8
+    else (if type == unsigned_tag || type == signed_tag || type == character_string_tag || type == bit_string_tag || type == enumerated_tag then nat_le 1 n
     else true))))
 
 -- the types whose values aren't taken
 pub record IsOtherType (type : ℕ) : Type 0 where
-  pub null : type ≢ 0
-  pub boolean : type ≢ 1
-  pub unsigned : type ≢ 2
-  pub signed : type ≢ 3
-  pub text : type ≢ 7
-  pub bits : type ≢ 8
-  pub enumerated : type ≢ 9
-  pub object : type ≢ 12
+  pub null : type ≢ null_tag
+  pub boolean : type ≢ boolean_tag
+  pub unsigned : type ≢ unsigned_tag
+  pub signed : type ≢ signed_tag
+  pub text : type ≢ character_string_tag
+  pub bits : type ≢ bit_string_tag
+  pub enumerated : type ≢ enumerated_tag
+  pub object : type ≢ object_identifier_tag
 
 -- the content of a CharacterString (20.2.9) begins with the number of its character set, and 0 is UTF-8
 abbrev pub IsCharacters : ℕ → List ℕ → List ℕ → Type 0
@@ -49,7 +50,7 @@ pub record IsLongString (content : List ℕ) : Type 0 where
 
 -- a CharacterString that stands for no text
 abbrev pub IsNoText : (ℕ → List ℕ → Type 0) → ℕ → List ℕ → Type 0
-IsNoText Why type content = (type ≡ 7) × ((set : ℕ) × (octets : List ℕ) × IsCharacters set octets content × Why set octets)
+IsNoText Why type content = (type ≡ character_string_tag) × ((set : ℕ) × (octets : List ℕ) × IsCharacters set octets content × Why set octets)
 
 -- why a content stands for no value that is taken
 abbrev pub IsForeign : Foreign → ℕ → List ℕ → Type 0
@@ -57,18 +58,18 @@ IsForeign OtherType type content = IsOtherType type × IsTrue (has_length type (
 IsForeign CharacterSet type content = IsNoText (λ set octets. set ≢ 0) type content
 IsForeign TooLong type content = IsNoText (λ set octets. (set ≡ 0) × (256 < length octets)) type content
 IsForeign NotUtf8 type content = IsNoText (λ set octets. (set ≡ 0) × (length octets ≤ 256) × ¬ IsUtf8 octets) type content
-IsForeign OutOfRange type content = (((type ≡ 2) ⊎ ((type ≡ 3) ⊎ (type ≡ 9))) × (4 < length content)) ⊎ ((type ≡ 8) × IsLongString content)
+IsForeign OutOfRange type content = (((type ≡ unsigned_tag) ⊎ ((type ≡ signed_tag) ⊎ (type ≡ enumerated_tag))) × (4 < length content)) ⊎ ((type ≡ bit_string_tag) × IsLongString content)
 
 -- the value of a content of this type. A Boolean has no content, and a date with a time is two values
 abbrev pub IsValue : ℕ → List ℕ → Value → Type 0
-IsValue type content values.Null = (type ≡ 0) × (content ≡ [])
+IsValue type content values.Null = (type ≡ null_tag) × (content ≡ [])
 IsValue type content (values.Bool b) = ⊥
-IsValue type content (values.Unsigned n) = (type ≡ 2) × IsUnsigned content n
-IsValue type content (values.Signed z) = (type ≡ 3) × IsSigned content z
-IsValue type content (values.Text text) = (type ≡ 7) × IsCharacters 0 text content × (length text ≤ 256) × IsUtf8 text
-IsValue type content (values.Bits string) = (type ≡ 8) × IsBits content string
-IsValue type content (values.Enumerated n) = (type ≡ 9) × IsUnsigned content n
-IsValue type content (values.Object id) = (type ≡ 12) × IsObject content id
+IsValue type content (values.Unsigned n) = (type ≡ unsigned_tag) × IsUnsigned content n
+IsValue type content (values.Signed z) = (type ≡ signed_tag) × IsSigned content z
+IsValue type content (values.Text text) = (type ≡ character_string_tag) × IsCharacters 0 text content × (length text ≤ 256) × IsUtf8 text
+IsValue type content (values.Bits string) = (type ≡ bit_string_tag) × IsBits content string
+IsValue type content (values.Enumerated n) = (type ≡ enumerated_tag) × IsUnsigned content n
+IsValue type content (values.Object id) = (type ≡ object_identifier_tag) × IsObject content id
 IsValue type content (values.DateTime stamp) = ⊥
 IsValue type content (values.Opaque tag why) = (tag ≡ type) × IsForeign why type content
 
@@ -88,7 +89,7 @@ pub record EndsInValue (octets : List ℕ) : Type 0 where
   pub parts : octets ≡ header ++ content
   pub tagged : SpellsTag header (element_tag type None size)
   pub right : IsTrue (has_length type size)
-  pub some : type ≢ 1
+  pub some : type ≢ boolean_tag
   pub short : length content < size
 
 -- a whole tag is there, which is none of an application's value
@@ -117,7 +118,7 @@ pub record HasNoString (octets : List ℕ) : Type 0 where
   pub bits : List ℕ
   pub rest : List ℕ
   pub parts : octets ≡ header ++ (unused ∷ bits) ++ rest
-  pub tagged : SpellsTag header (element_tag 8 None (length (unused ∷ bits)))
+  pub tagged : SpellsTag header (element_tag bit_string_tag None (length (unused ∷ bits)))
   pub wrong : (7 < unused) ⊎ (8 * length bits < unused)
 
 -- ---- what is written

@@ -2,6 +2,7 @@
 use Rattle.std.specs.Prelude.{ℕ, ◌+◌, ◌-◌, ◌*◌, ◌/◌, ◌^◌, ℤ, pos, negsuc, min, nat_lt, Bool, if◌then◌else◌, Option, Some, None, List, [], ◌∷◌, ◌++◌, length, take, drop}
 use Rattle.std.specs.Int.{w32, cast_unsigned, from_bool}
 use Rattle.byteorder.specs.Endian.{big_bytes}
+use Rattle.bac_values.specs.ApplicationTags.{null_tag, boolean_tag, unsigned_tag, signed_tag, character_string_tag, bit_string_tag, enumerated_tag, date_tag, time_tag, object_identifier_tag}
 use Rattle.bac_values.specs.Identifier.{Identifier}
 use Rattle.bac_values.specs.BitString.{BitString}
 use Rattle.bac_values.specs.declared.stamp.Stamp.{Stamp}
@@ -59,20 +60,20 @@ signed_size (pos n) = half_size n
 signed_size (negsuc n) = half_size n
 
 abbrev pub written_unsigned : Option ℕ → ℕ → List ℕ
-written_unsigned context n = written_element 2 context (big_bytes (unsigned_size n) n)
+written_unsigned context n = written_element unsigned_tag context (big_bytes (unsigned_size n) n)
 
 abbrev pub written_enumerated : Option ℕ → ℕ → List ℕ
-written_enumerated context n = written_element 9 context (big_bytes (unsigned_size n) n)
+written_enumerated context n = written_element enumerated_tag context (big_bytes (unsigned_size n) n)
 
 abbrev pub written_signed : Option ℕ → ℤ → List ℕ
-written_signed context z = written_element 3 context (big_bytes (signed_size z) (cast_unsigned w32 z))
+written_signed context z = written_element signed_tag context (big_bytes (signed_size z) (cast_unsigned w32 z))
 
 abbrev pub written_object : Option ℕ → Identifier → List ℕ
-written_object context id = written_element 12 context (big_bytes 4 (id.number * 4194304 + id.instance))
+written_object context id = written_element object_identifier_tag context (big_bytes 4 (id.number * 4194304 + id.instance))
 
 abbrev pub written_boolean : Option ℕ → Bool → List ℕ
-written_boolean None value = written_tag (element_tag 1 None (from_bool value))
-written_boolean (Some number) value = written_element 1 (Some number) (from_bool value ∷ [])
+written_boolean None value = written_tag (element_tag boolean_tag None (from_bool value))
+written_boolean (Some number) value = written_element boolean_tag (Some number) (from_bool value ∷ [])
 
 -- as many octets as the bits need, the rest of the last one unused
 abbrev pub octets_of_bits : ℕ → ℕ
@@ -83,17 +84,17 @@ unused_of_bits size = 8 * octets_of_bits size - size
 
 abbrev pub written_bits : Option ℕ → BitString → List ℕ
 written_bits context string =
-    written_element 8 context (unused_of_bits string.size ∷ big_bytes (octets_of_bits string.size) (mirrored string.size string.bits * 2 ^ unused_of_bits string.size))
+    written_element bit_string_tag context (unused_of_bits string.size ∷ big_bytes (octets_of_bits string.size) (mirrored string.size string.bits * 2 ^ unused_of_bits string.size))
 
 abbrev pub written_stamp : Stamp → List ℕ
-written_stamp stamp = written_element 10 None (take 4 stamp.octets) ++ written_element 11 None (drop 4 stamp.octets)
+written_stamp stamp = written_element date_tag None (take 4 stamp.octets) ++ written_element time_tag None (drop 4 stamp.octets)
 
 -- a text in UTF-8, behind the number of this character set
 abbrev pub written_text : List ℕ → List ℕ
-written_text octets = written_element 7 None (0 ∷ octets)
+written_text octets = written_element character_string_tag None (0 ∷ octets)
 
 abbrev pub written_value : Value → List ℕ
-written_value values.Null = written_element 0 None []
+written_value values.Null = written_element null_tag None []
 written_value (values.Bool b) = written_boolean None b
 written_value (values.Unsigned n) = written_unsigned None n
 written_value (values.Signed z) = written_signed None z

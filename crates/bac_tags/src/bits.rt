@@ -1,5 +1,6 @@
 ghost use Rattle.std.specs.Prelude.{◌≡◌, ◌↔◌, ◌⊎◌, ℕ, ◌*◌, ◌<◌, ◌≤◌, ◌^◌, ◌++◌, length, drop, IfOk, OnOk, OnErr};
 ghost use Rattle.bac_values.specs.BitString.{BitString};
+ghost use Rattle.bac_values.specs.ApplicationTags.{bit_string_tag};
 ghost use Rattle.bac_tags.specs.Places.{IsSpelledAt};
 ghost use Rattle.bac_tags.specs.Elements.{EndsInElement, HasOtherTag, HasOtherLength, HasOtherForm};
 ghost use Rattle.bac_tags.specs.Contents.{IsBits, SpellsBits, mirrored};
@@ -89,10 +90,10 @@ pub fn read_bits(input: &[u8], at: usize, context: Option<u8>) -> Result<(Bits, 
     ensures found { IfOk result (λ x. IsSpelledAt (SpellsBits context) input.now at x.0 x.1) }
     ensures only { (string : BitString) (end : ℕ) → IsSpelledAt (SpellsBits context) input.now at string end → result ≡ Ok (string, end) }
 
-    ensures truncated { (result ≡ Err (TagFault.Truncated (length input.now))) ↔ EndsInElement 8 context 1 9 (drop at input.now) }
-    ensures wrong_tag { (result ≡ Err (TagFault.WrongTag at)) ↔ HasOtherTag 8 context (drop at input.now) }
+    ensures truncated { (result ≡ Err (TagFault.Truncated (length input.now))) ↔ EndsInElement bit_string_tag context 1 9 (drop at input.now) }
+    ensures wrong_tag { (result ≡ Err (TagFault.WrongTag at)) ↔ HasOtherTag bit_string_tag context (drop at input.now) }
     // The string would have more than 64 bits, or a number of unused bits that it can't have.
-    ensures bad_length { (result ≡ Err (TagFault.BadLength at)) ↔ (HasOtherLength 8 context 1 9 (drop at input.now) ⊎ HasOtherForm 8 context 1 9 IsBits (drop at input.now)) }
+    ensures bad_length { (result ≡ Err (TagFault.BadLength at)) ↔ (HasOtherLength bit_string_tag context 1 9 (drop at input.now) ⊎ HasOtherForm bit_string_tag context 1 9 IsBits (drop at input.now)) }
 
     ensures exact { result ≡ bits_at input.now at context }
     ensures within { IfOk result (λ x. (at < x.1) × (x.1 ≤ length input.now)) }

@@ -1,5 +1,6 @@
 ghost use Rattle.std.specs.Prelude.{◌≡◌, ◌↔◌, ℕ, ◌<◌, ◌≤◌, Bool, ◌++◌, length, drop, IfOk, OnOk, OnErr};
 ghost use Rattle.std.specs.Option.{ok_or};
+ghost use Rattle.bac_values.specs.ApplicationTags.{boolean_tag};
 ghost use Rattle.bac_tags.specs.Places.{IsSpelledAt};
 ghost use Rattle.bac_tags.specs.Elements.{HasOtherTag};
 ghost use Rattle.bac_tags.specs.Contents.{SpellsBoolean, EndsInBoolean, IsNoBoolean};
@@ -50,7 +51,7 @@ pub fn read_bool(input: &[u8], at: usize, context: Option<u8>) -> Result<(bool, 
     ensures only { (value : Bool) (end : ℕ) → IsSpelledAt (SpellsBoolean context) input.now at value end → result ≡ Ok (value, end) }
 
     ensures truncated { (result ≡ Err (TagFault.Truncated (length input.now))) ↔ EndsInBoolean context (drop at input.now) }
-    ensures wrong_tag { (result ≡ Err (TagFault.WrongTag at)) ↔ HasOtherTag 1 context (drop at input.now) }
+    ensures wrong_tag { (result ≡ Err (TagFault.WrongTag at)) ↔ HasOtherTag boolean_tag context (drop at input.now) }
     ensures bad_length { (result ≡ Err (TagFault.BadLength at)) ↔ IsNoBoolean context (drop at input.now) }
 
     ensures exact { result ≡ boolean_at input.now at context }

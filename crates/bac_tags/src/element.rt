@@ -5,32 +5,32 @@ ghost use Rattle.bac_tags.specs.Writing.{written_element};
 
 use crate::octets::octets_at;
 use crate::{Shape, Tag, TagFault, read_tag, write_tag};
-use bac_values::NoMemory;
+use bac_values::{ApplicationTag, NoMemory};
 
 /// The numbers of the types that an application's tag has (20.2.1.4).
-pub(crate) const NULL: u8 = 0;
+pub(crate) const NULL: u8 = ApplicationTag::NULL.0;
 
-pub(crate) const BOOLEAN: u8 = 1;
+pub(crate) const BOOLEAN: u8 = ApplicationTag::BOOLEAN.0;
 
-pub(crate) const UNSIGNED: u8 = 2;
+pub(crate) const UNSIGNED: u8 = ApplicationTag::UNSIGNED.0;
 
-pub(crate) const SIGNED: u8 = 3;
+pub(crate) const SIGNED: u8 = ApplicationTag::SIGNED.0;
 
-pub(crate) const REAL: u8 = 4;
+pub(crate) const REAL: u8 = ApplicationTag::REAL.0;
 
-pub(crate) const DOUBLE: u8 = 5;
+pub(crate) const DOUBLE: u8 = ApplicationTag::DOUBLE.0;
 
-pub(crate) const CHARACTER_STRING: u8 = 7;
+pub(crate) const CHARACTER_STRING: u8 = ApplicationTag::CHARACTER_STRING.0;
 
-pub(crate) const BIT_STRING: u8 = 8;
+pub(crate) const BIT_STRING: u8 = ApplicationTag::BIT_STRING.0;
 
-pub(crate) const ENUMERATED: u8 = 9;
+pub(crate) const ENUMERATED: u8 = ApplicationTag::ENUMERATED.0;
 
-pub(crate) const DATE: u8 = 10;
+pub(crate) const DATE: u8 = ApplicationTag::DATE.0;
 
-pub(crate) const TIME: u8 = 11;
+pub(crate) const TIME: u8 = ApplicationTag::TIME.0;
 
-pub(crate) const OBJECT_IDENTIFIER: u8 = 12;
+pub(crate) const OBJECT_IDENTIFIER: u8 = ApplicationTag::OBJECT_IDENTIFIER.0;
 
 /// The length in the tag of a primitive element of that type, or with that number in a context, and the place
 /// after the tag.

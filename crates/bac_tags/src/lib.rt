@@ -42,5 +42,5 @@ pub use round_trip::{bits_in_order, reads_back};
 pub use signed::{read_signed, write_signed};
 pub use stamp::{read_stamp, write_stamp};
 pub use tag::{Shape, Tag, read_tag, write_tag};
-pub use unsigned::{read_unsigned, write_unsigned};
+pub use unsigned::{read_unsigned, unsigned_size, write_unsigned};
 pub use value::{read_value, write_value};

@@ -1,11 +1,13 @@
 ghost use Rattle.std.specs.Prelude.{◌≡◌};
 ghost use Rattle.bac_tags.specs.Refusals.{invalid_tag, missing_parameter, too_many_arguments};
 
+use bac_values::RejectReason;
+
 /// Why octets aren't the parameters of a service.
 #[derive(Clone, Copy, Debug, PartialEq, Eq)]
 pub struct Malformed {
-    /// The reason of the Reject (BACnetRejectReason): 4 for an invalid tag, 5 for a missing required parameter, 7 for
-    /// too many arguments.
+    /// The number of the reason (`RejectReason`): that of an invalid tag, of a missing required parameter, or of too many
+    /// arguments.
     pub reject: u8,
     /// The first place of the parameter that isn't one, the length of the octets where one is missing, or the first
     /// octet too many.
@@ -16,19 +18,28 @@ pub struct Malformed {
 pub fn invalid_tag(at: usize) -> Malformed
     ensures { result ≡ invalid_tag at }
 {
-    Malformed { reject: 4, at }
+    Malformed {
+        reject: RejectReason::INVALID_TAG.0,
+        at,
+    }
 }
 
 /// The octets end at the place, where a required parameter should begin.
 pub fn missing_parameter(at: usize) -> Malformed
     ensures { result ≡ missing_parameter at }
 {
-    Malformed { reject: 5, at }
+    Malformed {
+        reject: RejectReason::MISSING_REQUIRED_PARAMETER.0,
+        at,
+    }
 }
 
 /// Octets follow the last parameter, from the place on.
 pub fn too_many_arguments(at: usize) -> Malformed
     ensures { result ≡ too_many_arguments at }
 {
-    Malformed { reject: 7, at }
+    Malformed {
+        reject: RejectReason::TOO_MANY_ARGUMENTS.0,
+        at,
+    }
 }

@@ -1,5 +1,6 @@
 ghost use Rattle.std.specs.Prelude.{◌≡◌, ◌↔◌, ℕ, ◌<◌, ◌≤◌, ◌++◌, length, drop, IfOk, OnOk, OnErr};
 ghost use Rattle.bac_values.specs.Identifier.{Identifier};
+ghost use Rattle.bac_values.specs.ApplicationTags.{object_identifier_tag};
 ghost use Rattle.bac_tags.specs.Places.{IsSpelledAt};
 ghost use Rattle.bac_tags.specs.Elements.{EndsInElement, HasOtherTag, HasOtherLength};
 ghost use Rattle.bac_tags.specs.Contents.{SpellsObject};
@@ -45,9 +46,9 @@ pub fn read_object(
     ensures found { IfOk result (λ x. IsSpelledAt (SpellsObject context) input.now at x.0 x.1) }
     ensures only { (id : Identifier) (end : ℕ) → IsSpelledAt (SpellsObject context) input.now at id end → result ≡ Ok (id, end) }
 
-    ensures truncated { (result ≡ Err (TagFault.Truncated (length input.now))) ↔ EndsInElement 12 context 4 4 (drop at input.now) }
-    ensures wrong_tag { (result ≡ Err (TagFault.WrongTag at)) ↔ HasOtherTag 12 context (drop at input.now) }
-    ensures bad_length { (result ≡ Err (TagFault.BadLength at)) ↔ HasOtherLength 12 context 4 4 (drop at input.now) }
+    ensures truncated { (result ≡ Err (TagFault.Truncated (length input.now))) ↔ EndsInElement object_identifier_tag context 4 4 (drop at input.now) }
+    ensures wrong_tag { (result ≡ Err (TagFault.WrongTag at)) ↔ HasOtherTag object_identifier_tag context (drop at input.now) }
+    ensures bad_length { (result ≡ Err (TagFault.BadLength at)) ↔ HasOtherLength object_identifier_tag context 4 4 (drop at input.now) }
 
     ensures exact { result ≡ object_at input.now at context }
     ensures within { IfOk result (λ x. (at < x.1) × (x.1 ≤ length input.now)) }

@@ -1,4 +1,5 @@
 ghost use Rattle.std.specs.Prelude.{◌≡◌, ◌↔◌, ℕ, ℤ, ◌<◌, ◌≤◌, ◌++◌, length, drop, IfOk, OnOk, OnErr};
+ghost use Rattle.bac_values.specs.ApplicationTags.{signed_tag};
 ghost use Rattle.bac_tags.specs.Places.{IsSpelledAt};
 ghost use Rattle.bac_tags.specs.Elements.{EndsInElement, HasOtherTag, HasOtherLength};
 ghost use Rattle.bac_tags.specs.Contents.{SpellsSigned};
@@ -37,9 +38,9 @@ pub fn read_signed(input: &[u8], at: usize, context: Option<u8>) -> Result<(i32,
     ensures found { IfOk result (λ x. IsSpelledAt (SpellsSigned context) input.now at x.0 x.1) }
     ensures only { (number : ℤ) (end : ℕ) → IsSpelledAt (SpellsSigned context) input.now at number end → result ≡ Ok (number, end) }
 
-    ensures truncated { (result ≡ Err (TagFault.Truncated (length input.now))) ↔ EndsInElement 3 context 1 4 (drop at input.now) }
-    ensures wrong_tag { (result ≡ Err (TagFault.WrongTag at)) ↔ HasOtherTag 3 context (drop at input.now) }
-    ensures bad_length { (result ≡ Err (TagFault.BadLength at)) ↔ HasOtherLength 3 context 1 4 (drop at input.now) }
+    ensures truncated { (result ≡ Err (TagFault.Truncated (length input.now))) ↔ EndsInElement signed_tag context 1 4 (drop at input.now) }
+    ensures wrong_tag { (result ≡ Err (TagFault.WrongTag at)) ↔ HasOtherTag signed_tag context (drop at input.now) }
+    ensures bad_length { (result ≡ Err (TagFault.BadLength at)) ↔ HasOtherLength signed_tag context 1 4 (drop at input.now) }
 
     ensures exact { result ≡ signed_at input.now at context }
     ensures within { IfOk result (λ x. (at < x.1) × (x.1 ≤ length input.now)) }

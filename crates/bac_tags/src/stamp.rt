@@ -1,5 +1,6 @@
 ghost use Rattle.std.specs.Prelude.{◌≡◌, ◌↔◌, ◌⊎◌, ℕ, ◌<◌, ◌≤◌, ◌++◌, None, length, drop, IfOk, OnOk, OnErr};
 ghost use Rattle.bac_values.specs.declared.stamp.Stamp.{Stamp};
+ghost use Rattle.bac_values.specs.ApplicationTags.{date_tag, time_tag};
 ghost use Rattle.bac_tags.specs.Places.{IsSpelledAt};
 ghost use Rattle.bac_tags.specs.Elements.{EndsInElement, HasOtherTag, HasOtherLength};
 ghost use Rattle.bac_tags.specs.Stamps.{SpellsStamp, HasDate};
@@ -43,9 +44,9 @@ pub fn read_stamp(input: &[u8], at: usize, context: Option<u8>) -> Result<(Stamp
     ensures found { IfOk result (λ x. IsSpelledAt SpellsStamp input.now at x.0 x.1) }
     ensures only { (stamp : Stamp) (end : ℕ) → IsSpelledAt SpellsStamp input.now at stamp end → result ≡ Ok (stamp, end) }
 
-    ensures truncated { (result ≡ Err (TagFault.Truncated (length input.now))) ↔ (EndsInElement 10 None 4 4 (drop at input.now) ⊎ HasDate input.now at (λ end. EndsInElement 11 None 4 4 (drop end input.now))) }
-    ensures wrong_tag { (place : ℕ) → (result ≡ Err (TagFault.WrongTag place)) ↔ (((place ≡ at) × HasOtherTag 10 None (drop at input.now)) ⊎ HasDate input.now at (λ end. (place ≡ end) × HasOtherTag 11 None (drop end input.now))) }
-    ensures bad_length { (place : ℕ) → (result ≡ Err (TagFault.BadLength place)) ↔ (((place ≡ at) × HasOtherLength 10 None 4 4 (drop at input.now)) ⊎ HasDate input.now at (λ end. (place ≡ end) × HasOtherLength 11 None 4 4 (drop end input.now))) }
+    ensures truncated { (result ≡ Err (TagFault.Truncated (length input.now))) ↔ (EndsInElement date_tag None 4 4 (drop at input.now) ⊎ HasDate input.now at (λ end. EndsInElement time_tag None 4 4 (drop end input.now))) }
+    ensures wrong_tag { (place : ℕ) → (result ≡ Err (TagFault.WrongTag place)) ↔ (((place ≡ at) × HasOtherTag date_tag None (drop at input.now)) ⊎ HasDate input.now at (λ end. (place ≡ end) × HasOtherTag time_tag None (drop end input.now))) }
+    ensures bad_length { (place : ℕ) → (result ≡ Err (TagFault.BadLength place)) ↔ (((place ≡ at) × HasOtherLength date_tag None 4 4 (drop at input.now)) ⊎ HasDate input.now at (λ end. (place ≡ end) × HasOtherLength time_tag None 4 4 (drop end input.now))) }
 
     ensures exact { result ≡ stamp_at input.now at }
     ensures within { IfOk result (λ x. (at < x.1) × (x.1 ≤ length input.now)) }

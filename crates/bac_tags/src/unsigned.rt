@@ -1,4 +1,5 @@
 ghost use Rattle.std.specs.Prelude.{◌≡◌, ◌↔◌, ℕ, ◌<◌, ◌≤◌, ◌++◌, length, drop, IfOk, OnOk, OnErr, None};
+ghost use Rattle.bac_values.specs.ApplicationTags.{unsigned_tag};
 ghost use Rattle.bac_tags.specs.Places.{IsSpelledAt};
 ghost use Rattle.bac_tags.specs.Elements.{EndsInElement, HasOtherTag, HasOtherLength};
 ghost use Rattle.bac_tags.specs.Contents.{SpellsUnsigned, SpellsEnumerated};
@@ -37,9 +38,9 @@ pub fn read_unsigned(input: &[u8], at: usize, context: Option<u8>) -> Result<(u3
     ensures found { IfOk result (λ x. IsSpelledAt (SpellsUnsigned context) input.now at x.0 x.1) }
     ensures only { (number end : ℕ) → IsSpelledAt (SpellsUnsigned context) input.now at number end → result ≡ Ok (number, end) }
 
-    ensures truncated { (result ≡ Err (TagFault.Truncated (length input.now))) ↔ EndsInElement 2 context 1 4 (drop at input.now) }
-    ensures wrong_tag { (result ≡ Err (TagFault.WrongTag at)) ↔ HasOtherTag 2 context (drop at input.now) }
-    ensures bad_length { (result ≡ Err (TagFault.BadLength at)) ↔ HasOtherLength 2 context 1 4 (drop at input.now) }
+    ensures truncated { (result ≡ Err (TagFault.Truncated (length input.now))) ↔ EndsInElement unsigned_tag context 1 4 (drop at input.now) }
+    ensures wrong_tag { (result ≡ Err (TagFault.WrongTag at)) ↔ HasOtherTag unsigned_tag context (drop at input.now) }
+    ensures bad_length { (result ≡ Err (TagFault.BadLength at)) ↔ HasOtherLength unsigned_tag context 1 4 (drop at input.now) }
 
     ensures exact { result ≡ unsigned_at input.now at context }
     ensures within { IfOk result (λ x. (at < x.1) × (x.1 ≤ length input.now)) }
@@ -48,7 +49,7 @@ pub fn read_unsigned(input: &[u8], at: usize, context: Option<u8>) -> Result<(u3
 }
 
 /// How many octets the number needs, at least one.
-pub(crate) fn unsigned_size(number: u32) -> usize
+pub fn unsigned_size(number: u32) -> usize
     ensures size { result ≡ unsigned_size number }
     ensures some { 1 ≤ result }
     ensures most { result ≤ 4 }

@@ -1,8 +1,9 @@
 -- Event enrollments (ANSI/ASHRAE 135-2020, 12.12): which a site may have, and the one with an identifier.
 use Rattle.std.specs.Prelude.{◌≡◌, ℕ, ◌<◌, ◌≤◌, ◌≢◌, Bool, true, false, IsTrue, IsNone, IsSomeAnd, Option, Some, List, length, map, find, slice_index_or}
+use Rattle.bac_values.specs.EventTypes.{event_notify_type}
 use Rattle.bac_values.specs.declared.object_kind.ObjectKind.{ObjectKind}
-use Rattle.bac_values.specs.declared.object_kind.ObjectKind.TheVariants.{BinaryValue, MultiStateValue, BitStringValue, CharacterStringValue, IntegerValue, PositiveIntegerValue}
-use Rattle.bac_values.specs.Identifier.{Identifier, kind_of}
+use Rattle.bac_values.specs.declared.object_kind.ObjectKind.TheVariants.{BinaryValue, EventEnrollment, MultiStateValue, BitStringValue, CharacterStringValue, IntegerValue, PositiveIntegerValue}
+use Rattle.bac_values.specs.Identifier.{Identifier, kind_of, number_of_kind}
 use Rattle.algorithm_rules.specs.declared.table.Algorithm.{Algorithm}
 use Rattle.algorithm_rules.specs.declared.table.Algorithm.TheVariants.{CommandFailure, UnsignedRange}
 use Rattle.object_table.specs.Rows.{Ascends, is_object}
@@ -43,11 +44,11 @@ KeepsAlgorithm _ site = ⊥
 
 -- an enrollment that a site may have: its type is 9, and it monitors a value object
 pub record IsEnrollment (site : EnrollmentSite) : Type 0 where
-  pub number : site.object.number ≡ 9
+  pub number : site.object.number ≡ number_of_kind EventEnrollment
   pub instance : site.object.instance ≤ 4194302
   pub monitored : IsTrue (is_value_kind (kind_of site.monitored.number))
   pub algorithm : KeepsAlgorithm site.algorithm site
-  pub notify : site.notify ≤ 1
+  pub notify : site.notify ≤ event_notify_type
   pub enable : length site.enable ≡ 3
 
 abbrev pub identifier_of : EnrollmentSite → Identifier

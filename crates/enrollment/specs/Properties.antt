@@ -1,25 +1,26 @@
 -- The properties of event enrollments (ANSI/ASHRAE 135-2020, 12.12), and which of them are arrays.
 use Rattle.std.specs.Prelude.{ℕ, ◌==◌, Bool, Option, Some, None, is_some, List, [], ◌∷◌, find}
 use Rattle.std.specs.Option.{option_and_then}
+use Rattle.bac_values.specs.Properties.{acked_transitions_property, notification_class_property, event_enable_property, event_state_property, event_type_property, notify_type_property, object_identifier_property, object_name_property, object_type_property, reliability_property, status_flags_property, event_time_stamps_property, event_detection_enable_property, event_algorithm_inhibit_property}
 use Rattle.enrollment.specs.declared.enrollment_property.EnrollmentProperty.{EnrollmentProperty}
 use Rattle.enrollment.specs.declared.enrollment_property.EnrollmentProperty.TheVariants.{ObjectIdentifier, ObjectName, ObjectType, StatusFlags, EventState, Reliability, EventEnable, EventAlgorithmInhibit, AckedTransitions, NotifyType, EventDetectionEnable, NotificationClass, EventTimeStamps, EventType}
 
 -- the number of each property
 abbrev pub number_of_property : EnrollmentProperty → ℕ
-number_of_property ObjectIdentifier = 75
-number_of_property ObjectName = 77
-number_of_property ObjectType = 79
-number_of_property StatusFlags = 111
-number_of_property EventState = 36
-number_of_property Reliability = 103
-number_of_property EventEnable = 35
-number_of_property EventAlgorithmInhibit = 354
-number_of_property AckedTransitions = 0
-number_of_property NotifyType = 72
-number_of_property EventDetectionEnable = 353
-number_of_property NotificationClass = 17
-number_of_property EventTimeStamps = 130
-number_of_property EventType = 37
+number_of_property ObjectIdentifier = object_identifier_property
+number_of_property ObjectName = object_name_property
+number_of_property ObjectType = object_type_property
+number_of_property StatusFlags = status_flags_property
+number_of_property EventState = event_state_property
+number_of_property Reliability = reliability_property
+number_of_property EventEnable = event_enable_property
+number_of_property EventAlgorithmInhibit = event_algorithm_inhibit_property
+number_of_property AckedTransitions = acked_transitions_property
+number_of_property NotifyType = notify_type_property
+number_of_property EventDetectionEnable = event_detection_enable_property
+number_of_property NotificationClass = notification_class_property
+number_of_property EventTimeStamps = event_time_stamps_property
+number_of_property EventType = event_type_property
 
 abbrev pub enrollment_properties : List EnrollmentProperty
 enrollment_properties =

@@ -1,5 +1,6 @@
 -- How a write of an enrollment's property is answered: the first error that applies (ANSI/ASHRAE 135-2020, 15.9 and clause 18).
 use Rattle.std.specs.Prelude.{ℕ, Bool, false, Option, Some, None, Result, Err, List}
+use Rattle.bac_values.specs.ApplicationTags.{boolean_tag, bit_string_tag}
 use Rattle.bac_values.specs.declared.value.Value.{Value}
 use Rattle.bac_values.specs.Identifier.{Identifier}
 use Rattle.object_table.specs.declared.change.Change.{Change}
@@ -15,8 +16,8 @@ use Rattle.enrollment.specs.Properties.{length_of, property_of}
 
 -- the tag of a property that may be written: Event_Enable is a bit string, and Event_Algorithm_Inhibit a Boolean
 abbrev pub writable_tag : EnrollmentProperty → Option ℕ
-writable_tag EventEnable = Some 8
-writable_tag EventAlgorithmInhibit = Some 1
+writable_tag EventEnable = Some bit_string_tag
+writable_tag EventAlgorithmInhibit = Some boolean_tag
 writable_tag _ = None
 
 -- whether a property that may be written can be the value; Event_Enable has a flag for each transition

@@ -5,7 +5,7 @@ use Rattle.bac_values.specs.declared.value.Value.TheVariants.{Bool as Truth, Bit
 use Rattle.object_table.specs.declared.change.Change.{Change}
 use Rattle.object_table.specs.declared.change.What.{What}
 use Rattle.object_table.specs.declared.change.What.TheVariants.{Property, FieldFault}
-use Rattle.object_table.specs.Flags.{three_flags}
+use Rattle.bac_values.specs.BitString.{three_flags}
 use Rattle.object_table.specs.Rows.{is_object}
 use Rattle.enrollment.specs.declared.enrollment_property.EnrollmentProperty.{EnrollmentProperty}
 use Rattle.enrollment.specs.declared.enrollment_property.EnrollmentProperty.TheVariants.{EventEnable, EventAlgorithmInhibit}

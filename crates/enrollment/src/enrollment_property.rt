@@ -1,6 +1,8 @@
 ghost use Rattle.std.specs.Prelude.{◌≡◌};
 ghost use Rattle.enrollment.specs.Properties.{length_of, property_of};
 
+use bac_values::PropertyId;
+
 /// The properties of event enrollments (ANSI/ASHRAE 135-2020, 12.12). Each enrollment has all of them.
 #[derive(Clone, Copy, Debug, PartialEq, Eq)]
 pub enum EnrollmentProperty {
@@ -40,21 +42,21 @@ impl EnrollmentProperty {
     pub fn of_number(number: u32) -> Option<EnrollmentProperty>
         ensures property { result ≡ property_of number }
     {
-        match number {
-            0 => Some(EnrollmentProperty::AckedTransitions),
-            17 => Some(EnrollmentProperty::NotificationClass),
-            35 => Some(EnrollmentProperty::EventEnable),
-            36 => Some(EnrollmentProperty::EventState),
-            37 => Some(EnrollmentProperty::EventType),
-            72 => Some(EnrollmentProperty::NotifyType),
-            75 => Some(EnrollmentProperty::ObjectIdentifier),
-            77 => Some(EnrollmentProperty::ObjectName),
-            79 => Some(EnrollmentProperty::ObjectType),
-            103 => Some(EnrollmentProperty::Reliability),
-            111 => Some(EnrollmentProperty::StatusFlags),
-            130 => Some(EnrollmentProperty::EventTimeStamps),
-            353 => Some(EnrollmentProperty::EventDetectionEnable),
-            354 => Some(EnrollmentProperty::EventAlgorithmInhibit),
+        match PropertyId(number) {
+            PropertyId::ACKED_TRANSITIONS => Some(EnrollmentProperty::AckedTransitions),
+            PropertyId::NOTIFICATION_CLASS => Some(EnrollmentProperty::NotificationClass),
+            PropertyId::EVENT_ENABLE => Some(EnrollmentProperty::EventEnable),
+            PropertyId::EVENT_STATE => Some(EnrollmentProperty::EventState),
+            PropertyId::EVENT_TYPE => Some(EnrollmentProperty::EventType),
+            PropertyId::NOTIFY_TYPE => Some(EnrollmentProperty::NotifyType),
+            PropertyId::OBJECT_IDENTIFIER => Some(EnrollmentProperty::ObjectIdentifier),
+            PropertyId::OBJECT_NAME => Some(EnrollmentProperty::ObjectName),
+            PropertyId::OBJECT_TYPE => Some(EnrollmentProperty::ObjectType),
+            PropertyId::RELIABILITY => Some(EnrollmentProperty::Reliability),
+            PropertyId::STATUS_FLAGS => Some(EnrollmentProperty::StatusFlags),
+            PropertyId::EVENT_TIME_STAMPS => Some(EnrollmentProperty::EventTimeStamps),
+            PropertyId::EVENT_DETECTION_ENABLE => Some(EnrollmentProperty::EventDetectionEnable),
+            PropertyId::EVENT_ALGORITHM_INHIBIT => Some(EnrollmentProperty::EventAlgorithmInhibit),
             _ => None,
         }
     }

@@ -8,7 +8,6 @@
 mod enrollment_property;
 mod enrollment_site;
 mod enrollments;
-mod flags;
 mod laws;
 mod references;
 mod reliabilities;

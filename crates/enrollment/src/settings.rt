@@ -2,9 +2,8 @@ ghost use Rattle.std.specs.Prelude.{◌≡◌, IsTrue, Some};
 ghost use Rattle.enrollment.specs.Enrollments.{IsEnrollment};
 ghost use Rattle.enrollment.specs.Writes.{changed, property_set, set_known, takes, takes_known, takes_value};
 
-use crate::flags::{string_of, three_flags};
 use crate::{EnrollmentProperty, EnrollmentSite};
-use bac_values::{PropertyId, Value};
+use bac_values::{Bits, PropertyId, Value};
 use object_table::What;
 use std::mem::replace;
 
@@ -60,8 +59,8 @@ fn put_known(site: &mut EnrollmentSite, property: EnrollmentProperty, value: Val
 {
     match (property, value) {
         (EnrollmentProperty::EventEnable, Value::Bits(flags)) => {
-            let old = replace(&mut site.enable, three_flags(flags));
-            Value::Bits(string_of(old))
+            let old = replace(&mut site.enable, flags.three_flags());
+            Value::Bits(Bits::of_flags(&old))
         }
         (EnrollmentProperty::EventAlgorithmInhibit, Value::Bool(truth)) => {
             Value::Bool(replace(&mut site.inhibit, truth))

@@ -3,7 +3,7 @@ ghost use Rattle.object_table.specs.Values.{are_flags, is_truth};
 ghost use Rattle.enrollment.specs.Verdicts.{IsError, can_be, write_verdict, writable_tag};
 
 use crate::EnrollmentProperty;
-use bac_values::{PropertyId, Value};
+use bac_values::{ApplicationTag, PropertyId, Value};
 use object_table::{WriteFault, check_index, check_value};
 
 /// Whether an enrollment takes a write of a property; the first error that applies is told.
@@ -39,8 +39,8 @@ fn writable_tag(property: EnrollmentProperty) -> Option<u8>
     ensures tag { result ≡ writable_tag property }
 {
     match property {
-        EnrollmentProperty::EventEnable => Some(8),
-        EnrollmentProperty::EventAlgorithmInhibit => Some(1),
+        EnrollmentProperty::EventEnable => Some(ApplicationTag::BIT_STRING.0),
+        EnrollmentProperty::EventAlgorithmInhibit => Some(ApplicationTag::BOOLEAN.0),
         _ => None,
     }
 }

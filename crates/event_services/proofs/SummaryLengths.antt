@@ -12,7 +12,8 @@ use Rattle.bac_tags.specs.Writing.{written_tag, written_element, written_unsigne
 use Rattle.bac_tags.specs.EnclosingTags.{opening, closing}
 use Rattle.event_services.specs.declared.information.EventSummary.{EventSummary}
 use Rattle.bac_tags.specs.ParameterWriting.{written_enclosed}
-use Rattle.event_services.specs.Information.{string_of_bits, written_moment, written_state, written_notifying, written_summary}
+use Rattle.bac_values.specs.BitString.{string_of_flags}
+use Rattle.event_services.specs.Information.{written_moment, written_state, written_notifying, written_summary}
 
 pub object_length : (id : Identifier) → length (written_object (Some 0) id) ≡ 5
 unfolding written_tag
@@ -34,11 +35,11 @@ pub number_length : (n : ℕ) → n < 256 → length (written_unsigned None n) �
 unfolding written_tag
 number_length n lt = rw (lt-ltb n 256 lt) refl
 
-pub acked_length : (flags : List Bool) → length flags ≡ 3 → length (written_bits (Some 2) (string_of_bits flags)) ≡ 3
+pub acked_length : (flags : List Bool) → length flags ≡ 3 → length (written_bits (Some 2) (string_of_flags flags)) ≡ 3
 unfolding written_tag
 acked_length flags three = rw three refl
 
-pub enable_length : (flags : List Bool) → length flags ≡ 3 → length (written_bits (Some 5) (string_of_bits flags)) ≡ 3
+pub enable_length : (flags : List Bool) → length flags ≡ 3 → length (written_bits (Some 5) (string_of_flags flags)) ≡ 3
 unfolding written_tag
 enable_length flags three = rw three refl
 
@@ -69,11 +70,11 @@ enclosed_length inside = (omega (arith, length-append inside (63 ∷ [])), omega
 
 pub state_part : (summary : EventSummary) → length summary.acked ≡ 3 → length (written_state summary) ≡ 10
 state_part summary three =
-    omega (arith, length-append (written_object (Some 0) summary.object ++ written_unsigned (Some 1) (number_of_state summary.state)) (written_bits (Some 2) (string_of_bits summary.acked)), length-append (written_object (Some 0) summary.object) (written_unsigned (Some 1) (number_of_state summary.state)), object_length summary.object, state_length summary.state, acked_length summary.acked three)
+    omega (arith, length-append (written_object (Some 0) summary.object ++ written_unsigned (Some 1) (number_of_state summary.state)) (written_bits (Some 2) (string_of_flags summary.acked)), length-append (written_object (Some 0) summary.object) (written_unsigned (Some 1) (number_of_state summary.state)), object_length summary.object, state_length summary.state, acked_length summary.acked three)
 
 pub notifying_part : (summary : EventSummary) → summary.notify < 256 → length summary.enable ≡ 3 → length (written_notifying summary) ≡ 5
 notifying_part summary lt three =
-    omega (arith, length-append (written_unsigned (Some 4) summary.notify) (written_bits (Some 5) (string_of_bits summary.enable)), notify_length summary.notify lt, enable_length summary.enable three)
+    omega (arith, length-append (written_unsigned (Some 4) summary.notify) (written_bits (Some 5) (string_of_flags summary.enable)), notify_length summary.notify lt, enable_length summary.enable three)
 
 pub stamps_part : (stamps : List Stamp) → length (flat_map written_moment stamps) ≡ 12 * length stamps → length (written_enclosed 3 (flat_map written_moment stamps)) ≡ 2 + 12 * length stamps
 stamps_part stamps h = (enclosed_length (flat_map written_moment stamps)).0 ∙ ap (λ (n : ℕ). 2 + n) h

@@ -1,7 +1,6 @@
 -- GetEventInformation (ANSI/ASHRAE 135-2020, 13.12): the request, and the one spelling of its answer.
-use Rattle.std.specs.Prelude.{◌≡◌, ◌≢◌, ◌⊎◌, ℕ, ◌+◌, ◌*◌, Bool, Option, Some, None, List, [], ◌∷◌, ◌++◌, length, flat_map, Result, Ok}
-use Rattle.std.specs.Int.{from_bool}
-use Rattle.bac_values.specs.BitString.{BitString}
+use Rattle.std.specs.Prelude.{◌≡◌, ◌≢◌, ◌⊎◌, ℕ, Bool, Option, Some, None, List, [], ◌∷◌, ◌++◌, length, flat_map, Result, Ok}
+use Rattle.bac_values.specs.BitString.{string_of_flags}
 use Rattle.bac_values.specs.EventStates.{number_of_state}
 use Rattle.bac_values.specs.Identifier.{Identifier}
 use Rattle.bac_values.specs.declared.stamp.Stamp.{Stamp}
@@ -38,25 +37,17 @@ HasNoObject octets place = (place ≡ 0) × ¬ IsAbsent 0 octets 0 × ¬ IsThere
 
 -- ---- the answer
 
--- the first flag is the lowest bit
-abbrev pub number_of_bits : List Bool → ℕ
-number_of_bits [] = 0
-number_of_bits (flag ∷ flags) = from_bool flag + 2 * number_of_bits flags
-
-abbrev pub string_of_bits : List Bool → BitString
-string_of_bits flags = record { size = length flags; bits = number_of_bits flags }
-
 -- a time stamp in its third form
 abbrev pub written_moment : Stamp → List ℕ
 written_moment stamp = written_enclosed 2 (written_stamp stamp)
 
 -- object, state, acknowledged transitions
 abbrev pub written_state : EventSummary → List ℕ
-written_state summary = written_object (Some 0) summary.object ++ written_unsigned (Some 1) (number_of_state summary.state) ++ written_bits (Some 2) (string_of_bits summary.acked)
+written_state summary = written_object (Some 0) summary.object ++ written_unsigned (Some 1) (number_of_state summary.state) ++ written_bits (Some 2) (string_of_flags summary.acked)
 
 -- notify type, enabled transitions
 abbrev pub written_notifying : EventSummary → List ℕ
-written_notifying summary = written_unsigned (Some 4) summary.notify ++ written_bits (Some 5) (string_of_bits summary.enable)
+written_notifying summary = written_unsigned (Some 4) summary.notify ++ written_bits (Some 5) (string_of_flags summary.enable)
 
 -- a BACnetEventSummary, with the stamps and the priorities of the three transitions
 abbrev pub written_summary : EventSummary → List ℕ

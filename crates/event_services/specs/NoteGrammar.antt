@@ -5,6 +5,7 @@ use Rattle.bac_values.specs.Reliabilities.{number_of_reliability}
 use Rattle.bac_values.specs.declared.event_state.EventState.{EventState}
 use Rattle.bac_values.specs.declared.reliability.Reliability.{Reliability as Reliable}
 use Rattle.bac_values.specs.declared.stamp.Stamp.{Stamp}
+use Rattle.bac_values.specs.Properties.{present_value_property}
 use Rattle.bac_values.specs.declared.status_flags.StatusFlags.{StatusFlags}
 use Rattle.bac_values.specs.declared.value.Value.{Value}
 use Rattle.bac_tags.specs.Elements.{SpellsElement}
@@ -62,7 +63,7 @@ SpellsPropertyState octets state = SpellsNumber (state_number state.0) octets st
 
 -- [0] Present_Value
 abbrev pub SpellsPresentValue : List ℕ → Unit {0} → Type 0
-SpellsPresentValue octets nothing = SpellsNumber 0 octets 85
+SpellsPresentValue octets nothing = SpellsNumber 0 octets present_value_property
 
 -- [0] Present_Value, [2] its value
 abbrev pub SpellsPropertyValue : List ℕ → Value → Type 0

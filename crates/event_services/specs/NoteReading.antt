@@ -8,6 +8,8 @@ use Rattle.bac_values.specs.Reliabilities.{reliability_of_number}
 use Rattle.bac_values.specs.declared.event_state.EventState.{EventState}
 use Rattle.bac_values.specs.declared.reliability.Reliability.{Reliability as Reliable}
 use Rattle.bac_values.specs.declared.stamp.Stamp.{Stamp}
+use Rattle.bac_values.specs.EventTypes.{change_of_bitstring_type, change_of_state_type, command_failure_type, unsigned_range_type, signed_out_of_range_type, unsigned_out_of_range_type, change_of_characterstring_type, change_of_reliability_type}
+use Rattle.bac_values.specs.Properties.{present_value_property}
 use Rattle.bac_values.specs.declared.status_flags.StatusFlags.{StatusFlags}
 use Rattle.bac_values.specs.declared.value.Value.{Value}
 use Rattle.bac_tags.specs.declared.fault.TagFault.{TagFault}
@@ -86,7 +88,7 @@ reliability_number_at number = held_at reliability_of_number (number_at number)
 
 -- [0] Present_Value
 abbrev pub present_value : ℕ → Option (Unit {0})
-present_value n = if n == 85 then Some tt else None
+present_value n = if n == present_value_property then Some tt else None
 
 unfoldable pub property_value_at : Reads Value
 property_value_at = made_at (λ x. x.1) (both_at (held_at present_value (number_at 0)) (enclosed_at value_at 2))
@@ -126,14 +128,14 @@ reliability_at = made_at (λ x. Reliability x.0 x.1.0 x.1.1) (both_at (reliabili
 
 unfoldable pub told_at : ℕ → Reads EventValues
 told_at type input place =
-    if type == 0 then bitstring_at input place
-    else (if type == 1 then changed_state_at input place
-    else (if type == 3 then commanded_at input place
-    else (if type == 11 then unsigned_range_at input place
-    else (if type == 15 then signed_out_of_range_at input place
-    else (if type == 16 then unsigned_out_of_range_at input place
-    else (if type == 17 then changed_text_at input place
-    else (if type == 19 then reliability_at input place
+    if type == change_of_bitstring_type then bitstring_at input place
+    else (if type == change_of_state_type then changed_state_at input place
+    else (if type == command_failure_type then commanded_at input place
+    else (if type == unsigned_range_type then unsigned_range_at input place
+    else (if type == signed_out_of_range_type then signed_out_of_range_at input place
+    else (if type == unsigned_out_of_range_type then unsigned_out_of_range_at input place
+    else (if type == change_of_characterstring_type then changed_text_at input place
+    else (if type == change_of_reliability_type then reliability_at input place
     else Err (WrongTag place))))))))
 
 -- [12], and within it the number of the event's type

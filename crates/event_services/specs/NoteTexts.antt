@@ -1,6 +1,7 @@
 -- Where a text stands in a notification: it takes memory, and nothing else does.
 use Rattle.std.specs.Prelude.{◌≡◌, ℕ, ◌⊎◌, List}
 use Rattle.bac_values.specs.declared.value.Value.TheVariants as values
+use Rattle.bac_values.specs.EventTypes.{command_failure_type, change_of_characterstring_type, change_of_reliability_type}
 use Rattle.bac_tags.specs.Places.{IsSpelledAt}
 use Rattle.bac_tags.specs.Values.{SpellsValue}
 use Rattle.bac_tags.specs.EnclosingTags.{opening, SpellsOnly, SpellsEnclosed}
@@ -48,7 +49,7 @@ IsTextOfReliability = IsAfter (SpellsReliability 0) (IsAfter SpellsFlags IsTextO
 -- in what is told of an event of that type
 abbrev pub IsTextTold : ℕ → List ℕ → ℕ → Type 0
 IsTextTold type input place =
-    ((type ≡ 3) × IsTextOfCommand input place) ⊎ (((type ≡ 17) × IsTextOfChange input place) ⊎ ((type ≡ 19) × IsTextOfReliability input place))
+    ((type ≡ command_failure_type) × IsTextOfCommand input place) ⊎ (((type ≡ change_of_characterstring_type) × IsTextOfChange input place) ⊎ ((type ≡ change_of_reliability_type) × IsTextOfReliability input place))
 
 abbrev pub IsTextOfValues : ℕ → List ℕ → ℕ → Type 0
 IsTextOfValues type = IsInside 12 (IsInside type (IsTextTold type))

@@ -2,7 +2,9 @@
 use Rattle.std.specs.Prelude.{◌≡◌, ℕ, ◌+◌, ◌*◌, if◌then◌else◌, Bool, Option, Some, None, List, [], ◌∷◌, ◌++◌}
 use Rattle.std.specs.Int.{from_bool}
 use Rattle.bac_values.specs.BitString.{BitString}
+use Rattle.bac_values.specs.EventTypes.{change_of_bitstring_type, change_of_state_type, command_failure_type, unsigned_range_type, signed_out_of_range_type, unsigned_out_of_range_type, change_of_characterstring_type, change_of_reliability_type}
 use Rattle.bac_values.specs.EventStates.{number_of_state}
+use Rattle.bac_values.specs.Properties.{present_value_property}
 use Rattle.bac_values.specs.Reliabilities.{number_of_reliability}
 use Rattle.bac_values.specs.declared.status_flags.StatusFlags.{StatusFlags}
 use Rattle.bac_values.specs.declared.value.Value.{Value}
@@ -15,14 +17,14 @@ use Rattle.event_services.specs.declared.notification.EventValues.TheVariants.{B
 
 -- the event type that tells these values (BACnetEventType)
 abbrev pub type_of_values : EventValues → ℕ
-type_of_values (Bitstring referenced flags) = 0
-type_of_values (State binary number flags) = 1
-type_of_values (Command command flags feedback) = 3
-type_of_values (UnsignedRange value flags limit) = 11
-type_of_values (SignedOutOfRange value flags deadband limit) = 15
-type_of_values (UnsignedOutOfRange value flags deadband limit) = 16
-type_of_values (Characterstring changed flags alarm) = 17
-type_of_values (Reliability reliability flags property) = 19
+type_of_values (Bitstring referenced flags) = change_of_bitstring_type
+type_of_values (State binary number flags) = change_of_state_type
+type_of_values (Command command flags feedback) = command_failure_type
+type_of_values (UnsignedRange value flags limit) = unsigned_range_type
+type_of_values (SignedOutOfRange value flags deadband limit) = signed_out_of_range_type
+type_of_values (UnsignedOutOfRange value flags deadband limit) = unsigned_out_of_range_type
+type_of_values (Characterstring changed flags alarm) = change_of_characterstring_type
+type_of_values (Reliability reliability flags property) = change_of_reliability_type
 
 -- a value that is one element
 abbrev pub IsOneValue : Value → Type 0
@@ -77,7 +79,7 @@ state_number binary = if binary then 1 else 11
 -- a BACnetPropertyValue of Present_Value, or none
 abbrev pub written_property : Option Value → List ℕ
 written_property None = []
-written_property (Some value) = written_unsigned (Some 0) 85 ++ written_enclosed 2 (written_value value)
+written_property (Some value) = written_unsigned (Some 0) present_value_property ++ written_enclosed 2 (written_value value)
 
 abbrev pub written_told : EventValues → List ℕ
 written_told (Bitstring referenced flags) = written_bits (Some 0) referenced ++ written_flags flags

@@ -4,7 +4,7 @@ ghost use Rattle.bac_tags.specs.Contents.{SpellsObject};
 ghost use Rattle.bac_tags.specs.Writing.{written_unsigned};
 ghost use Rattle.bac_tags.specs.Refusals.{invalid_tag, too_many_arguments};
 ghost use Rattle.bac_tags.specs.ParameterWriting.{written_enclosed};
-ghost use Rattle.event_services.specs.Information.{SpellsInformationRequest, HasMoreThanObject, HasNoObject, information_request_of, string_of_bits, written_moment, written_state, written_notifying, written_summary, written_information};
+ghost use Rattle.event_services.specs.Information.{SpellsInformationRequest, HasMoreThanObject, HasNoObject, information_request_of, written_moment, written_state, written_notifying, written_summary, written_information};
 
 use crate::write_note::write_enclosed_stamp;
 use bac_tags::{
@@ -62,17 +62,6 @@ pub fn read_information_request(bytes: &[u8]) -> Result<Option<ObjectId>, Malfor
     ensures exact { result ≡ information_request_of bytes.now }
 {
     information_request_of(bytes)
-}
-
-/// The three flags as a string of bits, the first one first.
-fn string_of_bits(flags: [bool; 3]) -> Bits
-    ensures { result ≡ string_of_bits flags }
-{
-    let bits = u64::from(flags[0]) + 2 * u64::from(flags[1]) + 4 * u64::from(flags[2]);
-    let Ok(string) = Bits::new(3, bits) else {
-        unreachable!()
-    };
-    string
 }
 
 /// Appends a date and a time in their form of a time stamp.
@@ -145,7 +134,7 @@ fn write_state(out: &mut Vec<u8>, summary: &EventSummary) -> Result<(), NoMemory
 {
     write_object(out, Some(0), summary.object)?;
     write_unsigned(out, Some(1), u32::from(summary.state.number()))?;
-    write_bits(out, Some(2), string_of_bits(summary.acked))
+    write_bits(out, Some(2), Bits::of_flags(&summary.acked))
 }
 
 /// Appends how an object notifies.
@@ -155,7 +144,7 @@ fn write_notifying(out: &mut Vec<u8>, summary: &EventSummary) -> Result<(), NoMe
     ensures long { length (written_notifying summary.now) ≡ 5 }
 {
     write_unsigned(out, Some(4), u32::from(summary.notify))?;
-    write_bits(out, Some(5), string_of_bits(summary.enable))
+    write_bits(out, Some(5), Bits::of_flags(&summary.enable))
 }
 
 /// Appends a summary.

@@ -10,7 +10,7 @@ use bac_tags::{
     Shape, TagFault, read_bits, read_closing, read_opening, read_signed, read_tag, read_unsigned,
     read_value,
 };
-use bac_values::{Reliability, Value};
+use bac_values::{EventType, PropertyId, Reliability, Value};
 use std::alloc::Global;
 
 /// The state of a property whose tag has that number, and the place after it.
@@ -98,7 +98,7 @@ fn property_value_at(alloc: Global, input: &[u8], at: usize) -> Result<(Value, u
     ensures within { IfOk result (λ x. (at < x.1) × (x.1 ≤ length input.now)) }
 {
     let (property, after) = read_unsigned(input, at, Some(0))?;
-    if property != 85 {
+    if property != PropertyId::PRESENT_VALUE.0 {
         return Err(TagFault::BadLength { at });
     }
     enclosed_value(alloc, input, after, 2)
@@ -289,15 +289,15 @@ fn told_at(
     ensures exact { GivesRead (IsTextTold kind input.now at) result (told_at kind input.now at) }
     ensures within { IfOk result (λ x. (at < x.1) × (x.1 ≤ length input.now)) }
 {
-    match kind {
-        0 => bitstring_at(input, at),
-        1 => changed_state_at(input, at),
-        3 => commanded_at(alloc, input, at),
-        11 => unsigned_range_at(input, at),
-        15 => signed_out_of_range_at(input, at),
-        16 => unsigned_out_of_range_at(input, at),
-        17 => changed_text_at(alloc, input, at),
-        19 => reliability_at(alloc, input, at),
+    match EventType(kind) {
+        EventType::CHANGE_OF_BITSTRING => bitstring_at(input, at),
+        EventType::CHANGE_OF_STATE => changed_state_at(input, at),
+        EventType::COMMAND_FAILURE => commanded_at(alloc, input, at),
+        EventType::UNSIGNED_RANGE => unsigned_range_at(input, at),
+        EventType::SIGNED_OUT_OF_RANGE => signed_out_of_range_at(input, at),
+        EventType::UNSIGNED_OUT_OF_RANGE => unsigned_out_of_range_at(input, at),
+        EventType::CHANGE_OF_CHARACTERSTRING => changed_text_at(alloc, input, at),
+        EventType::CHANGE_OF_RELIABILITY => reliability_at(alloc, input, at),
         _ => Err(TagFault::WrongTag { at }),
     }
 }

@@ -11,11 +11,10 @@ use bac_tags::{
     Shape, Tag, write_bits, write_bool, write_closing, write_object, write_opening, write_signed,
     write_stamp, write_tag, write_unsigned, write_value,
 };
-use bac_values::{Bits, EventState, NoMemory, Reliability, Stamp, StatusFlags, Text, Value};
+use bac_values::{
+    Bits, EventState, EventType, NoMemory, PropertyId, Reliability, Stamp, StatusFlags, Text, Value,
+};
 use std::alloc::Global;
-
-/// The number of Present_Value (BACnetPropertyIdentifier).
-const PRESENT_VALUE: u32 = 85;
 
 /// Appends a text with that number in a context.
 fn write_text(out: &mut Vec<u8>, number: u8, text: &Text) -> Result<(), NoMemory>
@@ -93,7 +92,7 @@ fn write_property(out: &mut Vec<u8>, property: &Option<Value>) -> Result<(), NoM
     let Some(value) = property else {
         return Ok(());
     };
-    write_unsigned(out, Some(0), PRESENT_VALUE)?;
+    write_unsigned(out, Some(0), PropertyId::PRESENT_VALUE.0)?;
     write_enclosed_value(out, 2, value)
 }
 
@@ -265,14 +264,14 @@ fn type_of_values(told: &EventValues) -> u8
     ensures { result ≡ type_of_values told.now }
 {
     match told {
-        EventValues::Bitstring { .. } => 0,
-        EventValues::State { .. } => 1,
-        EventValues::Command { .. } => 3,
-        EventValues::UnsignedRange { .. } => 11,
-        EventValues::SignedOutOfRange { .. } => 15,
-        EventValues::UnsignedOutOfRange { .. } => 16,
-        EventValues::Characterstring { .. } => 17,
-        EventValues::Reliability { .. } => 19,
+        EventValues::Bitstring { .. } => EventType::CHANGE_OF_BITSTRING.0,
+        EventValues::State { .. } => EventType::CHANGE_OF_STATE.0,
+        EventValues::Command { .. } => EventType::COMMAND_FAILURE.0,
+        EventValues::UnsignedRange { .. } => EventType::UNSIGNED_RANGE.0,
+        EventValues::SignedOutOfRange { .. } => EventType::SIGNED_OUT_OF_RANGE.0,
+        EventValues::UnsignedOutOfRange { .. } => EventType::UNSIGNED_OUT_OF_RANGE.0,
+        EventValues::Characterstring { .. } => EventType::CHANGE_OF_CHARACTERSTRING.0,
+        EventValues::Reliability { .. } => EventType::CHANGE_OF_RELIABILITY.0,
     }
 }
 

@@ -1,5 +1,6 @@
 -- Notifications of transitions and of acknowledgements, before they are told to a process (ANSI/ASHRAE 135-2020, 13.2.5, 13.8.1 and 13.9.1).
 use Rattle.std.specs.Prelude.{ℕ, Bool, false, Option, Some, None, slice_index, slice_index_or}
+use Rattle.bac_values.specs.EventTypes.{ack_notification_notify_type}
 use Rattle.bac_values.specs.EventStates.{place_of_transition, transition_to}
 use Rattle.bac_values.specs.declared.event_state.EventState.{EventState}
 use Rattle.bac_values.specs.declared.stamp.Stamp.{Stamp}
@@ -36,10 +37,6 @@ transition_notification source class made stamp values = record {
   values = values;
 }
 
--- ACK_NOTIFICATION (BACnetNotifyType)
-abbrev pub ack_notification : ℕ
-ack_notification = 2
-
 -- The notification of an acknowledgement: Time Stamp is when it was acknowledged, To State is the state that was. There is no Message Text, AckRequired, From State or Event Values.
 abbrev pub acknowledgement_notification : Source → Class → EventState → Stamp → Notification
 acknowledgement_notification source class acknowledged stamp = record {
@@ -51,7 +48,7 @@ acknowledgement_notification source class acknowledged stamp = record {
   priority = priority_for class (transition_to acknowledged);
   event_type = acknowledgement_type source.algorithm acknowledged;
   text = None;
-  notify = ack_notification;
+  notify = ack_notification_notify_type;
   ack_required = None;
   from = None;
   to = acknowledged;

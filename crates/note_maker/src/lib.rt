@@ -2,13 +2,12 @@
 //! recipients of a notification class (ANSI/ASHRAE 135-2020, 13.2.5, 13.8 and 13.9).
 #![tactic(auto)]
 
-mod growing;
 mod making;
 mod shaping;
 mod source;
 mod values;
 
 pub use making::notes_of;
-pub use shaping::{acknowledgement_notification, transition_notification};
+pub use shaping::{acknowledgement_notification, algorithm_type, transition_notification};
 pub use source::Source;
 pub use values::{status_flags, values_of};

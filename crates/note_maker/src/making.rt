@@ -6,8 +6,7 @@ ghost use Rattle.event_services.specs.NoteLengths.{most_octets};
 ghost use Rattle.notify_class.specs.Edits.{peers_of};
 ghost use Rattle.note_maker.specs.Notes.{note_to, notes_for};
 
-use crate::growing::add;
-use bac_values::{Items, NoMemory, Note, Transition};
+use bac_values::{Items, NoMemory, Note, Transition, push};
 use civil_stamp::Zone;
 use event_services::{Notification, write_notification_to};
 use notify_class::{Class, Destination, uses};
@@ -47,7 +46,7 @@ pub fn notes_of(
     let mut notes = Vec::new(alloc);
     for destination in class.destinations.as_slice() {
         if uses(destination, transition, moment, zone) {
-            add(&mut notes, note_to(alloc, facts, destination)?)?;
+            push(&mut notes, note_to(alloc, facts, destination)?)?;
         }
     }
     Ok(notes)

@@ -5,28 +5,23 @@ ghost use Rattle.note_maker.specs.Shapes.{acknowledgement_notification, transiti
 
 use crate::Source;
 use algorithm_rules::Algorithm;
-use bac_values::{EventState, Stamp};
+use bac_values::{EventState, EventType, NotifyType, Stamp};
 use event_machine::Move;
 use event_services::{EventValues, Notification};
 use notify_class::Class;
 
-/// The number of CHANGE_OF_RELIABILITY (BACnetEventType).
-const CHANGE_OF_RELIABILITY: u8 = 19;
-
-/// The number of ACK_NOTIFICATION (BACnetNotifyType).
-const ACK_NOTIFICATION: u8 = 2;
-
-fn algorithm_type(algorithm: Algorithm) -> u8
+/// The number of the event type of an algorithm (BACnetEventType).
+pub fn algorithm_type(algorithm: Algorithm) -> u8
     ensures number { result ≡ algorithm_type algorithm }
 {
     match algorithm {
-        Algorithm::ChangeOfBitstring => 0,
-        Algorithm::ChangeOfState => 1,
-        Algorithm::CommandFailure => 3,
-        Algorithm::UnsignedRange => 11,
-        Algorithm::SignedOutOfRange => 15,
-        Algorithm::UnsignedOutOfRange => 16,
-        Algorithm::ChangeOfCharacterstring => 17,
+        Algorithm::ChangeOfBitstring => EventType::CHANGE_OF_BITSTRING.0,
+        Algorithm::ChangeOfState => EventType::CHANGE_OF_STATE.0,
+        Algorithm::CommandFailure => EventType::COMMAND_FAILURE.0,
+        Algorithm::UnsignedRange => EventType::UNSIGNED_RANGE.0,
+        Algorithm::SignedOutOfRange => EventType::SIGNED_OUT_OF_RANGE.0,
+        Algorithm::UnsignedOutOfRange => EventType::UNSIGNED_OUT_OF_RANGE.0,
+        Algorithm::ChangeOfCharacterstring => EventType::CHANGE_OF_CHARACTERSTRING.0,
     }
 }
 
@@ -34,7 +29,7 @@ fn transition_type(algorithm: Algorithm, made: Move) -> u8
     ensures number { result ≡ transition_type algorithm made }
 {
     if made.by_fault {
-        CHANGE_OF_RELIABILITY
+        EventType::CHANGE_OF_RELIABILITY.0
     } else {
         algorithm_type(algorithm)
     }
@@ -44,7 +39,7 @@ fn acknowledgement_type(algorithm: Algorithm, acknowledged: EventState) -> u8
     ensures number { result ≡ acknowledgement_type algorithm acknowledged }
 {
     match acknowledged {
-        EventState::Fault => CHANGE_OF_RELIABILITY,
+        EventState::Fault => EventType::CHANGE_OF_RELIABILITY.0,
         _ => algorithm_type(algorithm),
     }
 }
@@ -98,7 +93,7 @@ pub fn acknowledgement_notification(
         priority: class.priority[acknowledged.transition().place()],
         event_type: acknowledgement_type(source.algorithm, acknowledged),
         text: None,
-        notify: ACK_NOTIFICATION,
+        notify: NotifyType::ACK_NOTIFICATION.0,
         ack_required: None,
         from: None,
         to: acknowledged,

@@ -3,7 +3,7 @@ use Rattle.std.specs.Prelude.{◌≡◌, ℤ, pos, Bool, List, FitsSigned}
 use Rattle.std.specs.Int.{w32, FitsUnsigned}
 use Rattle.bac_values.specs.declared.value.Value.{Value}
 use Rattle.bac_values.specs.declared.value.Value.TheVariants.{Unsigned, Signed, Bits}
-use Rattle.object_table.specs.Flags.{two_flags, three_flags}
+use Rattle.bac_values.specs.BitString.{two_flags, three_flags}
 
 -- the value that a limit was given has the type that the value compared with it has, and the limit is in that type's range
 abbrev pub FitsAs : Value → ℤ → Type 0

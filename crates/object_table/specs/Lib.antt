@@ -1,4 +1,3 @@
-pub mod Flags
 pub mod Held
 pub mod Properties
 pub mod Values

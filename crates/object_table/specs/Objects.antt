@@ -1,6 +1,7 @@
 -- What a value object may be: the keys that its kind has, and with a class those of its alarms.
 use Rattle.std.specs.Prelude.{◌≡◌, ℕ, ◌≤◌, ℤ, pos, IsTrue, IsSome, IsNone, All, false, Option, Some, None, List, [], ◌∷◌, length, FitsSigned}
 use Rattle.std.specs.Int.{w32, FitsUnsigned}
+use Rattle.bac_values.specs.EventTypes.{alarm_notify_type, event_notify_type}
 use Rattle.bac_values.specs.declared.object_kind.ObjectKind.{ObjectKind}
 use Rattle.bac_values.specs.declared.object_kind.ObjectKind.TheVariants.{BinaryValue, MultiStateValue, BitStringValue, CharacterStringValue, IntegerValue, PositiveIntegerValue}
 use Rattle.bac_values.specs.declared.value.Value.{Value}
@@ -79,7 +80,7 @@ KeepsMask _ mask = IsNone mask
 
 -- the keys of an object with a class
 pub record HasAlarmKeys (kind : Option ObjectKind) (site : ObjectSite) : Type 0 where
-  pub notify : site.notify ≤ 1
+  pub notify : site.notify ≤ event_notify_type
   pub enable : length site.enable ≡ 3
   pub limits : KeepsLimits kind site
   pub alarm_value : KeepsAlarmValue kind site.alarm_value
@@ -90,7 +91,7 @@ pub record HasAlarmKeys (kind : Option ObjectKind) (site : ObjectSite) : Type 0 
 
 -- an object without a class has none of them
 pub record LacksAlarmKeys (site : ObjectSite) : Type 0 where
-  pub notify : site.notify ≡ 0
+  pub notify : site.notify ≡ alarm_notify_type
   pub enable : site.enable ≡ false ∷ false ∷ false ∷ []
   pub time_delay : site.time_delay ≡ 0
   pub time_delay_normal : IsNone site.time_delay_normal

@@ -1,5 +1,6 @@
 -- The properties of value objects: which an object has, and which of them are arrays.
 use Rattle.std.specs.Prelude.{ℕ, ◌==◌, Bool, true, false, ◌&&◌, Option, Some, None, is_some, List, [], ◌∷◌, length, find}
+use Rattle.bac_values.specs.Properties.{acked_transitions_property, alarm_value_property, alarm_values_property, notification_class_property, deadband_property, event_enable_property, event_state_property, fault_values_property, high_limit_property, limit_enable_property, low_limit_property, notify_type_property, number_of_states_property, object_identifier_property, object_name_property, object_type_property, out_of_service_property, present_value_property, reliability_property, status_flags_property, time_delay_property, event_time_stamps_property, event_detection_enable_property, event_algorithm_inhibit_property, time_delay_normal_property, reliability_evaluation_inhibit_property}
 use Rattle.bac_values.specs.declared.object_kind.ObjectKind.{ObjectKind}
 use Rattle.bac_values.specs.declared.object_kind.ObjectKind.TheVariants.{BinaryValue, MultiStateValue, IntegerValue, PositiveIntegerValue}
 use Rattle.bac_values.specs.declared.value.Value.{Value}
@@ -10,32 +11,32 @@ use Rattle.object_table.specs.declared.object_site.ObjectSite.{ObjectSite}
 
 -- the number of each property
 abbrev pub number_of_property : ObjectProperty → ℕ
-number_of_property ObjectIdentifier = 75
-number_of_property ObjectName = 77
-number_of_property ObjectType = 79
-number_of_property PresentValue = 85
-number_of_property StatusFlags = 111
-number_of_property EventState = 36
-number_of_property Reliability = 103
-number_of_property OutOfService = 81
-number_of_property ReliabilityEvaluationInhibit = 357
-number_of_property NumberOfStates = 74
-number_of_property TimeDelay = 113
-number_of_property TimeDelayNormal = 356
-number_of_property HighLimit = 45
-number_of_property LowLimit = 59
-number_of_property Deadband = 25
-number_of_property LimitEnable = 52
-number_of_property AlarmValue = 6
-number_of_property AlarmValues = 7
-number_of_property FaultValues = 39
-number_of_property EventEnable = 35
-number_of_property EventAlgorithmInhibit = 354
-number_of_property AckedTransitions = 0
-number_of_property NotifyType = 72
-number_of_property EventDetectionEnable = 353
-number_of_property NotificationClass = 17
-number_of_property EventTimeStamps = 130
+number_of_property ObjectIdentifier = object_identifier_property
+number_of_property ObjectName = object_name_property
+number_of_property ObjectType = object_type_property
+number_of_property PresentValue = present_value_property
+number_of_property StatusFlags = status_flags_property
+number_of_property EventState = event_state_property
+number_of_property Reliability = reliability_property
+number_of_property OutOfService = out_of_service_property
+number_of_property ReliabilityEvaluationInhibit = reliability_evaluation_inhibit_property
+number_of_property NumberOfStates = number_of_states_property
+number_of_property TimeDelay = time_delay_property
+number_of_property TimeDelayNormal = time_delay_normal_property
+number_of_property HighLimit = high_limit_property
+number_of_property LowLimit = low_limit_property
+number_of_property Deadband = deadband_property
+number_of_property LimitEnable = limit_enable_property
+number_of_property AlarmValue = alarm_value_property
+number_of_property AlarmValues = alarm_values_property
+number_of_property FaultValues = fault_values_property
+number_of_property EventEnable = event_enable_property
+number_of_property EventAlgorithmInhibit = event_algorithm_inhibit_property
+number_of_property AckedTransitions = acked_transitions_property
+number_of_property NotifyType = notify_type_property
+number_of_property EventDetectionEnable = event_detection_enable_property
+number_of_property NotificationClass = notification_class_property
+number_of_property EventTimeStamps = event_time_stamps_property
 
 abbrev pub object_properties : List ObjectProperty
 object_properties =

@@ -4,6 +4,8 @@ use Rattle.bac_values.specs.declared.object_kind.ObjectKind.{ObjectKind}
 use Rattle.bac_values.specs.declared.object_kind.ObjectKind.TheVariants.{BinaryValue, MultiStateValue, BitStringValue, CharacterStringValue, IntegerValue, PositiveIntegerValue}
 use Rattle.bac_values.specs.declared.value.Value.{Value}
 use Rattle.bac_values.specs.declared.value.Value.TheVariants.{Bool as Truth, Unsigned, Signed, Text, Bits, Enumerated}
+use Rattle.bac_values.specs.declared.reliability.Reliability.TheVariants.{NoFaultDetected, OverRange, UnderRange, UnreliableOther, CommunicationFailure}
+use Rattle.bac_values.specs.Reliabilities.{number_of_reliability}
 use Rattle.object_table.specs.declared.object_property.ObjectProperty.{ObjectProperty}
 use Rattle.object_table.specs.declared.object_property.ObjectProperty.TheVariants.{PresentValue, OutOfService, ReliabilityEvaluationInhibit, TimeDelay, TimeDelayNormal, HighLimit, LowLimit, Deadband, LimitEnable, AlarmValue, EventEnable, EventAlgorithmInhibit}
 use Rattle.object_table.specs.declared.object_site.ObjectSite.{ObjectSite}
@@ -83,4 +85,5 @@ takes_value number value site = takes_known (kind_in site) site (property_of num
 
 -- the reliabilities of what gives an object its value
 abbrev pub is_field_fault : ℕ → Bool
-is_field_fault number = number == 0 || number == 2 || number == 3 || number == 7 || number == 12
+is_field_fault number =
+    number == number_of_reliability NoFaultDetected || number == number_of_reliability OverRange || number == number_of_reliability UnderRange || number == number_of_reliability UnreliableOther || number == number_of_reliability CommunicationFailure

@@ -1,9 +1,13 @@
 -- How a write, a set of a present value and a field fault are answered: the first error that applies (ANSI/ASHRAE 135-2020, 15.9 and clause 18).
 use Rattle.std.specs.Prelude.{◌≡◌, ℕ, ◌==◌, nat_lt, ◌⊎◌, Bool, true, false, Option, Some, None, Result, Ok, Err, IsOk, IsTrue, List, if◌then◌else◌}
+use Rattle.bac_values.specs.ApplicationTags.{null_tag, boolean_tag, unsigned_tag, signed_tag, character_string_tag, bit_string_tag, enumerated_tag, date_tag, object_identifier_tag}
+use Rattle.bac_values.specs.Errors.{unknown_object_error, invalid_data_type_error, unknown_property_error, value_out_of_range_error, write_access_denied_error, character_set_not_supported_error, invalid_array_index_error, property_is_not_an_array_error, no_space_to_write_property_error}
+use Rattle.bac_values.specs.Properties.{present_value_property}
 use Rattle.bac_values.specs.declared.input.SetFault.{SetFault}
 use Rattle.bac_values.specs.declared.input.SetFault.TheVariants.{UnknownObject, WrongKind, OutOfService as IsOutOfService, ValueRange}
 use Rattle.bac_values.specs.declared.object_kind.ObjectKind.{ObjectKind}
 use Rattle.bac_values.specs.declared.object_kind.ObjectKind.TheVariants.{BinaryValue, MultiStateValue, BitStringValue, CharacterStringValue, IntegerValue, PositiveIntegerValue}
+use Rattle.bac_values.specs.declared.service_error.ServiceError.{ServiceError}
 use Rattle.bac_values.specs.declared.value.Foreign.TheVariants.{CharacterSet, TooLong}
 use Rattle.bac_values.specs.declared.value.Value.{Value}
 use Rattle.bac_values.specs.declared.value.Value.TheVariants.{Null, Bool as Truth, Unsigned, Signed, Text, Bits, Enumerated, Object, DateTime, Opaque}
@@ -20,71 +24,74 @@ use Rattle.object_table.specs.Properties.{kind_in, property_of, has, length_of}
 use Rattle.object_table.specs.Values.{can_be, is_present_value, is_field_fault, is_text}
 use Rattle.object_table.specs.Rows.{row_of}
 
--- the errors, by class and code
+-- an error, as it is answered
+abbrev pub error_of : ServiceError → WriteFault
+error_of error = Error error.class error.code
+
 abbrev pub unknown_object : WriteFault
-unknown_object = Error 1 31
+unknown_object = error_of unknown_object_error
 
 abbrev pub unknown_property : WriteFault
-unknown_property = Error 2 32
+unknown_property = error_of unknown_property_error
 
 abbrev pub property_is_not_an_array : WriteFault
-property_is_not_an_array = Error 2 50
+property_is_not_an_array = error_of property_is_not_an_array_error
 
 abbrev pub invalid_array_index : WriteFault
-invalid_array_index = Error 2 42
+invalid_array_index = error_of invalid_array_index_error
 
 abbrev pub write_access_denied : WriteFault
-write_access_denied = Error 2 40
+write_access_denied = error_of write_access_denied_error
 
 abbrev pub invalid_data_type : WriteFault
-invalid_data_type = Error 2 9
+invalid_data_type = error_of invalid_data_type_error
 
 abbrev pub character_set_not_supported : WriteFault
-character_set_not_supported = Error 2 41
+character_set_not_supported = error_of character_set_not_supported_error
 
 abbrev pub no_space_to_write_property : WriteFault
-no_space_to_write_property = Error 3 20
+no_space_to_write_property = error_of no_space_to_write_property_error
 
 abbrev pub value_out_of_range : WriteFault
-value_out_of_range = Error 2 37
+value_out_of_range = error_of value_out_of_range_error
 
 -- the number of a value's application tag; a date and a time begin with that of the date
 abbrev pub tag_of : Value → ℕ
-tag_of Null = 0
-tag_of (Truth truth) = 1
-tag_of (Unsigned number) = 2
-tag_of (Signed number) = 3
-tag_of (Text text) = 7
-tag_of (Bits string) = 8
-tag_of (Enumerated number) = 9
-tag_of (DateTime stamp) = 10
-tag_of (Object object) = 12
+tag_of Null = null_tag
+tag_of (Truth truth) = boolean_tag
+tag_of (Unsigned number) = unsigned_tag
+tag_of (Signed number) = signed_tag
+tag_of (Text text) = character_string_tag
+tag_of (Bits string) = bit_string_tag
+tag_of (Enumerated number) = enumerated_tag
+tag_of (DateTime stamp) = date_tag
+tag_of (Object object) = object_identifier_tag
 tag_of (Opaque tag why) = tag
 
 -- the tag of a kind's present value
 abbrev pub value_tag : Option ObjectKind → Option ℕ
-value_tag (Some PositiveIntegerValue) = Some 2
-value_tag (Some MultiStateValue) = Some 2
-value_tag (Some IntegerValue) = Some 3
-value_tag (Some CharacterStringValue) = Some 7
-value_tag (Some BitStringValue) = Some 8
-value_tag (Some BinaryValue) = Some 9
+value_tag (Some PositiveIntegerValue) = Some unsigned_tag
+value_tag (Some MultiStateValue) = Some unsigned_tag
+value_tag (Some IntegerValue) = Some signed_tag
+value_tag (Some CharacterStringValue) = Some character_string_tag
+value_tag (Some BitStringValue) = Some bit_string_tag
+value_tag (Some BinaryValue) = Some enumerated_tag
 value_tag _ = None
 
 -- the tag of a property that may be written
 abbrev pub writable_tag : Option ObjectKind → ObjectProperty → Option ℕ
 writable_tag kind PresentValue = value_tag kind
-writable_tag kind OutOfService = Some 1
-writable_tag kind ReliabilityEvaluationInhibit = Some 1
-writable_tag kind TimeDelay = Some 2
-writable_tag kind TimeDelayNormal = Some 2
+writable_tag kind OutOfService = Some boolean_tag
+writable_tag kind ReliabilityEvaluationInhibit = Some boolean_tag
+writable_tag kind TimeDelay = Some unsigned_tag
+writable_tag kind TimeDelayNormal = Some unsigned_tag
 writable_tag kind HighLimit = value_tag kind
 writable_tag kind LowLimit = value_tag kind
-writable_tag kind Deadband = Some 2
-writable_tag kind LimitEnable = Some 8
-writable_tag kind AlarmValue = Some 9
-writable_tag kind EventEnable = Some 8
-writable_tag kind EventAlgorithmInhibit = Some 1
+writable_tag kind Deadband = Some unsigned_tag
+writable_tag kind LimitEnable = Some bit_string_tag
+writable_tag kind AlarmValue = Some enumerated_tag
+writable_tag kind EventEnable = Some bit_string_tag
+writable_tag kind EventAlgorithmInhibit = Some boolean_tag
 writable_tag kind _ = None
 
 -- the first error of two tests, one after the other
@@ -163,7 +170,7 @@ abbrev pub AnswersWrite : Value → Result Change WriteFault → Result Change W
 AnswersWrite value answer checked = (answer ≡ checked) ⊎ ((answer ≡ Err NoMemory) × IsOk checked × IsTrue (is_text value))
 
 abbrev pub set_by_row : Option Row → Identifier → Value → Result Change SetFault
-set_by_row (Some row) object value = allowed_change (set_verdict (kind_in row.site) row.site value) (property_change object 85 value)
+set_by_row (Some row) object value = allowed_change (set_verdict (kind_in row.site) row.site value) (property_change object present_value_property value)
 set_by_row None object value = Err UnknownObject
 
 -- the answer to a set of a present value

@@ -9,7 +9,7 @@ use Rattle.object_table.specs.declared.object_property.ObjectProperty.{ObjectPro
 use Rattle.object_table.specs.declared.object_property.ObjectProperty.TheVariants.{PresentValue, OutOfService, ReliabilityEvaluationInhibit, TimeDelay, TimeDelayNormal, HighLimit, LowLimit, Deadband, LimitEnable, AlarmValue, EventEnable, EventAlgorithmInhibit}
 use Rattle.object_table.specs.declared.object_site.ObjectSite.{ObjectSite}
 use Rattle.object_table.specs.declared.row.Row.{Row}
-use Rattle.object_table.specs.Flags.{two_flags, three_flags}
+use Rattle.bac_values.specs.BitString.{two_flags, three_flags}
 use Rattle.object_table.specs.Properties.{property_of}
 use Rattle.object_table.specs.Values.{takes_value, is_field_fault}
 use Rattle.object_table.specs.Rows.{is_object, row_of}

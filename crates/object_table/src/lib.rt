@@ -6,7 +6,6 @@
 
 mod change;
 mod faults;
-mod flags;
 mod laws;
 mod object_property;
 mod object_site;

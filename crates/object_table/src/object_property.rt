@@ -1,6 +1,8 @@
 ghost use Rattle.std.specs.Prelude.{◌≡◌};
 ghost use Rattle.object_table.specs.Properties.{property_of};
 
+use bac_values::PropertyId;
+
 /// The properties of value objects (ANSI/ASHRAE 135-2020, clause 12).
 #[derive(Clone, Copy, Debug, PartialEq, Eq)]
 pub enum ObjectProperty {
@@ -64,33 +66,35 @@ impl ObjectProperty {
     pub fn of_number(number: u32) -> Option<ObjectProperty>
         ensures property { result ≡ property_of number }
     {
-        match number {
-            0 => Some(ObjectProperty::AckedTransitions),
-            6 => Some(ObjectProperty::AlarmValue),
-            7 => Some(ObjectProperty::AlarmValues),
-            17 => Some(ObjectProperty::NotificationClass),
-            25 => Some(ObjectProperty::Deadband),
-            35 => Some(ObjectProperty::EventEnable),
-            36 => Some(ObjectProperty::EventState),
-            39 => Some(ObjectProperty::FaultValues),
-            45 => Some(ObjectProperty::HighLimit),
-            52 => Some(ObjectProperty::LimitEnable),
-            59 => Some(ObjectProperty::LowLimit),
-            72 => Some(ObjectProperty::NotifyType),
-            74 => Some(ObjectProperty::NumberOfStates),
-            75 => Some(ObjectProperty::ObjectIdentifier),
-            77 => Some(ObjectProperty::ObjectName),
-            79 => Some(ObjectProperty::ObjectType),
-            81 => Some(ObjectProperty::OutOfService),
-            85 => Some(ObjectProperty::PresentValue),
-            103 => Some(ObjectProperty::Reliability),
-            111 => Some(ObjectProperty::StatusFlags),
-            113 => Some(ObjectProperty::TimeDelay),
-            130 => Some(ObjectProperty::EventTimeStamps),
-            353 => Some(ObjectProperty::EventDetectionEnable),
-            354 => Some(ObjectProperty::EventAlgorithmInhibit),
-            356 => Some(ObjectProperty::TimeDelayNormal),
-            357 => Some(ObjectProperty::ReliabilityEvaluationInhibit),
+        match PropertyId(number) {
+            PropertyId::ACKED_TRANSITIONS => Some(ObjectProperty::AckedTransitions),
+            PropertyId::ALARM_VALUE => Some(ObjectProperty::AlarmValue),
+            PropertyId::ALARM_VALUES => Some(ObjectProperty::AlarmValues),
+            PropertyId::NOTIFICATION_CLASS => Some(ObjectProperty::NotificationClass),
+            PropertyId::DEADBAND => Some(ObjectProperty::Deadband),
+            PropertyId::EVENT_ENABLE => Some(ObjectProperty::EventEnable),
+            PropertyId::EVENT_STATE => Some(ObjectProperty::EventState),
+            PropertyId::FAULT_VALUES => Some(ObjectProperty::FaultValues),
+            PropertyId::HIGH_LIMIT => Some(ObjectProperty::HighLimit),
+            PropertyId::LIMIT_ENABLE => Some(ObjectProperty::LimitEnable),
+            PropertyId::LOW_LIMIT => Some(ObjectProperty::LowLimit),
+            PropertyId::NOTIFY_TYPE => Some(ObjectProperty::NotifyType),
+            PropertyId::NUMBER_OF_STATES => Some(ObjectProperty::NumberOfStates),
+            PropertyId::OBJECT_IDENTIFIER => Some(ObjectProperty::ObjectIdentifier),
+            PropertyId::OBJECT_NAME => Some(ObjectProperty::ObjectName),
+            PropertyId::OBJECT_TYPE => Some(ObjectProperty::ObjectType),
+            PropertyId::OUT_OF_SERVICE => Some(ObjectProperty::OutOfService),
+            PropertyId::PRESENT_VALUE => Some(ObjectProperty::PresentValue),
+            PropertyId::RELIABILITY => Some(ObjectProperty::Reliability),
+            PropertyId::STATUS_FLAGS => Some(ObjectProperty::StatusFlags),
+            PropertyId::TIME_DELAY => Some(ObjectProperty::TimeDelay),
+            PropertyId::EVENT_TIME_STAMPS => Some(ObjectProperty::EventTimeStamps),
+            PropertyId::EVENT_DETECTION_ENABLE => Some(ObjectProperty::EventDetectionEnable),
+            PropertyId::EVENT_ALGORITHM_INHIBIT => Some(ObjectProperty::EventAlgorithmInhibit),
+            PropertyId::TIME_DELAY_NORMAL => Some(ObjectProperty::TimeDelayNormal),
+            PropertyId::RELIABILITY_EVALUATION_INHIBIT => Some(
+                ObjectProperty::ReliabilityEvaluationInhibit,
+            ),
             _ => None,
         }
     }

@@ -1,15 +1,14 @@
 ghost use Rattle.std.specs.Prelude.{◌≡◌, IsTrue, IsSome, Some, length};
 ghost use Rattle.bac_values.specs.declared.value.Value.TheVariants.{Bool as Truth, Unsigned, Bits};
-ghost use Rattle.object_table.specs.Flags.{string_of, three_flags, two_flags};
+ghost use Rattle.bac_values.specs.BitString.{string_of_flags, three_flags, two_flags};
 ghost use Rattle.object_table.specs.Objects.{IsObject, IsRow};
 ghost use Rattle.object_table.specs.Properties.{kind_in};
 ghost use Rattle.object_table.specs.Values.{are_flags, is_truth, is_unsigned, takes_known, takes_value};
 ghost use Rattle.object_table.specs.Held.{FitsAs, HoldsLimit, IsThreeFlags, IsTwoFlags, SameType};
 ghost use Rattle.object_table.specs.Writes.{changed, property_set, set_known, takes};
 
-use crate::flags::{string_of_three, string_of_two, three_flags, two_flags};
 use crate::{ObjectProperty, ObjectSite, Row, What};
-use bac_values::{PropertyId, Value};
+use bac_values::{Bits, PropertyId, Value};
 use std::mem::replace;
 
 /// Makes a change of a row, and gives the change that takes it back.
@@ -123,11 +122,11 @@ fn put_limit(limit: &mut i64, value: Value) -> Value
 fn put_two_flags(flags: &mut [bool; 2], value: Value) -> Value
     requires bits { IsTrue (are_flags 2 value) }
     ensures new { IsTwoFlags value flags.new }
-    ensures old { result ≡ Bits (string_of flags.old) }
+    ensures old { result ≡ Bits (string_of_flags flags.old) }
     ensures size { length flags.new ≡ 2 }
 {
     match value {
-        Value::Bits(new) => Value::Bits(string_of_two(replace(flags, two_flags(new)))),
+        Value::Bits(new) => Value::Bits(Bits::of_flags(&replace(flags, new.two_flags()))),
         _ => unreachable!(),
     }
 }
@@ -135,11 +134,11 @@ fn put_two_flags(flags: &mut [bool; 2], value: Value) -> Value
 fn put_three_flags(flags: &mut [bool; 3], value: Value) -> Value
     requires bits { IsTrue (are_flags 3 value) }
     ensures new { IsThreeFlags value flags.new }
-    ensures old { result ≡ Bits (string_of flags.old) }
+    ensures old { result ≡ Bits (string_of_flags flags.old) }
     ensures size { length flags.new ≡ 3 }
 {
     match value {
-        Value::Bits(new) => Value::Bits(string_of_three(replace(flags, three_flags(new)))),
+        Value::Bits(new) => Value::Bits(Bits::of_flags(&replace(flags, new.three_flags()))),
         _ => unreachable!(),
     }
 }

@@ -2,7 +2,7 @@ ghost use Rattle.std.specs.Prelude.{◌≡◌, ℕ};
 ghost use Rattle.object_table.specs.Values.{are_flags, can_be, has_length_of, is_binary_value, is_field_fault, is_number, is_present_value, is_state, is_text, is_truth, is_unsigned};
 
 use crate::{ObjectProperty, ObjectSite};
-use bac_values::{ObjectKind, Value};
+use bac_values::{ObjectKind, Reliability, Value};
 
 /// Whether a property that may be written can be the value.
 pub fn can_be(
@@ -47,7 +47,11 @@ pub fn is_present_value(kind: Option<ObjectKind>, site: &ObjectSite, value: &Val
 pub fn is_field_fault(number: u32) -> bool
     ensures fault { result ≡ is_field_fault number }
 {
-    number == 0 || number == 2 || number == 3 || number == 7 || number == 12
+    number == u32::from(Reliability::NoFaultDetected.number())
+        || number == u32::from(Reliability::OverRange.number())
+        || number == u32::from(Reliability::UnderRange.number())
+        || number == u32::from(Reliability::UnreliableOther.number())
+        || number == u32::from(Reliability::CommunicationFailure.number())
 }
 
 fn is_truth(value: &Value) -> bool

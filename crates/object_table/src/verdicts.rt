@@ -6,7 +6,7 @@ ghost use Rattle.object_table.specs.Verdicts.{content_verdict, index_verdict, se
 use crate::properties::{has, length_of};
 use crate::values::{can_be, is_present_value};
 use crate::{ObjectProperty, ObjectSite, WriteFault};
-use bac_values::{Foreign, ObjectKind, PropertyId, SetFault, Value};
+use bac_values::{ApplicationTag, Foreign, ObjectKind, PropertyId, SetFault, Value};
 
 /// Whether an object takes a write of a property; the first error that applies is told.
 pub fn check_object(
@@ -100,15 +100,15 @@ fn tag_of(value: &Value) -> u8
     ensures tag { result ≡ tag_of value.now }
 {
     match value {
-        Value::Null => 0,
-        Value::Bool(_) => 1,
-        Value::Unsigned(_) => 2,
-        Value::Signed(_) => 3,
-        Value::Text(_) => 7,
-        Value::Bits(_) => 8,
-        Value::Enumerated(_) => 9,
-        Value::DateTime(_) => 10,
-        Value::Object(_) => 12,
+        Value::Null => ApplicationTag::NULL.0,
+        Value::Bool(_) => ApplicationTag::BOOLEAN.0,
+        Value::Unsigned(_) => ApplicationTag::UNSIGNED.0,
+        Value::Signed(_) => ApplicationTag::SIGNED.0,
+        Value::Text(_) => ApplicationTag::CHARACTER_STRING.0,
+        Value::Bits(_) => ApplicationTag::BIT_STRING.0,
+        Value::Enumerated(_) => ApplicationTag::ENUMERATED.0,
+        Value::DateTime(_) => ApplicationTag::DATE.0,
+        Value::Object(_) => ApplicationTag::OBJECT_IDENTIFIER.0,
         Value::Opaque { tag, .. } => *tag,
     }
 }
@@ -118,11 +118,13 @@ fn value_tag(kind: Option<ObjectKind>) -> Option<u8>
     ensures tag { result ≡ value_tag kind }
 {
     match kind? {
-        ObjectKind::PositiveIntegerValue | ObjectKind::MultiStateValue => Some(2),
-        ObjectKind::IntegerValue => Some(3),
-        ObjectKind::CharacterStringValue => Some(7),
-        ObjectKind::BitStringValue => Some(8),
-        ObjectKind::BinaryValue => Some(9),
+        ObjectKind::PositiveIntegerValue | ObjectKind::MultiStateValue => Some(
+            ApplicationTag::UNSIGNED.0,
+        ),
+        ObjectKind::IntegerValue => Some(ApplicationTag::SIGNED.0),
+        ObjectKind::CharacterStringValue => Some(ApplicationTag::CHARACTER_STRING.0),
+        ObjectKind::BitStringValue => Some(ApplicationTag::BIT_STRING.0),
+        ObjectKind::BinaryValue => Some(ApplicationTag::ENUMERATED.0),
         _ => None,
     }
 }
@@ -137,12 +139,14 @@ fn writable_tag(kind: Option<ObjectKind>, property: ObjectProperty) -> Option<u8
         }
         ObjectProperty::OutOfService
         | ObjectProperty::ReliabilityEvaluationInhibit
-        | ObjectProperty::EventAlgorithmInhibit => Some(1),
+        | ObjectProperty::EventAlgorithmInhibit => Some(ApplicationTag::BOOLEAN.0),
         ObjectProperty::TimeDelay | ObjectProperty::TimeDelayNormal | ObjectProperty::Deadband => {
-            Some(2)
+            Some(ApplicationTag::UNSIGNED.0)
         }
-        ObjectProperty::LimitEnable | ObjectProperty::EventEnable => Some(8),
-        ObjectProperty::AlarmValue => Some(9),
+        ObjectProperty::LimitEnable | ObjectProperty::EventEnable => Some(
+            ApplicationTag::BIT_STRING.0,
+        ),
+        ObjectProperty::AlarmValue => Some(ApplicationTag::ENUMERATED.0),
         _ => None,
     }
 }

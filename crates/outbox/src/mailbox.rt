@@ -7,17 +7,11 @@ ghost use Rattle.outbox.specs.Delivery.{is_awaited, is_repeated, is_confirmed, d
 ghost use Rattle.outbox.specs.Posts.{PostState, empty_post, with_note, without_first, is_in_flight, post_answered, unsent, post_sent, post_pumped, post_sends, is_post_idle, most_octets};
 
 use apdu_frame::{request, unconfirmed};
-use bac_values::{Items, NoMemory, Note, Peer, Send};
+use bac_values::{ConfirmedService, Items, NoMemory, Note, Peer, Send, UnconfirmedService};
 use bvlc_npdu::wrap;
 use std::alloc::{AllocFailed, Global};
 use std::collections::VecDeque;
 use std::marker::Model;
-
-/// The service ConfirmedEventNotification.
-const CONFIRMED_EVENT_NOTIFICATION: u8 = 2;
-
-/// The service UnconfirmedEventNotification.
-const UNCONFIRMED_EVENT_NOTIFICATION: u8 = 3;
 
 /// What is kept of one recipient: its notes that are not finished, the first of which may be in flight.
 #[derive(Debug, Drop)]
@@ -43,9 +37,18 @@ fn apdu_of(alloc: Global, invoke: u8, note: &Note) -> Result<Vec<u8>, NoMemory>
 {
     let body = note.body.as_slice();
     if note.confirmed {
-        request(alloc, invoke, CONFIRMED_EVENT_NOTIFICATION, body)
+        request(
+            alloc,
+            invoke,
+            ConfirmedService::CONFIRMED_EVENT_NOTIFICATION.0,
+            body,
+        )
     } else {
-        unconfirmed(alloc, UNCONFIRMED_EVENT_NOTIFICATION, body)
+        unconfirmed(
+            alloc,
+            UnconfirmedService::UNCONFIRMED_EVENT_NOTIFICATION.0,
+            body,
+        )
     }
 }
 

@@ -1,8 +1,8 @@
 -- The one spelling of what is written: every tag and every number in the fewest octets (ANSI/ASHRAE 135-2020, 15.5, 15.8 and 16.10).
-use Rattle.std.specs.Prelude.{ℕ, ◌+◌, ◌*◌, Bool, Option, Some, None, List, [], ◌∷◌, ◌++◌, length}
-use Rattle.std.specs.Int.{from_bool}
+use Rattle.std.specs.Prelude.{ℕ, Bool, Option, Some, None, List, ◌++◌}
 use Rattle.bac_values.specs.Identifier.{Identifier}
-use Rattle.bac_values.specs.BitString.{BitString}
+use Rattle.bac_values.specs.BitString.{string_of_flags}
+use Rattle.bac_values.specs.Services.{longest_apdu, no_segmentation}
 use Rattle.bac_tags.specs.Writing.{written_unsigned, written_enumerated, written_object, written_bits}
 use Rattle.bac_tags.specs.ParameterWriting.{written_enclosed, written_if_given}
 use Rattle.property_services.specs.declared.requests.ReadRequest.{ReadRequest}
@@ -17,20 +17,12 @@ written_reference object property index =
 abbrev pub written_read_ack : ReadRequest → List ℕ → List ℕ
 written_read_ack request values = written_reference request.object request.property.0 request.index ++ written_enclosed 3 values
 
--- flags as a BitString, the first one the first bit
-abbrev pub number_of_flags : List Bool → ℕ
-number_of_flags [] = 0
-number_of_flags (flag ∷ flags) = from_bool flag + 2 * number_of_flags flags
-
-abbrev pub string_of_flags : List Bool → BitString
-string_of_flags flags = record { size = length flags; bits = number_of_flags flags }
-
 -- 15.8: the answer to ReadRange repeats the request, with [3] its flags (first item, last item, more items), [4] the count, [5] the items, [6] the first sequence number, if there is one
 abbrev pub written_range_ack : RangeRequest → List Bool → ℕ → List ℕ → Option ℕ → List ℕ
 written_range_ack request flags count items first =
     written_reference request.object request.property.0 request.index ++ written_bits (Some 3) (string_of_flags flags) ++ written_unsigned (Some 4) count ++ written_enclosed 5 items ++ written_if_given (written_unsigned (Some 6)) first
 
--- 16.10: I-Am has the device, the longest APDU that it takes, that it takes no segments (3), and the number of its vendor
+-- 16.10: I-Am has the device, the longest APDU that it takes, that it takes no segments, and the number of its vendor
 abbrev pub written_i_am : Identifier → ℕ → List ℕ
 written_i_am device vendor =
-    written_object None device ++ written_unsigned None 1476 ++ written_enumerated None 3 ++ written_unsigned None vendor
+    written_object None device ++ written_unsigned None longest_apdu ++ written_enumerated None no_segmentation ++ written_unsigned None vendor

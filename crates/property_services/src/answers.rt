@@ -1,5 +1,5 @@
 ghost use Rattle.std.specs.Prelude.{◌≡◌, ◌++◌, ◌∷◌, [], Some, IfOk, OnOk};
-ghost use Rattle.property_services.specs.Writing.{written_reference, written_read_ack, string_of_flags, written_range_ack, written_i_am};
+ghost use Rattle.property_services.specs.Writing.{written_reference, written_read_ack, written_range_ack, written_i_am};
 ghost use Rattle.bac_tags.specs.Writing.{written_unsigned};
 ghost use Rattle.bac_tags.specs.ParameterWriting.{written_enclosed, written_if_given};
 
@@ -7,14 +7,8 @@ use crate::{RangeRequest, ReadRequest};
 use bac_tags::{
     write_bits, write_closing, write_object, write_opening, write_unsigned, write_value,
 };
-use bac_values::{Bits, NoMemory, ObjectId, PropertyId, Value};
+use bac_values::{Bits, LONGEST_APDU, NO_SEGMENTATION, NoMemory, ObjectId, PropertyId, Value};
 use std::alloc::Global;
-
-/// The longest APDU that the server takes, in octets.
-const MAX_APDU: u32 = 1476;
-
-/// The number of no-segmentation (BACnetSegmentation).
-const NO_SEGMENTATION: u32 = 3;
 
 /// Appends elements between an opening and a closing tag.
 fn write_list(out: &mut Vec<u8>, number: u8, elements: &[u8]) -> Result<(), NoMemory>
@@ -64,18 +58,6 @@ pub fn write_read_ack(
     Ok(out)
 }
 
-/// Three flags as a string, the first one the first bit.
-fn string_of_flags(flags: [bool; 3]) -> Bits
-    ensures { result ≡ string_of_flags flags }
-{
-    let [first, second, third] = flags;
-    let bits = u64::from(first) + 2 * u64::from(second) + 4 * u64::from(third);
-    let Ok(string) = Bits::new(3, bits) else {
-        unreachable!()
-    };
-    string
-}
-
 /// The answer to ReadRange (15.8). The flags are first item, last item and more items. The items stand as they are
 /// given, one after the other. `first` is the first one's sequence number, where it is to be written.
 pub fn write_range_ack(
@@ -90,7 +72,7 @@ pub fn write_range_ack(
 {
     let mut out = Vec::new(alloc);
     write_reference(&mut out, request.object, request.property, request.index)?;
-    write_bits(&mut out, Some(3), string_of_flags(flags))?;
+    write_bits(&mut out, Some(3), Bits::of_flags(&flags))?;
     write_unsigned(&mut out, Some(4), count)?;
     write_list(&mut out, 5, items)?;
     write_if_given(&mut out, 6, first)?;
@@ -104,8 +86,8 @@ pub fn write_i_am(alloc: Global, device: ObjectId, vendor: u16) -> Result<Vec<u8
 {
     let mut out = Vec::new(alloc);
     write_object(&mut out, None, device)?;
-    write_unsigned(&mut out, None, MAX_APDU)?;
-    write_value(&mut out, &Value::Enumerated(NO_SEGMENTATION))?;
+    write_unsigned(&mut out, None, u32::from(LONGEST_APDU))?;
+    write_value(&mut out, &Value::Enumerated(u32::from(NO_SEGMENTATION)))?;
     write_unsigned(&mut out, None, u32::from(vendor))?;
     Ok(out)
 }

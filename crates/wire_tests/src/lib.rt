@@ -17,3 +17,5 @@ mod event_services_tests;
 mod parameters_tests;
 #[cfg(test)]
 mod property_services_tests;
+#[cfg(test)]
+mod standard_numbers_tests;
