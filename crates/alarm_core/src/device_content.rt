@@ -123,10 +123,7 @@ pub(crate) fn device_content(
     match property {
         PropertyId::OBJECT_IDENTIFIER => Ok(object(alloc, device_object(site))?),
         PropertyId::OBJECT_NAME => Ok(text(alloc, &site.device.name)?),
-        PropertyId::OBJECT_TYPE => Ok(enumerated(
-            alloc,
-            u32::from(ObjectKind::Device.number()),
-        )?),
+        PropertyId::OBJECT_TYPE => Ok(enumerated(alloc, u32::from(ObjectKind::Device.number()))?),
         PropertyId::OBJECT_LIST => Ok(array_of_objects(alloc, &object_list(alloc, site)?)?),
         PropertyId::MAX_APDU_LENGTH_ACCEPTED => Ok(unsigned(alloc, u32::from(LONGEST_APDU))?),
         PropertyId::SEGMENTATION_SUPPORTED => Ok(enumerated(alloc, u32::from(NO_SEGMENTATION))?),

@@ -26,10 +26,7 @@ pub(crate) fn log_content(
     match property {
         PropertyId::OBJECT_IDENTIFIER => Ok(object(alloc, site.object)?),
         PropertyId::OBJECT_NAME => Ok(text(alloc, &site.name)?),
-        PropertyId::OBJECT_TYPE => Ok(enumerated(
-            alloc,
-            u32::from(ObjectKind::EventLog.number()),
-        )?),
+        PropertyId::OBJECT_TYPE => Ok(enumerated(alloc, u32::from(ObjectKind::EventLog.number()))?),
         PropertyId::ENABLE => Ok(boolean(alloc, log.enabled())?),
         PropertyId::RECORD_COUNT => Ok(unsigned(alloc, log.len())?),
         PropertyId::BUFFER_SIZE => Ok(unsigned(alloc, site.size)?),

@@ -98,7 +98,12 @@ fn apdu_decision(
             request_decision(alloc, core, moment, &asker, &octets[start..])
         }
         Apdu::Segmented { invoke } => Ok(Decision::Reply {
-            send: abort_to(alloc, peer, invoke, AbortReason::SEGMENTATION_NOT_SUPPORTED.0)?,
+            send: abort_to(
+                alloc,
+                peer,
+                invoke,
+                AbortReason::SEGMENTATION_NOT_SUPPORTED.0,
+            )?,
         }),
         Apdu::Unconfirmed { service, start } => {
             unconfirmed_decision(alloc, core, peer, service, &octets[start..])
@@ -119,7 +124,13 @@ fn apdu_decision(
             service,
             PduType::ERROR.0,
         )),
-        Apdu::Reject { invoke } => Ok(answer_decision(core, moment, peer, invoke, PduType::REJECT.0)),
+        Apdu::Reject { invoke } => Ok(answer_decision(
+            core,
+            moment,
+            peer,
+            invoke,
+            PduType::REJECT.0,
+        )),
         Apdu::Abort { invoke } => Ok(answer_decision(core, moment, peer, invoke, PduType::ABORT.0)),
         Apdu::Other => Ok(Decision::Ignore),
     }
