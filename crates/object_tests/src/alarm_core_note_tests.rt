@@ -268,7 +268,10 @@ fn an_edit_is_read_and_its_recipients_are_told(rt: HostRuntime) -> Result<(), Fa
     let mut core = Core::start(rt.alloc(), &plant(rt.alloc(), 64)?)?;
     let list = vec![in rt.alloc(); told(operator(), 1), told(guard(), 2)]?;
     let edited = edit(&mut core, START, list)?;
-    holds(&rt, edited.moves.as_slice().is_empty() && edited.sends.as_slice().is_empty());
+    holds(
+        &rt,
+        edited.moves.as_slice().is_empty() && edited.sends.as_slice().is_empty(),
+    );
     holds(&rt, knows_both(&core));
     holds(&rt, lists(rt.alloc(), &core, &BOTH)?);
     let _moved = set(&mut core, START, 90)??;

@@ -18,6 +18,7 @@ outbox = 512
 
 [[class]]
 instance = 7
+priority = [100, 90, 200]
 
 [[destination]]
 class = 7
@@ -29,8 +30,7 @@ fn crowd(alloc: Global, objects: u32) -> Result<String, Fail> {
     let mut text = String::new(alloc);
     text.push_str(SURROUNDINGS)?;
     for instance in 1..=objects {
-        let object = format!(
-            in alloc;
+        let object = format!(in alloc;
             "\n[[object]]\nkind = \"integer-value\"\ninstance = {instance}\nvalue = 90\nclass = 7\nlow = 20\nhigh = 80\n"
         )?;
         text.push_str(&object)?;
