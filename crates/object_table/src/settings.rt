@@ -1,5 +1,5 @@
 ghost use Rattle.std.specs.Prelude.{◌≡◌, IsTrue, IsSome, Some, length};
-ghost use Rattle.bac_values.specs.declared.value.Value.TheVariants.{Bool as Truth, Unsigned, Bits};
+ghost use Rattle.bac_values.specs.declared.value.Value.TheVariants.{Bool as Truth, Unsigned};
 ghost use Rattle.bac_values.specs.BitString.{string_of_flags, three_flags, two_flags};
 ghost use Rattle.object_table.specs.Objects.{IsObject, IsRow};
 ghost use Rattle.object_table.specs.Properties.{kind_in};
@@ -122,7 +122,7 @@ fn put_limit(limit: &mut i64, value: Value) -> Value
 fn put_two_flags(flags: &mut [bool; 2], value: Value) -> Value
     requires bits { IsTrue (are_flags 2 value) }
     ensures new { IsTwoFlags value flags.new }
-    ensures old { result ≡ Bits (string_of_flags flags.old) }
+    ensures old { result ≡ Value.Bits (string_of_flags flags.old) }
     ensures size { length flags.new ≡ 2 }
 {
     match value {
@@ -134,7 +134,7 @@ fn put_two_flags(flags: &mut [bool; 2], value: Value) -> Value
 fn put_three_flags(flags: &mut [bool; 3], value: Value) -> Value
     requires bits { IsTrue (are_flags 3 value) }
     ensures new { IsThreeFlags value flags.new }
-    ensures old { result ≡ Bits (string_of_flags flags.old) }
+    ensures old { result ≡ Value.Bits (string_of_flags flags.old) }
     ensures size { length flags.new ≡ 3 }
 {
     match value {
