@@ -13,7 +13,7 @@ use std::alloc::Global;
 use std::test::Fail;
 
 /// When the site starts.
-const START: u64 = 1_700_000_000_000;
+pub(crate) const START: u64 = 1_700_000_000_000;
 
 /// The notification of HIGH_LIMIT at the start, to be confirmed with invoke ID 0.
 const HIGH_LIMIT: [u8; 65] = [
@@ -28,7 +28,7 @@ fn operator() -> Peer {
     Peer::local(167_772_165, 47808)
 }
 
-fn operators(alloc: Global) -> Result<ClassSite, Fail>
+pub(crate) fn operators(alloc: Global) -> Result<ClassSite, Fail>
     ensures instance { IfOk result (λ site. site.class.instance ≡ 7) }
 {
     let told = Destination {
@@ -81,7 +81,7 @@ fn tank(alloc: Global) -> Result<ObjectSite, Fail>
     })
 }
 
-fn device(alloc: Global, outbox: u32) -> Result<DeviceSite, Fail>
+pub(crate) fn device(alloc: Global, outbox: u32) -> Result<DeviceSite, Fail>
     ensures instance { IfOk result (λ site. site.instance ≡ 1001) }
     ensures start { IfOk result (λ site. site.start ≡ 1700000000000) }
     ensures zone { IfOk result (λ site. site.zone_minutes ≡ pos 0) }
@@ -120,7 +120,11 @@ fn the_tank() -> Result<ObjectId, Fail> {
 }
 
 /// An event at a moment, while there are few.
-fn take(core: &mut Core, moment: u64, act: Act) -> Result<Result<Outcome, StepFault>, Fail>
+pub(crate) fn take(
+    core: &mut Core,
+    moment: u64,
+    act: Act,
+) -> Result<Result<Outcome, StepFault>, Fail>
     requires moment { IsMoment moment }
     requires allowed { IsAllowed core.old act }
 {
@@ -136,7 +140,7 @@ fn set(core: &mut Core, moment: u64, value: i32) -> Result<Result<Outcome, StepF
 }
 
 /// The operator answers a notification in flight by SimpleACK.
-fn answer(core: &mut Core, moment: u64, invoke: u8) -> Result<Outcome, Fail>
+pub(crate) fn answer(core: &mut Core, moment: u64, invoke: u8) -> Result<Outcome, Fail>
     requires moment { IsMoment moment }
 {
     let peer = operator();
@@ -148,7 +152,7 @@ fn answer(core: &mut Core, moment: u64, invoke: u8) -> Result<Outcome, Fail>
 }
 
 /// Whether one datagram is sent, to the operator, with these octets.
-fn sends(outcome: &Outcome, octets: &[u8]) -> bool {
+pub(crate) fn sends(outcome: &Outcome, octets: &[u8]) -> bool {
     match outcome.sends.as_slice() {
         [send] => send.peer == operator() && send.bytes.as_slice() == octets,
         _ => false,

@@ -4,6 +4,8 @@
 #![tactic(auto)]
 
 #[cfg(test)]
+mod alarm_core_fault_tests;
+#[cfg(test)]
 mod alarm_core_note_tests;
 #[cfg(test)]
 mod alarm_core_tests;
@@ -22,9 +24,13 @@ mod event_log_tests;
 #[cfg(test)]
 mod event_machine_tests;
 #[cfg(test)]
+mod event_machine_value_tests;
+#[cfg(test)]
 mod held_timers_tests;
 #[cfg(test)]
 mod note_maker_tests;
+#[cfg(test)]
+mod note_maker_value_tests;
 #[cfg(test)]
 mod notify_class_tests;
 #[cfg(test)]

@@ -46,7 +46,7 @@ const FAULTY: [u8; 59] = [
 const RAISED_AT: u64 = 1_700_000_010_000;
 
 /// The local date and time of it there.
-const RAISED: Stamp = Stamp {
+pub(crate) const RAISED: Stamp = Stamp {
     octets: [0x7b, 0x0b, 0x0e, 0x02, 0x16, 0x0d, 0x1e, 0x00],
 };
 
@@ -91,14 +91,14 @@ fn class(destinations: Vec<Destination>) -> Class {
 }
 
 /// Class 7 with one recipient, whose process is 1.
-fn class_of_one(alloc: Global) -> Result<Class, Fail> {
+pub(crate) fn class_of_one(alloc: Global) -> Result<Class, Fail> {
     let mut destinations = Vec::new(alloc);
     destinations.push(always(1))?;
     Ok(class(destinations))
 }
 
 /// A value with limits 20 and 80, both enabled, and a deadband of 5.
-fn snapshot<'a>(
+pub(crate) fn snapshot<'a>(
     algorithm: Algorithm,
     value: &'a Value,
     alarm_values: &'a [Value],
@@ -123,7 +123,7 @@ fn snapshot<'a>(
     }
 }
 
-fn by_algorithm(from: EventState, to: EventState) -> Move {
+pub(crate) fn by_algorithm(from: EventState, to: EventState) -> Move {
     Move {
         from,
         to,
@@ -171,7 +171,7 @@ fn body_of(
 }
 
 /// The octets are the one note of the facts to process 1, and are read back.
-fn expect_note(
+pub(crate) fn expect_note(
     rt: &impl Abort,
     alloc: Global,
     facts: Notification,
