@@ -51,13 +51,15 @@ pub record IsPost (retries : ℕ) (post : PostState) : Type 0 where
 abbrev pub is_own : Address → Note → Bool
 is_own peer note = nat_le (length note.body) most_octets && is_same note.peer peer
 
+-- whether it is so of a post's attempts and deadline: none where its first note isn't to be confirmed, or isn't there
+abbrev pub is_tried : ℕ → PostState → Bool
+is_tried retries post =
+    if post.attempts == 0 then post.deadline == 0
+    else nat_le post.attempts (1 + retries) && option_map_or is_confirmed (slice_get post.notes 0) false
+
 -- whether it is so of a post
 abbrev pub is_post : ℕ → PostState → Bool
-is_post retries post =
-    nat_lt post.next_invoke 256 && (nat_lt post.deadline (2 ^ 64) && (nat_le post.attempts (1 + retries)
-    && ((post.attempts == 0 || option_map_or is_confirmed (slice_get post.notes 0) false)
-    && ((nat_lt 0 post.attempts || post.deadline == 0)
-    && list_all (is_own post.peer) post.notes))))
+is_post retries post = (nat_lt post.next_invoke 256 && nat_lt post.deadline (2 ^ 64)) && (is_tried retries post && list_all (is_own post.peer) post.notes)
 
 -- the test tells it exactly
 abbrev pub TestsPosts : Type 0

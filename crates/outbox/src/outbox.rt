@@ -182,6 +182,7 @@ impl Outbox {
     }
 
     /// Whether an outbox may be made of these posts and notes by `restore`.
+    #[tactic(auto, using(crate::proofs::Tested::refused_settings))]
     pub fn can_restore(
         posts: &[Post],
         notes: &[Note],
@@ -191,10 +192,16 @@ impl Outbox {
     ) -> bool
         ensures exact { IsTrue result ↔ AreParts posts.now notes.now limit timeout retries }
     {
-        are_settings(limit, timeout, retries)
-            && notes.len() <= limit as usize
-            && is_ascending(posts)
-            && are_posts(posts, notes, retries)
+        if !are_settings(limit, timeout, retries) {
+            return false;
+        }
+        if notes.len() > limit as usize {
+            return false;
+        }
+        if !is_ascending(posts) {
+            return false;
+        }
+        are_posts(posts, notes, retries)
     }
 
     /// An outbox with these posts and notes, one post's after the other's. Each post tells how many are its own.
