@@ -1,6 +1,6 @@
 -- What a pump sends, place by place.
-use Rattle.std.proofs.Common.{◌≡◌, ◌⊎◌, ℕ, zero, suc, ◌+◌, ◌-◌, ◌<◌, ◌≤◌, Bool, true, false, not, nat_lt, nat_le, ◌&&◌, ◌==◌, List, [], ◌∷◌, ◌++◌, length, take, drop, map, filter, get_or, min, refl, sym, ◌∙◌, ap, inl, inr, arith, if◌then◌else◌}
-use Rattle.std.specs.List.{flat_map, position_or_len, range_with_len}
+use Rattle.std.proofs.Common.{◌≡◌, ◌⊎◌, ℕ, zero, suc, ◌+◌, ◌-◌, ◌<◌, ◌≤◌, Bool, true, false, not, nat_lt, nat_le, ◌&&◌, ◌==◌, List, [], ◌∷◌, ◌++◌, length, take, drop, map, filter, get_or, min, refl, sym, ◌∙◌, ap, inl, inr, arith}
+use Rattle.std.specs.List.{flat_map, range_with_len}
 use Rattle.std.proofs.lemmas.Bool.{cases_lt, eq-eqb, ne_eqb, ltb-true}
 use Rattle.std.proofs.lemmas.List.{append-nil, drop-drop, get_or-drop, length-drop, map-append, take_all}
 use Rattle.std.proofs.lemmas.List.Elements.{filter-append}
@@ -8,7 +8,7 @@ use Rattle.std.proofs.lemmas.List.Sums.{prefix_len-le-length}
 use Rattle.bac_values.specs.Address.{Address}
 use Rattle.bac_values.specs.declared.note.Note.{Note}
 use Rattle.outbox.specs.Notifying.{datagram_of}
-use Rattle.outbox.specs.Delivery.{Operation, Timing, Delivery, is_confirmed, invoke_id, next_confirmed, is_awaited, is_repeated, first_unsent, datagrams_between, sent_at, delivery_after}
+use Rattle.outbox.specs.Delivery.{Timing, Delivery, is_confirmed, invoke_id, next_confirmed, is_awaited, is_repeated, first_unsent, sent_at, delivery_after}
 use Rattle.outbox.specs.Finishing.{is_sent_at, places_sent, datagram_at, SendsThesePlaces}
 use Rattle.outbox.proofs.Finished.{le_true, le_false, lt_true, unconfirmed_between}
 use Rattle.outbox.proofs.Laws.{IsDelivery, delivery_is, first_unsent-le, take_sum}

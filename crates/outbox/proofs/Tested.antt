@@ -1,12 +1,11 @@
 -- The tests of what was told are what they test.
-use Rattle.std.proofs.Common.{◌≡◌, ◌↔◌, ◌⊎◌, ℕ, zero, suc, ◌+◌, ◌-◌, ◌^◌, ◌<◌, ◌≤◌, ◌==◌, Bool, true, false, true≢false, ◌&&◌, ◌||◌, nat_lt, nat_le, IsTrue, Option, Some, None, List, [], ◌∷◌, length, take, drop, map, get_or, slice_get, refl, sym, ◌∙◌, ap, subst, inl, inr, arith, rules, if◌then◌else◌}
-use Rattle.std.specs.List.{All, AllAdjacentBelow, AllPairs, IsAllAdjacentAnswer, list_all}
+use Rattle.std.proofs.Common.{◌≡◌, ◌↔◌, ℕ, zero, suc, ◌+◌, ◌-◌, ◌^◌, ◌<◌, ◌≤◌, ◌==◌, Bool, true, false, true≢false, ◌&&◌, nat_lt, nat_le, IsTrue, List, [], ◌∷◌, length, take, drop, map, get_or, slice_get, refl, sym, ◌∙◌, ap, subst, arith, rules}
+use Rattle.std.specs.List.{All, AllAdjacentBelow, IsAllAdjacentAnswer, list_all}
 use Rattle.std.specs.Option.{IsSomeAnd, option_map_or}
 use Rattle.std.specs.Ordering.{is_lt}
-use Rattle.std.specs.Cmp.{IsTotalOrder}
 use Rattle.std.specs.declared.cmp.Ordering.{Ordering}
 use Rattle.std.specs.declared.cmp.Ordering.TheVariants.{Less, Equal, Greater}
-use Rattle.std.proofs.lemmas.Bool.{cases_Bool, cases_lt, eq-eqb, eqb-true, lt-ltb, ltb-true}
+use Rattle.std.proofs.lemmas.Bool.{eq-eqb, eqb-true, lt-ltb, ltb-true}
 use Rattle.std.proofs.lemmas.List.{get_or-map, length-drop, length-map}
 use Rattle.std.proofs.lemmas.List.Sums.{sum_by-cons}
 use Rattle.bac_values.specs.Address.{Address}
@@ -16,7 +15,7 @@ use Rattle.bac_values.proofs.OrderLemmas.{peers_are_total, same_is_equivalence, 
 use Rattle.outbox.specs.declared.post.Post.{Post}
 use Rattle.outbox.specs.Delivery.{is_confirmed}
 use Rattle.outbox.specs.Posts.{PostState, IsPost, TestsPosts, is_own, is_post, is_tried, most_octets}
-use Rattle.outbox.specs.Outboxes.{AreParts, AreSettings, IsOutbox, are_posts, notes_told, peers_of, restored, restored_post, restored_posts, unfinished_in}
+use Rattle.outbox.specs.Outboxes.{AreParts, AreSettings, are_posts, notes_told, peers_of, restored_post, restored_posts}
 use Rattle.outbox.proofs.Finished.{le_true}
 use Rattle.outbox.proofs.Told.{counts_told, first_within, others_count}
 
@@ -235,13 +234,15 @@ are_parts : (posts : List Post) (notes : List Note) (limit timeout retries : ℕ
     AreParts posts notes limit timeout retries
 are_parts posts notes limit timeout retries settings fits ascending tested =
     let told = posts_told retries posts notes tested in
-    let count = counts_told posts notes told.0 in
-    (told.0, record {
-      settings = settings;
-      ascending = subst IsAscending (sym (peers_told posts notes)) ascending;
-      posts = told.1;
-      room = omega (arith, count, fits);
-    })
+    let count = counts_told posts notes told.0 in (
+      told.0,
+      record {
+        settings = settings;
+        ascending = subst IsAscending (sym (peers_told posts notes)) ascending;
+        posts = told.1;
+        room = omega (arith, count, fits);
+      },
+    )
 
 module _ (posts : List Post) (notes : List Note) (limit timeout retries : ℕ) where
   refused : (AreParts posts notes limit timeout retries → ⊥) → (false ≡ true) ↔ AreParts posts notes limit timeout retries
