@@ -15,11 +15,11 @@ use std::test::Fail;
 type Step<'a> = (u32, &'a Value, Option<Move>, Option<u32>);
 
 /// The object moves so, from point to point. All but its value is as it is seen first.
-fn expect_moves(
+fn expect_moves<'a>(
     rt: &impl Abort,
     alloc: Global,
-    seen: Snapshot<'_>,
-    steps: &[Step<'_>],
+    seen: Snapshot<'a>,
+    steps: &[Step<'a>],
 ) -> Result<(), NoMemory>
     requires { length seen.alarm_values.now ≤ 32 }
 {
