@@ -24,10 +24,10 @@ use Rattle.alarm_core.specs.Known.{Knows}
 use Rattle.alarm_core.proofs.NotesGo.{notes_known}
 
 -- what is kept of a recipient
-abbrev kept : Site → List Event → Address → PostState
+abbrev pub kept : Site → List Event → Address → PostState
 kept site history peer = post_after (timing_at site) peer (operations_of site history peer)
 
-peers_kept : (site : Site) (history : List Event) (peers : List Address) → peers_of_posts (map (kept site history) peers) ≡ peers
+pub peers_kept : (site : Site) (history : List Event) (peers : List Address) → peers_of_posts (map (kept site history) peers) ≡ peers
 peers_kept site history [] = refl
 peers_kept site history (peer ∷ peers) = ap (λ ps. peer ∷ ps) (peers_kept site history peers)
 
@@ -35,7 +35,7 @@ peers_kept site history (peer ∷ peers) = ap (λ ps. peer ∷ ps) (peers_kept s
 as_outbox : Site → List PostState → OutboxState
 as_outbox site posts = record { posts = posts; limit = site.device.outbox; timeout = site.device.apdu_timeout; retries = site.device.retries }
 
-are_known : (site : Site) (history : List Event) (notes : List Note) → All (λ (note : Note). Knows (known_peers_of site history) note.peer) notes → AreKnown notes (outbox_after site history).posts
+pub are_known : (site : Site) (history : List Event) (notes : List Note) → All (λ (note : Note). Knows (known_peers_of site history) note.peer) notes → AreKnown notes (outbox_after site history).posts
 are_known site history notes known =
     let peers = known_peers_of site history in
     All-weaker (λ (note : Note). Knows peers note.peer) _

@@ -21,7 +21,7 @@ use Rattle.alarm_core.specs.Classes.{classes_after, classes_with, edited, first_
 
 -- ---- known peers
 
-known_more : (others known : List Address) (peer : Address) → is_among (peers_with others known) peer ≡ (is_among known peer || is_among others peer)
+pub known_more : (others known : List Address) (peer : Address) → is_among (peers_with others known) peer ≡ (is_among known peer || is_among others peer)
 known_more others known peer =
     let posts = map empty_post known in
     ap (λ ps. is_among (peers_with others ps) peer) (sym (peers_empty known))

@@ -1,5 +1,5 @@
 -- The Recipient_List that is read of a class is that of its last edit.
-use Rattle.std.proofs.Common.{◌≡◌, ℕ, ◌==◌, Bool, true, false, cond, ◌&&◌, if◌then◌else◌, Some, None, Ok, List, [], ◌∷◌, map, refl, ap, ◌∙◌, sym, subst, All, IsTrue, get_or}
+use Rattle.std.proofs.Common.{◌≡◌, ℕ, ◌==◌, Bool, true, false, true≢false, cond, ◌&&◌, if◌then◌else◌, Some, None, Ok, List, [], ◌∷◌, map, refl, ap, ◌∙◌, sym, subst, All, IsTrue, get_or}
 use Rattle.std.proofs.lemmas.Bool.{eqb-true, ne_eqb}
 use Rattle.std.proofs.lemmas.List.Elements.{All-head, All-tail}
 use Rattle.std.specs.List.{find, flat_map}
@@ -31,9 +31,8 @@ use Rattle.alarm_core.specs.Properties.{device_content}
 use Rattle.alarm_core.specs.Reading.{part_in, read_of}
 use Rattle.alarm_core.specs.Sites.{IsLogSite, IsSite}
 use Rattle.alarm_core.specs.State.{state_of}
-use Rattle.alarm_core.proofs.OwnSubjects.{no_site}
-use Rattle.alarm_core.proofs.Searches.{find_map, find_same, is_none, passes}
-use Rattle.alarm_core.proofs.Stays.{row_objects_after, site_objects_after}
+use Rattle.alarm_core.proofs.Searches.{find_same, passes}
+use Rattle.alarm_core.proofs.TypesApart.{HasNoValue, no_enrollment, no_log, no_row}
 
 -- ---- the class of a site
 
@@ -102,50 +101,10 @@ class_after : (site : Site) (object : Identifier) (listed : ClassSite) → liste
 class_after site object listed e [] = first_class site object listed e
 class_after site object listed e (event ∷ older) = class_with event.act listed.class (last_list listed older) (classes_after site older) (class_after site object listed e older)
 
--- ---- no value object is a class
+-- ---- a class is no value object, no enrollment and no log
 
-no_class_value : (number : ℕ) (site : ObjectSite) → IsTrue (is_present_value (kind_of number) site site.value) → number ≡ 15 → ⊥
-no_class_value number site value is = let wrong : IsTrue false = subst (λ n. IsTrue (is_present_value (kind_of n) site site.value)) is value in cc
-
-differs : (number : ℕ) → (number ≡ 15 → ⊥) → (b : Bool) → (number == 15) ≡ b → b ≡ false
-differs number other true e = absurd (other (eqb-true number 15 e))
-differs number other false e = refl
-
-no_value_object : (object : Identifier) → object.number ≡ 15 → (objects : List ObjectSite) → All IsObject objects → find (is_object object) (map object_of objects) ≡ None
-no_value_object object is [] h = refl
-no_value_object object is (first ∷ objects) h =
-    let allowed = All-head IsObject first objects h in
-    let other : (first.object.number == 15) ≡ false = differs first.object.number (no_class_value first.object.number first allowed.value) (first.object.number == 15) refl in
-    ap (λ b. cond (b && (first.object.instance == object.instance)) (Some first.object) (find (is_object object) (map object_of objects))) (ap (λ n. first.object.number == n) is ∙ other)
-    ∙ no_value_object object is objects (All-tail IsObject first objects h)
-
-no_row : (site : Site) → All IsObject site.objects → (history : List Event) (object : Identifier) → object.number ≡ 15 → row_of object (values_after site history).rows ≡ None
-no_row site allowed history object is =
-    is_none object_in (row_of object (values_after site history).rows)
-    (sym (find_map object_in (is_object object) (values_after site history).rows) ∙ ap (find (is_object object)) (row_objects_after site history) ∙ no_value_object object is site.objects allowed)
-
--- ---- no enrollment is a class
-
-no_listed : (object : Identifier) → object.number ≡ 15 → (sites : List EnrollmentSite) → All IsEnrollment sites → find (is_object object) (map identifier_of sites) ≡ None
-no_listed object is sites allowed =
-    find_map identifier_of (is_object object) sites ∙ ap (option_map identifier_of) (no_site object (λ nine. let wrong : 15 ≡ 9 = sym is ∙ nine in cc) sites allowed)
-
-no_enrollment : (site : Site) → All IsEnrollment site.enrollments → (history : List Event) (object : Identifier) → object.number ≡ 15 → site_of object (values_after site history).enrollments ≡ None
-no_enrollment site allowed history object is =
-    is_none identifier_of (site_of object (values_after site history).enrollments)
-    (sym (find_map identifier_of (is_object object) (values_after site history).enrollments) ∙ ap (find (is_object object)) (site_objects_after site history) ∙ no_listed object is site.enrollments allowed)
-
--- ---- no log is a class
-
-other_log : (object : Identifier) → object.number ≡ 15 → (listed : LogSite) → IsLogSite listed → is_object object listed.object ≡ false
-other_log object is listed allowed =
-    ap (λ b. b && (listed.object.instance == object.instance)) (ne_eqb listed.object.number object.number (λ same. let wrong : 25 ≡ 15 = sym allowed.number ∙ (same ∙ is) in cc))
-
-no_log : (site : Site) → All IsLogSite site.logs → (history : List Event) (object : Identifier) → object.number ≡ 15 → kept_log object (logs_after site history) ≡ None
-no_log site allowed history object is =
-    find_map (kept_log_of site history) (λ (kept : KeptLog). is_object object kept.site.object) site.logs
-    ∙ ap (option_map (kept_log_of site history))
-    (find_none (λ (listed : LogSite). is_object object listed.object) site.logs (λ k d low. other_log object is (get_or site.logs k d) (allowed k d low)))
+no_class_value : HasNoValue 15
+no_class_value site h = absurd (true≢false (sym h))
 
 -- ---- what is read
 
@@ -160,9 +119,9 @@ module _ (site : Site) (keeps : IsSite site) (history : List Event) (object : Id
   reads =
       let classes = classes_after site history in
       let values = values_after site history in
-      ap (λ enrollment. part_in (content_by (state_of site history) object 102 enrollment (row_of object values.rows) (kept_log object (logs_after site history))) None) (no_enrollment site keeps.enrollments history object number)
-      ∙ ap (λ row. part_in (content_by (state_of site history) object 102 None row (kept_log object (logs_after site history))) None) (no_row site keeps.objects history object number)
-      ∙ ap (λ kept. part_in (content_by (state_of site history) object 102 None None kept) None) (no_log site keeps.logs history object number)
+      ap (λ enrollment. part_in (content_by (state_of site history) object 102 enrollment (row_of object values.rows) (kept_log object (logs_after site history))) None) (no_enrollment site history object keeps.enrollments (λ nine. let wrong : 15 ≡ 9 = sym number ∙ nine in cc))
+      ∙ ap (λ row. part_in (content_by (state_of site history) object 102 None row (kept_log object (logs_after site history))) None) (no_row site history object keeps.objects (subst HasNoValue (sym number) no_class_value))
+      ∙ ap (λ kept. part_in (content_by (state_of site history) object 102 None None kept) None) (no_log site history object keeps.logs (λ log. let wrong : 15 ≡ 25 = sym number ∙ log in cc))
       ∙ ap (λ b. part_in (if b then device_content site 102 else class_or_other site classes object 102 (listed_class object site.classes)) None) (no_device object site listed is_class)
       ∙ ap (λ one. part_in (class_or_other site classes object 102 one) None) found
       ∙ ap (λ class. part_in (class_content listed (recipients_of class) 102) None) (class_after site object listed found history)

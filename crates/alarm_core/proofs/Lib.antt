@@ -29,5 +29,9 @@ pub mod Acted
 pub mod Notified
 pub mod NeverFull
 pub mod Written
+pub mod TypesApart
+pub mod Listed
+pub mod Counting
+pub mod Accepted
 pub mod LastLists
 mod Kept

@@ -12,7 +12,7 @@ use Rattle.outbox.proofs.Standing.{answered_peer, peers_stay, pumped_peer}
 use Rattle.alarm_core.specs.declared.event.StepFault.TheVariants.{Full}
 use Rattle.alarm_core.specs.Verdicts.{Answers, queue_verdict, refusal_of}
 
-is_above_both : (added limit would : ℕ) → 0 < added → limit < would → (nat_lt 0 added && nat_lt limit would) ≡ true
+pub is_above_both : (added limit would : ℕ) → 0 < added → limit < would → (nat_lt 0 added && nat_lt limit would) ≡ true
 is_above_both added limit would some above = by_tests (nat_lt 0 added) (nat_lt limit would) refl refl
   where
     by_tests : (a b : Bool) → nat_lt 0 added ≡ a → nat_lt limit would ≡ b → (a && b) ≡ true
@@ -24,7 +24,7 @@ both_true : (a b : Bool) → (a && b) ≡ true → (a ≡ true) × (b ≡ true)
 both_true true b e = (refl, e)
 both_true false b e = absurd (true≢false (sym e))
 
-is_above : (added would limit : ℕ) → (nat_lt 0 added && nat_lt limit would) ≡ true → (0 < added) × (limit < would)
+pub is_above : (added would limit : ℕ) → (nat_lt 0 added && nat_lt limit would) ≡ true → (0 < added) × (limit < would)
 is_above added would limit e = let both = both_true (nat_lt 0 added) (nat_lt limit would) e in (ltb-true 0 added both.0, ltb-true limit would both.1)
 
 abbrev pub IsOver : List Note → OutboxState → Type 0

@@ -186,7 +186,7 @@ same_transitions : (site : Site) (event : Event) (history : List Event) →
     next_transitions event (state_of site history) ≡ event_transitions site event.moment event.act (values_after site history) (occurrences_of site history)
 same_transitions site event history = transitions_same site event.moment event.act (values_after site history) (occurrences_of site history)
 
-same_notes : (site : Site) (event : Event) (history : List Event) → next_notes event (state_of site history) ≡ event_notes site event history
+pub same_notes : (site : Site) (event : Event) (history : List Event) → next_notes event (state_of site history) ≡ event_notes site event history
 same_notes site event history = ap (notes_by site (classes_after site history) (values_after site history) event.moment event.act) (same_transitions site event history)
 
 -- a state with what an event changes

@@ -1,5 +1,5 @@
 -- The notification classes of a site after a history (ANSI/ASHRAE 135-2020, 12.21), and the peers that it knows.
-use Rattle.std.specs.Prelude.{ℕ, ◌==◌, Bool, false, if◌then◌else◌, Option, Some, None, List, [], ◌∷◌, map, find}
+use Rattle.std.specs.Prelude.{ℕ, ◌==◌, Bool, false, if◌then◌else◌, Option, Some, None, List, [], ◌∷◌, ◌++◌, map, find}
 use Rattle.std.specs.List.{flat_map}
 use Rattle.bac_values.specs.Address.{Address}
 use Rattle.bac_values.specs.Orders.{peers_with}
@@ -49,3 +49,12 @@ learned_with act known = known
 abbrev pub known_peers_of : Site → List Event → List Address
 known_peers_of site [] = peers_with (peers_in (first_classes site)) []
 known_peers_of site (event ∷ older) = learned_with event.act (known_peers_of site older)
+
+-- the peers of the list that an edit gives
+abbrev pub peers_by : Act → List Address
+peers_by (Edit number recipients) = peers_of recipients
+peers_by act = []
+
+-- the peers of the site's lists, and those of the lists of all edits
+abbrev pub listed_peers : Site → List Event → List Address
+listed_peers site history = peers_in (first_classes site) ++ flat_map (λ (event : Event). peers_by event.act) history

@@ -1,17 +1,26 @@
--- The next state is that of the longer history, and the run starts are in it; and when a tick is never refused.
-use Rattle.std.specs.Prelude.{◌≡◌, ℕ, List, [], ◌∷◌, ◌++◌, map, Ok}
+-- What makes the definitions believable: the next state is that of the longer history, and the run starts are in it; when a tick is never refused; which number a refusal tells; which peers are known; and which changes are allowed.
+use Rattle.std.specs.Prelude.{◌≡◌, ◌↔◌, ◌<◌, ℕ, ◌+◌, Bool, true, false, IsTrue, IsOk, None, List, [], ◌∷◌, ◌++◌, length, map, Contains, Ok, Err}
+use Rattle.bac_values.specs.Address.{Address}
 use Rattle.bac_values.specs.Identifier.{Identifier}
+use Rattle.bac_values.specs.Orders.{IsAscending}
+use Rattle.bac_values.specs.declared.value.Value.{Value}
 use Rattle.object_table.specs.Rows.{Ascends}
+use Rattle.object_table.specs.Verdicts.{checked_fault, checked_set, fault_change, property_change}
 use Rattle.outbox.specs.Outboxes.{unfinished_in}
+use Rattle.alarm_core.specs.declared.event.Act.{Act}
+use Rattle.alarm_core.specs.declared.event.Act.TheVariants.{Tick, Write, Ack}
 use Rattle.alarm_core.specs.declared.event.Event.{Event}
+use Rattle.alarm_core.specs.declared.event.StepFault.TheVariants.{Full}
 use Rattle.alarm_core.specs.declared.site.Site.{Site}
 use Rattle.alarm_core.specs.declared.subject.Subject.{Subject}
 use Rattle.alarm_core.specs.History.{tick_at, transitions_of}
-use Rattle.alarm_core.specs.State.{state_of}
-use Rattle.alarm_core.specs.Allowed.{IsHistory}
+use Rattle.alarm_core.specs.State.{State, state_of}
+use Rattle.alarm_core.specs.Allowed.{IsAllowed, IsHistory}
+use Rattle.alarm_core.specs.Classes.{known_peers_of, listed_peers}
 use Rattle.alarm_core.specs.Deliveries.{event_sends, notifications_of, outbox_after}
 use Rattle.alarm_core.specs.Next.{first_state, next_notes, next_sends, next_state, next_transitions}
 use Rattle.alarm_core.specs.RunStarts.{run_starts_in, run_starts_of}
+use Rattle.alarm_core.specs.Reading.{write_of}
 use Rattle.alarm_core.specs.Room.{HasRoom}
 use Rattle.alarm_core.specs.Sites.{IsSite}
 use Rattle.alarm_core.specs.Subjects.{subjects_of}
@@ -36,3 +45,32 @@ pub record StandsForItsHistory : Type 0 where
   -- where the classes have instances of their own and leave room, and no notification is unfinished, a tick is never refused
   pub ticks_fit : (site : Site) → IsSite site → HasRoom site → (history : List Event) → IsHistory site history → unfinished_in (outbox_after site history).posts ≡ 0 →
       (moment : ℕ) → step_verdict (tick_at moment) (state_of site history) ≡ Ok tt
+
+-- an act that may give notifications
+abbrev pub may_notify : Act → Bool
+may_notify Tick = true
+may_notify (Write change) = true
+may_notify (Ack object transition named) = true
+may_notify act = false
+
+-- the number that a refusal tells is that of the unfinished notifications of the longer history, which are those before the event and those that it gives
+pub record CountsTheLongerHistory : Type 0 where
+  pub adds : (site : Site) (event : Event) (history : List Event) → IsTrue (may_notify event.act) →
+      unfinished_in (outbox_after site (event ∷ history)).posts ≡ unfinished_in (outbox_after site history).posts + length (next_notes event (state_of site history))
+  -- an event is refused exactly where more of them would be unfinished than may be
+  pub full : (site : Site) (event : Event) (history : List Event) → IsHistory site history → (would limit : ℕ) →
+      (step_verdict event (state_of site history) ≡ Err (Full would limit))
+      ↔ ((would ≡ unfinished_in (outbox_after site (event ∷ history)).posts) × (limit ≡ site.device.outbox) × (limit < would))
+
+-- the peers that are known after a history are those of the site's lists and of every edit, and each stands there once
+pub record KnowsListedPeers : Type 0 where
+  pub known : (site : Site) (history : List Event) (peer : Address) → Contains (known_peers_of site history) peer ↔ Contains (listed_peers site history) peer
+  pub ascending : (site : Site) (history : List Event) → IsAscending (known_peers_of site history)
+
+-- a change of a property is allowed exactly where a write of it, without an index, is answered with no error; a fault from the field where its check accepts it; and a present value from the field where its check does
+pub record AllowsWhatChecksAccept : Type 0 where
+  pub writes : (site : Site) → IsSite site → (history : List Event) (object : Identifier) (number : ℕ) (value : Value) →
+      IsAllowed (state_of site history) (Write (property_change object number value)) ↔ IsOk (write_of (state_of site history) object number None value)
+  pub field_faults : (state : State) (object : Identifier) (reliability : ℕ) →
+      IsAllowed state (Write (fault_change object reliability)) ↔ IsOk (checked_fault state.values.rows object reliability)
+  pub sets : (state : State) (object : Identifier) (value : Value) → IsOk (checked_set state.values.rows object value) → IsAllowed state (Write (property_change object 85 value))

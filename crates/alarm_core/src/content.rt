@@ -4,7 +4,7 @@ use std::alloc::AllocError;
 
 /// What a property of an object is on the wire.
 #[derive(Debug, Drop)]
-pub enum Content {
+pub(crate) enum Content {
     /// One value, or a list, whose elements stand one after the other.
     Whole {
         /// The octets.

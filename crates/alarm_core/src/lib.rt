@@ -35,10 +35,15 @@ mod subjects;
 mod telling;
 mod watched;
 
-pub use content::{Content, ReadFault};
+pub use content::ReadFault;
 pub use enrollment::EnrollmentSite;
 pub use event::{Act, Event, Outcome, StepFault};
-pub use laws::{reads_the_last_list, stands_for_its_history};
+pub use laws::{
+    allows_what_checks_accept, counts_the_longer_history, knows_listed_peers, reads_the_last_list,
+    stands_for_its_history,
+};
 pub use site::{ClassSite, DeviceSite, LogSite, Site};
 pub use state::Core;
-pub use subject::Subject;
+
+pub(crate) use content::Content;
+pub(crate) use subject::Subject;

@@ -227,6 +227,7 @@ impl Core {
     /// The peers that it knows, ascending: those of the site's lists, and those of every edit.
     pub fn known_peers(&self) -> &[Peer]
         ensures known { result.now ≡ peers_of_posts self.now.outbox.posts }
+        ensures ascending { IsAscending result.now }
     {
         self.peers.as_slice()
     }
@@ -252,6 +253,8 @@ impl Core {
     pub fn idle_pump(&self, moment: u64) -> bool
         requires moment { IsMoment moment }
         ensures idle { result ≡ is_idle (max moment self.now.last_moment) self.now.outbox }
+        ensures nothing { IsTrue result ↔ ((sends_of (max moment self.now.last_moment) self.now.outbox ≡ [])
+            × (pumped (max moment self.now.last_moment) self.now.outbox ≡ self.now.outbox)) }
     {
         self.outbox.idle(moment.max(self.last_moment))
     }

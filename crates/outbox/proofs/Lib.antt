@@ -3,7 +3,7 @@ mod Pumping
 mod Laws
 pub mod Standing
 mod PlaceLemmas
-mod Keeping
+pub mod Keeping
 mod Answering
 mod Going
 mod Settling
@@ -16,5 +16,5 @@ mod Tested
 mod Idling
 mod Told
 mod QueueLemmas
-mod QueueKeeping
+pub mod QueueKeeping
 mod Fullness

@@ -4,6 +4,8 @@
 #![tactic(auto)]
 
 #[cfg(test)]
+mod alarm_core_tests;
+#[cfg(test)]
 mod alarm_journal_tests;
 #[cfg(test)]
 mod comparing;

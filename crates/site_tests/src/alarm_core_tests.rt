@@ -1,0 +1,81 @@
+use crate::comparing::{counts, holds};
+use alarm_core::{Act, Core, Event, Outcome};
+use bac_values::{ObjectId, ObjectKind, PropertyId};
+use site_config::read_site;
+use std::alloc::Global;
+use std::test::Fail;
+
+/// When the site starts.
+const START: u64 = 1_700_000_000_000;
+
+/// A device whose outbox has room for 512 notifications, and a class with one recipient.
+const SURROUNDINGS: &str = "[device]
+instance = 1001
+name = \"Plant\"
+vendor = 999
+start = 1700000000000
+outbox = 512
+
+[[class]]
+instance = 7
+priority = [100, 90, 200]
+
+[[destination]]
+class = 7
+address = \"10.0.0.5:47808\"
+";
+
+/// The text of a site of so many objects, each of which is above its high limit from the start.
+fn crowd(alloc: Global, objects: u32) -> Result<String, Fail> {
+    let mut text = String::new(alloc);
+    text.push_str(SURROUNDINGS)?;
+    for instance in 1..=objects {
+        let object = format!(in alloc;
+            "\n[[object]]\nkind = \"integer-value\"\ninstance = {instance}\nvalue = 90\nclass = 7\nlow = 20\nhigh = 80\n"
+        )?;
+        text.push_str(&object)?;
+    }
+    Ok(text)
+}
+
+/// The core of a site of 300 objects.
+fn crowded(alloc: Global) -> Result<Core, Fail> {
+    let text = crowd(alloc, 300)?;
+    let site = read_site(alloc, text.as_str().as_bytes())?;
+    Ok(Core::start(alloc, &site)?)
+}
+
+fn tick(core: &mut Core) -> Result<Outcome, Fail> {
+    let _few = u8::try_from(core.events())?;
+    Ok(core.step(&Event {
+        moment: START,
+        act: Act::Tick,
+    })?)
+}
+
+#[test]
+fn one_tick_moves_and_tells_three_hundred_objects(rt: HostRuntime) -> Result<(), Fail> {
+    let mut core = crowded(rt.alloc())?;
+    let outcome = tick(&mut core)?;
+    counts(&rt, outcome.moves.as_slice().len(), 300);
+    holds(&rt, core.outbox().room() == 212);
+    Ok(())
+}
+
+/// Whether a read of Object_List, or of one element of it, gives these octets.
+fn is_listed(alloc: Global, core: &Core, index: u32, octets: &[u8]) -> Result<bool, Fail> {
+    let device = ObjectId::of_kind(ObjectKind::Device, 1001)?;
+    let read = core.read(alloc, device, PropertyId(76), Some(index))?;
+    Ok(read.as_slice() == octets)
+}
+
+#[test]
+fn an_array_of_more_than_255_parts_is_read(rt: HostRuntime) -> Result<(), Fail> {
+    let core = crowded(rt.alloc())?;
+    // The device, the class and the objects.
+    holds(&rt, is_listed(rt.alloc(), &core, 0, &[0x22, 0x01, 0x2e])?);
+    // The class stands before the objects, whose last is integer value 300.
+    let last = [0xc4, 0x0b, 0x40, 0x01, 0x2c];
+    holds(&rt, is_listed(rt.alloc(), &core, 302, &last)?);
+    Ok(())
+}
