@@ -54,20 +54,20 @@ abbrev Precedes : Identifier → Identifier → Type 0
 Precedes earlier later = identifier_order earlier later ≡ Less
 
 all_below : (first : ClassItem) (items : List ClassItem) → HasClassId first → All HasClassId items → All (Precedes first.object) (map id_of_class items) → All (Below first.object.instance) (map instance_of_item items)
-all_below first [] own kinds behind = All-nil (Below first.object.instance)
-all_below first (item ∷ items) own kinds behind =
-    let below = instance_below (number_of_kind kinds.NotificationClass) first.object item.object own (All-head HasClassId item items kinds) (All-head (Precedes first.object) item.object (map id_of_class items) behind) in
-    let others = all_below first items own (All-tail HasClassId item items kinds) (All-tail (Precedes first.object) item.object (map id_of_class items) behind) in
+all_below first [] own classes behind = All-nil (Below first.object.instance)
+all_below first (item ∷ items) own classes behind =
+    let below = instance_below (number_of_kind kinds.NotificationClass) first.object item.object own (All-head HasClassId item items classes) (All-head (Precedes first.object) item.object (map id_of_class items) behind) in
+    let others = all_below first items own (All-tail HasClassId item items classes) (All-tail (Precedes first.object) item.object (map id_of_class items) behind) in
     All-cons (Below first.object.instance) item.object.instance (map instance_of_item items) below others
 
 -- the instances of classes that ascend by their identifiers ascend
 pub instances_ascend : (items : List ClassItem) → All HasClassId items → AllPairs Precedes (map id_of_class items) → AllPairs Below (map instance_of_item items)
-instances_ascend [] kinds ascend = λ i j d before within. absurd (omega (arith, within))
-instances_ascend (item ∷ items) kinds ascend =
+instances_ascend [] classes ascend = λ i j d before within. absurd (omega (arith, within))
+instances_ascend (item ∷ items) classes ascend =
     let tail : AllPairs Precedes (map id_of_class items) = λ i j d before within. ascend (suc i) (suc j) d (omega (arith, before)) (omega (arith, within)) in
     let heads : All (Precedes item.object) (map id_of_class items) = λ k d within. ascend 0 (suc k) d (omega arith) (omega (arith, within)) in
-    let others = All-tail HasClassId item items kinds in
-    AllPairs-cons Below item.object.instance (map instance_of_item items) (all_below item items (All-head HasClassId item items kinds) others heads) (instances_ascend items others tail)
+    let others = All-tail HasClassId item items classes in
+    AllPairs-cons Below item.object.instance (map instance_of_item items) (all_below item items (All-head HasClassId item items classes) others heads) (instances_ascend items others tail)
 
 instances_of : (destinations : List DestinationSite) (items : List ClassItem) → map instance_of_item items ≡ map instance_of (map (with_destinations destinations) items)
 instances_of destinations [] = refl
@@ -140,10 +140,10 @@ module _ (draft : Draft) where
   pub room_kept : All HasClassId (in_order id_of_class draft.classes) → AllPairs Precedes (map id_of_class (in_order id_of_class draft.classes))
       → notes_of draft.destinations (members_of draft) ≤ draft.device.outbox → HasRoom (site_of_draft draft)
   unfolding share_in
-  room_kept kinds ascend fits =
+  room_kept ids ascend fits =
       let items = in_order id_of_class draft.classes in
       let classes = map instance_of_item items in
-      let ascending = instances_ascend items kinds ascend in
+      let ascending = instances_ascend items ids ascend in
       let within = sum_by-le-sum_by share share_in classes share_kept in
       let whole = class_by_class (λ number. count_of number draft.destinations) classes (members_of draft) ascending in
       record {
