@@ -2,19 +2,9 @@
 use Rattle.std.specs.Prelude.{ℕ, if◌then◌else◌}
 use Rattle.bac_values.specs.declared.event_state.EventState.{EventState}
 use Rattle.algorithm_rules.specs.declared.table.Algorithm.{Algorithm}
-use Rattle.algorithm_rules.specs.declared.table.Algorithm.TheVariants.{ChangeOfBitstring, ChangeOfState, CommandFailure, UnsignedRange, SignedOutOfRange, UnsignedOutOfRange, ChangeOfCharacterstring}
+use Rattle.algorithm_rules.specs.EventTypes.{event_type_of}
 use Rattle.event_machine.specs.declared.moves.Move.{Move}
 use Rattle.event_machine.specs.Detection.{is_fault}
-
--- the event type of each event algorithm
-abbrev pub algorithm_type : Algorithm → ℕ
-algorithm_type ChangeOfBitstring = 0
-algorithm_type ChangeOfState = 1
-algorithm_type CommandFailure = 3
-algorithm_type UnsignedRange = 11
-algorithm_type SignedOutOfRange = 15
-algorithm_type UnsignedOutOfRange = 16
-algorithm_type ChangeOfCharacterstring = 17
 
 -- CHANGE_OF_RELIABILITY
 abbrev pub reliability_type : ℕ
@@ -22,8 +12,8 @@ reliability_type = 19
 
 -- the event type of a transition: that of the algorithm, and CHANGE_OF_RELIABILITY where the object's reliability made it
 abbrev pub transition_type : Algorithm → Move → ℕ
-transition_type algorithm made = if made.by_fault then reliability_type else algorithm_type algorithm
+transition_type algorithm made = if made.by_fault then reliability_type else event_type_of algorithm
 
 -- the event type of an acknowledgement, by the state that is acknowledged
 abbrev pub acknowledgement_type : Algorithm → EventState → ℕ
-acknowledgement_type algorithm acknowledged = if is_fault acknowledged then reliability_type else algorithm_type algorithm
+acknowledgement_type algorithm acknowledged = if is_fault acknowledged then reliability_type else event_type_of algorithm

@@ -1,6 +1,6 @@
 ghost use Rattle.std.specs.Prelude.{◌≡◌};
 ghost use Rattle.event_services.specs.Notifications.{IsTold};
-ghost use Rattle.note_maker.specs.EventTypes.{acknowledgement_type, algorithm_type, transition_type};
+ghost use Rattle.note_maker.specs.EventTypes.{acknowledgement_type, transition_type};
 ghost use Rattle.note_maker.specs.Shapes.{acknowledgement_notification, transition_notification};
 
 use crate::Source;
@@ -16,27 +16,13 @@ const CHANGE_OF_RELIABILITY: u8 = 19;
 /// The number of ACK_NOTIFICATION (BACnetNotifyType).
 const ACK_NOTIFICATION: u8 = 2;
 
-fn algorithm_type(algorithm: Algorithm) -> u8
-    ensures number { result ≡ algorithm_type algorithm }
-{
-    match algorithm {
-        Algorithm::ChangeOfBitstring => 0,
-        Algorithm::ChangeOfState => 1,
-        Algorithm::CommandFailure => 3,
-        Algorithm::UnsignedRange => 11,
-        Algorithm::SignedOutOfRange => 15,
-        Algorithm::UnsignedOutOfRange => 16,
-        Algorithm::ChangeOfCharacterstring => 17,
-    }
-}
-
 fn transition_type(algorithm: Algorithm, made: Move) -> u8
     ensures number { result ≡ transition_type algorithm made }
 {
     if made.by_fault {
         CHANGE_OF_RELIABILITY
     } else {
-        algorithm_type(algorithm)
+        algorithm.event_type()
     }
 }
 
@@ -45,7 +31,7 @@ fn acknowledgement_type(algorithm: Algorithm, acknowledged: EventState) -> u8
 {
     match acknowledged {
         EventState::Fault => CHANGE_OF_RELIABILITY,
-        _ => algorithm_type(algorithm),
+        _ => algorithm.event_type(),
     }
 }
 

@@ -10,7 +10,7 @@ use bac_values::{
     Bits, EventState, Items, Note, ObjectId, Peer, Reliability, Stamp, StatusFlags, Text,
     Transition, Value,
 };
-use civil_stamp::Zone;
+use civil_stamp::{LocalMoment, Zone};
 use event_machine::Move;
 use event_services::{EventValues, Notification, read_notification};
 use note_maker::*;
@@ -159,8 +159,8 @@ fn body_of(
 ) -> Result<Vec<u8>, Fail>
     requires { IsTold facts.now.event_type facts.now.values }
 {
-    let utc = Zone::fixed(0)?;
-    let notes = notes_of(alloc, facts, class, transition, RAISED_AT, &utc)
+    let at = LocalMoment::new(RAISED_AT, &Zone::fixed(0)?);
+    let notes = notes_of(alloc, facts, class, transition, &at)
         .ok()
         .ok_or("no memory")?;
     let mut body = Vec::new(alloc);
@@ -281,11 +281,11 @@ fn processes_told(alloc: Global, moment: u64, minutes: i16) -> Result<Vec<u32>, 
     requires { IsMoment moment }
 {
     let class = class_of_six(alloc)?;
-    let zone = Zone::fixed(minutes)?;
+    let at = LocalMoment::new(moment, &Zone::fixed(minutes)?);
     let facts = acknowledgement_notification(&source()?, &class, EventState::Normal, LATER);
     let mut processes = Vec::new(alloc);
     for transition in Transition::ALL {
-        let notes = notes_of(alloc, &facts, &class, transition, moment, &zone)
+        let notes = notes_of(alloc, &facts, &class, transition, &at)
             .ok()
             .ok_or("no memory")?;
         for note in notes.as_slice() {

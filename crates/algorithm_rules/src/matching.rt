@@ -27,7 +27,10 @@ fn first_match(snapshot: &Snapshot<'_>) -> Option<usize>
         .position(|alarm| matches(snapshot.mask, alarm, snapshot.value))
 }
 
-fn matches(mask: Option<Bits>, alarm: &Value, value: &Value) -> bool
+/// Whether an alarm value matches a value: a number, an enumeration or a truth value that is equal, a string of bits of the
+/// same length with equal bits where the mask has them, all bits where there is none, or a text in which the alarm text
+/// occurs, of which the empty one matches the empty text alone.
+pub fn matches(mask: Option<Bits>, alarm: &Value, value: &Value) -> bool
     ensures matches { result ≡ matches mask alarm.now value.now }
 {
     match (alarm, value) {

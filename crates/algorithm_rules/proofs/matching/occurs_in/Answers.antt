@@ -2,7 +2,7 @@ use Rattle.std.proofs.Common.{sym, arith, ⊎_elim}
 use Rattle.std.proofs.lemmas.Bool.{cases_Bool}
 use Rattle.algorithm_rules.specs.Matches.{occurs_in}
 use Rattle.algorithm_rules.proofs.Occurrences.{occurs_in-true, occurs_in-place}
-use Rattle.algorithm_rules.proofs.matches.occurs_in.Goals as goal
+use Rattle.algorithm_rules.proofs.matching.occurs_in.Goals as goal
 
 pub returns-in-Some : goal.returns-in-Some
 returns-in-Some c =
