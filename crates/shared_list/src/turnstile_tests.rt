@@ -56,12 +56,7 @@ fn takes_turns_marks_and_closes(rt: HostRuntime) -> Result<(), Fail> {
 type CountPass = Pass<u64, ()>;
 
 // Takes a turn, which counts, and raises the mark.
-fn count_once<R: Wait>(
-    rt: &R,
-    count: &Turnstile<Count>,
-    pass: CountPass,
-    mark: u64,
-) -> CountPass
+fn count_once<R: Wait>(rt: &R, count: &Turnstile<Count>, pass: CountPass, mark: u64) -> CountPass
     requires { IsOf count.now pass }
     ensures here { IsOf count.entry.now result }
 {
