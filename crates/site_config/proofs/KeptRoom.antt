@@ -76,9 +76,6 @@ instances_of destinations (item ∷ items) = ap (λ ns. item.object.instance ∷
 -- ---- the members of a class
 
 module _ (number : ℕ) where
-
-
-
   named : (class : Option ℕ) (others : List ℕ) → times (cons_option class others) number ≡ cond (is_member class number) 1 0 + times others number
   named None others = omega arith
   named (Some class) others = sum_by-cons (λ n. cond (n == number) 1 0) class others
@@ -134,8 +131,13 @@ module _ (draft : Draft) where
   shares (item ∷ items) =
       let class = (with_destinations draft.destinations item).class in
       let own : share_of (state_of (site_of_draft draft) []) class ≡ share item.object.instance = refl in
-      omega (arith, own, shares items, sum_by-cons share item.object.instance (map instance_of_item items),
-      sum_by-cons (share_of (state_of (site_of_draft draft) [])) class (map (λ (listed : ClassSite). listed.class) (map (with_destinations draft.destinations) items)))
+      omega (
+        arith,
+        own,
+        shares items,
+        sum_by-cons share item.object.instance (map instance_of_item items),
+        sum_by-cons (share_of (state_of (site_of_draft draft) [])) class (map (λ (listed : ClassSite). listed.class) (map (with_destinations draft.destinations) items)),
+      )
 
   pub room_kept : All HasClassId (in_order id_of_class draft.classes) → AllPairs Precedes (map id_of_class (in_order id_of_class draft.classes))
       → notes_of draft.destinations (members_of draft) ≤ draft.device.outbox → HasRoom (site_of_draft draft)

@@ -7,7 +7,7 @@ use std::alloc::Global;
 use std::collections::BTreeMap;
 
 /// How many destinations name each class.
-pub type Counts = BTreeMap<u32, u64>;
+type Counts = BTreeMap<u32, u64>;
 
 /// How many destinations name the class.
 pub fn count_in(counts: &Counts, class: u32) -> u64

@@ -1,6 +1,6 @@
 ghost use Rattle.std.specs.Prelude.{◌≡◌, ◌≤◌, nat_lt, length, sum_by, IfOk};
 ghost use Rattle.site_config.specs.Answers.{Gives};
-ghost use Rattle.site_config.specs.Limits.{are_crowded, size_of, limits_of};
+ghost use Rattle.site_config.specs.Limits.{count_of, are_crowded, size_of, limits_of};
 
 use crate::counts::{count_in, counts_of};
 use crate::destination::DestinationSite;
@@ -10,14 +10,26 @@ use alarm_core::LogSite;
 use bac_values::NoMemory;
 use std::alloc::Global;
 
+/// How many destinations the class has.
+pub fn count_of(class: u32, destinations: &[DestinationSite]) -> usize
+    ensures count { result ≡ count_of class destinations.now }
+{
+    destinations
+        .iter()
+        .filter(|site| site.class.instance() == class)
+        .count()
+}
+
 /// Whether more than 32 destinations name one class.
 fn are_crowded(alloc: Global, destinations: &[DestinationSite]) -> Result<bool, NoMemory>
     ensures crowded { IfOk result (λ crowded. crowded ≡ are_crowded destinations.now) }
 {
     let counts = counts_of(alloc, destinations)?;
-    Ok(destinations
-        .iter()
-        .any(|site| count_in(&counts, site.class.instance()) > 32))
+    Ok(
+        destinations
+            .iter()
+            .any(|site| count_in(&counts, site.class.instance()) > 32),
+    )
 }
 
 /// Whether the logs have room for more than 16,384 records together.

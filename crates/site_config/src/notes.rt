@@ -1,12 +1,11 @@
-ghost use Rattle.std.specs.Prelude.{◌≡◌, ◌++◌, map, nat_lt, sum_by, IfOk, OnOk};
+ghost use Rattle.std.specs.Prelude.{◌≡◌, ◌++◌, map, nat_lt, IfOk, OnOk};
 ghost use Rattle.std.specs.List.{filter_map};
-ghost use Rattle.site_config.specs.Limits.{count_in};
 ghost use Rattle.site_config.specs.Notes.{class_of_object, class_of_enrollment, members_of, notes_of};
 
-use crate::counts::{Counts, count_in, counts_of};
 use crate::destination::DestinationSite;
 use crate::draft::Draft;
 use crate::growing::add;
+use crate::limits::count_of;
 use alarm_core::EnrollmentSite;
 use bac_values::NoMemory;
 use object_table::ObjectSite;
@@ -45,30 +44,17 @@ pub fn members_of(alloc: Global, draft: &Draft) -> Result<Vec<u32>, NoMemory>
     Ok(members)
 }
 
-/// Whether the destinations of the classes of all members are more than the limit.
-fn are_more(counts: &Counts, members: &[u32], limit: u32) -> bool
-    ensures more { result ≡ nat_lt limit (sum_by (count_in counts.now) members.now) }
+/// Whether one notification of each member of a class to each of its destinations are more than the limit.
+pub fn exceed(destinations: &[DestinationSite], members: &[u32], limit: u32) -> bool
+    ensures exceed { result ≡ nat_lt limit (notes_of destinations.now members.now) }
 {
-    let mut room = u64::from(limit);
+    let mut room = limit as usize;
     for class in members {
-        let count = count_in(counts, *class);
+        let count = count_of(*class, destinations);
         if count > room {
             return true;
         }
         room -= count;
     }
     false
-}
-
-/// Whether one notification of each member of a class to each of its destinations are more than the limit.
-pub fn exceed(
-    alloc: Global,
-    destinations: &[DestinationSite],
-    members: &[u32],
-    limit: u32,
-) -> Result<bool, NoMemory>
-    ensures exceed { IfOk result (λ exceed. exceed ≡ nat_lt limit (notes_of destinations.now members.now)) }
-{
-    let counts = counts_of(alloc, destinations)?;
-    Ok(are_more(&counts, members, limit))
 }

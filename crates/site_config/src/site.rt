@@ -50,7 +50,7 @@ fn check_notes(alloc: Global, draft: &Draft) -> Result<(), SiteFault>
 {
     let members = members_of(alloc, draft)?;
     let destinations = draft.destinations.as_slice();
-    if exceed(alloc, destinations, members.as_slice(), draft.device.outbox)? {
+    if exceed(destinations, members.as_slice(), draft.device.outbox) {
         return Err(SiteFault::TooMany {
             what: Counted::Notes,
         });
