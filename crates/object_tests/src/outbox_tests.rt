@@ -294,8 +294,18 @@ fn sent_twice(rt: &impl Abort, alloc: Global) -> Result<Outbox, Fail> {
     let mut outbox = outbox(alloc)?;
     queue_at(alloc, &mut outbox, 0, true, &ALARM)?;
     queue_at(alloc, &mut outbox, 0, true, &FAULT)?;
-    sent(rt, &pump_at(alloc, &mut outbox, 10_000)?, &peer(5), &ALARM_SENT);
-    sent(rt, &pump_at(alloc, &mut outbox, 13_000)?, &peer(5), &ALARM_SENT);
+    sent(
+        rt,
+        &pump_at(alloc, &mut outbox, 10_000)?,
+        &peer(5),
+        &ALARM_SENT,
+    );
+    sent(
+        rt,
+        &pump_at(alloc, &mut outbox, 13_000)?,
+        &peer(5),
+        &ALARM_SENT,
+    );
     Ok(outbox)
 }
 
@@ -328,9 +338,24 @@ fn a_restored_outbox_goes_on(rt: HostRuntime) -> Result<(), Fail> {
     same(&rt, &outbox.room(), &62);
     holds(&rt, outbox.has_in_flight(&peer(5), 0));
     holds(&rt, outbox.idle(T + 15_999));
-    sent(&rt, &pump_at(alloc, &mut outbox, 16_000)?, &peer(5), &ALARM_SENT);
-    sent(&rt, &pump_at(alloc, &mut outbox, 19_000)?, &peer(5), &ALARM_SENT);
-    sent(&rt, &pump_at(alloc, &mut outbox, 22_000)?, &peer(5), &FAULT_SENT);
+    sent(
+        &rt,
+        &pump_at(alloc, &mut outbox, 16_000)?,
+        &peer(5),
+        &ALARM_SENT,
+    );
+    sent(
+        &rt,
+        &pump_at(alloc, &mut outbox, 19_000)?,
+        &peer(5),
+        &ALARM_SENT,
+    );
+    sent(
+        &rt,
+        &pump_at(alloc, &mut outbox, 22_000)?,
+        &peer(5),
+        &FAULT_SENT,
+    );
     Ok(())
 }
 
@@ -340,7 +365,12 @@ fn an_answer_after_a_restoring_lets_the_next_note_go(rt: HostRuntime) -> Result<
     let mut outbox = sent_twice_and_restored(&rt, alloc)?;
     same(&rt, &outbox.answer(&peer(5), 1), &Answered::Stray);
     same(&rt, &outbox.answer(&peer(5), 0), &Answered::Answered);
-    sent(&rt, &pump_at(alloc, &mut outbox, 14_000)?, &peer(5), &FAULT_SENT);
+    sent(
+        &rt,
+        &pump_at(alloc, &mut outbox, 14_000)?,
+        &peer(5),
+        &FAULT_SENT,
+    );
     Ok(())
 }
 
@@ -373,7 +403,10 @@ fn an_outbox_is_told_by_its_peers_and_settings(rt: HostRuntime) {
         peer: peer(6),
         ..five
     };
-    holds(&rt, Outbox::can_restore(&[five, six], &[], 0, 3_600_000, 15));
+    holds(
+        &rt,
+        Outbox::can_restore(&[five, six], &[], 0, 3_600_000, 15),
+    );
     holds(&rt, !Outbox::can_restore(&[six, five], &[], 64, 3_000, 3));
     holds(&rt, !Outbox::can_restore(&[five, five], &[], 64, 3_000, 3));
     holds(&rt, !Outbox::can_restore(&[five], &[], 16_385, 3_000, 3));
