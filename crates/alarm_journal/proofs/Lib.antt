@@ -6,8 +6,10 @@ pub mod Fronts
 pub mod Headers
 pub mod Opening
 pub mod Parsing
+pub mod Places
 pub mod Reopening
 pub mod Rest
+pub mod Showing
 pub mod Snapshots
 pub mod Standings
 pub mod TwoWrites

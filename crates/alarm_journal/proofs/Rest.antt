@@ -17,7 +17,7 @@ opens_now site layout c content size sound stands = elim (cases_lt layout.next (
   | inr full ↦
       let none : end_of layout - layout.next ≡ zero = omega (arith, full) in
       let empty : batches_from layout.next zero (octets_at layout.next (end_of layout - layout.next) c) ≡ Ok [] = ap (λ (n : ℕ). batches_from layout.next zero (octets_at layout.next n c)) none in
-      subst (OpensTo site c) (λ i. record { snapshot = content.snapshot; batches = append-nil content.batches i }) (reads_on site layout c content size sound stands c [] refl refl empty)
+      subst (OpensTo site c) (λ i. record { snapshot = content.snapshot; bodies = append-nil content.bodies i }) (reads_on site layout c content size sound stands c [] refl refl empty)
 ]
 
 -- and so does each image

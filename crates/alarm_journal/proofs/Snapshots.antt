@@ -41,7 +41,7 @@ area_now site layout c content size sound stands =
           batches_closed layout.next (octets_at layout.next behind c) (λ is. stands.closed inside (sym gate ∙ is))
       | inr full ↦ let empty : end_of layout - layout.next ≡ zero = omega (arith, full) in ap (λ (n : ℕ). batches_from layout.next zero (octets_at layout.next n c)) empty
     ] in
-    area_on site layout c content size sound stands c refl ∙ ap (with_more content) none ∙ (λ i. Ok (record { snapshot = content.snapshot; batches = append-nil content.batches i }))
+    area_on site layout c content size sound stands c refl ∙ ap (with_more content) none ∙ (λ i. Ok (record { snapshot = content.snapshot; bodies = append-nil content.bodies i }))
   where
     add_none : (n : ℕ) → n + 0 ≡ n
     add_none n = omega arith
