@@ -1,3 +1,4 @@
+pub mod Areas
 pub mod Batches
 pub mod Committing
 pub mod Emitting

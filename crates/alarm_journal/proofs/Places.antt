@@ -1,6 +1,5 @@
 -- One body more.
-use Rattle.std.proofs.Common.{◌≡◌, ℕ, zero, suc, ◌+◌, ◌-◌, ◌≤◌, List, [], ◌∷◌, ◌++◌, length, map, take, drop, refl, sym, ◌∙◌, ap, arith, length-append, length-drop, append_assoc, take-append-drop}
-use Rattle.core.specs.List.{concat}
+use Rattle.std.proofs.Common.{◌≡◌, ℕ, zero, suc, ◌+◌, ◌-◌, ◌≤◌, List, [], ◌∷◌, ◌++◌, length, map, take, drop, refl, sym, ◌∙◌, ap, arith, length-append, length-drop, append_assoc, take-append-drop, flat_map}
 use Rattle.std.proofs.lemmas.List.{take_all, take-append-le, drop-append-le, append-nil, length-take-le}
 use Rattle.ground_io.specs.Disk.{octets_at}
 use Rattle.alarm_journal.specs.Opened.{pieces, sum_of, LieBetween, found_at}
@@ -26,7 +25,7 @@ pieces_more (b ∷ bodies) octets body piece whole long =
     ∷ (ap (pieces (bodies ++ body ∷ [])) (drop-append-le b.length octets piece (omega (arith, whole))) ∙ pieces_more bodies (drop b.length octets) body piece (omega (arith, whole, length-drop b.length octets)) long) i)
 
 -- pieces that make up the octets do so, and are as long as the bodies
-pub pieces_whole : (bodies : List Body) (octets : List ℕ) → sum_of bodies ≡ length octets → concat (pieces bodies octets) ≡ octets
+pub pieces_whole : (bodies : List Body) (octets : List ℕ) → sum_of bodies ≡ length octets → flat_map (λ (body : List ℕ). body) (pieces bodies octets) ≡ octets
 pieces_whole [] [] whole = refl
 pieces_whole [] (x ∷ octets) whole = absurd (omega (arith, whole))
 pieces_whole (b ∷ bodies) octets whole =

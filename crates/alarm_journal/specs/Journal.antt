@@ -10,8 +10,7 @@
 --
 -- An area is the length of its snapshot in four octets, where 0 is no snapshot, the snapshot, and its batches. A batch
 -- is a gate, the length of its body in four octets, and the body. Only a gate of 1 opens a batch; any other ends them.
-use Rattle.std.specs.Prelude.{◌≡◌, ◌==◌, ℕ, ◌+◌, ◌-◌, ◌/◌, ◌%◌, zero, suc, List, [], ◌∷◌, ◌++◌, length, take, drop, slice_index, nat_lt, Option, Some, None, Result, Ok, Err, if◌then◌else◌}
-use Rattle.core.specs.List.{concat}
+use Rattle.std.specs.Prelude.{◌≡◌, ◌==◌, ℕ, ◌+◌, ◌-◌, ◌/◌, ◌%◌, zero, suc, List, [], ◌∷◌, ◌++◌, length, take, drop, slice_index, nat_lt, flat_map, Option, Some, None, Result, Ok, Err, if◌then◌else◌}
 use Rattle.byteorder.specs.Endian.{big_number, big_bytes}
 use Rattle.ground_io.specs.Disk.{octets_at}
 use Rattle.alarm_journal.specs.declared.open_fault.OpenFault.{OpenFault}
@@ -29,7 +28,7 @@ pub record Content : Type 0 where
 
 -- the bodies one after the other
 abbrev pub batches_of : Content → List ℕ
-batches_of content = concat content.bodies
+batches_of content = flat_map (λ body. body) content.bodies
 
 -- no snapshot and no batch
 abbrev pub nothing : Content

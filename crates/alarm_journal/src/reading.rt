@@ -1,4 +1,4 @@
-ghost use Rattle.std.specs.Prelude.{◌≡◌, ◌⊎◌, ◌+◌, ◌≤◌, ◌↔◌, ◌++◌, List, [], ℕ, length, slice_index, IfOk, IfErr, OnOk, IsErr, IsTrue, Err};
+ghost use Rattle.std.specs.Prelude.{◌≡◌, ◌⊎◌, ◌+◌, ◌≤◌, ◌↔◌, [], length, slice_index, IfOk, IfErr, IsErr, IsTrue, Err};
 ghost use Rattle.byteorder.specs.Endian.{big_number};
 ghost use Rattle.ground_io.specs.Counts.{HasCause};
 ghost use Rattle.ground_io.specs.Disk.{octets_at};
@@ -30,28 +30,6 @@ pub fn read_piece<G: Ground>(
     let mut octets = vec![in alloc; 0u8; count]?;
     device.read_at(place, &mut octets)?;
     Ok(octets)
-}
-
-/// So many octets from a place on, behind those that were read before.
-pub fn read_onto<G: Ground>(
-    device: &mut G,
-    place: u64,
-    count: usize,
-    octets: &mut Vec<u8>,
-) -> Result<(), OpenFault>
-    requires { place + count ≤ G.size device.old }
-    ensures same { G.size device.new ≡ G.size device.old }
-    ensures cause { HasCause (G.disk_faults device.old) (G.disk_faults device.new) (result ≡ Err DiskFault) }
-    ensures emitted { G.emit_faults device.new ≡ G.emit_faults device.old }
-    ensures faults { IfErr result (λ fault. (fault ≡ DiskFault) ⊎ (fault ≡ NoMemory)) }
-    ensures told { Adds (G.told device.old) (G.told device.new) [] }
-    ensures octets { OnOk result ((piece : List ℕ) × (octets.new.items ≡ octets.old.items ++ piece) × (length piece ≡ count) × Reads (G.told device.old) place piece) }
-{
-    let behind = octets.len();
-    let end = behind.checked_add(count).ok_or(OpenFault::NoMemory)?;
-    octets.resize(end, 0)?;
-    device.read_at(place, &mut octets[behind..])?;
-    Ok(())
 }
 
 /// Whether there is an open gate at a place.
