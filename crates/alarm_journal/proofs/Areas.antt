@@ -135,3 +135,21 @@ snapshot_damage start half count whole (Some b) word sized room some over =
 pub area_read : (start half : ℕ) (next : ℕ) (snapshot batches : List ℕ) (bodies : List Body) (d : Option Told) → Shows d (IsSoFar start snapshot batches bodies next) → Shows d (IsEnd (start + next) (half - next)) → Shows d (IsRead start half next (record { snapshot = snapshot; bodies = pieces bodies batches }))
 area_read start half next snapshot batches bodies None so end = tt
 area_read start half next snapshot batches bodies (Some d) so end = record { closed = λ lt is. end (omega (arith, lt)) is; reads = so.reads }
+
+-- and where it lies
+pub area_laid : (start half next : ℕ) (snapshot batches : List ℕ) (bodies : List Body) (opened : Opened) → IsWithin start half snapshot batches bodies next → opened.snapshot ≡ snapshot → opened.snapshot_place ≡ start + 4 → opened.batches ≡ batches → opened.bodies ≡ bodies → IsLaid start (start + next) opened
+area_laid start half next snapshot batches bodies opened inside is_snapshot place is_batches is_bodies = record {
+  snapshot = place;
+  bodies = subst (λ (l : List ℕ). LieBetween (start + 4 + length l) opened.bodies (start + next)) (sym is_snapshot) (subst (λ (l : List Body). LieBetween (start + 4 + length snapshot) l (start + next)) (sym is_bodies) inside.lie);
+  whole = ap sum_of is_bodies ∙ inside.whole ∙ ap length (sym is_batches);
+}
+
+pub area_stands : (start next : ℕ) (snapshot batches : List ℕ) (bodies : List Body) (opened : Opened) (d : Option Told) → Shows d (IsSoFar start snapshot batches bodies next) → opened.snapshot ≡ snapshot → opened.snapshot_place ≡ start + 4 → opened.batches ≡ batches → opened.bodies ≡ bodies → Shows d (StandsAt opened)
+area_stands start next snapshot batches bodies opened None so is_snapshot place is_batches is_bodies = tt
+area_stands start next snapshot batches bodies opened (Some d) so is_snapshot place is_batches is_bodies = record {
+  snapshot = (λ i. octets_at (place i) (length (is_snapshot i)) (disk_of d).contents) ∙ so.stands ∙ sym is_snapshot;
+  bodies = ap (found_at (disk_of d).contents) is_bodies ∙ so.found ∙ (λ i. pieces (sym is_bodies i) (sym is_batches i));
+}
+
+pub opened_content : (snapshot batches : List ℕ) (bodies : List Body) (opened : Opened) → opened.snapshot ≡ snapshot → opened.batches ≡ batches → opened.bodies ≡ bodies → (let k : Content = record { snapshot = snapshot; bodies = pieces bodies batches } in k) ≡ content_in opened
+opened_content snapshot batches bodies opened is_snapshot is_batches is_bodies = λ i. record { snapshot = sym is_snapshot i; bodies = pieces (sym is_bodies i) (sym is_batches i) }
