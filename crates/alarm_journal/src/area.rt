@@ -137,7 +137,6 @@ fn opened_of(area: Area) -> (Opened, u64)
 
 /// Reads an area of so many octets from a place of the device on, as far as it is used, and says where in it the next
 /// gate stands, or that it is full.
-#[tactic(none)]
 pub fn read_area<G: Ground>(
     alloc: Global,
     device: &mut G,

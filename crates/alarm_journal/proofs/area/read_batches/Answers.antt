@@ -14,7 +14,7 @@ loop-init g c = record {
   later = omega arith;
   emitted = refl;
   told = adds_none (g.G.Ground.told c.args.device.now);
-  stays = (refl, refl, refl);
+  stays = (refl, (refl, refl));
   inside = c.requires.within;
   held = c.requires.so_far;
 }
@@ -28,7 +28,7 @@ loop-preserved g c =
       later = omega (arith, i.later, e.cause.later);
       emitted = e.emitted ∙ i.emitted;
       told = adds_both (g.G.Ground.told c.args.device.now) (g.G.Ground.told c.loop.device) (g.G.Ground.told c.read_batch.new.device) [] [] i.told e.told;
-      stays = (e.stays.0 ∙ i.stays.0, e.stays.1.0 ∙ i.stays.1.0, e.stays.1.1 ∙ i.stays.1.1);
+      stays = (e.stays.0 ∙ i.stays.0, (e.stays.1.0 ∙ i.stays.1.0, e.stays.1.1 ∙ i.stays.1.1));
       inside = e.within;
       held = e.so_far;
     }
