@@ -4,6 +4,7 @@ use Rattle.ground_io.specs.Trace.{Adds, Reads, HasSize}
 use Rattle.ground_io.specs.declared.entry.Entry.TheVariants.{Synced}
 use Rattle.ground_io.proofs.Crashes.{adds_both}
 use Rattle.alarm_journal.specs.Journal.{Site, Content, nothing}
+use Rattle.alarm_journal.specs.Opened.{content_in}
 use Rattle.alarm_journal.specs.Press.{Answers, Settled, Blank, Begun, IsOpening}
 use Rattle.alarm_journal.specs.Protocol.{AddsSome}
 use Rattle.alarm_journal.specs.declared.open_fault.OpenFault.{OpenFault}
