@@ -2,10 +2,14 @@ use Rattle.std.proofs.Common.{◌≡◌, ◌≢◌, ◌≤◌, ◌<◌, ◌+◌,
 use Rattle.std.proofs.lemmas.Result.{err_from_is_err_and}
 use Rattle.ground_io.specs.Trace.{Adds, Reads, HasSize}
 use Rattle.ground_io.specs.declared.entry.Entry.TheVariants.{Synced}
+use Rattle.ground_io.specs.Disk.{octets_at}
 use Rattle.ground_io.proofs.Crashes.{adds_both}
 use Rattle.alarm_journal.specs.Journal.{Site, Content, nothing}
-use Rattle.alarm_journal.specs.Opened.{content_in}
-use Rattle.alarm_journal.specs.Press.{Answers, Settled, Blank, Begun, IsOpening}
+use Rattle.alarm_journal.specs.Opened.{StandsAt, LieBetween, Shows, content_in, found_at, pieces, sum_of}
+use Rattle.alarm_journal.specs.Areas.{IsLaid}
+use Rattle.alarm_journal.specs.declared.body.Body.{Body}
+use Rattle.alarm_journal.proofs.Showing.{always_so}
+use Rattle.alarm_journal.specs.Press.{Answers, Settled, Blank, Begun, IsOpening, start_of}
 use Rattle.alarm_journal.specs.Protocol.{AddsSome}
 use Rattle.alarm_journal.specs.declared.open_fault.OpenFault.{OpenFault}
 use Rattle.alarm_journal.proofs.Reopening.{stays, blank_now, begun_now, formatting, small_answer, answers_then, answers_read, answers_blank, was_begun, was_blank, opening_cut}
@@ -111,7 +115,7 @@ returns-clause-settled g c =
     let site : Site = record { text = c.args.text.now; need = c.args.need } in
     let az = adds_both (g.G.Ground.told c.args.device.now) (g.G.Ground.told c.sync.new.self) (g.G.Ground.told c.size.new.self) (Synced ∷ []) [] c.in_ok-sync.ensures.synced c.in_ok-size.ensures.told in
     let blank : Blank (g.G.Ground.told c.read_gate.new.device) = blank_now (g.G.Ground.told c.args.device.now) (g.G.Ground.told c.size.new.self) (g.G.Ground.told c.read_gate.new.device) _ az c.in_ok-begun.ensures.told c.in_ok-begun.ensures.open not_true in
-    let none : (let k : Content = record { snapshot = c.new.result.items; batches = c.new-2.result.items } in k) ≡ nothing = λ i. record { snapshot = c.new.ensures.items i; batches = c.new-2.ensures.items i } in
+    let none : (let k : Content = record { snapshot = c.of.result; bodies = pieces c.of-3.result c.of-2.result } in k) ≡ nothing = λ i. record { snapshot = (c.of.ensures.same ∙ c.new.ensures.items) i; bodies = pieces ((c.of-3.ensures.same ∙ c.new-3.ensures.items) i) c.of-2.result } in
     subst (λ (k : Content). Settled site c.in_ok-layout-2.layout (g.G.Ground.told c.format.new.device) k) (sym none) (c.in_ok-layout-2.ensures.formatted blank)
 
 pub returns-clause-answer : goal.returns-clause-answer
@@ -122,7 +126,7 @@ returns-clause-answer g c =
     let blank : Blank (g.G.Ground.told c.read_gate.new.device) = blank_now (g.G.Ground.told c.args.device.now) (g.G.Ground.told c.size.new.self) (g.G.Ground.told c.read_gate.new.device) _ az c.in_ok-begun.ensures.told c.in_ok-begun.ensures.open not_true in
     let size_is : c.in_ok-size.size ≡ g.G.Ground.size c.args.device.now = c.in_ok-size.ensures.answer ∙ c.in_ok-sync.ensures.same in
     let whole : HasSize c.in_ok-size.size (g.G.Ground.told c.args.device.now) = subst (λ (n : ℕ). HasSize n (g.G.Ground.told c.args.device.now)) (sym size_is) (g.G.Ground.sized c.args.device.now) in
-    let none : (let k : Content = record { snapshot = c.new.result.items; batches = c.new-2.result.items } in k) ≡ nothing = λ i. record { snapshot = c.new.ensures.items i; batches = c.new-2.ensures.items i } in
+    let none : (let k : Content = record { snapshot = c.of.result; bodies = pieces c.of-3.result c.of-2.result } in k) ≡ nothing = λ i. record { snapshot = (c.of.ensures.same ∙ c.new.ensures.items) i; bodies = pieces ((c.of-3.ensures.same ∙ c.new-3.ensures.items) i) c.of-2.result } in
     subst (λ (k : Content). Answers site (g.G.Ground.told c.args.device.now) (g.G.Ground.told c.format.new.device) (Ok k)) (sym none) (answers_blank site c.in_ok-size.size (g.G.Ground.told c.args.device.now) (g.G.Ground.told c.read_gate.new.device) (g.G.Ground.told c.format.new.device) _ whole c.if-size-need.false ar blank c.in_ok-layout-2.ensures.wrote)
 
 pub returns-clause-fresh : goal.returns-clause-fresh
@@ -141,3 +145,27 @@ returns-clause-any_moment g c =
     let size_is : c.in_ok-size.size ≡ g.G.Ground.size c.args.device.now = c.in_ok-size.ensures.answer ∙ c.in_ok-sync.ensures.same in
     let whole : HasSize c.in_ok-size.size (g.G.Ground.told c.args.device.now) = subst (λ (n : ℕ). HasSize n (g.G.Ground.told c.args.device.now)) (sym size_is) (g.G.Ground.sized c.args.device.now) in
     formatting site c.in_ok-size.size (g.G.Ground.told c.args.device.now) (g.G.Ground.told c.read_gate.new.device) (g.G.Ground.told c.format.new.device) whole c.if-size-need.false ar blank (c.in_ok-layout-2.ensures.any_moment blank)
+
+pub returns-clause-empty : goal.returns-clause-empty
+returns-clause-empty g c = λ _. λ i. record { snapshot = (c.of.ensures.same ∙ c.new.ensures.items) i; bodies = pieces ((c.of-3.ensures.same ∙ c.new-3.ensures.items) i) c.of-2.result }
+
+pub returns-clause-laid : goal.returns-clause-laid
+returns-clause-laid g c =
+    let none : c.of.result ≡ [] = c.of.ensures.same ∙ c.new.ensures.items in
+    let no_octets : c.of-2.result ≡ [] = c.of-2.ensures.same ∙ c.new-2.ensures.items in
+    let no_bodies : c.of-3.result ≡ [] = c.of-3.ensures.same ∙ c.new-3.ensures.items in
+    let next = c.in_ok-layout-2.ensures.next in
+    record {
+      snapshot = next;
+      bodies = subst (λ (l : List Body). LieBetween (start_of c.in_ok-layout-2.layout + 4 + length c.of.result) l c.in_ok-layout-2.layout.next) (sym no_bodies) (omega (arith, next, ap length none));
+      whole = ap sum_of no_bodies ∙ ap length (sym no_octets);
+    }
+
+pub returns-clause-stand : goal.returns-clause-stand
+returns-clause-stand g c =
+    let none : c.of.result ≡ [] = c.of.ensures.same ∙ c.new.ensures.items in
+    let no_bodies : c.of-3.result ≡ [] = c.of-3.ensures.same ∙ c.new-3.ensures.items in
+    always_so _ _ (λ image. record {
+      snapshot = ap (λ (l : List ℕ). octets_at c.in_ok-layout-2.layout.next (length l) image) none ∙ sym none;
+      bodies = ap (found_at image) no_bodies ∙ ap (λ (l : List Body). pieces l c.of-2.result) (sym no_bodies);
+    })
