@@ -8,6 +8,7 @@ use Rattle.alarm_journal.specs.Journal.{Site, Content, nothing}
 use Rattle.alarm_journal.specs.Opened.{StandsAt, LieBetween, Shows, content_in, found_at, pieces, sum_of}
 use Rattle.alarm_journal.specs.Areas.{IsLaid}
 use Rattle.alarm_journal.specs.declared.body.Body.{Body}
+use Rattle.alarm_journal.specs.declared.opened.Opened.{Opened}
 use Rattle.alarm_journal.proofs.Showing.{always_so}
 use Rattle.alarm_journal.specs.Press.{Answers, Settled, Blank, Begun, IsOpening, start_of}
 use Rattle.alarm_journal.specs.Protocol.{AddsSome}
@@ -58,14 +59,14 @@ returns-in_err-layout-clause-answer g c =
     let site : Site = record { text = c.args.text.now; need = c.args.need } in
     let az = adds_both (g.G.Ground.told c.args.device.now) (g.G.Ground.told c.sync.new.self) (g.G.Ground.told c.size.new.self) (Synced ∷ []) [] c.in_ok-sync.ensures.synced c.in_ok-size.ensures.told in
     let ar = adds_both (g.G.Ground.told c.args.device.now) (g.G.Ground.told c.size.new.self) (g.G.Ground.told c.read_gate.new.device) (Synced ∷ []) [] az c.in_ok-begun.ensures.told in
-    let begun : Begun (g.G.Ground.told c.read_gate.new.device) = begun_now (g.G.Ground.told c.args.device.now) (g.G.Ground.told c.size.new.self) (g.G.Ground.told c.read_gate.new.device) _ az c.in_ok-begun.ensures.told c.in_ok-begun.ensures.open refl in
+    let begun : Begun (g.G.Ground.told c.read_gate.new.device) = begun_now (g.G.Ground.told c.args.device.now) (g.G.Ground.told c.size.new.self) (g.G.Ground.told c.read_gate.new.device) _ az c.in_ok-begun.ensures.told c.in_ok-begun.ensures.open c.if-begun.true in
     let p = err_from_is_err_and c.from_residual-in_err-layout.result c.from_residual-in_err-layout.ensures.1 in
     rw p.1 (subst (λ (f : OpenFault). Answers site (g.G.Ground.told c.args.device.now) (g.G.Ground.told c.read_journal.new.device) (Err f)) (sym p.2) (answers_then site (g.G.Ground.told c.args.device.now) (g.G.Ground.told c.read_gate.new.device) (g.G.Ground.told c.read_journal.new.device) (Err c.in_err-layout.field-0.0) ar (c.in_err-layout.ensures.answer begun)))
 
 pub returns-then-begun-clause-settled : goal.returns-then-begun-clause-settled
 returns-then-begun-clause-settled g c =
     let az = adds_both (g.G.Ground.told c.args.device.now) (g.G.Ground.told c.sync.new.self) (g.G.Ground.told c.size.new.self) (Synced ∷ []) [] c.in_ok-sync.ensures.synced c.in_ok-size.ensures.told in
-    let begun : Begun (g.G.Ground.told c.read_gate.new.device) = begun_now (g.G.Ground.told c.args.device.now) (g.G.Ground.told c.size.new.self) (g.G.Ground.told c.read_gate.new.device) _ az c.in_ok-begun.ensures.told c.in_ok-begun.ensures.open refl in
+    let begun : Begun (g.G.Ground.told c.read_gate.new.device) = begun_now (g.G.Ground.told c.args.device.now) (g.G.Ground.told c.size.new.self) (g.G.Ground.told c.read_gate.new.device) _ az c.in_ok-begun.ensures.told c.in_ok-begun.ensures.open c.if-begun.true in
     c.in_ok-layout.ensures.settled begun
 
 pub returns-then-begun-clause-answer : goal.returns-then-begun-clause-answer
@@ -74,14 +75,14 @@ returns-then-begun-clause-answer g c =
     let az = adds_both (g.G.Ground.told c.args.device.now) (g.G.Ground.told c.sync.new.self) (g.G.Ground.told c.size.new.self) (Synced ∷ []) [] c.in_ok-sync.ensures.synced c.in_ok-size.ensures.told in
     let ar = adds_both (g.G.Ground.told c.args.device.now) (g.G.Ground.told c.size.new.self) (g.G.Ground.told c.read_gate.new.device) (Synced ∷ []) [] az c.in_ok-begun.ensures.told in
     let ad = adds_both (g.G.Ground.told c.args.device.now) (g.G.Ground.told c.read_gate.new.device) (g.G.Ground.told c.read_journal.new.device) (Synced ∷ []) [] ar c.in_ok-layout.ensures.told in
-    let begun : Begun (g.G.Ground.told c.read_gate.new.device) = begun_now (g.G.Ground.told c.args.device.now) (g.G.Ground.told c.size.new.self) (g.G.Ground.told c.read_gate.new.device) _ az c.in_ok-begun.ensures.told c.in_ok-begun.ensures.open refl in
+    let begun : Begun (g.G.Ground.told c.read_gate.new.device) = begun_now (g.G.Ground.told c.args.device.now) (g.G.Ground.told c.size.new.self) (g.G.Ground.told c.read_gate.new.device) _ az c.in_ok-begun.ensures.told c.in_ok-begun.ensures.open c.if-begun.true in
     answers_read site c.in_ok-layout.layout (g.G.Ground.size c.read_journal.new.device) (content_in c.in_ok-layout.opened) (g.G.Ground.told c.args.device.now) (g.G.Ground.told c.read_journal.new.device) c.in_ok-layout.ensures.sound ad (c.in_ok-layout.ensures.settled begun)
 
 pub returns-then-begun-clause-fresh : goal.returns-then-begun-clause-fresh
 returns-then-begun-clause-fresh g c =
     let az = adds_both (g.G.Ground.told c.args.device.now) (g.G.Ground.told c.sync.new.self) (g.G.Ground.told c.size.new.self) (Synced ∷ []) [] c.in_ok-sync.ensures.synced c.in_ok-size.ensures.told in
     let ar = adds_both (g.G.Ground.told c.args.device.now) (g.G.Ground.told c.size.new.self) (g.G.Ground.told c.read_gate.new.device) (Synced ∷ []) [] az c.in_ok-begun.ensures.told in
-    let begun : Begun (g.G.Ground.told c.read_gate.new.device) = begun_now (g.G.Ground.told c.args.device.now) (g.G.Ground.told c.size.new.self) (g.G.Ground.told c.read_gate.new.device) _ az c.in_ok-begun.ensures.told c.in_ok-begun.ensures.open refl in
+    let begun : Begun (g.G.Ground.told c.read_gate.new.device) = begun_now (g.G.Ground.told c.args.device.now) (g.G.Ground.told c.size.new.self) (g.G.Ground.told c.read_gate.new.device) _ az c.in_ok-begun.ensures.told c.in_ok-begun.ensures.open c.if-begun.true in
     was_begun (g.G.Ground.told c.args.device.now) (g.G.Ground.told c.read_gate.new.device) (g.G.Ground.told c.read_journal.new.device) ar begun c.in_ok-layout.ensures.told
 
 pub returns-then-begun-clause-any_moment : goal.returns-then-begun-clause-any_moment
@@ -97,7 +98,7 @@ returns-in_err-layout-2-clause-any_moment g c =
     let site : Site = record { text = c.args.text.now; need = c.args.need } in
     let az = adds_both (g.G.Ground.told c.args.device.now) (g.G.Ground.told c.sync.new.self) (g.G.Ground.told c.size.new.self) (Synced ∷ []) [] c.in_ok-sync.ensures.synced c.in_ok-size.ensures.told in
     let ar = adds_both (g.G.Ground.told c.args.device.now) (g.G.Ground.told c.size.new.self) (g.G.Ground.told c.read_gate.new.device) (Synced ∷ []) [] az c.in_ok-begun.ensures.told in
-    let blank : Blank (g.G.Ground.told c.read_gate.new.device) = blank_now (g.G.Ground.told c.args.device.now) (g.G.Ground.told c.size.new.self) (g.G.Ground.told c.read_gate.new.device) _ az c.in_ok-begun.ensures.told c.in_ok-begun.ensures.open not_true in
+    let blank : Blank (g.G.Ground.told c.read_gate.new.device) = blank_now (g.G.Ground.told c.args.device.now) (g.G.Ground.told c.size.new.self) (g.G.Ground.told c.read_gate.new.device) _ az c.in_ok-begun.ensures.told c.in_ok-begun.ensures.open (λ is. not_true (sym c.if-begun.false ∙ is)) in
     let size_is : c.in_ok-size.size ≡ g.G.Ground.size c.args.device.now = c.in_ok-size.ensures.answer ∙ c.in_ok-sync.ensures.same in
     let whole : HasSize c.in_ok-size.size (g.G.Ground.told c.args.device.now) = subst (λ (n : ℕ). HasSize n (g.G.Ground.told c.args.device.now)) (sym size_is) (g.G.Ground.sized c.args.device.now) in
     formatting site c.in_ok-size.size (g.G.Ground.told c.args.device.now) (g.G.Ground.told c.read_gate.new.device) (g.G.Ground.told c.format.new.device) whole c.if-size-need.false ar blank (c.in_err-layout-2.ensures.any_moment blank)
@@ -114,7 +115,7 @@ pub returns-clause-settled : goal.returns-clause-settled
 returns-clause-settled g c =
     let site : Site = record { text = c.args.text.now; need = c.args.need } in
     let az = adds_both (g.G.Ground.told c.args.device.now) (g.G.Ground.told c.sync.new.self) (g.G.Ground.told c.size.new.self) (Synced ∷ []) [] c.in_ok-sync.ensures.synced c.in_ok-size.ensures.told in
-    let blank : Blank (g.G.Ground.told c.read_gate.new.device) = blank_now (g.G.Ground.told c.args.device.now) (g.G.Ground.told c.size.new.self) (g.G.Ground.told c.read_gate.new.device) _ az c.in_ok-begun.ensures.told c.in_ok-begun.ensures.open not_true in
+    let blank : Blank (g.G.Ground.told c.read_gate.new.device) = blank_now (g.G.Ground.told c.args.device.now) (g.G.Ground.told c.size.new.self) (g.G.Ground.told c.read_gate.new.device) _ az c.in_ok-begun.ensures.told c.in_ok-begun.ensures.open (λ is. not_true (sym c.if-begun.false ∙ is)) in
     let none : (let k : Content = record { snapshot = c.of.result; bodies = pieces c.of-3.result c.of-2.result } in k) ≡ nothing = λ i. record { snapshot = (c.of.ensures.same ∙ c.new.ensures.items) i; bodies = pieces ((c.of-3.ensures.same ∙ c.new-3.ensures.items) i) c.of-2.result } in
     subst (λ (k : Content). Settled site c.in_ok-layout-2.layout (g.G.Ground.told c.format.new.device) k) (sym none) (c.in_ok-layout-2.ensures.formatted blank)
 
@@ -123,7 +124,7 @@ returns-clause-answer g c =
     let site : Site = record { text = c.args.text.now; need = c.args.need } in
     let az = adds_both (g.G.Ground.told c.args.device.now) (g.G.Ground.told c.sync.new.self) (g.G.Ground.told c.size.new.self) (Synced ∷ []) [] c.in_ok-sync.ensures.synced c.in_ok-size.ensures.told in
     let ar = adds_both (g.G.Ground.told c.args.device.now) (g.G.Ground.told c.size.new.self) (g.G.Ground.told c.read_gate.new.device) (Synced ∷ []) [] az c.in_ok-begun.ensures.told in
-    let blank : Blank (g.G.Ground.told c.read_gate.new.device) = blank_now (g.G.Ground.told c.args.device.now) (g.G.Ground.told c.size.new.self) (g.G.Ground.told c.read_gate.new.device) _ az c.in_ok-begun.ensures.told c.in_ok-begun.ensures.open not_true in
+    let blank : Blank (g.G.Ground.told c.read_gate.new.device) = blank_now (g.G.Ground.told c.args.device.now) (g.G.Ground.told c.size.new.self) (g.G.Ground.told c.read_gate.new.device) _ az c.in_ok-begun.ensures.told c.in_ok-begun.ensures.open (λ is. not_true (sym c.if-begun.false ∙ is)) in
     let size_is : c.in_ok-size.size ≡ g.G.Ground.size c.args.device.now = c.in_ok-size.ensures.answer ∙ c.in_ok-sync.ensures.same in
     let whole : HasSize c.in_ok-size.size (g.G.Ground.told c.args.device.now) = subst (λ (n : ℕ). HasSize n (g.G.Ground.told c.args.device.now)) (sym size_is) (g.G.Ground.sized c.args.device.now) in
     let none : (let k : Content = record { snapshot = c.of.result; bodies = pieces c.of-3.result c.of-2.result } in k) ≡ nothing = λ i. record { snapshot = (c.of.ensures.same ∙ c.new.ensures.items) i; bodies = pieces ((c.of-3.ensures.same ∙ c.new-3.ensures.items) i) c.of-2.result } in
@@ -133,7 +134,7 @@ pub returns-clause-fresh : goal.returns-clause-fresh
 returns-clause-fresh g c =
     let az = adds_both (g.G.Ground.told c.args.device.now) (g.G.Ground.told c.sync.new.self) (g.G.Ground.told c.size.new.self) (Synced ∷ []) [] c.in_ok-sync.ensures.synced c.in_ok-size.ensures.told in
     let ar = adds_both (g.G.Ground.told c.args.device.now) (g.G.Ground.told c.size.new.self) (g.G.Ground.told c.read_gate.new.device) (Synced ∷ []) [] az c.in_ok-begun.ensures.told in
-    let blank : Blank (g.G.Ground.told c.read_gate.new.device) = blank_now (g.G.Ground.told c.args.device.now) (g.G.Ground.told c.size.new.self) (g.G.Ground.told c.read_gate.new.device) _ az c.in_ok-begun.ensures.told c.in_ok-begun.ensures.open not_true in
+    let blank : Blank (g.G.Ground.told c.read_gate.new.device) = blank_now (g.G.Ground.told c.args.device.now) (g.G.Ground.told c.size.new.self) (g.G.Ground.told c.read_gate.new.device) _ az c.in_ok-begun.ensures.told c.in_ok-begun.ensures.open (λ is. not_true (sym c.if-begun.false ∙ is)) in
     was_blank (g.G.Ground.told c.args.device.now) (g.G.Ground.told c.read_gate.new.device) (g.G.Ground.told c.format.new.device) _ ar blank c.in_ok-layout-2.ensures.wrote
 
 pub returns-clause-any_moment : goal.returns-clause-any_moment
@@ -141,7 +142,7 @@ returns-clause-any_moment g c =
     let site : Site = record { text = c.args.text.now; need = c.args.need } in
     let az = adds_both (g.G.Ground.told c.args.device.now) (g.G.Ground.told c.sync.new.self) (g.G.Ground.told c.size.new.self) (Synced ∷ []) [] c.in_ok-sync.ensures.synced c.in_ok-size.ensures.told in
     let ar = adds_both (g.G.Ground.told c.args.device.now) (g.G.Ground.told c.size.new.self) (g.G.Ground.told c.read_gate.new.device) (Synced ∷ []) [] az c.in_ok-begun.ensures.told in
-    let blank : Blank (g.G.Ground.told c.read_gate.new.device) = blank_now (g.G.Ground.told c.args.device.now) (g.G.Ground.told c.size.new.self) (g.G.Ground.told c.read_gate.new.device) _ az c.in_ok-begun.ensures.told c.in_ok-begun.ensures.open not_true in
+    let blank : Blank (g.G.Ground.told c.read_gate.new.device) = blank_now (g.G.Ground.told c.args.device.now) (g.G.Ground.told c.size.new.self) (g.G.Ground.told c.read_gate.new.device) _ az c.in_ok-begun.ensures.told c.in_ok-begun.ensures.open (λ is. not_true (sym c.if-begun.false ∙ is)) in
     let size_is : c.in_ok-size.size ≡ g.G.Ground.size c.args.device.now = c.in_ok-size.ensures.answer ∙ c.in_ok-sync.ensures.same in
     let whole : HasSize c.in_ok-size.size (g.G.Ground.told c.args.device.now) = subst (λ (n : ℕ). HasSize n (g.G.Ground.told c.args.device.now)) (sym size_is) (g.G.Ground.sized c.args.device.now) in
     formatting site c.in_ok-size.size (g.G.Ground.told c.args.device.now) (g.G.Ground.told c.read_gate.new.device) (g.G.Ground.told c.format.new.device) whole c.if-size-need.false ar blank (c.in_ok-layout-2.ensures.any_moment blank)
@@ -165,7 +166,8 @@ pub returns-clause-stand : goal.returns-clause-stand
 returns-clause-stand g c =
     let none : c.of.result ≡ [] = c.of.ensures.same ∙ c.new.ensures.items in
     let no_bodies : c.of-3.result ≡ [] = c.of-3.ensures.same ∙ c.new-3.ensures.items in
-    always_so _ _ (λ image. record {
+    let opened : Opened = record { fresh = true; snapshot = c.of.result; snapshot_place = c.in_ok-layout-2.layout.next; batches = c.of-2.result; bodies = c.of-3.result } in
+    always_so (StandsAt opened) _ (λ image. record {
       snapshot = ap (λ (l : List ℕ). octets_at c.in_ok-layout-2.layout.next (length l) image) none ∙ sym none;
       bodies = ap (found_at image) no_bodies ∙ ap (λ (l : List Body). pieces l c.of-2.result) (sym no_bodies);
     })
