@@ -1,4 +1,4 @@
-use Rattle.std.proofs.Common.{◌≡◌, ◌≢◌, ◌≤◌, ◌<◌, ◌+◌, [], ◌∷◌, ◌++◌, length, get_or, arith, ap, subst, sym, ◌∙◌, List, ℕ, refl, Ok, Err, IsTrue, false, true}
+use Rattle.std.proofs.Common.{◌≡◌, ◌≢◌, ◌≤◌, ◌<◌, ◌+◌, [], ◌∷◌, ◌++◌, length, get_or, arith, ap, subst, sym, ◌∙◌, List, ℕ, refl, Ok, Err, IsTrue, Bool, false, true}
 use Rattle.std.proofs.lemmas.Result.{err_from_is_err_and}
 use Rattle.ground_io.specs.Trace.{Adds, Reads, HasSize}
 use Rattle.ground_io.specs.declared.entry.Entry.TheVariants.{Synced}
@@ -10,7 +10,7 @@ use Rattle.alarm_journal.specs.Areas.{IsLaid}
 use Rattle.alarm_journal.specs.declared.body.Body.{Body}
 use Rattle.alarm_journal.specs.declared.opened.Opened.{Opened}
 use Rattle.alarm_journal.proofs.Showing.{always_so}
-use Rattle.alarm_journal.specs.Press.{Answers, Settled, Blank, Begun, IsOpening, start_of}
+use Rattle.alarm_journal.specs.Press.{Answers, Settled, Blank, Begun, IsOpening, start_of, WasBlank}
 use Rattle.alarm_journal.specs.Protocol.{AddsSome}
 use Rattle.alarm_journal.specs.declared.open_fault.OpenFault.{OpenFault}
 use Rattle.alarm_journal.proofs.Reopening.{stays, blank_now, begun_now, formatting, small_answer, answers_then, answers_read, answers_blank, was_begun, was_blank, opening_cut}
@@ -83,7 +83,8 @@ returns-then-begun-clause-fresh g c =
     let az = adds_both (g.G.Ground.told c.args.device.now) (g.G.Ground.told c.sync.new.self) (g.G.Ground.told c.size.new.self) (Synced ∷ []) [] c.in_ok-sync.ensures.synced c.in_ok-size.ensures.told in
     let ar = adds_both (g.G.Ground.told c.args.device.now) (g.G.Ground.told c.size.new.self) (g.G.Ground.told c.read_gate.new.device) (Synced ∷ []) [] az c.in_ok-begun.ensures.told in
     let begun : Begun (g.G.Ground.told c.read_gate.new.device) = begun_now (g.G.Ground.told c.args.device.now) (g.G.Ground.told c.size.new.self) (g.G.Ground.told c.read_gate.new.device) _ az c.in_ok-begun.ensures.told c.in_ok-begun.ensures.open c.if-begun.true in
-    was_begun (g.G.Ground.told c.args.device.now) (g.G.Ground.told c.read_gate.new.device) (g.G.Ground.told c.read_journal.new.device) ar begun c.in_ok-layout.ensures.told
+    subst (λ (b : Bool). WasBlank (g.G.Ground.told c.args.device.now) (g.G.Ground.told c.read_journal.new.device) b) (sym c.in_ok-layout.ensures.fresh)
+    (was_begun (g.G.Ground.told c.args.device.now) (g.G.Ground.told c.read_gate.new.device) (g.G.Ground.told c.read_journal.new.device) ar begun c.in_ok-layout.ensures.told)
 
 pub returns-then-begun-clause-any_moment : goal.returns-then-begun-clause-any_moment
 returns-then-begun-clause-any_moment g c =
