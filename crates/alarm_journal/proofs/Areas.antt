@@ -1,5 +1,5 @@
 -- Reading an area, batch by batch.
-use Rattle.std.proofs.Common.{◌≡◌, ◌⊎◌, inl, inr, ℕ, zero, suc, ◌+◌, ◌-◌, ◌<◌, ◌≤◌, List, [], ◌∷◌, ◌++◌, length, take, drop, get_or, refl, sym, ◌∙◌, ap, subst, arith, length-drop, length-append, Option, Some, None, Err}
+use Rattle.std.proofs.Common.{◌≡◌, ◌⊎◌, inl, inr, ℕ, ◌+◌, ◌-◌, ◌<◌, ◌≤◌, List, [], ◌∷◌, ◌++◌, length, take, drop, get_or, refl, sym, ◌∙◌, ap, subst, arith, length-drop, length-append, Option, Some, None, Err}
 use Rattle.std.proofs.lemmas.List.{drop-drop, get_or-drop, length-take-le, take-take}
 use Rattle.byteorder.specs.Endian.{big_number}
 use Rattle.ground_io.specs.Disk.{Disk, octets_at}
@@ -11,7 +11,6 @@ use Rattle.alarm_journal.specs.Areas.{ReadsAs, IsRead, IsHead, IsEnd, IsBadHead,
 use Rattle.alarm_journal.specs.declared.body.Body.{Body}
 use Rattle.alarm_journal.specs.declared.opened.Opened.{Opened}
 use Rattle.alarm_journal.specs.declared.open_fault.OpenFault.{OpenFault}
-use Rattle.alarm_journal.specs.declared.open_fault.OpenFault.TheVariants.{Damaged}
 use Rattle.alarm_journal.proofs.Parsing.{reads_snapshot, reads_batch, bad_snapshot, bad_batch}
 use Rattle.alarm_journal.proofs.Places.{sum_more, lie_more, found_more, pieces_more}
 

@@ -1,21 +1,21 @@
 -- What is read of a journal whose gate is open.
-use Rattle.std.proofs.Common.{◌≡◌, ◌≢◌, ◌⊎◌, inl, inr, ℕ, zero, suc, ◌+◌, ◌-◌, ◌*◌, ◌/◌, ◌%◌, ◌<◌, ◌≤◌, ◌^◌, Bool, true, false, if◌then◌else◌, List, [], ◌∷◌, ◌++◌, length, take, drop, get_or, refl, sym, ◌∙◌, ap, subst, arith, Option, Some, None, Result, Ok, Err, nat_lt}
-use Rattle.std.proofs.lemmas.List.{take-take, get_or-take, get_or-drop}
+use Rattle.std.proofs.Common.{◌≡◌, ◌⊎◌, inl, inr, ℕ, ◌+◌, ◌-◌, ◌/◌, ◌%◌, ◌<◌, ◌≤◌, ◌^◌, if◌then◌else◌, List, [], ◌++◌, length, take, get_or, sym, ◌∙◌, ap, subst, arith, Option, Some, None, Result, Ok, Err, nat_lt}
+use Rattle.std.proofs.lemmas.List.{take-take}
 use Rattle.byteorder.specs.Endian.{big_number, big_bytes}
 use Rattle.ground_io.specs.Disk.{Disk, octets_at}
 use Rattle.ground_io.specs.Trace.{Told, Adds, Reads, HasSize, disk_of}
 use Rattle.ground_io.specs.declared.entry.Entry.{Entry}
 use Rattle.ground_io.proofs.Crashes.{disk_adds}
 use Rattle.ground_io.proofs.Disks.{length-octets_at}
-use Rattle.alarm_journal.specs.Journal.{Site, Content, mark, formatted_size, half_of, content_of, batches_from, with_more, or_else, first_other, foreign_place, own_header, checked_header, or_damaged, selected_content, opened_from}
-use Rattle.alarm_journal.specs.Press.{IsOurs, StandsFor, IsSettled, Settled, IsSound, IsBegun, Begun, Answers, start_of, end_of}
+use Rattle.alarm_journal.specs.Journal.{Site, Content, mark, formatted_size, content_of, or_else, first_other, foreign_place, checked_header, or_damaged, selected_content}
+use Rattle.alarm_journal.specs.Press.{StandsFor, Settled, IsSound, Begun, Answers, start_of}
 use Rattle.alarm_journal.specs.Areas.{IsRead, IsDamage}
 use Rattle.alarm_journal.specs.Opened.{Shows}
 use Rattle.alarm_journal.specs.declared.layout.Layout.{Layout}
 use Rattle.alarm_journal.specs.declared.open_fault.OpenFault.{OpenFault}
 use Rattle.alarm_journal.specs.declared.open_fault.OpenFault.TheVariants.{DiskFault, SmallDevice, Foreign, Damaged, NoMemory}
 use Rattle.alarm_journal.proofs.Fronts.{slice_front, octet_front}
-use Rattle.alarm_journal.proofs.Headers.{Checked, checked_ok, owned, opens_by_header}
+use Rattle.alarm_journal.proofs.Headers.{checked_ok, owned, opens_by_header}
 use Rattle.alarm_journal.proofs.Standings.{Heads, area_opens}
 
 -- the header by its size and its first foreign place

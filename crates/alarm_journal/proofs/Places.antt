@@ -1,6 +1,6 @@
 -- One body more.
-use Rattle.std.proofs.Common.{◌≡◌, ℕ, zero, suc, ◌+◌, ◌-◌, ◌≤◌, List, [], ◌∷◌, ◌++◌, length, map, take, drop, refl, sym, ◌∙◌, ap, arith, length-append, length-drop, append_assoc, take-append-drop, flat_map}
-use Rattle.std.proofs.lemmas.List.{take_all, take-append-le, drop-append-le, append-nil, length-take-le}
+use Rattle.std.proofs.Common.{◌≡◌, ℕ, ◌+◌, List, [], ◌∷◌, ◌++◌, length, map, take, drop, refl, sym, ◌∙◌, ap, arith, length-drop, take-append-drop, flat_map}
+use Rattle.std.proofs.lemmas.List.{take_all, take-append-le, drop-append-le, length-take-le}
 use Rattle.ground_io.specs.Disk.{octets_at}
 use Rattle.alarm_journal.specs.Opened.{pieces, sum_of, LieBetween, found_at}
 use Rattle.alarm_journal.specs.declared.body.Body.{Body}

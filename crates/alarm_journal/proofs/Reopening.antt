@@ -1,15 +1,14 @@
 -- What a crash may leave from the first sync of an opening on, and what the opening answers.
-use Rattle.std.proofs.Common.{◌≡◌, ◌≢◌, ◌⊎◌, ◌↔◌, inl, inr, ⊎_elim, ℕ, ◌+◌, ◌<◌, ◌≤◌, Bool, true, false, List, [], ◌∷◌, ◌++◌, length, take, drop, get_or, refl, sym, ◌∙◌, ap, subst, arith, Option, Some, None, Result, Ok, Err, IsTrue}
-use Rattle.std.proofs.lemmas.List.{get_or-take}
-use Rattle.ground_io.specs.Disk.{Disk, Each, Always, MayLeave, after_entry, disk_after, octets_at}
-use Rattle.ground_io.specs.Trace.{Told, Adds, Reads, HasSize, disk_of}
+use Rattle.std.proofs.Common.{◌≡◌, ◌⊎◌, ◌↔◌, inl, inr, ⊎_elim, ℕ, ◌<◌, ◌≤◌, Bool, true, false, List, [], ◌∷◌, length, get_or, refl, sym, ◌∙◌, ap, subst, arith, Option, Some, None, Result, Ok, Err, IsTrue}
+use Rattle.ground_io.specs.Disk.{Disk, Always}
+use Rattle.ground_io.specs.Trace.{Told, Adds, HasSize, disk_of}
 use Rattle.ground_io.specs.declared.entry.Entry.{Entry}
 use Rattle.ground_io.specs.declared.entry.Entry.TheVariants.{Synced}
 use Rattle.ground_io.proofs.Crashes.{only_read, adds_both, disk_adds, always_weaker}
 use Rattle.alarm_journal.specs.Journal.{Site, Content, nothing, OpensTo, opened_from, heading}
 use Rattle.alarm_journal.specs.Opened.{Shows}
-use Rattle.alarm_journal.specs.Press.{IsSettled, Settled, IsSound, IsBegun, Begun, IsBlank, Blank, Reopens, OpensSame, Answers, WasBlank, IsOpening}
-use Rattle.alarm_journal.specs.Protocol.{AddsSome, Quietly, Leads, two_writes, IsTwoCutShort}
+use Rattle.alarm_journal.specs.Press.{Settled, IsSound, Begun, IsBlank, Blank, Reopens, Answers, WasBlank, IsOpening}
+use Rattle.alarm_journal.specs.Protocol.{AddsSome, Leads, two_writes, IsTwoCutShort}
 use Rattle.alarm_journal.specs.declared.layout.Layout.{Layout}
 use Rattle.alarm_journal.specs.declared.open_fault.OpenFault.{OpenFault}
 use Rattle.alarm_journal.specs.declared.open_fault.OpenFault.TheVariants.{SmallDevice}

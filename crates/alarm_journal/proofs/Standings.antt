@@ -1,14 +1,13 @@
 -- Images that keep what stands in front of a place.
-use Rattle.std.proofs.Common.{◌≡◌, ◌≢◌, ◌⊎◌, inl, inr, ℕ, zero, suc, ◌+◌, ◌-◌, ◌%◌, ◌<◌, ◌≤◌, ◌^◌, ◌==◌, ◌*◌, ◌/◌, if◌then◌else◌, add-zero, Bool, true, false, List, [], ◌∷◌, ◌++◌, length, take, drop, get_or, refl, sym, ◌∙◌, ap, subst, arith, append_assoc, length-append, Result, Ok, Err}
-use Rattle.std.proofs.lemmas.List.{append-nil, take-take, drop-drop, get_or-take, get_or-drop, get_or_at, take_at}
+use Rattle.std.proofs.Common.{◌≡◌, ◌≢◌, ℕ, zero, suc, ◌+◌, ◌-◌, ◌%◌, ◌<◌, ◌≤◌, ◌^◌, ◌==◌, ◌/◌, if◌then◌else◌, add-zero, Bool, true, false, List, [], ◌∷◌, ◌++◌, length, take, drop, get_or, refl, sym, ◌∙◌, ap, subst, arith, append_assoc, length-append, Ok}
+use Rattle.std.proofs.lemmas.List.{append-nil, drop-drop, get_or-take, get_or-drop, get_or_at, take_at}
 use Rattle.std.proofs.Math.Seq.{take-add, take-append-add}
-use Rattle.std.proofs.lemmas.Bool.{cases_eq}
 use Rattle.byteorder.specs.Endian.{big_number, big_bytes}
-use Rattle.ground_io.specs.Disk.{octets_at, with_octets}
+use Rattle.ground_io.specs.Disk.{octets_at}
 use Rattle.alarm_journal.specs.Journal.{Site, Content, with_batch, with_bodies, OpensTo, opened_from, or_damaged, formatted_size, half_of, selected_place, content_of, batches_from, with_more, in_front, framed}
 use Rattle.alarm_journal.specs.Press.{IsOurs, StandsFor, IsSound, start_of, end_of}
 use Rattle.alarm_journal.specs.declared.layout.Layout.{Layout}
-use Rattle.alarm_journal.proofs.Batches.{batch_open, batch_framed, batches_closed, length-framed, length-four, more_twice}
+use Rattle.alarm_journal.proofs.Batches.{batch_open, batch_framed, batches_closed, length-framed, more_twice}
 use Rattle.alarm_journal.proofs.Fronts.{slice_front, octet_front, take_front}
 use Rattle.alarm_journal.proofs.Headers.{opens_selected}
 

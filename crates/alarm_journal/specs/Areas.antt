@@ -1,10 +1,10 @@
 -- What was read of an area.
-use Rattle.std.specs.Prelude.{◌≡◌, ◌≢◌, ◌⊎◌, ◌<◌, ◌≤◌, ℕ, ◌+◌, List, [], ◌∷◌, ◌++◌, length, take, drop, slice_index, Option, Some, None}
+use Rattle.std.specs.Prelude.{◌≡◌, ◌≢◌, ◌⊎◌, ◌<◌, ◌≤◌, ℕ, ◌+◌, List, ◌++◌, length, take, drop, slice_index, Option}
 use Rattle.byteorder.specs.Endian.{big_number}
 use Rattle.ground_io.specs.Disk.{octets_at}
 use Rattle.ground_io.specs.Trace.{Told}
 use Rattle.alarm_journal.specs.Journal.{Content, content_of, batches_from, with_more}
-use Rattle.alarm_journal.specs.Opened.{LieBetween, Shows, content_in, found_at, pieces, sum_of}
+use Rattle.alarm_journal.specs.Opened.{LieBetween, Shows, found_at, pieces, sum_of}
 use Rattle.alarm_journal.specs.declared.area.Area.{Area}
 use Rattle.alarm_journal.specs.declared.body.Body.{Body}
 use Rattle.alarm_journal.specs.declared.open_fault.OpenFault.{OpenFault}

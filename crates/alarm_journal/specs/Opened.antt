@@ -1,8 +1,8 @@
 -- What an opening hands up, and where it lies on the device.
-use Rattle.std.specs.Prelude.{◌≡◌, ◌≢◌, ◌<◌, ℕ, ◌+◌, List, [], ◌∷◌, ◌++◌, length, map, take, drop, slice_index, Option, Some, None, ⊤}
+use Rattle.std.specs.Prelude.{◌≡◌, ℕ, ◌+◌, List, [], ◌∷◌, length, map, take, drop, Option, Some, None, ⊤}
 use Rattle.ground_io.specs.Disk.{octets_at}
 use Rattle.ground_io.specs.Trace.{Told, disk_of}
-use Rattle.alarm_journal.specs.Journal.{Content, content_of, batches_from, with_more}
+use Rattle.alarm_journal.specs.Journal.{Content}
 use Rattle.alarm_journal.specs.declared.body.Body.{Body}
 use Rattle.alarm_journal.specs.declared.opened.Opened.{Opened}
 

@@ -57,11 +57,7 @@ fn read_head<G: Ground>(device: &mut G, place: u64, left: u64) -> Result<Option<
 }
 
 // Reads the next batch of an area, and says whether there was one.
-fn read_batch<G: Ground>(
-    alloc: Global,
-    device: &mut G,
-    area: &mut Area,
-) -> Result<bool, OpenFault>
+fn read_batch<G: Ground>(alloc: Global, device: &mut G, area: &mut Area) -> Result<bool, OpenFault>
     requires inside { area.old.start + area.old.half ≤ G.size device.old }
     requires word { area.old.start + area.old.half < 2 ^ 64 }
     requires within { within area.old }
@@ -92,11 +88,7 @@ fn read_batch<G: Ground>(
 }
 
 // Reads the batches of an area up to its next gate.
-fn read_batches<G: Ground>(
-    alloc: Global,
-    device: &mut G,
-    area: &mut Area,
-) -> Result<(), OpenFault>
+fn read_batches<G: Ground>(alloc: Global, device: &mut G, area: &mut Area) -> Result<(), OpenFault>
     requires inside { area.old.start + area.old.half ≤ G.size device.old }
     requires word { area.old.start + area.old.half < 2 ^ 64 }
     requires within { within area.old }

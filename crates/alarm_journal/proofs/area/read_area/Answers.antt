@@ -1,9 +1,9 @@
-use Rattle.std.proofs.Common.{rules, ◌≡◌, ◌<◌, ◌≤◌, ◌+◌, ◌-◌, ◌⊎◌, inl, inr, ⊎_elim, [], length, arith, ap, subst, sym, ◌∙◌, List, ℕ, refl, Err}
+use Rattle.std.proofs.Common.{◌≡◌, ◌<◌, ◌≤◌, ◌+◌, inl, inr, ⊎_elim, [], length, arith, subst, sym, List, ℕ, refl, Err}
 use Rattle.std.proofs.lemmas.Result.{err_from_is_err_and}
 use Rattle.ground_io.specs.Disk.{octets_at}
 use Rattle.alarm_journal.specs.Areas.{IsDamage, IsLaid, IsRead, IsSoFar, IsWithin}
 use Rattle.alarm_journal.specs.Journal.{Content, content_of}
-use Rattle.alarm_journal.specs.Opened.{Shows, StandsAt, content_in}
+use Rattle.alarm_journal.specs.Opened.{Shows, content_in}
 use Rattle.alarm_journal.specs.declared.body.Body.{Body}
 use Rattle.alarm_journal.specs.declared.open_fault.OpenFault.{OpenFault}
 use Rattle.alarm_journal.proofs.Areas.{area_laid, area_read, area_stands, begun_so_far, opened_content, snapshot_damage}

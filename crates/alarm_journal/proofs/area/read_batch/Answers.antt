@@ -1,7 +1,6 @@
-use Rattle.std.proofs.Common.{rules, ◌≡◌, ◌<◌, ◌≤◌, ◌+◌, ◌-◌, ◌⊎◌, inl, inr, ⊎_elim, [], ◌∷◌, ◌++◌, length, arith, ap, subst, sym, ◌∙◌, List, ℕ, refl, Option, Some, None, Err, MatchOption, IfSome}
+use Rattle.std.proofs.Common.{rules, ◌≡◌, ◌≤◌, ◌+◌, ◌-◌, inl, inr, ⊎_elim, [], ◌∷◌, ◌++◌, length, arith, subst, sym, List, ℕ, Option, Err, MatchOption, IfSome}
 use Rattle.std.proofs.lemmas.Result.{err_from_is_err_and}
 use Rattle.ground_io.specs.Disk.{octets_at}
-use Rattle.ground_io.specs.Trace.{Adds}
 use Rattle.alarm_journal.specs.Areas.{IsDamage, IsEnd, IsHead, IsSoFar, IsWithin, so_far}
 use Rattle.alarm_journal.specs.Journal.{content_of}
 use Rattle.alarm_journal.specs.Opened.{Shows}

@@ -1,7 +1,6 @@
-use Rattle.std.proofs.Common.{rules, ◌≡◌, ◌<◌, ◌≤◌, ◌+◌, ◌-◌, [], arith, ap, subst, sym, ◌∙◌, ℕ, refl, Err}
+use Rattle.std.proofs.Common.{◌≡◌, [], arith, subst, sym, ◌∙◌, ℕ, refl, Err}
 use Rattle.std.proofs.lemmas.Result.{err_from_is_err_and}
 use Rattle.ground_io.specs.Disk.{octets_at}
-use Rattle.ground_io.specs.Trace.{Adds}
 use Rattle.ground_io.proofs.Crashes.{adds_both, adds_none}
 use Rattle.alarm_journal.specs.Areas.{IsDamage}
 use Rattle.alarm_journal.specs.Journal.{content_of}

@@ -1,12 +1,11 @@
-use Rattle.std.proofs.Common.{◌≡◌, ◌≢◌, ◌≤◌, ◌<◌, ◌+◌, [], ◌∷◌, ◌++◌, length, get_or, arith, ap, subst, sym, ◌∙◌, List, ℕ, refl, Ok, Err, IsTrue, Bool, false, true}
+use Rattle.std.proofs.Common.{◌≡◌, ◌+◌, [], ◌∷◌, length, arith, ap, subst, sym, ◌∙◌, List, ℕ, Ok, Err, IsTrue, Bool, false, true}
 use Rattle.std.proofs.lemmas.Result.{err_from_is_err_and}
-use Rattle.ground_io.specs.Trace.{Adds, Reads, HasSize}
+use Rattle.ground_io.specs.Trace.{HasSize}
 use Rattle.ground_io.specs.declared.entry.Entry.TheVariants.{Synced}
 use Rattle.ground_io.specs.Disk.{octets_at}
 use Rattle.ground_io.proofs.Crashes.{adds_both}
 use Rattle.alarm_journal.specs.Journal.{Site, Content, nothing}
-use Rattle.alarm_journal.specs.Opened.{StandsAt, LieBetween, Shows, content_in, found_at, pieces, sum_of}
-use Rattle.alarm_journal.specs.Areas.{IsLaid}
+use Rattle.alarm_journal.specs.Opened.{StandsAt, LieBetween, content_in, found_at, pieces, sum_of}
 use Rattle.alarm_journal.specs.declared.body.Body.{Body}
 use Rattle.alarm_journal.specs.declared.opened.Opened.{Opened}
 use Rattle.alarm_journal.proofs.Showing.{always_so}

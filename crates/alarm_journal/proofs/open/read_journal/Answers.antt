@@ -1,6 +1,6 @@
-use Rattle.std.proofs.Common.{◌≡◌, ◌≤◌, ◌<◌, ◌+◌, ◌-◌, ◌/◌, ◌%◌, ◌⊎◌, inl, inr, ⊎_elim, [], ◌∷◌, ◌++◌, length, get_or, arith, ap, subst, sym, ◌∙◌, List, ℕ, refl, Ok, Err, if◌then◌else◌}
+use Rattle.std.proofs.Common.{◌≡◌, ◌+◌, ◌%◌, [], length, get_or, arith, ap, subst, sym, ◌∙◌, List, ℕ, Err, if◌then◌else◌}
 use Rattle.std.proofs.lemmas.Result.{err_from_is_err_and}
-use Rattle.ground_io.specs.Trace.{Adds, Reads, HasSize}
+use Rattle.ground_io.specs.Trace.{HasSize}
 use Rattle.ground_io.specs.Disk.{octets_at}
 use Rattle.ground_io.proofs.Crashes.{adds_both}
 use Rattle.alarm_journal.specs.Journal.{Site, checked_header, content_of}
@@ -9,7 +9,6 @@ use Rattle.alarm_journal.specs.Areas.{IsRead, IsDamage}
 use Rattle.alarm_journal.specs.Opened.{Shows, content_in}
 use Rattle.alarm_journal.specs.declared.layout.Layout.{Layout}
 use Rattle.alarm_journal.specs.declared.open_fault.OpenFault.{OpenFault}
-use Rattle.alarm_journal.specs.declared.open_fault.OpenFault.TheVariants.{Damaged}
 use Rattle.alarm_journal.proofs.Opening.{Found, settled, bad_header, no_area}
 use Rattle.alarm_journal.proofs.open.read_journal.Goals as goal
 
