@@ -233,7 +233,7 @@ stops_where settings t octets rest pending old new number number' lines later po
     let parts : lines_of t ≡ lines_of taken.taken ++ lines_of (pending ++ rest) = ap lines_of taken.front ∙ lines_of-whole taken.taken (pending ++ rest) taken.whole in
     let spelled = ap (spelled_in Trial 0) (sym parts) ∙ (r.spelled ∙ ap (λ l. lines ++ l) (sym h.spelled)) in
     let refused = ap (refused_in Trial 0) (sym parts) ∙ (r.refused ∙ sym h.refused) in
-    let count = omega (arith, taken.count) in
+    let count : length (lines_of taken.taken) ≡ number' = omega (arith, taken.count) in
     let accepted = front_accepted Trial (lines_of taken.taken) (lines_of (pending ++ rest)) number' refused count in
     let same = front_lines Trial (lines_of taken.taken) (lines_of (pending ++ rest)) lines number' spelled refused count in
     let moves = ap (transitions_of (first_point settings)) (points ∙ ap (looks_over (first_point settings) []) same) in

@@ -246,7 +246,7 @@ stops_where start t octets rest pending old new number number' lines out r next 
     let parts : lines_of t ≡ lines_of taken.taken ++ lines_of (pending ++ rest) = ap lines_of taken.front ∙ lines_of-whole taken.taken (pending ++ rest) taken.whole in
     let spelled = ap (spelled_in Session 0) (sym parts) ∙ (r.spelled ∙ ap (λ l. lines ++ l) (sym h.spelled)) in
     let refused = ap (refused_in Session 0) (sym parts) ∙ (r.refused ∙ sym h.refused) in
-    let count = omega (arith, taken.count) in
+    let count : length (lines_of taken.taken) ≡ number' = omega (arith, taken.count) in
     let accepted = front_accepted Session (lines_of taken.taken) (lines_of (pending ++ rest)) number' refused count in
     let same = front_lines Session (lines_of taken.taken) (lines_of (pending ++ rest)) lines number' spelled refused count in
     record {
