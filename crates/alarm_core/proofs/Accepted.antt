@@ -33,7 +33,7 @@ use Rattle.alarm_core.specs.Contents.{other_content}
 use Rattle.alarm_core.specs.History.{values_after}
 use Rattle.alarm_core.specs.Laws.{AllowsWhatChecksAccept}
 use Rattle.alarm_core.specs.LogProperties.{log_content, log_write, writable_tag, write_with}
-use Rattle.alarm_core.specs.Logs.{KeptLog, kept_log, logs_after} 
+use Rattle.alarm_core.specs.Logs.{KeptLog, kept_log, logs_after}
 use Rattle.alarm_core.specs.Logs as logs
 use Rattle.alarm_core.specs.Reading.{denied, write_by, write_of}
 use Rattle.alarm_core.specs.Sites.{IsSite}
@@ -145,15 +145,17 @@ module _ (state : State) (object : Identifier) (number : ℕ) (value : Value) wh
 
   at_most_a_site : (site : Option EnrollmentSite) → site ≡ site_of object state.values.enrollments → AllowsWrite site None None
   at_most_a_site site e =
-      let law = sites_take state.values.enrollments object number value in
-      (site_passes site (subst (λ (s : Option EnrollmentSite). SiteTakes s → IsOk (write_by_site s object number None value)) (sym e) law.0),
-      site_takes site (subst (λ (s : Option EnrollmentSite). IsOk (write_by_site s object number None value) → SiteTakes s) (sym e) law.1))
+      let law = sites_take state.values.enrollments object number value in (
+        site_passes site (subst (λ (s : Option EnrollmentSite). SiteTakes s → IsOk (write_by_site s object number None value)) (sym e) law.0),
+        site_takes site (subst (λ (s : Option EnrollmentSite). IsOk (write_by_site s object number None value) → SiteTakes s) (sym e) law.1),
+      )
 
   at_most_a_row : (row : Option Row) → row ≡ row_of object state.values.rows → AllowsWrite None row None
   at_most_a_row row e =
-      let law = takes_what_writes_make state.values.rows object number value in
-      (row_passes row (subst (λ (r : Option Row). RowTakes r → IsOk (write_by_row r object number None value)) (sym e) law.0),
-      row_takes row (subst (λ (r : Option Row). IsOk (write_by_row r object number None value) → RowTakes r) (sym e) law.1))
+      let law = takes_what_writes_make state.values.rows object number value in (
+        row_passes row (subst (λ (r : Option Row). RowTakes r → IsOk (write_by_row r object number None value)) (sym e) law.0),
+        row_takes row (subst (λ (r : Option Row). IsOk (write_by_row r object number None value) → RowTakes r) (sym e) law.1),
+      )
 
 -- ---- a site
 

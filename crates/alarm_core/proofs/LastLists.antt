@@ -1,24 +1,16 @@
 -- The Recipient_List that is read of a class is that of its last edit.
-use Rattle.std.proofs.Common.{◌≡◌, ℕ, ◌==◌, Bool, true, false, true≢false, cond, ◌&&◌, if◌then◌else◌, Some, None, Ok, List, [], ◌∷◌, map, refl, ap, ◌∙◌, sym, subst, All, IsTrue, get_or}
-use Rattle.std.proofs.lemmas.Bool.{eqb-true, ne_eqb}
-use Rattle.std.proofs.lemmas.List.Elements.{All-head, All-tail}
+use Rattle.std.proofs.Common.{◌≡◌, ℕ, ◌==◌, Bool, true, false, true≢false, ◌&&◌, if◌then◌else◌, Some, None, Ok, List, [], ◌∷◌, refl, ap, ◌∙◌, sym, subst}
+use Rattle.std.proofs.lemmas.Bool.{eqb-true}
 use Rattle.std.specs.List.{find, flat_map}
 use Rattle.std.specs.Option.{option_map}
-use Rattle.bac_values.specs.Identifier.{Identifier, kind_of}
+use Rattle.bac_values.specs.Identifier.{Identifier}
 use Rattle.notify_class.specs.declared.class.Class.{Class}
 use Rattle.notify_class.specs.Recipients.{ListedRecipient}
-use Rattle.object_table.specs.declared.object_site.ObjectSite.{ObjectSite}
-use Rattle.object_table.specs.Objects.{IsObject}
-use Rattle.object_table.specs.Rows.{is_object, object_in, object_of, row_of}
-use Rattle.object_table.specs.Values.{is_present_value}
-use Rattle.object_table.proofs.Places.{find_none}
-use Rattle.enrollment.specs.declared.enrollment_site.EnrollmentSite.{EnrollmentSite}
-use Rattle.enrollment.specs.Enrollments.{IsEnrollment, identifier_of, site_of}
+use Rattle.object_table.specs.Rows.{is_object, row_of}
 use Rattle.alarm_core.specs.declared.event.Act.{Act}
 use Rattle.alarm_core.specs.declared.event.Act.TheVariants.{Edit}
 use Rattle.alarm_core.specs.declared.event.Event.{Event}
 use Rattle.alarm_core.specs.declared.site.ClassSite.{ClassSite}
-use Rattle.alarm_core.specs.declared.site.LogSite.{LogSite}
 use Rattle.alarm_core.specs.declared.site.Site.{Site}
 use Rattle.alarm_core.specs.ClassProperties.{class_content, listed_class, recipients_of, written_recipient}
 use Rattle.alarm_core.specs.Classes.{class_in, classes_after, classes_with, edited, first_classes}
@@ -26,12 +18,12 @@ use Rattle.alarm_core.specs.Contents.{class_or_other, content_by}
 use Rattle.alarm_core.specs.Devices.{class_object, device_object}
 use Rattle.alarm_core.specs.History.{values_after}
 use Rattle.alarm_core.specs.LastLists.{ReadsTheLastList, last_list, list_with}
-use Rattle.alarm_core.specs.Logs.{KeptLog, kept_log, kept_log_of, logs_after}
+use Rattle.alarm_core.specs.Logs.{kept_log, logs_after}
 use Rattle.alarm_core.specs.Properties.{device_content}
 use Rattle.alarm_core.specs.Reading.{part_in, read_of}
-use Rattle.alarm_core.specs.Sites.{IsLogSite, IsSite}
+use Rattle.alarm_core.specs.Sites.{IsSite}
 use Rattle.alarm_core.specs.State.{state_of}
-use Rattle.alarm_core.proofs.Searches.{find_same, passes}
+use Rattle.alarm_core.proofs.Searches.{find_map, find_same, passes}
 use Rattle.alarm_core.proofs.TypesApart.{HasNoValue, no_enrollment, no_log, no_row}
 
 -- ---- the class of a site

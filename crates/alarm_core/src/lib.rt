@@ -35,6 +35,7 @@ mod subjects;
 mod telling;
 mod watched;
 
+pub(crate) use content::Content;
 pub use content::ReadFault;
 pub use enrollment::EnrollmentSite;
 pub use event::{Act, Event, Outcome, StepFault};
@@ -44,6 +45,4 @@ pub use laws::{
 };
 pub use site::{ClassSite, DeviceSite, LogSite, Site};
 pub use state::Core;
-
-pub(crate) use content::Content;
 pub(crate) use subject::Subject;
