@@ -2,7 +2,7 @@
 use Rattle.std.proofs.Common.{◌≡◌, ◌↔◌, ◌⊎◌, ℕ, suc, zero, Bool, true, false, true≢false, Option, Some, None, Result, Ok, Err, IsOk, IsTrue, IsSomeAnd, if◌then◌else◌, inl, inr, refl, sym, ap, ◌∙◌, subst}
 use Rattle.std.specs.Prelude.{◌==◌, List}
 use Rattle.std.proofs.lemmas.Bool.{cases_Bool, eqb-true, eqb-false}
-use Rattle.bac_values.specs.Identifier.{Identifier, kind_of}
+use Rattle.bac_values.specs.Identifier.{Identifier}
 use Rattle.bac_values.specs.declared.input.SetFault.{SetFault}
 use Rattle.bac_values.specs.declared.input.SetFault.TheVariants.{ValueRange}
 use Rattle.bac_values.specs.declared.value.Foreign.TheVariants.{CharacterSet, TooLong}
@@ -10,12 +10,11 @@ use Rattle.bac_values.specs.declared.value.Value.{Value}
 use Rattle.bac_values.specs.declared.value.Value.TheVariants.{Bool as Truth, Unsigned, Opaque}
 use Rattle.object_table.specs.declared.change.Change.{Change}
 use Rattle.object_table.specs.declared.faults.WriteFault.{WriteFault}
-use Rattle.object_table.specs.declared.object_site.ObjectSite.{ObjectSite}
 use Rattle.object_table.specs.declared.row.Row.{Row}
 use Rattle.object_table.specs.Properties.{kind_in}
 use Rattle.object_table.specs.Rows.{row_of}
-use Rattle.object_table.specs.Values.{is_field_fault, is_present_value, takes_value}
-use Rattle.object_table.specs.Verdicts.{allowed_change, and_then, content_verdict, fault_by_row, fault_change, index_verdict, invalid_data_type, property_change, set_by_row, set_verdict, tag_of, value_verdict, write_by_row}
+use Rattle.object_table.specs.Values.{is_field_fault, takes_value}
+use Rattle.object_table.specs.Verdicts.{allowed_change, content_verdict, fault_by_row, fault_change, invalid_data_type, property_change, set_by_row, set_verdict, tag_of, value_verdict, write_by_row}
 use Rattle.object_table.proofs.Accepting.{takes_what_writes_make}
 use Rattle.object_table.proofs.Taking.{set_ok}
 use Rattle.enrollment.specs.declared.enrollment_site.EnrollmentSite.{EnrollmentSite}
@@ -30,7 +29,6 @@ use Rattle.alarm_core.specs.declared.event.Event.{Event}
 use Rattle.alarm_core.specs.declared.site.Site.{Site}
 use Rattle.alarm_core.specs.Allowed.{IsAllowed}
 use Rattle.alarm_core.specs.Contents.{other_content}
-use Rattle.alarm_core.specs.History.{values_after}
 use Rattle.alarm_core.specs.Laws.{AllowsWhatChecksAccept}
 use Rattle.alarm_core.specs.LogProperties.{log_content, log_write, writable_tag, write_with}
 use Rattle.alarm_core.specs.Logs.{KeptLog, kept_log, logs_after}

@@ -1,5 +1,5 @@
 -- Value objects, enrollments and logs are of different types, so an identifier is that of one of them at most.
-use Rattle.std.proofs.Common.{◌≡◌, ℕ, Bool, false, ◌&&◌, Some, None, IsTrue, List, ap, ◌∙◌, sym, subst, get_or, All}
+use Rattle.std.proofs.Common.{◌≡◌, ℕ, false, ◌&&◌, None, IsTrue, List, ap, ◌∙◌, sym, subst, get_or, All}
 use Rattle.std.proofs.lemmas.Bool.{ne_eqb}
 use Rattle.std.specs.List.{find}
 use Rattle.std.specs.Prelude.{◌==◌}
