@@ -18,15 +18,17 @@ type Step<'a> = (u32, &'a Value, Option<Move>, Option<u32>);
 fn expect_moves<'a>(
     rt: &impl Abort,
     alloc: Global,
-    seen: Snapshot<'a>,
+    seen: &Snapshot<'a>,
     steps: &[Step<'a>],
 ) -> Result<(), NoMemory>
-    requires { length seen.alarm_values.now ≤ 32 }
+    requires { length seen.now.alarm_values.now ≤ 32 }
 {
-    let (mut alarm, mut past) = begun(alloc, &seen, &point(0))?;
+    let first = point(0);
+    let (mut alarm, mut past) = begun(alloc, seen, &first)?;
     for (after, value, second, cause) in steps {
-        let now = Snapshot { value, ..seen };
-        let changed = looked(alloc, &mut alarm, &mut past, &now, &point(*after))?;
+        let now = Snapshot { value, ..*seen };
+        let at = point(*after);
+        let changed = looked(alloc, &mut alarm, &mut past, &now, &at)?;
         let wanted = Changed {
             first: None,
             second: *second,
@@ -64,7 +66,7 @@ fn a_command_fails_and_is_followed(rt: HostRuntime) -> Result<(), Fail> {
         (6_000, &off, None, None),
         (11_000, &off, moves(Offnormal, Normal), None),
     ];
-    expect_moves(&rt, rt.alloc(), seen, &steps)?;
+    expect_moves(&rt, rt.alloc(), &seen, &steps)?;
     Ok(())
 }
 
@@ -90,7 +92,7 @@ fn an_unsigned_number_leaves_its_range_and_returns_behind_the_deadband(
         (20_000, &e, None, None),
         (25_000, &e, moves(Normal, LowLimit), None),
     ];
-    expect_moves(&rt, rt.alloc(), seen, &steps)?;
+    expect_moves(&rt, rt.alloc(), &seen, &steps)?;
     Ok(())
 }
 
@@ -118,7 +120,7 @@ fn bits_outside_the_mask_are_not_compared(rt: HostRuntime) -> Result<(), Fail> {
         (15_000, &both, None, Some(1)),
         (20_000, &both, moves(Offnormal, Normal), Some(1)),
     ];
-    expect_moves(&rt, rt.alloc(), seen, &steps)?;
+    expect_moves(&rt, rt.alloc(), &seen, &steps)?;
     Ok(())
 }
 
@@ -142,7 +144,7 @@ fn a_text_is_in_alarm_while_it_holds_an_alarm_text(rt: HostRuntime) -> Result<()
         (15_000, &calm, None, Some(1)),
         (20_000, &calm, moves(Offnormal, Normal), Some(1)),
     ];
-    expect_moves(&rt, alloc, seen, &steps)?;
+    expect_moves(&rt, alloc, &seen, &steps)?;
     Ok(())
 }
 

@@ -393,23 +393,27 @@ fn an_outbox_is_told_from_what_is_none(rt: HostRuntime) -> Result<(), Fail> {
     Ok(())
 }
 
-#[test]
-fn an_outbox_is_told_by_its_peers_and_settings(rt: HostRuntime) {
-    let five = Post {
+// A recipient for whom no note waits.
+fn without_notes(number: u8) -> Post {
+    Post {
+        peer: peer(number),
         notes: 0,
         ..first_post(0, 0)
-    };
-    let six = Post {
-        peer: peer(6),
-        ..five
-    };
-    holds(
-        &rt,
-        Outbox::can_restore(&[five, six], &[], 0, 3_600_000, 15),
-    );
-    holds(&rt, !Outbox::can_restore(&[six, five], &[], 64, 3_000, 3));
-    holds(&rt, !Outbox::can_restore(&[five, five], &[], 64, 3_000, 3));
-    holds(&rt, !Outbox::can_restore(&[five], &[], 16_385, 3_000, 3));
-    holds(&rt, !Outbox::can_restore(&[five], &[], 64, 3_600_001, 3));
-    holds(&rt, !Outbox::can_restore(&[five], &[], 64, 3_000, 16));
+    }
+}
+
+// Whether two recipients without notes make an outbox, in this order.
+fn may_be_two(first: u8, second: u8, limit: u32, timeout: u32, retries: u32) -> bool {
+    let posts = [without_notes(first), without_notes(second)];
+    Outbox::can_restore(&posts, &[], limit, timeout, retries)
+}
+
+#[test]
+fn an_outbox_is_told_by_its_peers_and_settings(rt: HostRuntime) {
+    holds(&rt, may_be_two(5, 6, 0, 3_600_000, 15));
+    holds(&rt, !may_be_two(6, 5, 64, 3_000, 3));
+    holds(&rt, !may_be_two(5, 5, 64, 3_000, 3));
+    holds(&rt, !may_be_two(5, 6, 16_385, 3_000, 3));
+    holds(&rt, !may_be_two(5, 6, 64, 3_600_001, 3));
+    holds(&rt, !may_be_two(5, 6, 64, 3_000, 16));
 }
