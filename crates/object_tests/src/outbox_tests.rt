@@ -403,7 +403,7 @@ fn without_notes(number: u8) -> Post {
 }
 
 // Whether two recipients without notes make an outbox, in this order.
-fn may_be_two(first: u8, second: u8, limit: u32, timeout: u32, retries: u32) -> bool {
+fn may_be_two(first: u8, second: u8, limit: u32, timeout: u64, retries: u8) -> bool {
     let posts = [without_notes(first), without_notes(second)];
     Outbox::can_restore(&posts, &[], limit, timeout, retries)
 }
