@@ -9,7 +9,7 @@ use std::test::Fail;
 
 // Octets that come in pieces of a size. One call may fail.
 #[derive(Drop)]
-struct Pieces<'a> {
+pub(crate) struct Pieces<'a> {
     octets: &'a [u8],
     size: usize,
     calls: u64,
@@ -18,7 +18,7 @@ struct Pieces<'a> {
 }
 
 impl<'a> Pieces<'a> {
-    fn of(octets: &'a [u8], size: usize) -> Pieces<'a> {
+    pub(crate) fn of(octets: &'a [u8], size: usize) -> Pieces<'a> {
         Pieces {
             octets,
             size,

@@ -1,5 +1,5 @@
 use crate::comparing::{holds, same};
-use ground_io::MemorySource;
+use crate::script_lines_tests::Pieces;
 use script_lines::Lines;
 use site_config::read_site;
 use std::test::Fail;
@@ -36,10 +36,13 @@ fn a_script_is_drawn_from_its_seed(rt: HostRuntime) -> Result<(), Fail> {
 #[test]
 fn each_line_of_a_script_is_one_of_a_session(rt: HostRuntime) -> Result<(), Fail> {
     let script = make_script(rt.alloc(), 18_446_744_073_709_551_615, 400)?;
-    let mut source = MemorySource::new(script, Vec::new(rt.alloc()));
+    let mut source = Pieces::of(&script, 8192);
     let mut lines = Lines::new(rt.alloc())?;
-    while let Some(_line) = lines.next_line(&mut source)? {}
+    for _ in 0..400 {
+        lines.next_line(&mut source)?;
+    }
     same(&rt, &lines.count(), &400);
+    holds(&rt, lines.next_line(&mut source)?.is_none());
     Ok(())
 }
 
