@@ -4,8 +4,6 @@
 #![tactic(auto)]
 
 #[cfg(test)]
-mod alarm_core_fault_tests;
-#[cfg(test)]
 mod alarm_core_note_tests;
 #[cfg(test)]
 mod alarm_core_tests;
