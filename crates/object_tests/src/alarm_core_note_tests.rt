@@ -166,19 +166,14 @@ fn a_transition_is_told_and_answered(rt: HostRuntime) -> Result<(), Fail> {
     Ok(())
 }
 
-/// Whether an event is refused since one notification would wait, and none may.
-fn is_full(answer: &Result<Outcome, StepFault>) -> bool {
-    match answer {
-        Ok(_) => false,
-        Err(fault) => *fault == StepFault::Full { would: 1, limit: 0 },
-    }
-}
-
 #[test]
 fn nothing_fits_where_nothing_may_wait(rt: HostRuntime) -> Result<(), Fail> {
     let mut core = Core::start(rt.alloc(), &plant(rt.alloc(), 0)?)?;
-    let answer = set(&mut core, START, 90)?;
-    holds(&rt, is_full(&answer));
+    let refused = set(&mut core, START, 90)?;
+    match refused {
+        Ok(_) => return Err(Fail::new("it is queued")),
+        Err(fault) => holds(&rt, fault == StepFault::Full { would: 1, limit: 0 }),
+    }
     holds(&rt, core.events() == 0);
     Ok(())
 }
