@@ -23,7 +23,7 @@ use Rattle.alarm_core.specs.Classes.{class_in, classes_after}
 use Rattle.alarm_core.specs.Deliveries.{event_notes}
 use Rattle.alarm_core.specs.History.{Occurrence, AllLooked, ObjectState, StateTransition, detection_of, moves_with, occurrences_of, states_over, tick_at, transition_with, transitions_at, values_after}
 use Rattle.alarm_core.specs.Notes.{class_for, is_enabled, move_of, notes_of_transition, source_of, told_in, told_of, values_of}
-use Rattle.alarm_core.specs.Sights.{point_of, site_stamp}
+use Rattle.alarm_core.specs.Sights.{point_of, site_stamp, site_zone}
 use Rattle.alarm_core.specs.Sites.{IsSite}
 use Rattle.alarm_core.specs.Subjects.{detecting_subjects, is_detecting, subject_in, subjects_of}
 use Rattle.alarm_core.specs.Values.{Values}
@@ -39,7 +39,7 @@ module _ (site : Site) (classes : List Class) where
   class_told transition subject (Some class) =
       let facts = transition_notification (source_of site subject) class (move_of transition) (site_stamp site transition.moment) (values_of transition) in
       let to = transition_to transition.to in
-      let zone = site.device.zone_minutes in
+      let zone = site_zone site in
       let in_window : ListedRecipient → Bool = λ recipient. is_in_window recipient to transition.moment zone in
       omega (arith, length-map (chosen_destinations class.destinations to transition.moment zone) (note_to facts), length-filter in_window class.destinations, count_by-le-length in_window class.destinations)
 

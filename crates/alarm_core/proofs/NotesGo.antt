@@ -2,13 +2,14 @@
 use Rattle.std.proofs.Common.{ℕ, Bool, true, false, cond, if◌then◌else◌, Option, Some, None, option_and_then, List, [], ◌∷◌}
 use Rattle.std.specs.List.{All, find, flat_map}
 use Rattle.std.specs.Option.{IfSome}
-use Rattle.std.specs.Prelude.{ℤ, ◌==◌}
+use Rattle.std.specs.Prelude.{◌==◌}
 use Rattle.std.proofs.lemmas.List.Elements.{All-nil, All-cons, All-head, All-tail, All-append, All-filter, All-map}
 use Rattle.bac_values.specs.Address.{Address}
 use Rattle.bac_values.specs.EventStates.{transition_to}
 use Rattle.bac_values.specs.declared.event_state.EventState.{EventState}
 use Rattle.bac_values.specs.declared.note.Note.{Note}
 use Rattle.bac_values.specs.declared.transition.Transition.{Transition}
+use Rattle.civil_stamp.specs.LocalTime.{LocalZone}
 use Rattle.event_services.specs.declared.notification.Notification.{Notification}
 use Rattle.note_maker.specs.Notes.{note_to, notes_for}
 use Rattle.note_maker.specs.Shapes.{acknowledgement_notification, transition_notification}
@@ -25,7 +26,7 @@ use Rattle.alarm_core.specs.Classes.{class_in, classes_after, known_peers_of}
 use Rattle.alarm_core.specs.Deliveries.{event_notes, notes_by}
 use Rattle.alarm_core.specs.History.{StateTransition, event_transitions, occurrences_of, values_after}
 use Rattle.alarm_core.specs.Notes.{acknowledged_by, acknowledged_of, class_for, is_enabled, move_of, notes_of_transition, source_of, told_in, told_of, values_of}
-use Rattle.alarm_core.specs.Sights.{site_stamp}
+use Rattle.alarm_core.specs.Sights.{site_stamp, site_zone}
 use Rattle.alarm_core.specs.declared.subject.Subject.{Subject}
 use Rattle.alarm_core.specs.Subjects.{subject_in}
 use Rattle.alarm_core.specs.Values.{Values}
@@ -42,7 +43,7 @@ unmapped known (recipient ∷ recipients) h =
     All-cons (λ (recipient : ListedRecipient). Knows known recipient.peer) recipient recipients (All-head (Knows known) recipient.peer (peers_of recipients) h)
     (unmapped known recipients (All-tail (Knows known) recipient.peer (peers_of recipients) h))
 
-notes_go : (known : List Address) (facts : Notification) (recipients : List ListedRecipient) (transition : Transition) (moment : ℕ) (zone : ℤ) →
+notes_go : (known : List Address) (facts : Notification) (recipients : List ListedRecipient) (transition : Transition) (moment : ℕ) (zone : LocalZone) →
     All (Knows known) (peers_of recipients) → All (GoesTo known) (notes_for facts recipients transition moment zone)
 notes_go known facts recipients transition moment zone h =
     All-map (GoesTo known) (note_to facts) (chosen_destinations recipients transition moment zone)
@@ -65,7 +66,7 @@ module _ (site : Site) (known : List Address) (classes : List Class) (h : All (K
   told_go transition subject None k = All-nil (GoesTo known)
   told_go transition subject (Some class) k =
       notes_go known (transition_notification (source_of site subject) class (move_of transition) (site_stamp site transition.moment) (values_of transition))
-      class.destinations (transition_to transition.to) transition.moment site.device.zone_minutes k
+      class.destinations (transition_to transition.to) transition.moment (site_zone site) k
 
   enabled_go : (b : Bool) (notes : List Note) → All (GoesTo known) notes → All (GoesTo known) (if b then notes else [])
   enabled_go true notes k = k
@@ -87,7 +88,7 @@ module _ (site : Site) (known : List Address) (classes : List Class) (h : All (K
       All (GoesTo known) (acknowledged_by site subject moment transition named class)
   acknowledged_go subject moment transition named None k = All-nil (GoesTo known)
   acknowledged_go subject moment transition named (Some class) k =
-      notes_go known (acknowledgement_notification (source_of site subject) class named (site_stamp site moment)) class.destinations transition moment site.device.zone_minutes k
+      notes_go known (acknowledgement_notification (source_of site subject) class named (site_stamp site moment)) class.destinations transition moment (site_zone site) k
 
   acknowledgement_go : (moment : ℕ) (transition : Transition) (named : EventState) (subject : Option Subject) → All (GoesTo known) (acknowledged_of site classes moment transition named subject)
   acknowledgement_go moment transition named None = All-nil (GoesTo known)

@@ -1,6 +1,6 @@
 -- What is told of a move and of an acknowledgement, by what is found of the object's class.
 use Rattle.std.proofs.Common.{◌≡◌, ℕ, Bool, true, false, if◌then◌else◌, Option, Some, None, option_and_then, List, [], ◌∷◌, ◌++◌, refl, sym, ap, ◌∙◌, append_assoc}
-use Rattle.std.specs.Prelude.{ℤ}
+use Rattle.civil_stamp.specs.LocalTime.{LocalZone}
 use Rattle.std.specs.List.{find, flat_map}
 use Rattle.std.specs.Option.{option_to_list}
 use Rattle.std.proofs.lemmas.List.{append-nil}
@@ -36,7 +36,7 @@ use Rattle.alarm_core.specs.Found.{tracked_in}
 use Rattle.alarm_core.specs.History.{ObjectState, StateTransition, state_found, state_in, transition_with}
 use Rattle.alarm_core.specs.Next.{state_of_tracked, states_of}
 use Rattle.alarm_core.specs.Notes.{acknowledged_by, acknowledged_of, class_for, is_enabled, move_of, notes_of_acknowledgement, notification_of, source_of, told_by, told_flags, told_in, told_of, told_value, values_of}
-use Rattle.alarm_core.specs.Sights.{facts_at, reliability_at, site_stamp}
+use Rattle.alarm_core.specs.Sights.{facts_at, reliability_at, site_stamp, site_zone}
 use Rattle.alarm_core.specs.State.{Tracked}
 use Rattle.alarm_core.specs.Subjects.{subject_in}
 use Rattle.alarm_core.specs.Values.{Values}
@@ -97,10 +97,10 @@ module _ (site : Site) (classes : List Class) where
         transition_notification source class made stamp told ≡ notification_of site (transition_with object moment values states cause made) subject class
     notified subject class source stamp told p q r = λ k. transition_notification (p k) class made (q k) (r k)
 
-    pub told_move : (subject : Subject) (class : Class) (facts : Notification) (kind : Transition) (zone : ℤ) →
+    pub told_move : (subject : Subject) (class : Class) (facts : Notification) (kind : Transition) (zone : LocalZone) →
         subject_in object values ≡ Some subject → is_enabled kind subject ≡ true → class_for subject classes ≡ Some class →
         facts ≡ notification_of site (transition_with object moment values states cause made) subject class →
-        kind ≡ transition_to made.to → zone ≡ site.device.zone_minutes →
+        kind ≡ transition_to made.to → zone ≡ site_zone site →
         notes_for facts class.destinations kind moment zone ≡ told_by site classes moment object values states cause made
     told_move subject class facts kind zone u e f p s t =
         let transition = transition_with object moment values states cause made in
@@ -135,8 +135,8 @@ module _ (site : Site) (classes : List Class) where
     pub acknowledged_classless : (subject : Subject) → subject_in object values ≡ Some subject → class_for subject classes ≡ None → [] ≡ notes_of_acknowledgement site classes values moment object transition named
     acknowledged_classless subject s e = sym (ap (acknowledged_of site classes moment transition named) s ∙ ap (acknowledged_by site subject moment transition named) e)
 
-    pub told_acknowledgement : (subject : Subject) (class : Class) (source : Source) (stamp : Stamp) (zone : ℤ) →
-        subject_in object values ≡ Some subject → class_for subject classes ≡ Some class → source ≡ source_of site subject → stamp ≡ site_stamp site moment → zone ≡ site.device.zone_minutes →
+    pub told_acknowledgement : (subject : Subject) (class : Class) (source : Source) (stamp : Stamp) (zone : LocalZone) →
+        subject_in object values ≡ Some subject → class_for subject classes ≡ Some class → source ≡ source_of site subject → stamp ≡ site_stamp site moment → zone ≡ site_zone site →
         notes_for (acknowledgement_notification source class named stamp) class.destinations transition moment zone ≡ notes_of_acknowledgement site classes values moment object transition named
     told_acknowledgement subject class source stamp zone s f p q t =
         let given : notes_for (acknowledgement_notification source class named stamp) class.destinations transition moment zone ≡ acknowledged_by site subject moment transition named (Some class) =

@@ -5,9 +5,9 @@ use Rattle.bac_values.specs.Reliabilities.{number_of_reliability}
 use Rattle.bac_values.specs.declared.event_state.EventState.{EventState as State'}
 use Rattle.bac_values.specs.declared.reliability.Reliability.{Reliability as Reliability'}
 use Rattle.bac_values.specs.declared.value.Value.TheVariants as values
+use Rattle.algorithm_rules.specs.EventTypes.{event_type_of}
 use Rattle.event_machine.specs.Detection.{is_normal}
 use Rattle.event_machine.specs.Summary.{AlarmState}
-use Rattle.note_maker.specs.EventTypes.{algorithm_type}
 use Rattle.object_table.specs.declared.row.Row.{Row}
 use Rattle.enrollment.specs.declared.enrollment_property.EnrollmentProperty.{EnrollmentProperty}
 use Rattle.enrollment.specs.declared.enrollment_property.EnrollmentProperty.TheVariants.{ObjectIdentifier, ObjectName, ObjectType, StatusFlags, EventState, Reliability, EventEnable, EventAlgorithmInhibit, AckedTransitions, NotifyType, EventDetectionEnable, NotificationClass, EventTimeStamps, EventType}
@@ -38,7 +38,7 @@ enrollment_property alarm reliability site NotifyType = one (values.Enumerated s
 enrollment_property alarm reliability site EventDetectionEnable = one (values.Bool site.detection)
 enrollment_property alarm reliability site NotificationClass = one (values.Unsigned site.class)
 enrollment_property alarm reliability site EventTimeStamps = Elements (map written_time_stamp alarm.stamps)
-enrollment_property alarm reliability site EventType = one (values.Enumerated (algorithm_type site.algorithm))
+enrollment_property alarm reliability site EventType = one (values.Enumerated (event_type_of site.algorithm))
 
 abbrev pub known_enrollment_content : AlarmState → Reliability' → EnrollmentSite → Option EnrollmentProperty → Result Content ReadFault
 known_enrollment_content alarm reliability site (Some property) = Ok (enrollment_property alarm reliability site property)

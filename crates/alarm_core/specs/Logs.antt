@@ -47,7 +47,7 @@ abbrev pub recorded_in : Site → LogSite → StateTransition → Subject → Op
 recorded_in site listed transition subject None = []
 recorded_in site listed transition subject (Some class) =
     if records_class listed class
-    then Recorded (site_stamp site transition.moment) (written_notification (notification_of site transition subject class)) ∷ []
+    then Recorded (record { stamp = site_stamp site transition.moment; body = written_notification (notification_of site transition subject class) }) ∷ []
     else []
 
 abbrev pub recorded_of : Site → List Class → LogSite → StateTransition → Option Subject → List Call

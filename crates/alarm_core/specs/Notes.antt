@@ -27,7 +27,7 @@ use Rattle.alarm_core.specs.declared.site.Site.{Site}
 use Rattle.alarm_core.specs.Classes.{class_in}
 use Rattle.alarm_core.specs.Devices.{device_object}
 use Rattle.alarm_core.specs.History.{ObjectState, StateTransition, state_in, transition_with}
-use Rattle.alarm_core.specs.Sights.{facts_at, reliability_at, site_stamp}
+use Rattle.alarm_core.specs.Sights.{facts_at, reliability_at, site_stamp, site_zone}
 use Rattle.alarm_core.specs.declared.subject.Subject.{Subject}
 use Rattle.alarm_core.specs.Subjects.{subject_in}
 use Rattle.alarm_core.specs.Values.{Values}
@@ -88,7 +88,7 @@ notification_of site transition subject class = transition_notification (source_
 abbrev pub told_in : Site → StateTransition → Subject → Option Class → List Note
 told_in site transition subject None = []
 told_in site transition subject (Some class) =
-    notes_for (notification_of site transition subject class) class.destinations (transition_to transition.to) transition.moment site.device.zone_minutes
+    notes_for (notification_of site transition subject class) class.destinations (transition_to transition.to) transition.moment (site_zone site)
 
 abbrev pub told_of : Site → List Class → StateTransition → Option Subject → List Note
 told_of site classes transition None = []
@@ -102,7 +102,7 @@ notes_of_transition site classes transition = told_of site classes transition (s
 abbrev pub acknowledged_by : Site → Subject → ℕ → Transition → EventState → Option Class → List Note
 acknowledged_by site subject moment transition named None = []
 acknowledged_by site subject moment transition named (Some class) =
-    notes_for (acknowledgement_notification (source_of site subject) class named (site_stamp site moment)) class.destinations transition moment site.device.zone_minutes
+    notes_for (acknowledgement_notification (source_of site subject) class named (site_stamp site moment)) class.destinations transition moment (site_zone site)
 
 abbrev pub acknowledged_of : Site → List Class → ℕ → Transition → EventState → Option Subject → List Note
 acknowledged_of site classes moment transition named None = []

@@ -6,7 +6,7 @@ use Rattle.bac_values.specs.declared.reliability.Reliability.{Reliability}
 use Rattle.bac_values.specs.declared.stamp.Stamp.{Stamp}
 use Rattle.bac_values.specs.declared.value.Value.TheVariants.{Null}
 use Rattle.algorithm_rules.specs.Facts.{Facts}
-use Rattle.civil_stamp.specs.LocalTime.{local_stamp}
+use Rattle.civil_stamp.specs.LocalTime.{LocalZone, fixed_zone, local_stamp}
 use Rattle.event_machine.specs.Points.{Point}
 use Rattle.enrollment.specs.Reliabilities.{reliability_with}
 use Rattle.enrollment.specs.Snapshots.{facts_with}
@@ -46,9 +46,13 @@ point_with moment stamp ack_required object values facts = record {
 abbrev pub point_in : ℕ → Stamp → List Bool → Identifier → Values → Option Point
 point_in moment stamp ack_required object values = option_map (point_with moment stamp ack_required object values) (facts_at object values)
 
+-- the zone of a site
+abbrev pub site_zone : Site → LocalZone
+site_zone site = fixed_zone site.device.zone_minutes
+
 -- the local date and time of a moment at a site
 abbrev pub site_stamp : Site → ℕ → Stamp
-site_stamp site moment = local_stamp site.device.zone_minutes moment
+site_stamp site moment = local_stamp (site_zone site) moment
 
 -- the point of a subject of a site
 abbrev pub point_of : Site → Subject → ℕ → Values → Option Point

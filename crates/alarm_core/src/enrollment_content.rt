@@ -1,6 +1,5 @@
 ghost use Rattle.std.specs.Prelude.{◌≡◌, IfOk};
 ghost use Rattle.enrollment.specs.Properties.{property_of};
-ghost use Rattle.note_maker.specs.EventTypes.{algorithm_type};
 ghost use Rattle.alarm_core.specs.EnrollmentProperties.{enrollment_property, enrollment_status, known_enrollment_content};
 ghost use Rattle.alarm_core.specs.Reading.{AnswersContent};
 
@@ -8,26 +7,10 @@ use crate::encoding::{
     array_of_stamps, boolean, enumerated, four_flags, object, text, three_flags, unsigned,
 };
 use crate::{Content, ReadFault};
-use algorithm_rules::Algorithm;
 use bac_values::{EventState, NoMemory, PropertyId, Reliability};
 use enrollment::{EnrollmentProperty, EnrollmentSite};
 use event_machine::Alarm;
 use std::alloc::Global;
-
-// The number of an algorithm's event type (BACnetEventType).
-fn algorithm_type(algorithm: Algorithm) -> u32
-    ensures number { result ≡ algorithm_type algorithm }
-{
-    match algorithm {
-        Algorithm::ChangeOfBitstring => 0,
-        Algorithm::ChangeOfState => 1,
-        Algorithm::CommandFailure => 3,
-        Algorithm::UnsignedRange => 11,
-        Algorithm::SignedOutOfRange => 15,
-        Algorithm::UnsignedOutOfRange => 16,
-        Algorithm::ChangeOfCharacterstring => 17,
-    }
-}
 
 // Status_Flags: in alarm, in fault, overridden, out of service.
 fn enrollment_status(alarm: &Alarm, reliability: Reliability) -> [bool; 4]
@@ -62,7 +45,9 @@ fn enrollment_property(
         EnrollmentProperty::EventDetectionEnable => boolean(alloc, site.detection),
         EnrollmentProperty::NotificationClass => unsigned(alloc, site.class),
         EnrollmentProperty::EventTimeStamps => array_of_stamps(alloc, &alarm.stamps()),
-        EnrollmentProperty::EventType => enumerated(alloc, algorithm_type(site.algorithm)),
+        EnrollmentProperty::EventType => {
+            enumerated(alloc, u32::from(site.algorithm.event_type()))
+        }
     }
 }
 

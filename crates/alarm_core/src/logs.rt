@@ -32,7 +32,7 @@ impl Model for Entry {
 
     ghost Value = { Call };
 
-    ghost view = { λ entry. Recorded entry.stamp entry.body.items };
+    ghost view = { λ entry. Recorded (record { stamp = entry.stamp; body = entry.body.items }) };
 }
 
 // Whether the instance of a class is among some.

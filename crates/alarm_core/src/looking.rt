@@ -6,7 +6,7 @@ ghost use Rattle.alarm_core.specs.Logs.{KeptLog, records_of};
 ghost use Rattle.alarm_core.specs.Moves.{moved_all, moved_as, told_all};
 ghost use Rattle.alarm_core.specs.Next.{acked, looked_all, states_of, transitions_all};
 ghost use Rattle.alarm_core.specs.Notes.{IsShort};
-ghost use Rattle.alarm_core.specs.Sights.{site_stamp};
+ghost use Rattle.alarm_core.specs.Sights.{site_stamp, site_zone};
 ghost use Rattle.alarm_core.specs.Sites.{IsSite};
 ghost use Rattle.alarm_core.specs.Turns.{moved_turn, told_turn, turn_at};
 
@@ -17,7 +17,7 @@ use crate::recording::entries_of_logs;
 use crate::telling::add_notes;
 use crate::watched::{Turned, Watched};
 use bac_values::{Moved, NoMemory, Note, ObjectId, Stamp, Transition, push};
-use civil_stamp::Zone;
+use civil_stamp::{LocalMoment, Zone};
 use event_machine::Move;
 use notify_class::Class;
 use std::alloc::Global;
@@ -72,27 +72,21 @@ fn report_turns(moves: &mut Vec<Moved>, turns: &[Turned]) -> Result<(), NoMemory
 fn tell_turns(
     alloc: Global,
     site: &Site,
-    zone: &Zone,
     classes: &[Class],
     objects: &Objects,
     alarms: &[Watched],
     turns: &[Turned],
-    moment: u64,
-    stamp: Stamp,
+    at: &LocalMoment,
     notes: &mut Vec<Note>,
 ) -> Result<(), NoMemory>
     requires site { IsSite site.now }
-    requires zone { zone.now ≡ site.now.device.zone_minutes }
-    requires moment { IsMoment moment }
-    requires stamp { stamp ≡ site_stamp site.now moment }
+    requires zone { at.now.zone ≡ site_zone site.now }
     requires short { All IsShort notes.old.items }
-    ensures notes { OnOk result (notes.new.items ≡ notes.old.items ++ flat_map (told_turn site.now classes.now moment objects.now (states_of alarms.now)) turns.now) }
+    ensures notes { OnOk result (notes.new.items ≡ notes.old.items ++ flat_map (told_turn site.now classes.now at.now.moment objects.now (states_of alarms.now)) turns.now) }
     ensures short { OnOk result (All IsShort notes.new.items) }
 {
     for turned in turns {
-        add_notes(
-            alloc, site, zone, classes, objects, alarms, turned, moment, stamp, notes,
-        )?;
+        add_notes(alloc, site, classes, objects, alarms, turned, at, notes)?;
     }
     Ok(())
 }
@@ -132,7 +126,7 @@ pub(crate) fn look_at_all(
     notes: &mut Vec<Note>,
 ) -> Result<Looked, NoMemory>
     requires site { IsSite site.now }
-    requires zone { zone.now ≡ site.now.device.zone_minutes }
+    requires zone { zone.now ≡ site_zone site.now }
     requires moment { IsMoment moment }
     requires stamp { stamp ≡ site_stamp site.now moment }
     requires short { All IsShort notes.old.items }
@@ -145,10 +139,9 @@ pub(crate) fn look_at_all(
 {
     let Looks { next, turns } = look_at_each(alloc, alarms, objects, moment, stamp)?;
     report_turns(moves, &turns)?;
-    tell_turns(
-        alloc, site, zone, classes, objects, &next, &turns, moment, stamp, notes,
-    )?;
-    let entries = entries_of_logs(alloc, site, classes, objects, &next, logs, &turns, stamp)?;
+    let at = LocalMoment::new(moment, zone);
+    tell_turns(alloc, site, classes, objects, &next, &turns, &at, notes)?;
+    let entries = entries_of_logs(alloc, site, classes, objects, &next, logs, &turns, &at)?;
     Ok(Looked {
         alarms: next,
         entries,

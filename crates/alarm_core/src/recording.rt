@@ -1,11 +1,11 @@
-ghost use Rattle.std.specs.Prelude.{◌≡◌, ◌++◌, ℕ, IfOk, OnOk, map};
+ghost use Rattle.std.specs.Prelude.{◌≡◌, ◌++◌, IfOk, OnOk, map};
 ghost use Rattle.std.specs.List.{flat_map};
 ghost use Rattle.std.specs.Option.{option_to_list};
 ghost use Rattle.event_machine.specs.declared.moves.Move.{Move as Moving};
 ghost use Rattle.alarm_core.specs.History.{transition_with};
 ghost use Rattle.alarm_core.specs.Logs.{KeptLog, record_of_transition};
 ghost use Rattle.alarm_core.specs.Next.{states_of};
-ghost use Rattle.alarm_core.specs.Sights.{site_stamp};
+ghost use Rattle.alarm_core.specs.Sights.{site_zone};
 ghost use Rattle.alarm_core.specs.Sites.{IsSite};
 ghost use Rattle.alarm_core.specs.Turns.{recorded_turn};
 
@@ -14,7 +14,8 @@ use crate::logs::{Entry, SiteLog};
 use crate::objects::Objects;
 use crate::telling::{class_for, is_enabled, notification_of_move};
 use crate::watched::{Turned, Watched};
-use bac_values::{NoMemory, ObjectId, Stamp, push};
+use bac_values::{NoMemory, ObjectId, push};
+use civil_stamp::LocalMoment;
 use event_machine::Move;
 use event_services::write_notification;
 use notify_class::Class;
@@ -31,11 +32,12 @@ fn entry_of_move(
     object: ObjectId,
     cause: Option<u32>,
     made: Move,
-    stamp: Stamp,
+    at: &LocalMoment,
 ) -> Result<Option<Entry>, NoMemory>
     requires site { IsSite site.now }
-    ensures entry { IfOk result (λ entry. (moment : ℕ) → stamp ≡ site_stamp site.now moment →
-        option_to_list entry ≡ record_of_transition site.now classes.now kept.now.site (transition_with object moment objects.now (states_of alarms.now) cause made)) }
+    requires zone { at.now.zone ≡ site_zone site.now }
+    ensures entry { IfOk result (λ entry.
+        option_to_list entry ≡ record_of_transition site.now classes.now kept.now.site (transition_with object at.now.moment objects.now (states_of alarms.now) cause made)) }
 {
     let Some(subject) = objects.subject(object) else {
         return Ok(None);
@@ -50,10 +52,13 @@ fn entry_of_move(
         return Ok(None);
     }
     let facts = notification_of_move(
-        site, objects, alarms, &subject, class, object, cause, made, stamp,
+        site, objects, alarms, &subject, class, object, cause, made, at,
     )?;
     let body = write_notification(alloc, &facts)?;
-    Ok(Some(Entry { stamp, body }))
+    Ok(Some(Entry {
+        stamp: at.stamp(),
+        body,
+    }))
 }
 
 fn add_if(entries: &mut Vec<Entry>, entry: Option<Entry>) -> Result<(), NoMemory>
@@ -76,18 +81,19 @@ fn add_entry(
     object: ObjectId,
     cause: Option<u32>,
     made: Option<Move>,
-    stamp: Stamp,
+    at: &LocalMoment,
     entries: &mut Vec<Entry>,
 ) -> Result<(), NoMemory>
     requires site { IsSite site.now }
-    ensures entries { OnOk result ((moment : ℕ) → stamp ≡ site_stamp site.now moment → entries.new.items ≡ entries.old.items ++
-        flat_map (λ (made : Moving). record_of_transition site.now classes.now kept.now.site (transition_with object moment objects.now (states_of alarms.now) cause made)) (option_to_list made)) }
+    requires zone { at.now.zone ≡ site_zone site.now }
+    ensures entries { OnOk result (entries.new.items ≡ entries.old.items ++
+        flat_map (λ (made : Moving). record_of_transition site.now classes.now kept.now.site (transition_with object at.now.moment objects.now (states_of alarms.now) cause made)) (option_to_list made)) }
 {
     let Some(made) = made else {
         return Ok(());
     };
     let entry = entry_of_move(
-        alloc, site, classes, objects, alarms, kept, object, cause, made, stamp,
+        alloc, site, classes, objects, alarms, kept, object, cause, made, at,
     )?;
     add_if(entries, entry)
 }
@@ -101,20 +107,21 @@ fn add_entries(
     alarms: &[Watched],
     kept: &SiteLog,
     turned: &Turned,
-    stamp: Stamp,
+    at: &LocalMoment,
     entries: &mut Vec<Entry>,
 ) -> Result<(), NoMemory>
     requires site { IsSite site.now }
-    ensures entries { OnOk result ((moment : ℕ) → stamp ≡ site_stamp site.now moment → entries.new.items ≡ entries.old.items ++
-        recorded_turn site.now classes.now kept.now.site moment objects.now (states_of alarms.now) turned.now) }
+    requires zone { at.now.zone ≡ site_zone site.now }
+    ensures entries { OnOk result (entries.new.items ≡ entries.old.items ++
+        recorded_turn site.now classes.now kept.now.site at.now.moment objects.now (states_of alarms.now) turned.now) }
 {
     let (object, cause) = (turned.object, turned.cause);
     let (first, second) = (turned.changed.first, turned.changed.second);
     add_entry(
-        alloc, site, classes, objects, alarms, kept, object, cause, first, stamp, entries,
+        alloc, site, classes, objects, alarms, kept, object, cause, first, at, entries,
     )?;
     add_entry(
-        alloc, site, classes, objects, alarms, kept, object, cause, second, stamp, entries,
+        alloc, site, classes, objects, alarms, kept, object, cause, second, at, entries,
     )?;
     Ok(())
 }
@@ -128,11 +135,12 @@ fn entries_of_log(
     alarms: &[Watched],
     kept: &SiteLog,
     turns: &[Turned],
-    stamp: Stamp,
+    at: &LocalMoment,
 ) -> Result<Vec<Entry>, NoMemory>
     requires site { IsSite site.now }
-    ensures entries { IfOk result (λ entries. (moment : ℕ) → stamp ≡ site_stamp site.now moment →
-        entries.items ≡ flat_map (recorded_turn site.now classes.now kept.now.site moment objects.now (states_of alarms.now)) turns.now) }
+    requires zone { at.now.zone ≡ site_zone site.now }
+    ensures entries { IfOk result (λ entries.
+        entries.items ≡ flat_map (recorded_turn site.now classes.now kept.now.site at.now.moment objects.now (states_of alarms.now)) turns.now) }
 {
     let mut entries = Vec::new(alloc);
     for turned in turns {
@@ -144,7 +152,7 @@ fn entries_of_log(
             alarms,
             kept,
             turned,
-            stamp,
+            at,
             &mut entries,
         )?;
     }
@@ -160,15 +168,16 @@ pub(crate) fn entries_of_logs(
     alarms: &[Watched],
     logs: &[SiteLog],
     turns: &[Turned],
-    stamp: Stamp,
+    at: &LocalMoment,
 ) -> Result<Vec<Vec<Entry>>, NoMemory>
     requires site { IsSite site.now }
-    ensures entries { IfOk result (λ result. (moment : ℕ) → stamp ≡ site_stamp site.now moment → map (λ list. list.items) result.items ≡
-        map (λ (kept : KeptLog). flat_map (recorded_turn site.now classes.now kept.site moment objects.now (states_of alarms.now)) turns.now) logs.now) }
+    requires zone { at.now.zone ≡ site_zone site.now }
+    ensures entries { IfOk result (λ result. map (λ list. list.items) result.items ≡
+        map (λ (kept : KeptLog). flat_map (recorded_turn site.now classes.now kept.site at.now.moment objects.now (states_of alarms.now)) turns.now) logs.now) }
 {
     let mut lists = Vec::new(alloc);
     for kept in logs {
-        let entries = entries_of_log(alloc, site, classes, objects, alarms, kept, turns, stamp)?;
+        let entries = entries_of_log(alloc, site, classes, objects, alarms, kept, turns, at)?;
         push(&mut lists, entries)?;
     }
     Ok(lists)

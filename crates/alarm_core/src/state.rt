@@ -19,7 +19,7 @@ ghost use Rattle.alarm_core.specs.Next.{after_calls, first_state, looked_all, ne
 ghost use Rattle.alarm_core.specs.Notes.{IsShort};
 ghost use Rattle.alarm_core.specs.Properties.{alarm_in};
 ghost use Rattle.alarm_core.specs.Room.{HasRoom};
-ghost use Rattle.alarm_core.specs.Sights.{site_stamp};
+ghost use Rattle.alarm_core.specs.Sights.{site_stamp, site_zone};
 ghost use Rattle.alarm_core.specs.Sites.{IsSite};
 ghost use Rattle.alarm_core.specs.Values.{IsTaken, written};
 ghost use Rattle.std.specs.Option.{option_copied};
@@ -41,7 +41,7 @@ use crate::{Act, Event, Outcome, Site, StepFault};
 use bac_values::{
     EventState, Items, Moved, NoMemory, Note, ObjectId, Peer, PeerList, Send, Stamp, Transition,
 };
-use civil_stamp::{Zone, stamp_of};
+use civil_stamp::{LocalMoment, Zone, stamp_of};
 use enrollment::Enrollments;
 use event_log::EventLog;
 use event_machine::{Alarm, Found};
@@ -73,6 +73,7 @@ impl Model for Core {
     ghost use Rattle.bac_values.specs.Moments.{IsMoment};
     ghost use Rattle.outbox.specs.Outboxes.{peers_of};
     ghost use Rattle.alarm_core.specs.Known.{KnowsClass};
+    ghost use Rattle.alarm_core.specs.Sights.{site_zone};
     ghost use Rattle.alarm_core.specs.Sites.{IsSite};
     ghost use Rattle.alarm_core.specs.State.{State};
 
@@ -91,7 +92,7 @@ impl Model for Core {
 
     ghost invariant = { λ core. record {
       site : IsSite core.site;
-      zone : core.zone ≡ core.site.device.zone_minutes;
+      zone : core.zone ≡ site_zone core.site;
       moment : IsMoment core.last_moment;
       limit : core.outbox.limit ≡ core.site.device.outbox;
       peers : core.peers ≡ peers_of core.outbox.posts;
@@ -109,7 +110,7 @@ struct Done {
 // The zone of a site.
 fn zone_of(site: &Site) -> Zone
     requires site { IsSite site.now }
-    ensures zone { result ≡ site.now.device.zone_minutes }
+    ensures zone { result ≡ site_zone site.now }
 {
     Zone::fixed(site.device.zone_minutes).unwrap()
 }
@@ -455,17 +456,16 @@ impl Core {
         ensures same { OnErr result (self.new ≡ self.old) }
         ensures verdict { Answers result (queue_verdict (told_with self.old.site self.old.classes moment stamp (Ack object transition named) self.old.values self.old.alarms) self.old.outbox) }
     {
+        let at = LocalMoment::new(moment, &self.zone);
         let told = notes_of_acknowledgement(
             self.alloc,
             &self.site,
-            &self.zone,
             &self.classes,
             &self.objects,
             object,
             transition,
             named,
-            moment,
-            stamp,
+            &at,
         )?;
         let alarms = acknowledge_in(self.alloc, &self.alarms, object, transition)?;
         queue_all(self.alloc, &mut self.outbox, told)?;

@@ -1,23 +1,12 @@
 ghost use Rattle.std.specs.Prelude.{◌≡◌};
-ghost use Rattle.enrollment.specs.Snapshots.{algorithm_for, algorithm_of};
+ghost use Rattle.enrollment.specs.Snapshots.{algorithm_for};
 ghost use Rattle.alarm_core.specs.Subjects.{is_before_enrollments, is_detecting, subject_of_enrollment, subject_of_object};
 
 use crate::{EnrollmentSite, Subject};
 use algorithm_rules::Algorithm;
 use bac_values::{ObjectId, ObjectKind};
+use enrollment::algorithm_of;
 use object_table::ObjectSite;
-
-fn algorithm_of(kind: Option<ObjectKind>) -> Algorithm
-    ensures algorithm { result ≡ algorithm_of kind }
-{
-    match kind {
-        Some(ObjectKind::BitStringValue) => Algorithm::ChangeOfBitstring,
-        Some(ObjectKind::CharacterStringValue) => Algorithm::ChangeOfCharacterstring,
-        Some(ObjectKind::IntegerValue) => Algorithm::SignedOutOfRange,
-        Some(ObjectKind::PositiveIntegerValue) => Algorithm::UnsignedOutOfRange,
-        _ => Algorithm::ChangeOfState,
-    }
-}
 
 // The event algorithm that a value object of this type applies.
 fn algorithm_for(object: ObjectId) -> Algorithm

@@ -1,7 +1,6 @@
 ghost use Rattle.std.specs.Prelude.{◌≡◌, ◌==◌, ◌++◌, ℕ, All, List, Option, Some, IfOk, OnOk};
 ghost use Rattle.std.specs.List.{flat_map};
 ghost use Rattle.std.specs.Option.{option_copied, option_to_list};
-ghost use Rattle.bac_values.specs.Moments.{IsMoment};
 ghost use Rattle.event_machine.specs.declared.moves.Move.{Move as Moving};
 ghost use Rattle.event_services.specs.Notifications.{IsTold};
 ghost use Rattle.note_maker.specs.EventTypes.{transition_type};
@@ -11,7 +10,7 @@ ghost use Rattle.alarm_core.specs.Classes.{class_in};
 ghost use Rattle.alarm_core.specs.History.{ObjectState, state_in, transition_with};
 ghost use Rattle.alarm_core.specs.Next.{states_of};
 ghost use Rattle.alarm_core.specs.Notes.{IsShort, class_for, flags_at, is_enabled, notes_of_acknowledgement, notification_of, out_of_service_in, source_of, told_by, told_flags, told_value, values_of};
-ghost use Rattle.alarm_core.specs.Sights.{site_stamp};
+ghost use Rattle.alarm_core.specs.Sights.{site_zone};
 ghost use Rattle.alarm_core.specs.Sites.{IsSite};
 ghost use Rattle.alarm_core.specs.Turns.{told_turn};
 
@@ -20,8 +19,8 @@ use crate::finding::watched_in;
 use crate::objects::Objects;
 use crate::watched::{Turned, Watched};
 use crate::{EnrollmentSite, Site, Subject};
-use bac_values::{EventState, NoMemory, Note, ObjectId, Stamp, StatusFlags, Transition, Value};
-use civil_stamp::Zone;
+use bac_values::{EventState, NoMemory, Note, ObjectId, StatusFlags, Transition, Value};
+use civil_stamp::LocalMoment;
 use event_machine::Move;
 use event_services::{EventValues, Notification};
 use note_maker::{
@@ -171,38 +170,35 @@ pub(crate) fn notification_of_move(
     object: ObjectId,
     cause: Option<u32>,
     made: Move,
-    stamp: Stamp,
+    at: &LocalMoment,
 ) -> Result<Notification, NoMemory>
     requires site { IsSite site.now }
+    requires zone { at.now.zone ≡ site_zone site.now }
     requires algorithm { subject.now.algorithm ≡ algorithm_with object objects.now.enrollments }
-    ensures notification { IfOk result (λ facts. (moment : ℕ) → stamp ≡ site_stamp site.now moment →
-        facts ≡ notification_of site.now (transition_with object moment objects.now (states_of alarms.now) cause made) subject.now class.now) }
+    ensures notification { IfOk result (λ facts.
+        facts ≡ notification_of site.now (transition_with object at.now.moment objects.now (states_of alarms.now) cause made) subject.now class.now) }
     ensures told { IfOk result (λ facts. IsTold facts.event_type facts.values) }
 {
     let values = told_values(objects, alarms, object, cause, made)?;
     let source = source_of(site, subject);
-    Ok(transition_notification(&source, class, made, stamp, values))
+    Ok(transition_notification(&source, class, made, at.stamp(), values))
 }
 
 /// The notes of one move of an object at a moment, where these are the alarms after the point.
 pub(crate) fn notes_of_move(
     alloc: Global,
     site: &Site,
-    zone: &Zone,
     classes: &[Class],
     objects: &Objects,
     alarms: &[Watched],
     object: ObjectId,
     cause: Option<u32>,
     made: Move,
-    moment: u64,
-    stamp: Stamp,
+    at: &LocalMoment,
 ) -> Result<Vec<Note>, NoMemory>
     requires site { IsSite site.now }
-    requires zone { zone.now ≡ site.now.device.zone_minutes }
-    requires moment { IsMoment moment }
-    requires stamp { stamp ≡ site_stamp site.now moment }
-    ensures notes { IfOk result (λ notes. notes.items ≡ told_by site.now classes.now moment object objects.now (states_of alarms.now) cause made) }
+    requires zone { at.now.zone ≡ site_zone site.now }
+    ensures notes { IfOk result (λ notes. notes.items ≡ told_by site.now classes.now at.now.moment object objects.now (states_of alarms.now) cause made) }
     ensures short { IfOk result (λ notes. All IsShort notes.items) }
 {
     let kind = made.to.transition();
@@ -216,29 +212,25 @@ pub(crate) fn notes_of_move(
         return Ok(Vec::new(alloc));
     };
     let facts = notification_of_move(
-        site, objects, alarms, &subject, class, object, cause, made, stamp,
+        site, objects, alarms, &subject, class, object, cause, made, at,
     )?;
-    notes_of(alloc, &facts, class, kind, moment, zone)
+    notes_of(alloc, &facts, class, kind, at)
 }
 
 /// The notes of an acknowledgement of an object at a moment.
 pub(crate) fn notes_of_acknowledgement(
     alloc: Global,
     site: &Site,
-    zone: &Zone,
     classes: &[Class],
     objects: &Objects,
     object: ObjectId,
     transition: Transition,
     named: EventState,
-    moment: u64,
-    stamp: Stamp,
+    at: &LocalMoment,
 ) -> Result<Vec<Note>, NoMemory>
     requires site { IsSite site.now }
-    requires zone { zone.now ≡ site.now.device.zone_minutes }
-    requires moment { IsMoment moment }
-    requires stamp { stamp ≡ site_stamp site.now moment }
-    ensures notes { IfOk result (λ notes. notes.items ≡ notes_of_acknowledgement site.now classes.now objects.now moment object transition named) }
+    requires zone { at.now.zone ≡ site_zone site.now }
+    ensures notes { IfOk result (λ notes. notes.items ≡ notes_of_acknowledgement site.now classes.now objects.now at.now.moment object transition named) }
     ensures short { IfOk result (λ notes. All IsShort notes.items) }
 {
     let Some(subject) = objects.subject(object) else {
@@ -248,8 +240,8 @@ pub(crate) fn notes_of_acknowledgement(
         return Ok(Vec::new(alloc));
     };
     let source = source_of(site, &subject);
-    let facts = acknowledgement_notification(&source, class, named, stamp);
-    notes_of(alloc, &facts, class, transition, moment, zone)
+    let facts = acknowledgement_notification(&source, class, named, at.stamp());
+    notes_of(alloc, &facts, class, transition, at)
 }
 
 fn append(notes: &mut Vec<Note>, mut more: Vec<Note>) -> Result<(), NoMemory>
@@ -268,31 +260,27 @@ fn append(notes: &mut Vec<Note>, mut more: Vec<Note>) -> Result<(), NoMemory>
 fn add_move(
     alloc: Global,
     site: &Site,
-    zone: &Zone,
     classes: &[Class],
     objects: &Objects,
     alarms: &[Watched],
     object: ObjectId,
     cause: Option<u32>,
     made: Option<Move>,
-    moment: u64,
-    stamp: Stamp,
+    at: &LocalMoment,
     notes: &mut Vec<Note>,
 ) -> Result<(), NoMemory>
     requires site { IsSite site.now }
-    requires zone { zone.now ≡ site.now.device.zone_minutes }
-    requires moment { IsMoment moment }
-    requires stamp { stamp ≡ site_stamp site.now moment }
+    requires zone { at.now.zone ≡ site_zone site.now }
     requires short { All IsShort notes.old.items }
     ensures notes { OnOk result (notes.new.items ≡ notes.old.items ++
-        flat_map (told_by site.now classes.now moment object objects.now (states_of alarms.now) cause) (option_to_list made)) }
+        flat_map (told_by site.now classes.now at.now.moment object objects.now (states_of alarms.now) cause) (option_to_list made)) }
     ensures short { OnOk result (All IsShort notes.new.items) }
 {
     let Some(made) = made else {
         return Ok(());
     };
     let more = notes_of_move(
-        alloc, site, zone, classes, objects, alarms, object, cause, made, moment, stamp,
+        alloc, site, classes, objects, alarms, object, cause, made, at,
     )?;
     append(notes, more)
 }
@@ -301,29 +289,25 @@ fn add_move(
 pub(crate) fn add_notes(
     alloc: Global,
     site: &Site,
-    zone: &Zone,
     classes: &[Class],
     objects: &Objects,
     alarms: &[Watched],
     turned: &Turned,
-    moment: u64,
-    stamp: Stamp,
+    at: &LocalMoment,
     notes: &mut Vec<Note>,
 ) -> Result<(), NoMemory>
     requires site { IsSite site.now }
-    requires zone { zone.now ≡ site.now.device.zone_minutes }
-    requires moment { IsMoment moment }
-    requires stamp { stamp ≡ site_stamp site.now moment }
+    requires zone { at.now.zone ≡ site_zone site.now }
     requires short { All IsShort notes.old.items }
-    ensures notes { OnOk result (notes.new.items ≡ notes.old.items ++ told_turn site.now classes.now moment objects.now (states_of alarms.now) turned.now) }
+    ensures notes { OnOk result (notes.new.items ≡ notes.old.items ++ told_turn site.now classes.now at.now.moment objects.now (states_of alarms.now) turned.now) }
     ensures short { OnOk result (All IsShort notes.new.items) }
 {
     let (object, cause) = (turned.object, turned.cause);
     let (first, second) = (turned.changed.first, turned.changed.second);
     add_move(
-        alloc, site, zone, classes, objects, alarms, object, cause, first, moment, stamp, notes,
+        alloc, site, classes, objects, alarms, object, cause, first, at, notes,
     )?;
     add_move(
-        alloc, site, zone, classes, objects, alarms, object, cause, second, moment, stamp, notes,
+        alloc, site, classes, objects, alarms, object, cause, second, at, notes,
     )
 }

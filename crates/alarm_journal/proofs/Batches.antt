@@ -1,7 +1,7 @@
 -- How batches are read, or a bad length is found.
-use Rattle.std.proofs.Common.{◌≡◌, ◌≢◌, ℕ, zero, suc, ◌+◌, ◌≤◌, ◌<◌, ◌^◌, List, [], ◌∷◌, ◌++◌, length, get_or, refl, sym, ◌∙◌, ap, subst, arith, append_assoc, length-append, Result, Ok, Err, nat_lt, true, false, Bool, ◌==◌, ◌⊎◌, ⊎_elim, inl, inr, take, drop, if◌then◌else◌}
+use Rattle.std.proofs.Common.{◌≡◌, ◌≢◌, ℕ, zero, suc, ◌+◌, ◌≤◌, ◌<◌, ◌^◌, List, [], ◌∷◌, ◌++◌, length, get_or, refl, sym, ◌∙◌, ap, arith, append_assoc, length-append, Result, Ok, Err, nat_lt, true, false, Bool, ◌==◌, ◌⊎◌, inl, inr, take, drop, if◌then◌else◌}
 use Rattle.std.proofs.lemmas.Bool.Decides.{nat_tests}
-use Rattle.std.proofs.lemmas.List.{append-nil}
+use Rattle.std.proofs.lemmas.List.{take_at}
 use Rattle.byteorder.specs.Endian.{big_number, big_bytes}
 use Rattle.byteorder.specs.Numbers.{big_number-reads_back}
 use Rattle.alarm_journal.specs.Journal.{in_front, batches_from, framed, with_more, with_batch, Content}
@@ -21,29 +21,19 @@ below n m lt = grind (arith, nat_tests)
 pub at_least : (n m : ℕ) → nat_lt m n ≡ false → n ≤ m
 at_least n m is = grind (arith, nat_tests)
 
-in_front_twice : (xs ys : List ℕ) (r : Result (List ℕ) ℕ) → in_front xs (in_front ys r) ≡ in_front (xs ++ ys) r
-in_front_twice xs ys (Ok read) = ap (λ (l : List ℕ). Ok l) (sym (append_assoc xs ys read))
-in_front_twice xs ys (Err place) = refl
-
-in_front_none : (r : Result (List ℕ) ℕ) → in_front [] r ≡ r
-in_front_none (Ok read) = refl
-in_front_none (Err place) = refl
-
-batches_body : (place : ℕ) (body rest : List ℕ) → batches_from place (length body) (body ++ rest) ≡ in_front body (batches_from (place + length body) zero rest)
-batches_body place [] rest = ap (λ (p : ℕ). batches_from p zero rest) same ∙ sym (in_front_none (batches_from (place + 0) zero rest))
+batches_body : (place : ℕ) (body rest : List ℕ) → batches_from place (length body) (body ++ rest) ≡ batches_from (place + length body) zero rest
+batches_body place [] rest = ap (λ (p : ℕ). batches_from p zero rest) same
   where
     same : place ≡ place + 0
     same = omega arith
-batches_body place (x ∷ body) rest =
-    ap (in_front (x ∷ [])) (batches_body (place + 1) body rest) ∙ in_front_twice (x ∷ []) body (batches_from (place + 1 + length body) zero rest)
-    ∙ ap (λ (p : ℕ). in_front (x ∷ body) (batches_from p zero rest)) same
+batches_body place (x ∷ body) rest = batches_body (place + 1) body rest ∙ ap (λ (p : ℕ). batches_from p zero rest) same
   where
     same : place + 1 + length body ≡ place + length (x ∷ body)
     same = omega arith
 
 -- what a batch's length leads to
-abbrev behind_length : ℕ → ℕ → List ℕ → Result (List ℕ) ℕ
-behind_length place size rest = if nat_lt (length rest) size then Err (place + 1) else batches_from (place + 5) size rest
+abbrev behind_length : ℕ → ℕ → List ℕ → Result (List (List ℕ)) ℕ
+behind_length place size rest = if nat_lt (length rest) size then Err (place + 1) else in_front (take size rest) (batches_from (place + 5) size rest)
 
 pub batches_closed : (place : ℕ) (xs : List ℕ) → get_or xs 0 0 ≢ 1 → batches_from place zero xs ≡ Ok []
 batches_closed place [] shut = refl
@@ -56,7 +46,9 @@ batches_closed place (g ∷ a ∷ b ∷ c ∷ d ∷ rest) shut = ap (λ (t : Boo
 open_at : (place size : ℕ) (body rest : List ℕ) → length body ≡ size → behind_length place size (body ++ rest) ≡ in_front body (batches_from (place + 5 + length body) zero rest)
 open_at place size body rest count =
     let within : nat_lt (length (body ++ rest)) size ≡ false = not_below size (length (body ++ rest)) (omega (arith, count, length-append body rest)) in
-    ap (λ (t : Bool). if t then Err (place + 1) else batches_from (place + 5) size (body ++ rest)) within ∙ ap (λ (k : ℕ). batches_from (place + 5) k (body ++ rest)) (sym count) ∙ batches_body (place + 5) body rest
+    ap (λ (t : Bool). if t then Err (place + 1) else in_front (take size (body ++ rest)) (batches_from (place + 5) size (body ++ rest))) within
+    ∙ ap (λ (l : List ℕ). in_front l (batches_from (place + 5) size (body ++ rest))) (take_at body rest size count)
+    ∙ ap (λ (k : ℕ). in_front body (batches_from (place + 5) k (body ++ rest))) (sym count) ∙ ap (in_front body) (batches_body (place + 5) body rest)
 
 pub batches_open : (place : ℕ) (four body rest : List ℕ) → length four ≡ 4 → length body ≡ big_number 4 four → batches_from place zero (1 ∷ (four ++ (body ++ rest))) ≡ in_front body (batches_from (place + 5 + length body) zero rest)
 batches_open place [] body rest is count = absurd (omega (arith, is))
@@ -67,7 +59,7 @@ batches_open place (a ∷ b ∷ c ∷ d ∷ []) body rest is count = open_at pla
 batches_open place (a ∷ b ∷ c ∷ d ∷ e ∷ more) body rest is count = absurd (omega (arith, is))
 
 bad_at : (place size : ℕ) (rest : List ℕ) → length rest < size → behind_length place size rest ≡ Err (place + 1)
-bad_at place size rest over = ap (λ (t : Bool). if t then Err (place + 1) else batches_from (place + 5) size rest) (below size (length rest) over)
+bad_at place size rest over = ap (λ (t : Bool). if t then Err (place + 1) else in_front (take size rest) (batches_from (place + 5) size rest)) (below size (length rest) over)
 
 bad_long : (place size : ℕ) (rest : List ℕ) (k : ℕ) → k ≡ 5 + length rest → (k < 5) ⊎ (k < 5 + size) → behind_length place size rest ≡ Err (place + 1)
 bad_long place size rest k is (inl short) = absurd (omega arith)
@@ -107,16 +99,15 @@ pub batch_open : (place : ℕ) (body rest : List ℕ) → length body < 2 ^ 32 �
 batch_open place body rest few = batches_open place (big_bytes 4 (length body)) body rest (length-four (length body)) (sym (reads_back (length body) few))
 
 -- with a closed gate behind it, its body
-pub batch_framed : (place : ℕ) (body rest : List ℕ) → length body < 2 ^ 32 → batches_from place zero (1 ∷ (framed body ++ rest)) ≡ Ok body
+pub batch_framed : (place : ℕ) (body rest : List ℕ) → length body < 2 ^ 32 → batches_from place zero (1 ∷ (framed body ++ rest)) ≡ Ok (body ∷ [])
 batch_framed place body rest few =
     ap (λ (l : List ℕ). batches_from place zero (1 ∷ l)) (append_assoc (big_bytes 4 (length body)) (body ++ 0 ∷ []) rest ∙ ap (λ (l : List ℕ). big_bytes 4 (length body) ++ l) (append_assoc body (0 ∷ []) rest))
     ∙ batch_open place body (0 ∷ rest) few
     ∙ ap (in_front body) (batches_closed (place + 5 + length body) (0 ∷ rest) zero_not_one)
-    ∙ ap (λ (l : List ℕ). Ok l) (append-nil body)
   where
     zero_not_one : zero ≡ 1 → ⊥
     zero_not_one is = omega arith
 
-pub more_twice : (content : Content) (body : List ℕ) (r : Result (List ℕ) ℕ) → with_more content (in_front body r) ≡ with_more (with_batch content body) r
-more_twice content body (Ok more) = λ i. Ok (record { snapshot = content.snapshot; batches = sym (append_assoc content.batches body more) i })
+pub more_twice : (content : Content) (body : List ℕ) (r : Result (List (List ℕ)) ℕ) → with_more content (in_front body r) ≡ with_more (with_batch content body) r
+more_twice content body (Ok more) = λ i. Ok (record { snapshot = content.snapshot; bodies = sym (append_assoc content.bodies (body ∷ []) more) i })
 more_twice content body (Err place) = refl

@@ -1,13 +1,13 @@
 -- What a crash may leave at each moment of a batch's commit.
-use Rattle.std.proofs.Common.{◌≡◌, ◌≢◌, ◌⊎◌, inl, inr, ⊎_elim, ℕ, zero, suc, ◌+◌, ◌-◌, ◌<◌, ◌≤◌, ◌^◌, Bool, true, false, List, [], ◌∷◌, ◌++◌, length, take, drop, get_or, refl, sym, ◌∙◌, ap, subst, arith, Option, Some, None, if◌then◌else◌, ◌*◌}
+use Rattle.std.proofs.Common.{◌≡◌, ◌⊎◌, inl, inr, ℕ, ◌+◌, ◌<◌, ◌≤◌, ◌^◌, Bool, true, false, List, [], ◌∷◌, ◌++◌, length, take, drop, get_or, sym, ◌∙◌, ap, subst, arith, Option, Some, None, if◌then◌else◌}
 use Rattle.std.proofs.lemmas.List.{drop_more}
 use Rattle.std.proofs.lemmas.Bool.{cases_eq}
-use Rattle.ground_io.specs.Disk.{Disk, Each, MayLeave, octets_at, with_octets}
+use Rattle.ground_io.specs.Disk.{Disk, Each, with_octets}
 use Rattle.ground_io.specs.Trace.{Told, HasSize, disk_of}
-use Rattle.ground_io.proofs.Crashes.{SameBut, only_read, one_loose}
+use Rattle.ground_io.proofs.Crashes.{only_read, one_loose}
 use Rattle.ground_io.proofs.Disks.{length-with_octets}
 use Rattle.alarm_journal.specs.Journal.{Site, Content, with_batch, OpensTo, framed}
-use Rattle.alarm_journal.specs.Press.{StandsFor, IsSettled, Settled, IsSound, start_of, end_of, behind_batch}
+use Rattle.alarm_journal.specs.Press.{StandsFor, Settled, IsSound, end_of, behind_batch}
 use Rattle.alarm_journal.specs.declared.layout.Layout.{Layout}
 use Rattle.alarm_journal.proofs.TwoWrites.{TwoWrites, Ready, Ended}
 use Rattle.alarm_journal.proofs.Batches.{length-framed}

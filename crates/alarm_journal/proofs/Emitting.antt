@@ -1,15 +1,14 @@
 -- How emissions follow each other.
-use Rattle.std.proofs.Common.{◌≡◌, ℕ, ◌+◌, List, [], ◌∷◌, ◌++◌, refl, sym, ◌∙◌, ap, subst, Option, Some, None, Result, Ok, Err, IfOk, IsOk, is_ok, true, false, Bool, if◌then◌else◌}
-use Rattle.bac_values.specs.Address.{Address}
+use Rattle.std.proofs.Common.{◌≡◌, ℕ, ◌+◌, List, [], ◌∷◌, ◌++◌, refl, sym, ◌∙◌, ap, subst, Option, Some, None}
 use Rattle.bac_values.specs.declared.note.Send.{Send}
-use Rattle.ground_io.specs.Disk.{Disk, Each, Always, after_entry, disk_after}
-use Rattle.ground_io.specs.Trace.{Told, Adds, disk_of, emission}
+use Rattle.ground_io.specs.Disk.{Disk, Each, Always, disk_after}
+use Rattle.ground_io.specs.Trace.{Told, Adds, disk_of}
 use Rattle.ground_io.specs.declared.entry.Entry.{Entry}
 use Rattle.ground_io.specs.declared.entry.Entry.TheVariants.{Wrote, Broke, Synced, Emitted, Lost}
 use Rattle.ground_io.proofs.Crashes.{adds_both, adds_none, disk_adds}
-use Rattle.alarm_journal.specs.Emissions.{AreEmissions, EmitsOnly, EmitsAll}
+use Rattle.alarm_journal.specs.Emissions.{AreEmissions, EmitsAll}
 use Rattle.alarm_journal.specs.Journal.{Site, Content, OpensTo}
-use Rattle.alarm_journal.specs.Press.{IsSettled, IsSound, Settled, StandsFor, Throughout}
+use Rattle.alarm_journal.specs.Press.{IsSound, Settled, StandsFor, Throughout}
 use Rattle.alarm_journal.specs.declared.layout.Layout.{Layout}
 use Rattle.alarm_journal.proofs.Rest.{lasts}
 

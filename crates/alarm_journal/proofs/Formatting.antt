@@ -1,15 +1,14 @@
 -- What a crash may leave while a blank device is formatted.
-use Rattle.std.proofs.Common.{◌≡◌, ◌≢◌, ◌⊎◌, inl, inr, ℕ, zero, suc, ◌+◌, ◌-◌, ◌*◌, ◌/◌, ◌%◌, ◌<◌, ◌≤◌, ◌^◌, Bool, true, false, List, [], ◌∷◌, ◌++◌, length, take, drop, get_or, refl, sym, ◌∙◌, ap, subst, arith, append_assoc, length-append, nat_lt, if◌then◌else◌, Err, Option, Some, None}
+use Rattle.std.proofs.Common.{◌≡◌, ◌≢◌, inl, inr, ℕ, zero, suc, ◌+◌, ◌-◌, ◌/◌, ◌%◌, ◌<◌, ◌≤◌, ◌^◌, Bool, false, List, [], ◌∷◌, ◌++◌, length, take, drop, get_or, refl, sym, ◌∙◌, ap, subst, arith, append_assoc, length-append, nat_lt, if◌then◌else◌, Err, Option, Some, None}
 use Rattle.std.proofs.lemmas.List.{drop_more, drop-drop, drop_at, take_at, get_or_at, get_or-drop}
 use Rattle.std.proofs.lemmas.Bool.{cases_eq}
-use Rattle.byteorder.specs.Endian.{big_number, big_bytes}
 use Rattle.byteorder.specs.Numbers.{big_number-reads_back}
-use Rattle.ground_io.specs.Disk.{Disk, Each, MayLeave, octets_at, with_octets}
+use Rattle.ground_io.specs.Disk.{Disk, Each, with_octets}
 use Rattle.ground_io.specs.Trace.{Told, HasSize, disk_of}
 use Rattle.ground_io.proofs.Crashes.{only_read, one_loose}
 use Rattle.ground_io.proofs.Disks.{length-with_octets}
-use Rattle.alarm_journal.specs.Journal.{Site, Content, nothing, OpensTo, formatted_size, half_of, content_of, batches_from, with_more, heading, mark}
-use Rattle.alarm_journal.specs.Press.{IsOurs, StandsFor, IsSound, Settled, Blank, IsBlank, start_of, end_of}
+use Rattle.alarm_journal.specs.Journal.{Site, nothing, OpensTo, formatted_size, content_of, batches_from, with_more, heading}
+use Rattle.alarm_journal.specs.Press.{StandsFor, IsSound, Settled, Blank}
 use Rattle.alarm_journal.specs.declared.layout.Layout.{Layout}
 use Rattle.alarm_journal.proofs.Batches.{not_below}
 use Rattle.alarm_journal.proofs.Fronts.{octet_front, put_front, put_from, put_past}

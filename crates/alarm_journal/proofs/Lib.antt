@@ -1,3 +1,4 @@
+pub mod Areas
 pub mod Batches
 pub mod Committing
 pub mod Emitting
@@ -6,8 +7,10 @@ pub mod Fronts
 pub mod Headers
 pub mod Opening
 pub mod Parsing
+pub mod Places
 pub mod Reopening
 pub mod Rest
+pub mod Showing
 pub mod Snapshots
 pub mod Standings
 pub mod TwoWrites

@@ -1,20 +1,21 @@
 -- What is read of a journal whose gate is open.
-use Rattle.std.proofs.Common.{◌≡◌, ◌≢◌, ◌⊎◌, inl, inr, ℕ, zero, suc, ◌+◌, ◌-◌, ◌*◌, ◌/◌, ◌%◌, ◌<◌, ◌≤◌, ◌^◌, Bool, true, false, if◌then◌else◌, List, [], ◌∷◌, ◌++◌, length, take, drop, get_or, refl, sym, ◌∙◌, ap, subst, arith, Option, Some, None, Result, Ok, Err, nat_lt}
-use Rattle.std.proofs.lemmas.List.{take-take, get_or-take, get_or-drop}
+use Rattle.std.proofs.Common.{◌≡◌, ◌⊎◌, inl, inr, ℕ, ◌+◌, ◌-◌, ◌/◌, ◌%◌, ◌<◌, ◌≤◌, ◌^◌, if◌then◌else◌, List, [], ◌++◌, length, take, get_or, sym, ◌∙◌, ap, subst, arith, Option, Some, None, Result, Ok, Err, nat_lt}
+use Rattle.std.proofs.lemmas.List.{take-take}
 use Rattle.byteorder.specs.Endian.{big_number, big_bytes}
 use Rattle.ground_io.specs.Disk.{Disk, octets_at}
 use Rattle.ground_io.specs.Trace.{Told, Adds, Reads, HasSize, disk_of}
 use Rattle.ground_io.specs.declared.entry.Entry.{Entry}
 use Rattle.ground_io.proofs.Crashes.{disk_adds}
 use Rattle.ground_io.proofs.Disks.{length-octets_at}
-use Rattle.alarm_journal.specs.Journal.{Site, Content, mark, formatted_size, half_of, content_of, batches_from, with_more, or_else, first_other, foreign_place, own_header, checked_header, or_damaged, selected_content, opened_from}
-use Rattle.alarm_journal.specs.Press.{IsOurs, StandsFor, IsSettled, Settled, IsSound, IsBegun, Begun, Answers, start_of, end_of}
-use Rattle.alarm_journal.specs.Areas.{IsRead}
+use Rattle.alarm_journal.specs.Journal.{Site, Content, mark, formatted_size, content_of, or_else, first_other, foreign_place, checked_header, or_damaged, selected_content}
+use Rattle.alarm_journal.specs.Press.{StandsFor, Settled, IsSound, Begun, Answers, start_of}
+use Rattle.alarm_journal.specs.Areas.{IsRead, IsDamage}
+use Rattle.alarm_journal.specs.Opened.{Shows}
 use Rattle.alarm_journal.specs.declared.layout.Layout.{Layout}
 use Rattle.alarm_journal.specs.declared.open_fault.OpenFault.{OpenFault}
 use Rattle.alarm_journal.specs.declared.open_fault.OpenFault.TheVariants.{DiskFault, SmallDevice, Foreign, Damaged, NoMemory}
 use Rattle.alarm_journal.proofs.Fronts.{slice_front, octet_front}
-use Rattle.alarm_journal.proofs.Headers.{Checked, checked_ok, owned, opens_by_header}
+use Rattle.alarm_journal.proofs.Headers.{checked_ok, owned, opens_by_header}
 use Rattle.alarm_journal.proofs.Standings.{Heads, area_opens}
 
 -- the header by its size and its first foreign place
@@ -71,9 +72,8 @@ heads site size header c formatted layout found whole gate is =
 abbrev at_next : Layout → ℕ → Layout
 at_next layout next = record { areas = layout.areas; half = layout.half; second = layout.second; next = next }
 
-pub stands : (site : Site) (layout : Layout) (area snapshot batches c : List ℕ) (inner : ℕ) → Heads site layout c → length area ≡ layout.half → IsRead area snapshot batches inner → area ≡ octets_at (start_of layout) layout.half c
-    → StandsFor site (at_next layout (start_of layout + inner)) c (record { snapshot = snapshot; batches = batches })
-stands site layout area snapshot batches c inner heads long read area_is =
+pub stands : (site : Site) (layout : Layout) (c : List ℕ) (content : Content) (inner : ℕ) → Heads site layout c → IsRead (start_of layout) layout.half inner content c → StandsFor site (at_next layout (start_of layout + inner)) c content
+stands site layout c content inner heads read =
     let s : ℕ = start_of layout in
     let inside : s + inner - s ≡ inner = omega arith in
     record {
@@ -81,30 +81,26 @@ stands site layout area snapshot batches c inner heads long read area_is =
       areas = heads.areas;
       half = heads.half;
       selected = heads.selected;
-      closed = λ lt is. read.closed (omega (arith, lt, long)) (ap (λ (l : List ℕ). get_or l inner 0) area_is ∙ get_or-take layout.half (drop s c) inner 0 (omega (arith, lt)) ∙ get_or-drop s c inner 0 ∙ is);
-      reads = λ tail. ap (λ (l : List ℕ). content_of s (l ++ tail)) (ap (λ (k : ℕ). take k (drop s c)) inside
-          ∙ sym (take-take inner layout.half (drop s c) (omega (arith, read.within, long))) ∙ ap (take inner) (sym area_is)) ∙ read.reads s tail;
+      closed = λ lt is. read.closed (omega (arith, lt)) is;
+      reads = λ tail. ap (λ (k : ℕ). content_of s (octets_at s k c ++ tail)) inside ∙ read.reads s tail;
     }
 
-pub sound : (size : ℕ) (layout : Layout) (area snapshot batches : List ℕ) (inner : ℕ) → layout.areas + layout.half + layout.half ≤ size → 22 ≤ layout.areas → size < 2 ^ 64 → length area ≡ layout.half → IsRead area snapshot batches inner → IsSound size (at_next layout (start_of layout + inner))
-sound size layout area snapshot batches inner fits header word long read = record { fits = fits; behind = omega (arith, read.behind); within = omega (arith, read.within, long); header = header; word = word }
+pub sound : (size : ℕ) (layout : Layout) (inner : ℕ) → layout.areas + layout.half + layout.half ≤ size → 22 ≤ layout.areas → size < 2 ^ 64 → 4 ≤ inner → inner ≤ layout.half → IsSound size (at_next layout (start_of layout + inner))
+sound size layout inner fits header word behind within = record { fits = fits; behind = omega (arith, behind); within = omega (arith, within); header = header; word = word }
 
 -- the disk is the same after entries that aren't any
 same_disk : (a d : Told) → Adds (Some a) (Some d) [] → disk_of d ≡ disk_of a
 same_disk a d adds = disk_adds a d [] adds
 
-pub settled : (site : Site) (size : ℕ) (header area snapshot batches : List ℕ) (formatted inner : ℕ) (layout : Layout) (a b d : Option Told) → Found site size header formatted layout → HasSize size a → Adds a b [] → Adds b d []
-    → Reads a 0 header → Reads b (start_of layout) area → length area ≡ layout.half → IsRead area snapshot batches inner → Begun a → Settled site (at_next layout (start_of layout + inner)) d (record { snapshot = snapshot; batches = batches })
-settled site size header area snapshot batches formatted inner layout a b None found whole ab bd first second long read begun = tt
-settled site size header area snapshot batches formatted inner layout a None (Some d) found whole ab bd first second long read begun = absurd bd
-settled site size header area snapshot batches formatted inner layout None (Some b) (Some d) found whole ab bd first second long read begun = absurd ab
-settled site size header area snapshot batches formatted inner layout (Some a) (Some b) (Some d) found whole ab bd first second long read begun =
-    let c = (disk_of a).contents in
-    let head = heads site size header c formatted layout found whole begun.gate first in
-    let area_is : area ≡ octets_at (start_of layout) layout.half c = second ∙ ap (λ (k : ℕ). octets_at (start_of layout) k (disk_of b).contents) long ∙ ap (λ (k : Disk). octets_at (start_of layout) layout.half k.contents) (same_disk a b ab) in
-    let same : disk_of d ≡ disk_of a = same_disk b d bd ∙ same_disk a b ab in
+pub settled : (site : Site) (size : ℕ) (header : List ℕ) (content : Content) (formatted inner : ℕ) (layout : Layout) (a d : Option Told) → Found site size header formatted layout → HasSize size a → Adds a d []
+    → Reads a 0 header → Shows d (IsRead (start_of layout) layout.half inner content) → Begun a → Settled site (at_next layout (start_of layout + inner)) d content
+settled site size header content formatted inner layout a None found whole ad first read begun = tt
+settled site size header content formatted inner layout None (Some d) found whole ad first read begun = absurd ad
+settled site size header content formatted inner layout (Some a) (Some d) found whole ad first read begun =
+    let head = heads site size header (disk_of a).contents formatted layout found whole begun.gate first in
+    let same : disk_of d ≡ disk_of a = same_disk a d ad in
     record {
-      stands = subst (λ (k : Disk). StandsFor site (at_next layout (start_of layout + inner)) k.contents (record { snapshot = snapshot; batches = batches })) (sym same) (stands site layout area snapshot batches c inner head long read area_is);
+      stands = stands site layout (disk_of d).contents content inner (subst (λ (k : Disk). Heads site layout k.contents) (sym same) head) read;
       stable = ap (λ (k : Disk). k.loose) same ∙ begun.stable;
     }
 
@@ -118,16 +114,16 @@ bad_header site size header fault (Some a) (Some b) checked long whole enough ab
     inr (inr (opens_by_header site c (subst (λ (k : ℕ). site.need ≤ k) (sym whole) enough) begun.gate ∙ ap (selected_content site c) as_read))
 
 -- a length leaves the area
-pub bad_area : (site : Site) (size : ℕ) (header area : List ℕ) (formatted at : ℕ) (layout : Layout) (a b d : Option Told) → Found site size header formatted layout → HasSize size a → Adds a b [] → Adds b d []
-    → Reads a 0 header → Reads b (start_of layout) area → length area ≡ layout.half → content_of (start_of layout) area ≡ Err at → Begun a → Answers site a d (Err (Damaged at))
-bad_area site size header area formatted at layout a b None found whole ab bd first second long bad begun = tt
-bad_area site size header area formatted at layout a None (Some d) found whole ab bd first second long bad begun = absurd bd
-bad_area site size header area formatted at layout None (Some b) (Some d) found whole ab bd first second long bad begun = absurd ab
-bad_area site size header area formatted at layout (Some a) (Some b) (Some d) found whole ab bd first second long bad begun =
+bad_area : (site : Site) (size : ℕ) (header : List ℕ) (formatted at : ℕ) (layout : Layout) (a d : Option Told) → Found site size header formatted layout → HasSize size a → Adds a d []
+    → Reads a 0 header → Shows d (λ image. content_of (start_of layout) (octets_at (start_of layout) layout.half image) ≡ Err at) → Begun a → Answers site a d (Err (Damaged at))
+bad_area site size header formatted at layout a None found whole ad first bad begun = tt
+bad_area site size header formatted at layout None (Some d) found whole ad first bad begun = absurd ad
+bad_area site size header formatted at layout (Some a) (Some d) found whole ad first bad begun =
     let c = (disk_of a).contents in
     let head = heads site size header c formatted layout found whole begun.gate first in
-    let area_is : area ≡ octets_at (start_of layout) layout.half c = second ∙ ap (λ (k : ℕ). octets_at (start_of layout) k (disk_of b).contents) long ∙ ap (λ (k : Disk). octets_at (start_of layout) layout.half k.contents) (same_disk a b ab) in
-    inr (inr (area_opens site layout c head ∙ ap or_damaged (ap (content_of (start_of layout)) (sym area_is) ∙ bad)))
+    let here : content_of (start_of layout) (octets_at (start_of layout) layout.half c) ≡ Err at =
+    subst (λ (k : Disk). content_of (start_of layout) (octets_at (start_of layout) layout.half k.contents) ≡ Err at) (same_disk a d ad) bad in
+    inr (inr (area_opens site layout c head ∙ ap or_damaged here))
 
 -- a failing device, or want of memory
 pub no_answer : (site : Site) (fault : OpenFault) (a b : Option Told) (entries : List Entry) → (fault ≡ DiskFault) ⊎ (fault ≡ NoMemory) → Adds a b entries → Answers site a b (Err fault)
@@ -135,3 +131,11 @@ no_answer site fault a None entries is adds = tt
 no_answer site fault None (Some b) entries is adds = absurd adds
 no_answer site fault (Some a) (Some b) entries (inl is) adds = inl is
 no_answer site fault (Some a) (Some b) entries (inr is) adds = inr (inl is)
+
+-- whatever came in the way of reading the area
+pub no_area : (site : Site) (size : ℕ) (header : List ℕ) (formatted : ℕ) (layout : Layout) (fault : OpenFault) (a d : Option Told) → Found site size header formatted layout → HasSize size a → Adds a d []
+    → Reads a 0 header → IsDamage d (λ at image. content_of (start_of layout) (octets_at (start_of layout) layout.half image) ≡ Err at) fault → Begun a → Answers site a d (Err fault)
+no_area site size header formatted layout fault a d found whole ad first (inl disk) begun = no_answer site fault a d [] (inl disk) ad
+no_area site size header formatted layout fault a d found whole ad first (inr (inl memory)) begun = no_answer site fault a d [] (inr memory) ad
+no_area site size header formatted layout fault a d found whole ad first (inr (inr (at, is, bad))) begun =
+    subst (λ (f : OpenFault). Answers site a d (Err f)) (sym is) (bad_area site size header formatted at layout a d found whole ad first bad begun)

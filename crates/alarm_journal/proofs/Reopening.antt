@@ -1,14 +1,14 @@
 -- What a crash may leave from the first sync of an opening on, and what the opening answers.
-use Rattle.std.proofs.Common.{◌≡◌, ◌≢◌, ◌⊎◌, ◌↔◌, inl, inr, ⊎_elim, ℕ, ◌+◌, ◌<◌, ◌≤◌, Bool, true, false, List, [], ◌∷◌, ◌++◌, length, take, drop, get_or, refl, sym, ◌∙◌, ap, subst, arith, Option, Some, None, Result, Ok, Err, IsTrue}
-use Rattle.std.proofs.lemmas.List.{get_or-take}
-use Rattle.ground_io.specs.Disk.{Disk, Each, Always, MayLeave, after_entry, disk_after, octets_at}
-use Rattle.ground_io.specs.Trace.{Told, Adds, Reads, HasSize, disk_of}
+use Rattle.std.proofs.Common.{◌≡◌, ◌⊎◌, ◌↔◌, inl, inr, ⊎_elim, ℕ, ◌<◌, ◌≤◌, Bool, true, false, List, [], ◌∷◌, length, get_or, refl, sym, ◌∙◌, ap, subst, arith, Option, Some, None, Result, Ok, Err, IsTrue}
+use Rattle.ground_io.specs.Disk.{Disk, Always}
+use Rattle.ground_io.specs.Trace.{Told, Adds, HasSize, disk_of}
 use Rattle.ground_io.specs.declared.entry.Entry.{Entry}
 use Rattle.ground_io.specs.declared.entry.Entry.TheVariants.{Synced}
 use Rattle.ground_io.proofs.Crashes.{only_read, adds_both, disk_adds, always_weaker}
 use Rattle.alarm_journal.specs.Journal.{Site, Content, nothing, OpensTo, opened_from, heading}
-use Rattle.alarm_journal.specs.Press.{IsSettled, Settled, IsSound, IsBegun, Begun, IsBlank, Blank, Reopens, OpensSame, Answers, WasBlank, IsOpening}
-use Rattle.alarm_journal.specs.Protocol.{AddsSome, Quietly, Leads, two_writes, IsTwoCutShort}
+use Rattle.alarm_journal.specs.Opened.{Shows}
+use Rattle.alarm_journal.specs.Press.{Settled, IsSound, Begun, IsBlank, Blank, Reopens, Answers, WasBlank, IsOpening}
+use Rattle.alarm_journal.specs.Protocol.{AddsSome, Leads, two_writes, IsTwoCutShort}
 use Rattle.alarm_journal.specs.declared.layout.Layout.{Layout}
 use Rattle.alarm_journal.specs.declared.open_fault.OpenFault.{OpenFault}
 use Rattle.alarm_journal.specs.declared.open_fault.OpenFault.TheVariants.{SmallDevice}
@@ -30,30 +30,21 @@ stays site (Some a) (Some x) adds = inr (record {
 synced : (a x : Told) → Adds (Some a) (Some x) (Synced ∷ []) → disk_of x ≡ record { contents = (disk_of a).contents; loose = [] }
 synced a x adds = disk_adds a x (Synced ∷ []) adds
 
-gate_read : (gate contents : List ℕ) → length gate ≡ 1 → gate ≡ octets_at 0 (length gate) contents → get_or gate 0 0 ≡ get_or contents 0 0
-gate_read gate contents one is = ap (λ (l : List ℕ). get_or l 0 0) (is ∙ ap (λ (k : ℕ). octets_at 0 k contents) one) ∙ get_or-take 1 contents 0 0 (omega arith)
-
-pub blank_now : (a z r : Option Told) (gate : List ℕ) → Adds a z (Synced ∷ []) → Reads z 0 gate → length gate ≡ 1 → Adds z r [] → get_or gate 0 0 ≢ 1 → Blank r
-blank_now a z None gate az reads one zr shut = tt
-blank_now a None (Some r) gate az reads one zr shut = absurd zr
-blank_now None (Some z) (Some r) gate az reads one zr shut = absurd az
-blank_now (Some a) (Some z) (Some r) gate az reads one zr shut =
+pub blank_now : (a z r : Option Told) (flag : Bool) → Adds a z (Synced ∷ []) → Adds z r [] → Shows r (λ image. IsTrue flag ↔ (get_or image 0 0 ≡ 1)) → (IsTrue flag → ⊥) → Blank r
+blank_now a z None flag az zr reads shut = tt
+blank_now a None (Some r) flag az zr reads shut = absurd zr
+blank_now None (Some z) (Some r) flag az zr reads shut = absurd az
+blank_now (Some a) (Some z) (Some r) flag az zr reads shut =
     let same : disk_of r ≡ disk_of z = disk_adds z r [] zr in
-    record {
-      gate = λ is. shut (gate_read gate (disk_of z).contents one reads ∙ ap (λ (k : Disk). get_or k.contents 0 0) (sym same) ∙ is);
-      stable = ap (λ (k : Disk). k.loose) (same ∙ synced a z az);
-    }
+    record { gate = λ is. shut (reads.1 is); stable = ap (λ (k : Disk). k.loose) (same ∙ synced a z az) }
 
-pub begun_now : (a z r : Option Told) (gate : List ℕ) → Adds a z (Synced ∷ []) → Reads z 0 gate → length gate ≡ 1 → Adds z r [] → get_or gate 0 0 ≡ 1 → Begun r
-begun_now a z None gate az reads one zr is = tt
-begun_now a None (Some r) gate az reads one zr is = absurd zr
-begun_now None (Some z) (Some r) gate az reads one zr is = absurd az
-begun_now (Some a) (Some z) (Some r) gate az reads one zr is =
+pub begun_now : (a z r : Option Told) (flag : Bool) → Adds a z (Synced ∷ []) → Adds z r [] → Shows r (λ image. IsTrue flag ↔ (get_or image 0 0 ≡ 1)) → IsTrue flag → Begun r
+begun_now a z None flag az zr reads is = tt
+begun_now a None (Some r) flag az zr reads is = absurd zr
+begun_now None (Some z) (Some r) flag az zr reads is = absurd az
+begun_now (Some a) (Some z) (Some r) flag az zr reads is =
     let same : disk_of r ≡ disk_of z = disk_adds z r [] zr in
-    record {
-      gate = ap (λ (k : Disk). get_or k.contents 0 0) same ∙ sym (gate_read gate (disk_of z).contents one reads) ∙ is;
-      stable = ap (λ (k : Disk). k.loose) (same ∙ synced a z az);
-    }
+    record { gate = reads.0 is; stable = ap (λ (k : Disk). k.loose) (same ∙ synced a z az) }
 
 -- the octets are those of the opening
 contents_then : (a r : Told) → Adds (Some a) (Some r) (Synced ∷ []) → (disk_of r).contents ≡ (disk_of a).contents

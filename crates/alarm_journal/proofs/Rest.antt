@@ -1,12 +1,12 @@
 -- What a crash leaves of a press at rest.
-use Rattle.std.proofs.Common.{◌≡◌, ◌⊎◌, inl, inr, ℕ, zero, ◌+◌, ◌-◌, ◌<◌, ◌≤◌, List, [], ◌∷◌, ◌++◌, length, take, drop, refl, sym, ◌∙◌, ap, subst, arith, Result, Ok, Option, Some, None, Bool, true, false, not, if◌then◌else◌}
+use Rattle.std.proofs.Common.{◌≡◌, inl, inr, ℕ, zero, ◌+◌, ◌-◌, ◌≤◌, List, [], refl, sym, ap, subst, arith, Ok, Option, Some, None, Bool, true, false, not, if◌then◌else◌}
 use Rattle.std.proofs.lemmas.Bool.{cases_lt}
 use Rattle.std.proofs.lemmas.List.{append-nil}
-use Rattle.ground_io.specs.Disk.{Disk, Each, MayLeave, octets_at}
+use Rattle.ground_io.specs.Disk.{Each, octets_at}
 use Rattle.ground_io.specs.Trace.{Told, disk_of}
 use Rattle.ground_io.proofs.Crashes.{only_read}
-use Rattle.alarm_journal.specs.Journal.{Site, Content, with_batch, OpensTo, batches_from}
-use Rattle.alarm_journal.specs.Press.{StandsFor, IsSettled, Settled, Lasts, IsSound, start_of, end_of, other_of, behind_batch, behind_snapshot}
+use Rattle.alarm_journal.specs.Journal.{Site, Content, OpensTo, batches_from}
+use Rattle.alarm_journal.specs.Press.{StandsFor, Settled, Lasts, IsSound, end_of, behind_batch, behind_snapshot}
 use Rattle.alarm_journal.specs.declared.layout.Layout.{Layout}
 use Rattle.alarm_journal.proofs.Standings.{reads_on, reads_closed}
 
@@ -17,7 +17,7 @@ opens_now site layout c content size sound stands = elim (cases_lt layout.next (
   | inr full ↦
       let none : end_of layout - layout.next ≡ zero = omega (arith, full) in
       let empty : batches_from layout.next zero (octets_at layout.next (end_of layout - layout.next) c) ≡ Ok [] = ap (λ (n : ℕ). batches_from layout.next zero (octets_at layout.next n c)) none in
-      subst (OpensTo site c) (λ i. record { snapshot = content.snapshot; batches = append-nil content.batches i }) (reads_on site layout c content size sound stands c [] refl refl empty)
+      subst (OpensTo site c) (λ i. record { snapshot = content.snapshot; bodies = append-nil content.bodies i }) (reads_on site layout c content size sound stands c [] refl refl empty)
 ]
 
 -- and so does each image

@@ -1,12 +1,12 @@
 -- What a crash may leave at each moment of a snapshot's commit.
-use Rattle.std.proofs.Common.{◌≡◌, ◌≢◌, ◌⊎◌, ⊎_elim, add_assoc, inl, inr, ℕ, zero, suc, ◌+◌, ◌-◌, ◌*◌, ◌/◌, ◌%◌, ◌<◌, ◌≤◌, ◌^◌, ◌==◌, Bool, true, false, not, if◌then◌else◌, List, [], ◌∷◌, ◌++◌, length, take, drop, get_or, refl, sym, ◌∙◌, ap, subst, arith, append_assoc, length-append, Ok, Option, Some, None}
-use Rattle.std.proofs.lemmas.List.{append-nil, take_at, take_all, drop_at, drop-drop, get_or-drop, get_or-take, get_or_at}
+use Rattle.std.proofs.Common.{◌≡◌, ◌⊎◌, ⊎_elim, add_assoc, inl, inr, ℕ, zero, ◌+◌, ◌-◌, ◌/◌, ◌%◌, ◌<◌, ◌≤◌, ◌^◌, Bool, true, false, not, if◌then◌else◌, List, [], ◌∷◌, ◌++◌, length, take, drop, get_or, refl, sym, ◌∙◌, ap, subst, arith, append_assoc, length-append, Ok, Option, Some, None}
+use Rattle.std.proofs.lemmas.List.{append-nil, take_at, take_all, drop-drop, get_or-drop, get_or-take, get_or_at}
 use Rattle.std.proofs.Math.Seq.{take-append-add}
 use Rattle.std.proofs.lemmas.Bool.{cases_eq, cases_lt}
 use Rattle.byteorder.specs.Endian.{big_number, big_bytes}
-use Rattle.ground_io.specs.Disk.{Disk, Each, MayLeave, octets_at, with_octets}
+use Rattle.ground_io.specs.Disk.{Disk, Each, octets_at, with_octets}
 use Rattle.ground_io.specs.Trace.{Told, HasSize, disk_of}
-use Rattle.ground_io.proofs.Crashes.{SameBut, only_read, one_loose}
+use Rattle.ground_io.proofs.Crashes.{only_read, one_loose}
 use Rattle.ground_io.proofs.Disks.{length-with_octets}
 use Rattle.alarm_journal.specs.Journal.{Site, Content, OpensTo, content_of, batches_from, with_more, framed, only_snapshot, half_of}
 use Rattle.alarm_journal.specs.Press.{IsOurs, StandsFor, IsSound, Settled, start_of, end_of, other_of, selector_of, behind_snapshot}
@@ -41,7 +41,7 @@ area_now site layout c content size sound stands =
           batches_closed layout.next (octets_at layout.next behind c) (λ is. stands.closed inside (sym gate ∙ is))
       | inr full ↦ let empty : end_of layout - layout.next ≡ zero = omega (arith, full) in ap (λ (n : ℕ). batches_from layout.next zero (octets_at layout.next n c)) empty
     ] in
-    area_on site layout c content size sound stands c refl ∙ ap (with_more content) none ∙ (λ i. Ok (record { snapshot = content.snapshot; batches = append-nil content.batches i }))
+    area_on site layout c content size sound stands c refl ∙ ap (with_more content) none ∙ (λ i. Ok (record { snapshot = content.snapshot; bodies = append-nil content.bodies i }))
   where
     add_none : (n : ℕ) → n + 0 ≡ n
     add_none n = omega arith

@@ -1,14 +1,13 @@
 -- Images that keep what stands in front of a place.
-use Rattle.std.proofs.Common.{◌≡◌, ◌≢◌, ◌⊎◌, inl, inr, ℕ, zero, suc, ◌+◌, ◌-◌, ◌%◌, ◌<◌, ◌≤◌, ◌^◌, ◌==◌, ◌*◌, ◌/◌, if◌then◌else◌, add-zero, Bool, true, false, List, [], ◌∷◌, ◌++◌, length, take, drop, get_or, refl, sym, ◌∙◌, ap, subst, arith, append_assoc, length-append, Result, Ok, Err}
-use Rattle.std.proofs.lemmas.List.{append-nil, take-take, drop-drop, get_or-take, get_or-drop, get_or_at, take_at}
+use Rattle.std.proofs.Common.{◌≡◌, ◌≢◌, ℕ, zero, suc, ◌+◌, ◌-◌, ◌%◌, ◌<◌, ◌≤◌, ◌^◌, ◌==◌, ◌/◌, if◌then◌else◌, add-zero, Bool, true, false, List, [], ◌∷◌, ◌++◌, length, take, drop, get_or, refl, sym, ◌∙◌, ap, subst, arith, append_assoc, length-append, Ok}
+use Rattle.std.proofs.lemmas.List.{append-nil, drop-drop, get_or-take, get_or-drop, get_or_at, take_at}
 use Rattle.std.proofs.Math.Seq.{take-add, take-append-add}
-use Rattle.std.proofs.lemmas.Bool.{cases_eq}
 use Rattle.byteorder.specs.Endian.{big_number, big_bytes}
-use Rattle.ground_io.specs.Disk.{octets_at, with_octets}
-use Rattle.alarm_journal.specs.Journal.{Site, Content, with_batch, OpensTo, opened_from, or_damaged, formatted_size, half_of, selected_place, content_of, batches_from, with_more, in_front, framed}
+use Rattle.ground_io.specs.Disk.{octets_at}
+use Rattle.alarm_journal.specs.Journal.{Site, Content, with_batch, with_bodies, OpensTo, opened_from, or_damaged, formatted_size, half_of, selected_place, content_of, batches_from, with_more, in_front, framed}
 use Rattle.alarm_journal.specs.Press.{IsOurs, StandsFor, IsSound, start_of, end_of}
 use Rattle.alarm_journal.specs.declared.layout.Layout.{Layout}
-use Rattle.alarm_journal.proofs.Batches.{batch_open, batch_framed, batches_closed, length-framed, length-four, more_twice}
+use Rattle.alarm_journal.proofs.Batches.{batch_open, batch_framed, batches_closed, length-framed, more_twice}
 use Rattle.alarm_journal.proofs.Fronts.{slice_front, octet_front, take_front}
 use Rattle.alarm_journal.proofs.Headers.{opens_selected}
 
@@ -85,12 +84,12 @@ module _ (site : Site) (layout : Layout) (c : List ℕ) (content : Content) (siz
       ∙ (λ i. slice_front layout.next s before x c (omega (arith, up_to)) same i ++ take behind ((drop-drop before s x ∙ ap (λ (n : ℕ). drop n x) up_to) i)) in
       ap (content_of s) parts ∙ stands.reads (octets_at layout.next behind x)
 
-  pub reads_on : (x : List ℕ) (more : List ℕ) → length x ≡ length c → take layout.next x ≡ take layout.next c → batches_from layout.next zero (octets_at layout.next (end_of layout - layout.next) x) ≡ Ok more → OpensTo site x (with_batch content more)
+  pub reads_on : (x : List ℕ) (more : List (List ℕ)) → length x ≡ length c → take layout.next x ≡ take layout.next c → batches_from layout.next zero (octets_at layout.next (end_of layout - layout.next) x) ≡ Ok more → OpensTo site x (with_bodies content more)
   reads_on x more long same is =
-      opens_area site layout x (with_batch content more) (heads_front site layout x c long (take_front layout.next layout.areas x c low same) heads) (area_on x same ∙ ap (with_more content) is)
+      opens_area site layout x (with_bodies content more) (heads_front site layout x c long (take_front layout.next layout.areas x c low same) heads) (area_on x same ∙ ap (with_more content) is)
 
-  no_more : (x : List ℕ) → OpensTo site x (with_batch content []) → OpensTo site x content
-  no_more x opens = subst (OpensTo site x) (λ i. record { snapshot = content.snapshot; batches = append-nil content.batches i }) opens
+  no_more : (x : List ℕ) → OpensTo site x (with_bodies content []) → OpensTo site x content
+  no_more x opens = subst (OpensTo site x) (λ i. record { snapshot = content.snapshot; bodies = append-nil content.bodies i }) opens
 
   -- with the gate closed, as what stands
   pub reads_closed : (x : List ℕ) → length x ≡ length c → take (layout.next + 1) x ≡ take (layout.next + 1) c → layout.next < end_of layout → OpensTo site x content
@@ -116,9 +115,9 @@ module _ (site : Site) (layout : Layout) (c : List ℕ) (content : Content) (siz
             let none : batches_from layout.next zero (octets_at layout.next behind x) ≡ Ok [] = ap (batches_from layout.next zero) part ∙ batches_closed layout.next (g ∷ (framed body ++ take k more)) shut in
             no_more x (reads_on x [] long front none),
         λ is_open.
-            let here : batches_from layout.next zero (octets_at layout.next behind x) ≡ Ok body =
+            let here : batches_from layout.next zero (octets_at layout.next behind x) ≡ Ok (body ∷ []) =
             ap (batches_from layout.next zero) part ∙ ap (λ (n : ℕ). batches_from layout.next zero (n ∷ (framed body ++ take k more))) is_open ∙ batch_framed layout.next body (take k more) few in
-            reads_on x body long front here,
+            reads_on x (body ∷ []) long front here,
       )
 
   -- with the gate open, the device stands for what stood, and the batch

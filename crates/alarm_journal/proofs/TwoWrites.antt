@@ -1,13 +1,11 @@
 -- Two writes, each brought onto the disk before the next: what a crash may leave on the way.
-use Rattle.std.proofs.Common.{◌≡◌, ◌⊎◌, inl, inr, ℕ, List, [], ◌∷◌, ◌++◌, length, refl, sym, ◌∙◌, ap, subst, Option, Some, None}
-use Rattle.std.proofs.lemmas.List.{append-nil}
-use Rattle.ground_io.specs.Disk.{Disk, Each, Always, after_entry, disk_after, disk_with, with_octets}
+use Rattle.std.proofs.Common.{◌≡◌, inl, inr, ℕ, List, [], ◌∷◌, length, refl, sym, subst, Option, Some, None}
+use Rattle.ground_io.specs.Disk.{Disk, Each, Always, with_octets}
 use Rattle.ground_io.specs.Trace.{Told, Adds, disk_of}
 use Rattle.ground_io.specs.declared.entry.Entry.{Entry}
-use Rattle.ground_io.specs.declared.entry.Entry.TheVariants.{Wrote, Broke, Synced}
 use Rattle.ground_io.proofs.Crashes.{disk_adds}
 use Rattle.ground_io.specs.Sent.{AreQuiet}
-use Rattle.alarm_journal.specs.Protocol.{Quietly, Leads, AddsSome, two_writes, IsCutShort, IsTwoCutShort}
+use Rattle.alarm_journal.specs.Protocol.{Leads, AddsSome, two_writes, IsCutShort, IsTwoCutShort}
 
 -- each image at each moment of two writes over these contents has P
 pub record TwoWrites (P : List ℕ → Type 0) (c : List ℕ) (p1 : ℕ) (o1 : List ℕ) (p2 : ℕ) (o2 : List ℕ) : Type 0 where

@@ -3,7 +3,7 @@ use Rattle.std.specs.Prelude.{◌≡◌, ℕ, ◌+◌, List, [], ◌∷◌, Opti
 use Rattle.bac_values.specs.declared.note.Send.{Send}
 use Rattle.ground_io.specs.Trace.{Told, Adds}
 use Rattle.ground_io.specs.declared.entry.Entry.{Entry}
-use Rattle.ground_io.specs.declared.entry.Entry.TheVariants.{Wrote, Broke, Synced, Emitted, Lost}
+use Rattle.ground_io.specs.declared.entry.Entry.TheVariants.{Emitted, Lost}
 
 -- One entry for each datagram, in order: so many of them were sent, and so many lost, which may have gone out in part.
 abbrev pub AreEmissions : List Send → ℕ → ℕ → List Entry → Type 0

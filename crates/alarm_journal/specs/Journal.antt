@@ -10,7 +10,7 @@
 --
 -- An area is the length of its snapshot in four octets, where 0 is no snapshot, the snapshot, and its batches. A batch
 -- is a gate, the length of its body in four octets, and the body. Only a gate of 1 opens a batch; any other ends them.
-use Rattle.std.specs.Prelude.{◌≡◌, ◌==◌, ℕ, ◌+◌, ◌-◌, ◌/◌, ◌%◌, zero, suc, List, [], ◌∷◌, ◌++◌, length, take, drop, slice_index, nat_lt, Option, Some, None, Result, Ok, Err, if◌then◌else◌}
+use Rattle.std.specs.Prelude.{◌≡◌, ◌==◌, ℕ, ◌+◌, ◌-◌, ◌/◌, ◌%◌, zero, suc, List, [], ◌∷◌, ◌++◌, length, take, drop, slice_index, nat_lt, flat_map, Option, Some, None, Result, Ok, Err, if◌then◌else◌}
 use Rattle.byteorder.specs.Endian.{big_number, big_bytes}
 use Rattle.ground_io.specs.Disk.{octets_at}
 use Rattle.alarm_journal.specs.declared.open_fault.OpenFault.{OpenFault}
@@ -21,22 +21,30 @@ pub record Site : Type 0 where
   pub text : List ℕ
   pub need : ℕ
 
--- what a journal holds: the snapshot's octets, and the bodies of the open batches, one after the other
+-- what a journal holds: the snapshot's octets, and the body of each open batch, in order
 pub record Content : Type 0 where
   pub snapshot : List ℕ
-  pub batches : List ℕ
+  pub bodies : List (List ℕ)
+
+-- the bodies one after the other
+abbrev pub batches_of : Content → List ℕ
+batches_of content = flat_map (λ body. body) content.bodies
 
 -- no snapshot and no batch
 abbrev pub nothing : Content
-nothing = record { snapshot = []; batches = [] }
+nothing = record { snapshot = []; bodies = [] }
+
+-- more batches behind those that it holds
+abbrev pub with_bodies : Content → List (List ℕ) → Content
+with_bodies content more = record { snapshot = content.snapshot; bodies = content.bodies ++ more }
 
 -- one batch more
 abbrev pub with_batch : Content → List ℕ → Content
-with_batch content body = record { snapshot = content.snapshot; batches = content.batches ++ body }
+with_batch content body = with_bodies content (body ∷ [])
 
 -- a snapshot in the place of all
 abbrev pub only_snapshot : List ℕ → Content
-only_snapshot state = record { snapshot = state; batches = [] }
+only_snapshot state = record { snapshot = state; bodies = [] }
 
 -- BACALRM1
 abbrev pub mark : List ℕ
@@ -54,24 +62,24 @@ half_of text image = (formatted_size image - 22 - length text) / 2
 abbrev pub selected_place : List ℕ → List ℕ → ℕ
 selected_place text image = if slice_index image (21 + length text) % 2 == 0 then 22 + length text else 22 + length text + half_of text image
 
--- The octets in front of what is read, where it is read.
-abbrev pub in_front : List ℕ → Result (List ℕ) ℕ → Result (List ℕ) ℕ
-in_front octets (Ok read) = Ok (octets ++ read)
-in_front octets (Err place) = Err place
+-- a body in front of those that are read behind it, where they are read
+abbrev pub in_front : List ℕ → Result (List (List ℕ)) ℕ → Result (List (List ℕ)) ℕ
+in_front body (Ok bodies) = Ok (body ∷ bodies)
+in_front body (Err place) = Err place
 
--- the bodies of the open batches from a place on, one after the other, where so many octets of a body are still to
--- come; or the place of the first length that leaves the area
-abbrev pub batches_from : ℕ → ℕ → List ℕ → Result (List ℕ) ℕ
+-- The bodies of the open batches from a place on, where so many octets of a body come first that was read already; or
+-- the place of the first length that leaves the area.
+abbrev pub batches_from : ℕ → ℕ → List ℕ → Result (List (List ℕ)) ℕ
 batches_from place zero [] = Ok []
 batches_from place zero (gate ∷ a ∷ b ∷ c ∷ d ∷ rest) =
-    if gate == 1 then (if nat_lt (length rest) (big_number 4 (a ∷ b ∷ c ∷ d ∷ [])) then Err (place + 1) else batches_from (place + 5) (big_number 4 (a ∷ b ∷ c ∷ d ∷ [])) rest) else Ok []
+    if gate == 1 then (if nat_lt (length rest) (big_number 4 (a ∷ b ∷ c ∷ d ∷ [])) then Err (place + 1) else in_front (take (big_number 4 (a ∷ b ∷ c ∷ d ∷ [])) rest) (batches_from (place + 5) (big_number 4 (a ∷ b ∷ c ∷ d ∷ [])) rest)) else Ok []
 batches_from place zero (gate ∷ rest) = if gate == 1 then Err (place + 1) else Ok []
 batches_from place (suc left) [] = Ok []
-batches_from place (suc left) (octet ∷ rest) = in_front (octet ∷ []) (batches_from (place + 1) left rest)
+batches_from place (suc left) (octet ∷ rest) = batches_from (place + 1) left rest
 
 -- a content with the batches that were read behind it, where they were read
-abbrev pub with_more : Content → Result (List ℕ) ℕ → Result Content ℕ
-with_more content (Ok more) = Ok (with_batch content more)
+abbrev pub with_more : Content → Result (List (List ℕ)) ℕ → Result Content ℕ
+with_more content (Ok more) = Ok (with_bodies content more)
 with_more content (Err place) = Err place
 
 -- what an area holds that begins at a place; or the place of the first length that leaves it

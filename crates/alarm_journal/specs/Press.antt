@@ -1,11 +1,11 @@
 -- A press at rest, and what its calls leave.
 use Rattle.std.specs.Prelude.{◌≡◌, ◌≢◌, ◌⊎◌, ◌≤◌, ◌<◌, ◌↔◌, ◌^◌, ℕ, ◌+◌, ◌-◌, ◌%◌, Bool, not, List, [], ◌∷◌, ◌++◌, length, slice_index, Option, Some, None, Result, Ok, Err, if◌then◌else◌, ⊤, IsTrue}
 use Rattle.byteorder.specs.Endian.{big_bytes}
-use Rattle.ground_io.specs.Disk.{Disk, Each, Always, octets_at}
+use Rattle.ground_io.specs.Disk.{Each, Always, octets_at}
 use Rattle.ground_io.specs.Trace.{Told, Adds, disk_of}
 use Rattle.ground_io.specs.declared.entry.Entry.{Entry}
-use Rattle.ground_io.specs.declared.entry.Entry.TheVariants.{Wrote, Broke, Synced}
-use Rattle.alarm_journal.specs.Journal.{Site, Content, nothing, OpensTo, opened_from, mark, formatted_size, half_of, content_of, batches_from, with_more, heading}
+use Rattle.ground_io.specs.declared.entry.Entry.TheVariants.{Synced}
+use Rattle.alarm_journal.specs.Journal.{Site, Content, OpensTo, opened_from, mark, formatted_size, half_of, content_of, batches_from, with_more, heading}
 use Rattle.ground_io.specs.Sent.{AreQuiet}
 use Rattle.alarm_journal.specs.Protocol.{Leads, two_writes, IsTwoCutShort}
 use Rattle.alarm_journal.specs.declared.layout.Layout.{Layout}

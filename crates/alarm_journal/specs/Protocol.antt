@@ -1,6 +1,6 @@
 -- How octets are written: each write is brought onto the disk before the next one begins.
 use Rattle.std.specs.Prelude.{◌≡◌, ◌⊎◌, ℕ, List, [], ◌∷◌, length, Option, Some, None, ⊤}
-use Rattle.ground_io.specs.Disk.{Disk, Always}
+use Rattle.ground_io.specs.Disk.{Always}
 use Rattle.ground_io.specs.Sent.{AreQuiet}
 use Rattle.ground_io.specs.Trace.{Told, Adds, disk_of}
 use Rattle.ground_io.specs.declared.entry.Entry.{Entry}

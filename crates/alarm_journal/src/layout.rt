@@ -16,7 +16,7 @@ pub struct Layout {
 
 impl Layout {
     /// Where the selected area begins.
-    pub fn start(&self) -> u64
+    pub(crate) fn start(&self) -> u64
         requires { self.now.areas + self.now.half < 2 ^ 64 }
         ensures start { result ≡ start_of self.now }
         ensures low { result ≤ self.now.areas + self.now.half }
@@ -29,7 +29,7 @@ impl Layout {
     }
 
     /// Where the other area begins.
-    pub fn other_start(&self) -> u64
+    pub(crate) fn other_start(&self) -> u64
         requires { self.now.areas + self.now.half < 2 ^ 64 }
         ensures start { result ≡ other_of self.now }
     {
@@ -41,14 +41,14 @@ impl Layout {
     }
 
     /// The selector of the other area.
-    pub fn other_selector(&self) -> u8
+    pub(crate) fn other_selector(&self) -> u8
         ensures selector { result ≡ selector_of self.now }
     {
         if self.second { 0 } else { 1 }
     }
 
     /// The longest body of a batch that the area still takes.
-    pub fn room(&self) -> u64
+    pub(crate) fn room(&self) -> u64
         requires fits { self.now.areas + self.now.half + self.now.half < 2 ^ 64 }
         requires within { self.now.next ≤ end_of self.now }
         ensures room { result ≡ room_of self.now }
@@ -57,7 +57,7 @@ impl Layout {
     }
 
     /// The layout with the next gate at a place.
-    pub fn with_next(&self, next: u64) -> Layout
+    pub(crate) fn with_next(&self, next: u64) -> Layout
         ensures next { result ≡ record { areas = self.now.areas; half = self.now.half; second = self.now.second; next = next } }
     {
         Layout {
@@ -69,7 +69,7 @@ impl Layout {
     }
 
     /// The layout behind a batch whose body has so many octets.
-    pub fn behind_batch(&self, size: u64) -> Layout
+    pub(crate) fn behind_batch(&self, size: u64) -> Layout
         requires { self.now.next + 5 + size < 2 ^ 64 }
         ensures behind { result ≡ behind_batch self.now size }
     {
@@ -82,7 +82,7 @@ impl Layout {
     }
 
     /// The layout with the other area selected, that holds a snapshot of so many octets alone.
-    pub fn behind_snapshot(&self, size: u64) -> Layout
+    pub(crate) fn behind_snapshot(&self, size: u64) -> Layout
         requires { self.now.areas + self.now.half + size + 4 < 2 ^ 64 }
         ensures behind { result ≡ behind_snapshot self.now size }
     {

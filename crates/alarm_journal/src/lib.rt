@@ -6,16 +6,20 @@
 #![tactic(auto)]
 
 mod area;
+mod body;
 mod header;
 mod job;
 mod layout;
 mod open;
 mod open_fault;
+mod opened;
 mod press;
 mod protocol;
+mod reading;
 
+pub use body::Body;
 pub use job::Job;
 pub use layout::Layout;
-pub use open::Opened;
 pub use open_fault::OpenFault;
+pub use opened::Opened;
 pub use press::{Emits, Press};

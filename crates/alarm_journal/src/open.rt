@@ -1,28 +1,21 @@
-ghost use Rattle.std.specs.Prelude.{◌≡◌, ◌⊎◌, ◌+◌, ◌-◌, ◌/◌, ◌%◌, ◌≤◌, ◌<◌, if◌then◌else◌, slice_index, [], ◌∷◌, ℕ, length, IfOk, IfErr, OnOk, OnErr, MatchResult, IsTrue, ◌↔◌, Ok, Err};
+ghost use Rattle.std.specs.Prelude.{◌≡◌, ◌⊎◌, ◌+◌, ◌-◌, ◌/◌, ◌%◌, ◌≤◌, ◌<◌, if◌then◌else◌, slice_index, [], ◌∷◌, ℕ, length, IfOk, IfErr, OnOk, OnErr, MatchResult, IsTrue, ◌↔◌, Ok, Err, false};
 ghost use Rattle.ground_io.specs.Counts.{HasCause};
-ghost use Rattle.ground_io.specs.Trace.{Adds, Reads};
+ghost use Rattle.ground_io.specs.Trace.{Adds};
+ghost use Rattle.alarm_journal.specs.Areas.{IsLaid};
 ghost use Rattle.alarm_journal.specs.Journal.{OpensTo, heading, nothing};
-ghost use Rattle.alarm_journal.specs.Press.{Answers, Begun, Blank, IsBelow, IsOpening, IsSmall, IsSound, Reopens, Settled, WasBlank};
+ghost use Rattle.alarm_journal.specs.Opened.{Shows, StandsAt, content_in};
+ghost use Rattle.alarm_journal.specs.Press.{Answers, Begun, Blank, IsBelow, IsOpening, IsSmall, IsSound, Reopens, Settled, WasBlank, start_of};
 ghost use Rattle.alarm_journal.specs.Protocol.{AddsSome, IsTwoCutShort, Leads, two_writes};
 ghost use Rattle.alarm_journal.specs.declared.open_fault.OpenFault.TheVariants.{DiskFault, NoMemory};
 
-use crate::area::{Area, read_area};
+use crate::area::read_area;
 use crate::header::{check_header, heading_of};
 use crate::protocol::write_both;
-use crate::{Layout, OpenFault};
+use crate::reading::{read_gate, read_piece};
+use crate::{Layout, OpenFault, Opened};
+use bac_values::Items;
 use ground_io::Ground;
 use std::alloc::Global;
-
-/// What a journal holds: a snapshot, and the bodies of the batches behind it.
-#[derive(Debug, Drop)]
-pub struct Opened {
-    /// Whether the device was blank, and was formatted.
-    pub fresh: bool,
-    /// The snapshot's octets; none where there is no snapshot.
-    pub snapshot: Vec<u8>,
-    /// The bodies of the batches, one after the other.
-    pub batches: Vec<u8>,
-}
 
 // Formats a device whose gate isn't open.
 fn format<G: Ground>(
@@ -42,6 +35,7 @@ fn format<G: Ground>(
     ensures faults { IfErr result (λ fault. (fault ≡ DiskFault) ⊎ (fault ≡ NoMemory)) }
     ensures sound { IfOk result (λ layout. IsSound (G.size device.new) layout) }
     ensures area { IfOk result (λ layout. (need - 22 - length text.now) / 2 ≤ layout.half) }
+    ensures next { IfOk result (λ layout. layout.next ≡ start_of layout + 4) }
     ensures wrote { OnOk result (Adds (G.told device.old) (G.told device.new) (two_writes 1 (heading text.now size) 0 (1 ∷ []))) }
     ensures cut_short { OnErr result (AddsSome (λ entries. (entries ≡ []) ⊎ IsTwoCutShort 1 (heading text.now size) 0 (1 ∷ []) entries) (G.told device.old) (G.told device.new)) }
     ensures formatted { Blank (G.told device.old) → IfOk result (λ layout. Settled (record { text = text.now; need = need }) layout (G.told device.new) nothing) }
@@ -56,35 +50,6 @@ fn format<G: Ground>(
         second: false,
         next: areas + 4,
     })
-}
-
-// So many octets from a place on.
-fn read_piece<G: Ground>(
-    alloc: Global,
-    device: &mut G,
-    place: u64,
-    count: usize,
-) -> Result<Vec<u8>, OpenFault>
-    requires { place + count ≤ G.size device.old }
-    ensures same { G.size device.new ≡ G.size device.old }
-    ensures cause { HasCause (G.disk_faults device.old) (G.disk_faults device.new) (result ≡ Err DiskFault) }
-    ensures emitted { G.emit_faults device.new ≡ G.emit_faults device.old }
-    ensures faults { IfErr result (λ fault. (fault ≡ DiskFault) ⊎ (fault ≡ NoMemory)) }
-    ensures told { Adds (G.told device.old) (G.told device.new) [] }
-    ensures octets { IfOk result (λ octets. Reads (G.told device.old) place octets.items) }
-    ensures length { IfOk result (λ octets. length octets.items ≡ count) }
-{
-    let mut octets = vec![in alloc; 0u8; count]?;
-    device.read_at(place, &mut octets)?;
-    Ok(octets)
-}
-
-// Whether the gate is open.
-fn is_open(gate: &[u8]) -> bool
-    requires { length gate.now ≡ 1 }
-    ensures open { IsTrue result ↔ (slice_index gate.now 0 ≡ 1) }
-{
-    gate[0] == 1
 }
 
 // Where the areas of an open journal lie, and which is selected; the next gate isn't known yet.
@@ -113,7 +78,7 @@ fn read_journal<G: Ground>(
     text: &[u8],
     need: u64,
     size: u64,
-) -> Result<(Layout, Area), OpenFault>
+) -> Result<(Layout, Opened), OpenFault>
     requires few { length text.now ≤ 1048576 }
     requires size { size ≡ G.size device.old }
     requires needed { length text.now + 32 ≤ need }
@@ -125,17 +90,19 @@ fn read_journal<G: Ground>(
     ensures told { Adds (G.told device.old) (G.told device.new) [] }
     ensures sound { IfOk result (λ read. IsSound (G.size device.new) read.0) }
     ensures area { IfOk result (λ read. (need - 22 - length text.now) / 2 ≤ read.0.half) }
-    ensures settled { Begun (G.told device.old) → IfOk result (λ read. Settled (record { text = text.now; need = need }) read.0 (G.told device.new) (record { snapshot = read.1.snapshot.items; batches = read.1.batches.items })) }
+    ensures settled { Begun (G.told device.old) → IfOk result (λ read. Settled (record { text = text.now; need = need }) read.0 (G.told device.new) (content_in read.1)) }
+    ensures fresh { IfOk result (λ read. read.1.fresh ≡ false) }
+    ensures laid { IfOk result (λ read. IsLaid (start_of read.0) read.0.next read.1) }
+    ensures stand { IfOk result (λ read. Shows (G.told device.new) (StandsAt read.1)) }
     ensures answer { Begun (G.told device.old) → IfErr result (λ fault. Answers (record { text = text.now; need = need }) (G.told device.old) (G.told device.new) (Err fault)) }
 {
     let header = read_piece(alloc, device, 0, text.len() + 22)?;
     let formatted = check_header(text, need, size, &header)?;
     let layout = layout_of(text, formatted, &header);
     let start = layout.start();
-    let octets = read_piece(alloc, device, start, layout.half as usize)?;
-    let area = read_area(alloc, start, &octets)?;
-    let layout = layout.with_next(start + area.next as u64);
-    Ok((layout, area))
+    let (opened, next) = read_area(alloc, device, start, layout.half)?;
+    let layout = layout.with_next(start + next);
+    Ok((layout, opened))
 }
 
 // Syncs, and formats a blank device or reads one with an open gate.
@@ -155,11 +122,14 @@ pub(crate) fn open_device<G: Ground>(
     ensures below { G.size device.old < need → IfErr result (IsBelow (G.size device.old) need) }
     ensures sound { IfOk result (λ read. IsSound (G.size device.new) read.0) }
     ensures area { IfOk result (λ read. (need - 22 - length text.now) / 2 ≤ read.0.half) }
-    ensures settled { IfOk result (λ read. Settled (record { text = text.now; need = need }) read.0 (G.told device.new) (record { snapshot = read.1.snapshot.items; batches = read.1.batches.items })) }
+    ensures settled { IfOk result (λ read. Settled (record { text = text.now; need = need }) read.0 (G.told device.new) (content_in read.1)) }
     ensures answer { MatchResult result
-        (λ read. Answers (record { text = text.now; need = need }) (G.told device.old) (G.told device.new) (Ok (record { snapshot = read.1.snapshot.items; batches = read.1.batches.items })))
+        (λ read. Answers (record { text = text.now; need = need }) (G.told device.old) (G.told device.new) (Ok (content_in read.1)))
         (λ fault. Answers (record { text = text.now; need = need }) (G.told device.old) (G.told device.new) (Err fault)) }
     ensures fresh { IfOk result (λ read. WasBlank (G.told device.old) (G.told device.new) read.1.fresh) }
+    ensures laid { IfOk result (λ read. IsLaid (start_of read.0) read.0.next read.1) }
+    ensures stand { IfOk result (λ read. Shows (G.told device.new) (StandsAt read.1)) }
+    ensures empty { IfOk result (λ read. IsTrue read.1.fresh → content_in read.1 ≡ nothing) }
     ensures any_moment { Reopens (record { text = text.now; need = need }) (G.told device.old) (G.told device.new) }
     ensures writes { AddsSome (IsOpening text.now (G.size device.old)) (G.told device.old) (G.told device.new) }
 {
@@ -168,25 +138,18 @@ pub(crate) fn open_device<G: Ground>(
     if size < need {
         return Err(OpenFault::SmallDevice { size, need });
     }
-    let gate = read_piece(alloc, device, 0, 1)?;
-    if is_open(&gate) {
-        let (layout, area) = read_journal(alloc, device, text, need, size)?;
-        return Ok((
-            layout,
-            Opened {
-                fresh: false,
-                snapshot: area.snapshot,
-                batches: area.batches,
-            },
-        ));
+    let begun = read_gate(device, 0)?;
+    if begun {
+        let (layout, opened) = read_journal(alloc, device, text, need, size)?;
+        return Ok((layout, opened));
     }
     let layout = format(alloc, device, text, need, size)?;
-    Ok((
-        layout,
-        Opened {
-            fresh: true,
-            snapshot: Vec::new(alloc),
-            batches: Vec::new(alloc),
-        },
-    ))
+    let opened = Opened {
+        fresh: true,
+        snapshot: Items::of(Vec::new(alloc)),
+        snapshot_place: layout.next,
+        batches: Items::of(Vec::new(alloc)),
+        bodies: Items::of(Vec::new(alloc)),
+    };
+    Ok((layout, opened))
 }

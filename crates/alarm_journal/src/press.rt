@@ -1,9 +1,10 @@
-ghost use Rattle.std.specs.Prelude.{◌≡◌, ◌<◌, ◌≤◌, ◌+◌, ◌-◌, ◌/◌, List, [], ◌∷◌, ℕ, length, IfOk, IfErr, MatchResult, Ok, Err, ⊤};
+ghost use Rattle.std.specs.Prelude.{◌≡◌, ◌<◌, ◌≤◌, ◌+◌, ◌-◌, ◌/◌, List, [], ◌∷◌, ℕ, length, IfOk, IfErr, IsTrue, MatchResult, Ok, Err, map, ⊤};
 ghost use Rattle.ground_io.specs.Counts.{HasCause};
 ghost use Rattle.ground_io.specs.Trace.{Adds};
 ghost use Rattle.alarm_journal.specs.Emissions.{EmitsAll};
-ghost use Rattle.alarm_journal.specs.Journal.{Content, Site, framed, only_snapshot, with_batch};
-ghost use Rattle.alarm_journal.specs.Press.{Answers, Between, IsBelow, IsOpening, IsSmall, Lasts, Reopens, Settled, Throughout, WasBlank, behind_batch, behind_snapshot, other_of, room_of, selector_of};
+ghost use Rattle.alarm_journal.specs.Journal.{Content, Site, batches_of, framed, nothing, only_snapshot, with_batch};
+ghost use Rattle.alarm_journal.specs.Opened.{LieBetween, Shows, StandsAt, content_in};
+ghost use Rattle.alarm_journal.specs.Press.{Answers, Between, IsBelow, IsOpening, IsSmall, Lasts, Reopens, Settled, Throughout, WasBlank, behind_batch, behind_snapshot, other_of, room_of, selector_of, start_of};
 ghost use Rattle.alarm_journal.specs.Protocol.{AddsSome, IsTwoCutShort, two_writes};
 ghost use Rattle.alarm_journal.specs.declared.open_fault.OpenFault.TheVariants.{DiskFault};
 
@@ -74,17 +75,30 @@ impl<G: Ground> Press<G> {
         requires needed { length site_text.now + 32 ≤ need }
 
         // The press stands for what was opened, and each image that a crash may leave opens to that.
-        ensures settled { IfOk result (λ read. Settled (record { text = site_text.now; need = need }) read.0.layout (G.told read.0.device) (record { snapshot = read.1.snapshot.items; batches = read.1.batches.items })) }
-        ensures lasts { IfOk result (λ read. Lasts (record { text = site_text.now; need = need }) (G.told read.0.device) (record { snapshot = read.1.snapshot.items; batches = read.1.batches.items })) }
+        ensures settled { IfOk result (λ read. Settled (record { text = site_text.now; need = need }) read.0.layout (G.told read.0.device) (content_in read.1)) }
+        ensures lasts { IfOk result (λ read. Lasts (record { text = site_text.now; need = need }) (G.told read.0.device) (content_in read.1)) }
 
         // The areas are at least as large as the needed size makes them.
         ensures area { IfOk result (λ read. (need - 22 - length site_text.now) / 2 ≤ read.0.layout.half) }
 
         // What the octets opened to, or why they didn't.
         ensures answer { MatchResult result
-            (λ read. Answers (record { text = site_text.now; need = need }) (G.told device) (G.told read.0.device) (Ok (record { snapshot = read.1.snapshot.items; batches = read.1.batches.items })))
+            (λ read. Answers (record { text = site_text.now; need = need }) (G.told device) (G.told read.0.device) (Ok (content_in read.1)))
             (λ refused. Answers (record { text = site_text.now; need = need }) (G.told device) (G.told refused.0) (Err refused.1)) }
         ensures fresh { IfOk result (λ read. WasBlank (G.told device) (G.told read.0.device) read.1.fresh) }
+        // A device that was blank holds nothing.
+        ensures empty { IfOk result (λ read. IsTrue read.1.fresh → content_in read.1 ≡ nothing) }
+
+        // The bodies make up the batches, and each is as long as it says.
+        ensures batches { IfOk result (λ read. batches_of (content_in read.1) ≡ read.1.batches) }
+        ensures lengths { IfOk result (λ read. map length (content_in read.1).bodies ≡ map (λ body. body.length) read.1.bodies) }
+
+        // The snapshot lies behind its length, and each body behind a gate and a length: from the snapshot up to the
+        // next gate there is nothing else. There they stand on the device.
+        ensures snapshot { IfOk result (λ read. read.1.snapshot_place ≡ start_of read.0.layout + 4) }
+        ensures places { IfOk result (λ read. LieBetween (start_of read.0.layout + 4 + length read.1.snapshot) read.1.bodies read.0.layout.next) }
+        ensures stand { IfOk result (λ read. Shows (G.told read.0.device) (StandsAt read.1)) }
+
         // A device that is smaller than it must be is refused for that, unless it fails before it tells its size.
         ensures small { IfErr result (λ refused. IsSmall (G.size device) refused.1) }
         ensures enough { IfOk result (λ read. need ≤ G.size read.0.device) }

@@ -76,19 +76,23 @@ refused_above : (grammar : Grammar) (texts : List (List ℕ)) (number line : ℕ
 refused_above grammar [] number line e = let none = refused-none grammar number in absurd cc
 refused_above grammar (text ∷ behind) number line e = above_with grammar (line_says grammar (number + 1) text) number text behind line (sym (refused-first grammar number text behind) ∙ e) (λ h. refused_above grammar behind (number + 1) line h)
 
--- the lines that were taken are those that the taken texts spell
-lines_by : (grammar : Grammar) (found : Option ℕ) (front behind : List (List ℕ)) (lines : List Line) (number : ℕ) → refused_in grammar 0 front ≡ found → spelled_in grammar 0 (front ++ behind) ≡ lines ++ spelled_in grammar number behind → refused_in grammar 0 (front ++ behind) ≡ refused_in grammar number behind → length front ≡ number → lines ≡ spelled_in grammar 0 front
-lines_by grammar None front behind lines number is spelled refused count =
-    let place : number ≡ 0 + length front = omega arith in
-    append_cancel_right lines (spelled_in grammar 0 front) (spelled_in grammar number behind)
-    (sym spelled ∙ (front_spelled grammar front behind 0 is ∙ ap (λ n. spelled_in grammar 0 front ++ spelled_in grammar n behind) (sym place)))
-lines_by grammar (Some line) front behind lines number is spelled refused count =
+-- no text that was taken is outside the grammar
+accepted_by : (grammar : Grammar) (found : Option ℕ) (front behind : List (List ℕ)) (number : ℕ) → refused_in grammar 0 front ≡ found → refused_in grammar 0 (front ++ behind) ≡ refused_in grammar number behind → length front ≡ number → refused_in grammar 0 front ≡ None
+accepted_by grammar None front behind number is refused count = is
+accepted_by grammar (Some line) front behind number is refused count =
     let d = front_decides grammar front behind 0 line is in
     let above = refused_above grammar behind number line (sym refused ∙ d.refused) in
     absurd (omega (arith, d.within, above))
 
+pub front_accepted : (grammar : Grammar) (front behind : List (List ℕ)) (number : ℕ) → refused_in grammar 0 (front ++ behind) ≡ refused_in grammar number behind → length front ≡ number → refused_in grammar 0 front ≡ None
+front_accepted grammar front behind number refused count = accepted_by grammar (refused_in grammar 0 front) front behind number refl refused count
+
+-- the lines that were taken are those that the taken texts spell
 pub front_lines : (grammar : Grammar) (front behind : List (List ℕ)) (lines : List Line) (number : ℕ) → spelled_in grammar 0 (front ++ behind) ≡ lines ++ spelled_in grammar number behind → refused_in grammar 0 (front ++ behind) ≡ refused_in grammar number behind → length front ≡ number → lines ≡ spelled_in grammar 0 front
-front_lines grammar front behind lines number spelled refused count = lines_by grammar (refused_in grammar 0 front) front behind lines number refl spelled refused count
+front_lines grammar front behind lines number spelled refused count =
+    let place : number ≡ 0 + length front = omega arith in
+    append_cancel_right lines (spelled_in grammar 0 front) (spelled_in grammar number behind)
+    (sym spelled ∙ (front_spelled grammar front behind 0 (front_accepted grammar front behind number refused count) ∙ ap (λ n. spelled_in grammar 0 front ++ spelled_in grammar n behind) (sym place)))
 
 -- the lines of a text that begins with whole ones
 onto_first-append : (c : ℕ) (line : List ℕ) (lines others : List (List ℕ)) → onto_first c ((line ∷ lines) ++ others) ≡ onto_first c (line ∷ lines) ++ others

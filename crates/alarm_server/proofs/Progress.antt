@@ -26,7 +26,7 @@ use Rattle.alarm_server.specs.Script.{spelled_in, refused_in, refused_line}
 use Rattle.alarm_server.specs.Trial.{first_point, looks_over, transitions_of, end_by, report_over, front_transitions, SendsTransitions}
 use Rattle.alarm_server.proofs.Sending.{adds_nothing, sent_then, front_then, front_more}
 use Rattle.alarm_server.proofs.Spelled.{spelled_gives, spells_none, spells_refused, spells_same}
-use Rattle.alarm_server.proofs.Fronts.{front_lines, lines_of-whole, takes_then}
+use Rattle.alarm_server.proofs.Fronts.{front_accepted, front_lines, lines_of-whole, takes_then}
 use Rattle.alarm_server.proofs.Course.{transitions_of-none, looks_over-none, looks_over-append, looks_over-next, transitions_over_more}
 
 -- these lines and those of the octets to come are those of the script
@@ -208,6 +208,14 @@ ends settings (Some t) (Some octets) (Some rest) old new new' number number' end
     let all = report_end settings octets t number number' p.lines p.later p.points p.remains read.0 in
     subst (λ lines. Adds old new' (sent report_text lines)) (sym all) (sent_then report_text old new new' (transitions_of (first_point settings) p.later) (TrialEnd number' ∷ []) p.out last)
 
+-- at its end, every line of the script is in the grammar
+pub accepts : (settings : Settings) (text come come' : Option (List ℕ)) (old new : Option Told) (number number' : ℕ) (ended : Bool) (watched : Watched) → Progress settings text come old new number ended watched → WhereTold come come' (ReadsLine Trial number number' (Ok None)) → IfSome text (λ t. refused_line Trial t ≡ None)
+accepts settings None come come' old new number number' ended watched p read = tt
+accepts settings (Some t) None come' old new number number' ended watched p read = absurd p.remains
+accepts settings (Some t) (Some octets) None old new number number' ended watched p read = absurd read
+accepts settings (Some t) (Some octets) (Some rest) old new number number' ended watched p read =
+    p.remains.refused ∙ (spells_none Trial (lines_of octets) number number' read.0).refused
+
 -- a fault while the last line goes out
 pub ends_at_end : (settings : Settings) (text come come' : Option (List ℕ)) (old new new' : Option Told) (number number' : ℕ) (ended : Bool) (watched : Watched) (fault : Unsent) → Progress settings text come old new number ended watched → WhereTold come come' (ReadsLine Trial number number' (Ok None)) → SendsUpTo report_text fault (TrialEnd number' ∷ []) new new' → IfSome text (λ t. Ends report_text (of_unsent fault) (report_over settings (lines_of t)) old new')
 ends_at_end settings None come come' old new new' number number' ended watched fault p read last = tt
@@ -219,24 +227,27 @@ ends_at_end settings (Some t) (Some octets) (Some rest) old new new' number numb
     (subst (λ lines. SendsUpTo report_text fault lines old new') (sym all) (front_then report_text fault old new new' (transitions_of (first_point settings) p.later) (TrialEnd number' ∷ []) p.out last))
 
 -- the source failed: the lines that were taken are those of the whole lines that were read
-stops_where : (settings : Settings) (t octets rest pending : List ℕ) (old new : Option Told) (number number' : ℕ) (lines : List Line) (later : List Incident) → later ≡ looks_over (first_point settings) [] lines → Adds old new (sent report_text (transitions_of (first_point settings) later)) → Remains lines number t octets → next_in Trial number' (lines_of (pending ++ rest)) ≡ next_in Trial number (lines_of octets) → TakesLines 0 number' t (pending ++ rest) → position is_line_feed pending ≡ None → StopsReading report_text (front_transitions settings) t rest old new
+stops_where : (settings : Settings) (t octets rest pending : List ℕ) (old new : Option Told) (number number' : ℕ) (lines : List Line) (later : List Incident) → later ≡ looks_over (first_point settings) [] lines → Adds old new (sent report_text (transitions_of (first_point settings) later)) → Remains lines number t octets → next_in Trial number' (lines_of (pending ++ rest)) ≡ next_in Trial number (lines_of octets) → TakesLines 0 number' t (pending ++ rest) → position is_line_feed pending ≡ None → StopsReading report_text (front_transitions settings) Trial t rest old new
 stops_where settings t octets rest pending old new number number' lines later points out r next taken no_feed =
     let h = spells_same Trial number' number (lines_of (pending ++ rest)) (lines_of octets) next in
     let parts : lines_of t ≡ lines_of taken.taken ++ lines_of (pending ++ rest) = ap lines_of taken.front ∙ lines_of-whole taken.taken (pending ++ rest) taken.whole in
     let spelled = ap (spelled_in Trial 0) (sym parts) ∙ (r.spelled ∙ ap (λ l. lines ++ l) (sym h.spelled)) in
     let refused = ap (refused_in Trial 0) (sym parts) ∙ (r.refused ∙ sym h.refused) in
-    let same = front_lines Trial (lines_of taken.taken) (lines_of (pending ++ rest)) lines number' spelled refused (omega (arith, taken.count)) in
+    let count : length (lines_of taken.taken) ≡ number' = omega (arith, taken.count) in
+    let accepted = front_accepted Trial (lines_of taken.taken) (lines_of (pending ++ rest)) number' refused count in
+    let same = front_lines Trial (lines_of taken.taken) (lines_of (pending ++ rest)) lines number' spelled refused count in
     let moves = ap (transitions_of (first_point settings)) (points ∙ ap (looks_over (first_point settings) []) same) in
     record {
       whole = taken.taken;
       begun = pending;
       read = taken.front ∙ sym (append_assoc taken.taken pending rest);
       whole_lines = taken.whole;
+      accepted = accepted;
       no_line_feed = no_feed;
       emitted = subst (λ lines. Adds old new (sent report_text lines)) moves out;
     }
 
-pub stops_reading : (settings : Settings) (text come left : Option (List ℕ)) (pending : List ℕ) (old new : Option Told) (number number' : ℕ) (ended ended' : Bool) (watched : Watched) → Progress settings text come old new number ended watched → WhereTold come (prepend_known pending left) (ReadsLine Trial number number' (Err Read)) → (ended' ≡ false → ended ≡ false) → (ended' ≡ false → WhereTold come (prepend_known pending left) (TakesLines number number')) → (ended' ≡ false) × (position is_line_feed pending ≡ None) → WhereTold text left (λ t rest. StopsReading report_text (front_transitions settings) t rest old new)
+pub stops_reading : (settings : Settings) (text come left : Option (List ℕ)) (pending : List ℕ) (old new : Option Told) (number number' : ℕ) (ended ended' : Bool) (watched : Watched) → Progress settings text come old new number ended watched → WhereTold come (prepend_known pending left) (ReadsLine Trial number number' (Err Read)) → (ended' ≡ false → ended ≡ false) → (ended' ≡ false → WhereTold come (prepend_known pending left) (TakesLines number number')) → (ended' ≡ false) × (position is_line_feed pending ≡ None) → WhereTold text left (λ t rest. StopsReading report_text (front_transitions settings) Trial t rest old new)
 stops_reading settings None come left pending old new number number' ended ended' watched p read stays taken waits = tt
 stops_reading settings (Some t) None left pending old new number number' ended ended' watched p read stays taken waits = absurd p.remains
 stops_reading settings (Some t) (Some octets) None pending old new number number' ended ended' watched p read stays taken waits = absurd read

@@ -26,7 +26,7 @@ use Rattle.alarm_server.specs.Report.{front_pieces, report_of}
 use Rattle.alarm_server.specs.Session.{end_piece, open_piece, piece_of, piece_text, pieces_over, session_end, session_over, state_over, state_with}
 use Rattle.alarm_server.proofs.Sending.{adds_nothing, sent_then, front_then, front_more}
 use Rattle.alarm_server.proofs.Spelled.{spelled_gives, spells_none, spells_refused, spells_same}
-use Rattle.alarm_server.proofs.Fronts.{front_lines, lines_of-whole, takes_then}
+use Rattle.alarm_server.proofs.Fronts.{front_accepted, front_lines, lines_of-whole, takes_then}
 use Rattle.alarm_server.proofs.Played.{front_is, pieces-append, pieces-next, pieces-none, report_is, states-append, states-next, states-none}
 
 -- these lines and those of the octets to come are those of the script
@@ -219,6 +219,14 @@ ends start (Some t) (Some octets) (Some rest) old new new' number number' ended 
     let all = report_end start octets t number number' p.lines state p.reached p.remains read.0 ∙ ap (λ x. front start p.lines ++ x ∷ []) (sym same) in
     subst (λ ps. Adds old new' (sent piece_text ps)) (sym all) (sent_then piece_text old new new' (front start p.lines) (piece ∷ []) p.out last)
 
+-- at its end, every line of the script is in the grammar
+pub accepts : (start : State) (text come come' : Option (List ℕ)) (old new : Option Told) (number number' : ℕ) (ended : Bool) (state : State) → Progress start text come old new number ended state → WhereTold come come' (ReadsLine Session number number' (Ok None)) → IfSome text (λ t. refused_line Session t ≡ None)
+accepts start None come come' old new number number' ended state p read = tt
+accepts start (Some t) None come' old new number number' ended state p read = absurd p.remains
+accepts start (Some t) (Some octets) None old new number number' ended state p read = absurd read
+accepts start (Some t) (Some octets) (Some rest) old new number number' ended state p read =
+    p.remains.refused ∙ (spells_none Session (lines_of octets) number number' read.0).refused
+
 -- a fault while the last piece goes out
 pub ends_at_end : (start : State) (text come come' : Option (List ℕ)) (old new new' : Option Told) (number number' : ℕ) (ended : Bool) (state : State) (piece : List ReportLine) (fault : Unsent) → Progress start text come old new number ended state → WhereTold come come' (ReadsLine Session number number' (Ok None)) →
     piece ≡ end_piece number' state → SendsUpTo piece_text fault (piece ∷ []) new new' → IfSome text (λ t. Ends piece_text (of_unsent fault) (session_over start (lines_of t)) old new')
@@ -232,25 +240,28 @@ ends_at_end start (Some t) (Some octets) (Some rest) old new new' number number'
 
 -- the source failed: the lines that were taken are those of the whole lines that were read
 stops_where : (start : State) (t octets rest pending : List ℕ) (old new : Option Told) (number number' : ℕ) (lines : List Line) → Adds old new (sent piece_text (front start lines)) → Remains lines number t octets → next_in Session number' (lines_of (pending ++ rest)) ≡ next_in Session number (lines_of octets) → TakesLines 0 number' t (pending ++ rest) → position is_line_feed pending ≡ None →
-    StopsReading piece_text (λ whole. front start (spelled_in Session 0 (lines_of whole))) t rest old new
+    StopsReading piece_text (λ whole. front start (spelled_in Session 0 (lines_of whole))) Session t rest old new
 stops_where start t octets rest pending old new number number' lines out r next taken no_feed =
     let h = spells_same Session number' number (lines_of (pending ++ rest)) (lines_of octets) next in
     let parts : lines_of t ≡ lines_of taken.taken ++ lines_of (pending ++ rest) = ap lines_of taken.front ∙ lines_of-whole taken.taken (pending ++ rest) taken.whole in
     let spelled = ap (spelled_in Session 0) (sym parts) ∙ (r.spelled ∙ ap (λ l. lines ++ l) (sym h.spelled)) in
     let refused = ap (refused_in Session 0) (sym parts) ∙ (r.refused ∙ sym h.refused) in
-    let same = front_lines Session (lines_of taken.taken) (lines_of (pending ++ rest)) lines number' spelled refused (omega (arith, taken.count)) in
+    let count : length (lines_of taken.taken) ≡ number' = omega (arith, taken.count) in
+    let accepted = front_accepted Session (lines_of taken.taken) (lines_of (pending ++ rest)) number' refused count in
+    let same = front_lines Session (lines_of taken.taken) (lines_of (pending ++ rest)) lines number' spelled refused count in
     record {
       whole = taken.taken;
       begun = pending;
       read = taken.front ∙ sym (append_assoc taken.taken pending rest);
       whole_lines = taken.whole;
+      accepted = accepted;
       no_line_feed = no_feed;
       emitted = subst (λ ls. Adds old new (sent piece_text (front start ls))) same out;
     }
 
 pub stops_reading : (start : State) (text come left : Option (List ℕ)) (pending : List ℕ) (old new : Option Told) (number number' : ℕ) (ended ended' : Bool) (state : State) → Progress start text come old new number ended state → WhereTold come (prepend_known pending left) (ReadsLine Session number number' (Err Read)) →
     (ended' ≡ false → ended ≡ false) → (ended' ≡ false → WhereTold come (prepend_known pending left) (TakesLines number number')) → (ended' ≡ false) × (position is_line_feed pending ≡ None) →
-    WhereTold text left (λ t rest. StopsReading piece_text (λ whole. front start (spelled_in Session 0 (lines_of whole))) t rest old new)
+    WhereTold text left (λ t rest. StopsReading piece_text (λ whole. front start (spelled_in Session 0 (lines_of whole))) Session t rest old new)
 stops_reading start None come left pending old new number number' ended ended' state p read stays taken waits = tt
 stops_reading start (Some t) None left pending old new number number' ended ended' state p read stays taken waits = absurd p.remains
 stops_reading start (Some t) (Some octets) None pending old new number number' ended ended' state p read stays taken waits = absurd read
@@ -269,8 +280,8 @@ fronts : (site : Site) (whole : List ℕ) → front (first_state site) (spelled_
 fronts site whole = ap (λ s. front s (spelled_in Session 0 (lines_of whole))) (stands.starts site) ∙ front_is site [] whole
 
 pub stops_by_history : (site : Site) (text left : Option (List ℕ)) (old new : Option Told) →
-    WhereTold text left (λ t rest. StopsReading piece_text (λ whole. front (first_state site) (spelled_in Session 0 (lines_of whole))) t rest old new) →
-    WhereTold text left (λ t rest. StopsReading piece_text (front_pieces site []) t rest old new)
+    WhereTold text left (λ t rest. StopsReading piece_text (λ whole. front (first_state site) (spelled_in Session 0 (lines_of whole))) Session t rest old new) →
+    WhereTold text left (λ t rest. StopsReading piece_text (front_pieces site []) Session t rest old new)
 stops_by_history site None left old new h = tt
 stops_by_history site (Some t) None old new h = absurd h
 stops_by_history site (Some t) (Some rest) old new h = record {
@@ -278,6 +289,7 @@ stops_by_history site (Some t) (Some rest) old new h = record {
   begun = h.begun;
   read = h.read;
   whole_lines = h.whole_lines;
+  accepted = h.accepted;
   no_line_feed = h.no_line_feed;
   emitted = subst (λ ps. Adds old new (sent piece_text ps)) (fronts site h.whole) h.emitted;
 }

@@ -56,8 +56,8 @@ grammar_of (Bench site) = grammar.Session
 
 -- where its script stopped being read, what the whole lines give went out
 abbrev pub StopsFor : Command → List ℕ → List ℕ → Option Told → Option Told → Type 0
-StopsFor (Trial settings) script rest old new = StopsReading report_text (front_transitions settings) script rest old new
-StopsFor (Bench site) script rest old new = StopsReading piece_text (front_pieces site []) script rest old new
+StopsFor (Trial settings) script rest old new = StopsReading report_text (front_transitions settings) grammar.Trial script rest old new
+StopsFor (Bench site) script rest old new = StopsReading piece_text (front_pieces site []) grammar.Session script rest old new
 
 -- the same of words, which may be of no form; then nothing goes out
 abbrev pub EndsAs : Option Command → Status → List ℕ → Option Told → Option Told → Type 0
@@ -67,6 +67,11 @@ EndsAs None status script old new = Adds old new []
 abbrev pub RefusesAs : Option Command → List ℕ → ℕ → Type 0
 RefusesAs (Some command) script line = refused_line (grammar_of command) script ≡ Some line
 RefusesAs None script line = ⊥
+
+-- every line of its script is in the grammar
+abbrev pub AcceptsAs : Option Command → List ℕ → Type 0
+AcceptsAs (Some command) script = refused_line (grammar_of command) script ≡ None
+AcceptsAs None script = ⊥
 
 abbrev pub StopsAs : Option Command → List ℕ → List ℕ → Option Told → Option Told → Type 0
 StopsAs (Some command) script rest old new = StopsFor command script rest old new

@@ -14,8 +14,6 @@ mod run;
 mod session;
 mod settings;
 mod status;
-#[cfg(test)]
-mod tests;
 mod trial;
 mod watch;
 

@@ -2,7 +2,7 @@ ghost use Rattle.std.specs.Prelude.{◌≡◌, ◌↔◌, ℕ, map, None, OnOk, 
 ghost use Rattle.std.specs.Io.KnownBytes.{IsAtEnd};
 ghost use Rattle.ground_io.specs.Counts.{HasCause};
 ghost use Rattle.ground_io.specs.Trace.{WhereTold};
-ghost use Rattle.alarm_server.specs.Commands.{EndsAs, EndsFor, KeepsSite, RefusesAs, StopsAs, StopsFor, command_of, grammar_of};
+ghost use Rattle.alarm_server.specs.Commands.{AcceptsAs, EndsAs, EndsFor, KeepsSite, RefusesAs, StopsAs, StopsFor, command_of, grammar_of};
 ghost use Rattle.alarm_server.specs.Script.{refused_line};
 ghost use Rattle.alarm_server.specs.Status.{IsFault, status_of};
 
@@ -24,6 +24,7 @@ fn carry_out<T: Source, G: Ground>(
     ensures ends { IfSome (T.left script.old) (λ text.
         EndsFor command.now (status_of result) text (G.told device.old) (G.told device.new)) }
     ensures to_end { OnOk result (IsAtEnd (T.left script.new)) }
+    ensures accepted { OnOk result (IfSome (T.left script.old) (λ text. refused_line (grammar_of command.now) text ≡ None)) }
     ensures refused { (line : ℕ) → result ≡ Err (Status.ScriptRefused line) →
         IfSome (T.left script.old) (λ text. refused_line (grammar_of command.now) text ≡ Some line) }
     ensures stops { result ≡ Err Status.ReadFault → WhereTold (T.left script.old) (T.left script.new)
@@ -61,14 +62,16 @@ pub fn run<S: Source, T: Source, G: Ground>(
     ensures ends { IfSome (T.left script.old) (λ text.
         EndsAs (command_of (map string_bytes words.now)) result.1 text (G.told device) (G.told result.0)) }
 
-    // With Done the script was read to its end.
+    // With Done the script was read to its end, and each of its lines is in the grammar.
     ensures to_end { result.1 ≡ Status.Done → IsAtEnd (T.left script.new) }
+    ensures accepted { result.1 ≡ Status.Done →
+        IfSome (T.left script.old) (λ text. AcceptsAs (command_of (map string_bytes words.now)) text) }
 
     // The line that is refused is the first outside the grammar.
     ensures refused { (line : ℕ) → result.1 ≡ Status.ScriptRefused line →
         IfSome (T.left script.old) (λ text. RefusesAs (command_of (map string_bytes words.now)) text line) }
 
-    // With ReadFault all of the report went out that the lines give whose line feed was read.
+    // With ReadFault all of the report went out that the lines give whose line feed was read, and none of these is refused.
     ensures stops { result.1 ≡ Status.ReadFault → WhereTold (T.left script.old) (T.left script.new) (λ text rest.
         StopsAs (command_of (map string_bytes words.now)) text rest (G.told device) (G.told result.0)) }
 

@@ -1,4 +1,4 @@
-ghost use Rattle.std.specs.Prelude.{◌≡◌, ℕ, ◌<◌, ◌^◌, ◌∷◌, ◌++◌, [], List, IfErr, IfOk, IfSome, IsErrOf, OnOk, map};
+ghost use Rattle.std.specs.Prelude.{◌≡◌, ℕ, ◌<◌, ◌^◌, ◌∷◌, ◌++◌, [], List, None, IfErr, IfOk, IfSome, IsErrOf, OnOk, map};
 ghost use Rattle.std.specs.Io.KnownBytes.{IsAtEnd};
 ghost use Rattle.bac_values.specs.Moments.{IsMoment};
 ghost use Rattle.ground_io.specs.Counts.{HasCause};
@@ -196,10 +196,11 @@ pub fn play_session<T: Source, G: Ground>(
     ensures ends { IfSome (T.left script.old) (λ text.
         Ends piece_text (status_of result) (report_of site.now [] text) (G.told device.old) (G.told device.new)) }
     ensures to_end { OnOk result (IsAtEnd (T.left script.new)) }
+    ensures accepted { OnOk result (IfSome (T.left script.old) (λ text. refused_line Session text ≡ None)) }
     ensures refused { (line : ℕ) → result ≡ Err (Status.ScriptRefused line) →
         IfSome (T.left script.old) (λ text. refused_line Session text ≡ Some line) }
     ensures stops { result ≡ Err Status.ReadFault → WhereTold (T.left script.old) (T.left script.new)
-        (λ text rest. StopsReading piece_text (front_pieces site.now []) text rest (G.told device.old) (G.told device.new)) }
+        (λ text rest. StopsReading piece_text (front_pieces site.now []) Session text rest (G.told device.old) (G.told device.new)) }
     ensures fault { IfErr result IsFault }
     ensures size { G.size device.new ≡ G.size device.old }
     ensures disk { G.disk_faults device.new ≡ G.disk_faults device.old }

@@ -1,4 +1,4 @@
-ghost use Rattle.std.specs.Prelude.{◌≡◌, ℕ, List, ◌∷◌, map, OnOk, IfErr, IfSome, IsErrOf};
+ghost use Rattle.std.specs.Prelude.{◌≡◌, ℕ, List, ◌∷◌, map, None, OnOk, IfErr, IfSome, IsErrOf};
 ghost use Rattle.std.specs.Option.{option_to_list};
 ghost use Rattle.event_machine.specs.Given.{moves_in};
 ghost use Rattle.script_lines.specs.declared.line.Grammar.TheVariants.{Trial};
@@ -126,10 +126,11 @@ pub fn play<T: Source, G: Ground>(
     ensures ends { IfSome (T.left script.old) (λ text.
         Ends report_text (status_of result) (report_over settings (lines_of text)) (G.told device.old) (G.told device.new)) }
     ensures to_end { OnOk result (IsAtEnd (T.left script.new)) }
+    ensures accepted { OnOk result (IfSome (T.left script.old) (λ text. refused_line Trial text ≡ None)) }
     ensures refused { (line : ℕ) → result ≡ Err (Status.ScriptRefused line) →
         IfSome (T.left script.old) (λ text. refused_line Trial text ≡ Some line) }
     ensures stops { result ≡ Err Status.ReadFault → WhereTold (T.left script.old) (T.left script.new)
-        (λ text rest. StopsReading report_text (front_transitions settings) text rest (G.told device.old) (G.told device.new)) }
+        (λ text rest. StopsReading report_text (front_transitions settings) Trial text rest (G.told device.old) (G.told device.new)) }
     ensures fault { IfErr result IsFault }
     ensures size { G.size device.new ≡ G.size device.old }
     ensures disk { G.disk_faults device.new ≡ G.disk_faults device.old }

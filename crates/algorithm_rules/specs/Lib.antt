@@ -1,3 +1,4 @@
+pub mod EventTypes
 pub mod Facts
 pub mod Rules
 pub mod Matches

@@ -55,7 +55,8 @@ fn is_same(feedback: &Value, value: &Value) -> bool
     feedback == value
 }
 
-fn number_of(value: &Value) -> Option<i128>
+/// The whole number that a value is, with a sign or without one. Sums and differences of it and of limits have room.
+pub fn number_of(value: &Value) -> Option<i128>
     ensures number { result ≡ number_in value.now }
 {
     match value {

@@ -6,14 +6,14 @@
 #![tactic(auto)]
 
 mod conditions;
-mod matches;
+mod matching;
 mod rules;
 mod snapshot;
 mod table;
 mod waiting;
 
-pub use conditions::key;
-pub use matches::matched;
+pub use conditions::{key, number_of};
+pub use matching::{matched, matches};
 pub use rules::rule;
 pub use snapshot::Snapshot;
 pub use table::{Algorithm, Rule, Test, Waiting};

@@ -1,3 +1,6 @@
+ghost use Rattle.std.specs.Prelude.{◌≡◌};
+ghost use Rattle.algorithm_rules.specs.EventTypes.{event_type_of};
+
 use bac_values::EventState;
 
 /// The event algorithms (ANSI/ASHRAE 135-2020, 13.3).
@@ -17,6 +20,23 @@ pub enum Algorithm {
     UnsignedOutOfRange,
     /// CHANGE_OF_CHARACTERSTRING.
     ChangeOfCharacterstring,
+}
+
+impl Algorithm {
+    /// The number of its event type (BACnetEventType).
+    pub fn event_type(self) -> u8
+        ensures number { result ≡ event_type_of self }
+    {
+        match self {
+            Algorithm::ChangeOfBitstring => 0,
+            Algorithm::ChangeOfState => 1,
+            Algorithm::CommandFailure => 3,
+            Algorithm::UnsignedRange => 11,
+            Algorithm::SignedOutOfRange => 15,
+            Algorithm::UnsignedOutOfRange => 16,
+            Algorithm::ChangeOfCharacterstring => 17,
+        }
+    }
 }
 
 /// The condition of a rule.

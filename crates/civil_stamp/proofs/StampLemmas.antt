@@ -15,7 +15,7 @@ use Rattle.jiff_core.proofs.DateTimeLemmas.{civil_nanos-parts, time_nanos_bound}
 use Rattle.jiff_core.proofs.SignedLemmas.{signed_arith}
 use Rattle.jiff_tz.proofs.YearLemmas.{year_of_day-date}
 use Rattle.civil_stamp.specs.CivilStamp.{civil_octets}
-use Rattle.civil_stamp.specs.LocalTime.{months_within, days_into_year, month_of_day, day_of_month, octets_of_day_and_time, local_hundredths, local_stamp, stamp_year, stamp_month, stamp_day, stamp_weekday, stamp_hour, stamp_minute, stamp_second, stamp_hundredth, stamp_epoch_day, stamp_time, IsLocalStamp}
+use Rattle.civil_stamp.specs.LocalTime.{LocalZone, milliseconds_ahead, months_within, days_into_year, month_of_day, day_of_month, octets_of_day_and_time, local_hundredths, local_stamp, stamp_year, stamp_month, stamp_day, stamp_weekday, stamp_hour, stamp_minute, stamp_second, stamp_hundredth, stamp_epoch_day, stamp_time, IsLocalStamp}
 
 -- the months that fit are those whose days fit, up to the next month's
 months_within_is : (y : ℤ) (n k days : ℕ) → k ≤ n → days_of_months y k ≤ days → days < days_of_months y (suc k) → months_within y n days ≡ k
@@ -123,16 +123,16 @@ civil_same : (y y₂ : ℤ) (m m₂ d d₂ : ℕ) → y ≡ y₂ → m ≡ m₂ 
 civil_same y y₂ m m₂ d d₂ same_y same_m same_d h = rw (same_y, same_m, same_d) h
 
 -- a stamp of local time is computed from its day and its time
-pub stamp_is : (minutes : ℤ) (moment : ℕ) (stamp : Stamp) → IsLocalStamp minutes moment stamp → stamp ≡ local_stamp minutes moment
+pub stamp_is : (zone : LocalZone) (moment : ℕ) (stamp : Stamp) → IsLocalStamp zone moment stamp → stamp ≡ local_stamp zone moment
 unfolding local_stamp
-stamp_is minutes moment stamp h =
+stamp_is zone moment stamp h =
     let d = date_of stamp h.date in
     let time = stamp_time stamp in
     let hour = h.time.hour in let minute = h.time.minute in let second = h.time.second in let hundredth = h.time.hundredth in
     let count = h.count in
     let weekday = h.weekday in
-    let at_day : int_div_euclid (local_hundredths minutes moment) (pos 8_640_000) ≡ epoch_day d = omega (arith, signed_arith) in
-    let at_time : unsigned_abs (int_rem_euclid (local_hundredths minutes moment) (pos 8_640_000)) ≡ time = omega (arith, signed_arith) in
+    let at_day : int_div_euclid (local_hundredths zone moment) (pos 8_640_000) ≡ epoch_day d = omega (arith, signed_arith) in
+    let at_time : unsigned_abs (int_rem_euclid (local_hundredths zone moment) (pos 8_640_000)) ≡ time = omega (arith, signed_arith) in
     let hours : time / 360_000 ≡ stamp_hour stamp = omega arith in
     let minutes_of : time / 6_000 % 60 ≡ stamp_minute stamp = omega arith in
     let seconds : time / 100 % 60 ≡ stamp_second stamp = omega arith in
@@ -140,12 +140,12 @@ stamp_is minutes moment stamp h =
     let year : unsigned_abs (d.year -ℤ pos 1900) ≡ slice_index stamp.octets 0 = octet_of_year _ in
     let octets : octets_of_day_and_time (epoch_day d) time ≡ stamp.octets =
     octets-date d time ∙ (rw (year, hours, minutes_of, seconds, hundredths, ← weekday) (sym (eight stamp.octets h.size))) in
-    let same : stamp.octets ≡ (local_stamp minutes moment).octets = rw (at_day, at_time) (sym octets) in
+    let same : stamp.octets ≡ (local_stamp zone moment).octets = rw (at_day, at_time) (sym octets) in
     ap (λ (xs : List ℕ). let s : Stamp = record { octets = xs } in s) same
 
 -- what a date and a time of day are on the clock is a stamp of local time
-pub civil_octets-shows : (minutes : ℤ) (moment : ℕ) (stamp : Stamp) (shown : DateTime) → stamp.octets ≡ civil_octets shown → IsBetween (pos 1900) (pos 2155) shown.date.year → civil_nanos shown ≡ (pos moment +ℤ minutes *ℤ pos 60_000) *ℤ pos 1_000_000 → IsLocalStamp minutes moment stamp
-civil_octets-shows minutes moment stamp shown octets years e =
+pub civil_octets-shows : (zone : LocalZone) (moment : ℕ) (stamp : Stamp) (shown : DateTime) → stamp.octets ≡ civil_octets shown → IsBetween (pos 1900) (pos 2155) shown.date.year → civil_nanos shown ≡ (pos moment +ℤ milliseconds_ahead zone moment) *ℤ pos 1_000_000 → IsLocalStamp zone moment stamp
+civil_octets-shows zone moment stamp shown octets years e =
     let parts = civil_nanos-parts shown in
     let bound = time_nanos_bound shown.time in
     let at : (k : ℕ) → slice_index stamp.octets k ≡ slice_index (civil_octets shown) k = λ k. ap (λ (xs : List ℕ). slice_index xs k) octets in

@@ -3,15 +3,27 @@ use Rattle.std.specs.Prelude.{◌≡◌, ℕ, zero, suc, ◌+◌, ◌-◌, ◌*�
 use Rattle.std.specs.Int.{int_div_euclid, int_rem_euclid}
 use Rattle.jiff_core.specs.Calendar.{IsBetween, IsCivilDate, days_from_civil, days_of_months, weekday_number}
 use Rattle.jiff_tz.specs.Year.{year_of_day}
+use Rattle.bac_values.specs.Moments.{IsMoment}
 use Rattle.bac_values.specs.declared.stamp.Stamp.{Stamp}
 
--- the minutes of a zone, at most fourteen hours from UTC
+-- what is seen of a zone: how many minutes its clock stands ahead of UTC. Only the next three definitions say what it is made of
+abbrev pub LocalZone : Type 0
+LocalZone = ℤ
+
+-- a zone that stands these minutes ahead of UTC, at most fourteen hours from it
 abbrev pub IsZone : ℤ → Type 0
 IsZone minutes = IsBetween (neg_ℤ (pos 840)) (pos 840) minutes
 
+abbrev pub fixed_zone : ℤ → LocalZone
+fixed_zone minutes = minutes
+
+-- how many milliseconds the clock of the zone stands ahead of UTC at the moment
+abbrev pub milliseconds_ahead : LocalZone → ℕ → ℤ
+milliseconds_ahead zone moment = zone *ℤ pos 60_000
+
 -- the hundredths of a second since 1970-01-01T00:00:00 on the clock of the zone, rounded down
-abbrev pub local_hundredths : ℤ → ℕ → ℤ
-local_hundredths minutes moment = int_div_euclid (pos moment +ℤ minutes *ℤ pos 60_000) (pos 10)
+abbrev pub local_hundredths : LocalZone → ℕ → ℤ
+local_hundredths zone moment = int_div_euclid (pos moment +ℤ milliseconds_ahead zone moment) (pos 10)
 
 -- the parts of a stamp: the year is kept less 1900, and Monday is 1
 abbrev pub stamp_year : Stamp → ℤ
@@ -57,12 +69,17 @@ pub record IsTimeOfDay (stamp : Stamp) : Type 0 where
 
 -- the stamp is what the clock of the zone shows at the moment: a day of the calendar and a time of that day, which
 -- together count the clock's hundredths, and the weekday of that day
-pub record IsLocalStamp (minutes : ℤ) (moment : ℕ) (stamp : Stamp) : Type 0 where
+pub record IsLocalStamp (zone : LocalZone) (moment : ℕ) (stamp : Stamp) : Type 0 where
   pub size : length stamp.octets ≡ 8
   pub date : IsCivilDate (stamp_year stamp) (stamp_month stamp) (stamp_day stamp)
   pub time : IsTimeOfDay stamp
-  pub count : stamp_epoch_day stamp *ℤ pos 8_640_000 +ℤ pos (stamp_time stamp) ≡ local_hundredths minutes moment
+  pub count : stamp_epoch_day stamp *ℤ pos 8_640_000 +ℤ pos (stamp_time stamp) ≡ local_hundredths zone moment
   pub weekday : stamp_weekday stamp ≡ weekday_number (stamp_epoch_day stamp) + 1
+
+-- a moment, and the zone in which its local date and time are told
+pub record ZonedMoment : Type 0 where
+  pub zone : LocalZone
+  pub moment : ℕ
 
 -- How the stamp is computed.
 
@@ -89,9 +106,15 @@ octets_of_day_and_time day time =
     ∷ (time / 360_000) ∷ (time / 6_000 % 60) ∷ (time / 100 % 60) ∷ (time % 100) ∷ []
 
 -- the stamp that the clock of the zone shows at the moment
-unfoldable pub local_stamp : ℤ → ℕ → Stamp
-local_stamp minutes moment =
+unfoldable pub local_stamp : LocalZone → ℕ → Stamp
+local_stamp zone moment =
     record {
-      octets = octets_of_day_and_time (int_div_euclid (local_hundredths minutes moment) (pos 8_640_000))
-          (unsigned_abs (int_rem_euclid (local_hundredths minutes moment) (pos 8_640_000)));
+      octets = octets_of_day_and_time (int_div_euclid (local_hundredths zone moment) (pos 8_640_000))
+          (unsigned_abs (int_rem_euclid (local_hundredths zone moment) (pos 8_640_000)));
     }
+
+-- a moment in range, and the stamp that the clock of the zone shows at it
+pub record IsZonedStamp (zone : LocalZone) (moment : ℕ) (stamp : Stamp) : Type 0 where
+  pub within : IsMoment moment
+  pub shows : IsLocalStamp zone moment stamp
+  pub computed : stamp ≡ local_stamp zone moment

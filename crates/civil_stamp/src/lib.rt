@@ -2,7 +2,9 @@
 #![tactic(auto)]
 
 mod local;
+mod moment;
 mod zone;
 
 pub use local::{stamp_of, weekday_and_time};
+pub use moment::LocalMoment;
 pub use zone::{Zone, ZoneRange};

@@ -5,7 +5,7 @@ ghost use Rattle.jiff.specs.Words.{IsBetween};
 ghost use Rattle.civil_stamp.specs.LocalTime.{IsLocalStamp, local_stamp, stamp_time, stamp_weekday};
 ghost use Rattle.civil_stamp.specs.CivilStamp.{civil_octets};
 
-use crate::Zone;
+use crate::{LocalMoment, Zone};
 use bac_values::Stamp;
 use jiff::civil::DateTime;
 
@@ -48,8 +48,5 @@ pub fn weekday_and_time(moment: u64, zone: &Zone) -> (u8, u32)
     ensures weekdays { (1 ≤ result.0) × (result.0 ≤ 7) }
     ensures times { result.1 < 8_640_000 }
 {
-    let [_, _, _, weekday, hour, minute, second, hundredth] = stamp_of(moment, zone).octets;
-    let minutes = u32::from(hour) * 60 + u32::from(minute);
-    let time = (minutes * 60 + u32::from(second)) * 100 + u32::from(hundredth);
-    (weekday, time)
+    LocalMoment::new(moment, zone).weekday_and_time()
 }

@@ -19,3 +19,4 @@ pub use enrollment_property::EnrollmentProperty;
 pub use enrollment_site::EnrollmentSite;
 pub use enrollments::Enrollments;
 pub use laws::takes_what_writes_make;
+pub use snapshots::algorithm_of;

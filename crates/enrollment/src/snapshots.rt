@@ -32,7 +32,8 @@ pub fn snapshot_of_object<'a>(object: ObjectId, site: &'a ObjectSite) -> Snapsho
     }
 }
 
-fn algorithm_of(kind: Option<ObjectKind>) -> Algorithm
+/// The event algorithm that a value object of a kind applies to its own present value; any other kind has CHANGE_OF_STATE.
+pub fn algorithm_of(kind: Option<ObjectKind>) -> Algorithm
     ensures algorithm { result ≡ algorithm_of kind }
 {
     match kind {

@@ -2,9 +2,8 @@
 use Rattle.std.proofs.Common.{◌≡◌, ℕ, ◌+◌, ◌-◌, Bool, true, false, List, [], ◌∷◌, ◌++◌, length, drop, refl, sym, ◌∙◌, ap, arith, rules, nat_le, min, ◌&&◌, not, if◌then◌else◌, length-append}
 use Rattle.std.proofs.lemmas.List.{drop-append-le, length-drop, drop-drop, drop_all}
 use Rattle.circular_buffer.specs.Buffer.{keep_last}
-use Rattle.bac_values.specs.declared.stamp.Stamp.{Stamp}
 use Rattle.event_log.specs.declared.log_record.LogRecord.{LogRecord}
-use Rattle.event_log.specs.Log.{number_after, entry_of, Log, with_entry}
+use Rattle.event_log.specs.Log.{LoggedEvent, number_after, entry_of, Log, new_log, with_entry}
 use Rattle.event_log.specs.History.{Call, Recorded, Cleared, Switched, Taken, taken_after, one_more, enabled_after, log_after, next_log, FollowsCall}
 
 module _ {X : Type 0} where
@@ -33,23 +32,28 @@ log_of first enabled taken = record { size = first.size; stops = first.stops; en
 abbrev log_with : Log → Bool → ℕ → List LogRecord → Log
 log_with first enabled total records = record { size = first.size; stops = first.stops; enabled = enabled; total = total; records = records }
 
-recorded-taken : (first : Log) (enabled : Bool) (taken : Taken) (stamp : Stamp) (body : List ℕ) →
-    log_of first enabled (one_more stamp body taken) ≡ with_entry stamp body (log_of first enabled taken)
-recorded-taken first enabled taken stamp body =
-    ap (log_with first enabled (number_after taken.total)) (sym (keep_last-again first.size taken.records (entry_of stamp body (number_after taken.total))))
+recorded-taken : (first : Log) (enabled : Bool) (taken : Taken) (event : LoggedEvent) →
+    log_of first enabled (one_more event taken) ≡ with_entry event (log_of first enabled taken)
+recorded-taken first enabled taken event =
+    ap (log_with first enabled (number_after taken.total)) (sym (keep_last-again first.size taken.records (entry_of event (number_after taken.total))))
 
-record_by : (taken kept : Bool) (first : Log) (enabled : Bool) (t : Taken) (stamp : Stamp) (body : List ℕ) → kept ≡ taken →
-    log_of first enabled (if taken then one_more stamp body t else t) ≡ (if kept then with_entry stamp body (log_of first enabled t) else log_of first enabled t)
-record_by true true first enabled t stamp body e = recorded-taken first enabled t stamp body
-record_by false false first enabled t stamp body e = refl
-record_by true false first enabled t stamp body e = search rules
-record_by false true first enabled t stamp body e = search rules
+record_by : (taken kept : Bool) (first : Log) (enabled : Bool) (t : Taken) (event : LoggedEvent) → kept ≡ taken →
+    log_of first enabled (if taken then one_more event t else t) ≡ (if kept then with_entry event (log_of first enabled t) else log_of first enabled t)
+record_by true true first enabled t event e = recorded-taken first enabled t event
+record_by false false first enabled t event e = refl
+record_by true false first enabled t event e = search rules
+record_by false true first enabled t event e = search rules
 
 pub log_after-next : (first : Log) (call : Call) (calls : List Call) → log_after first (call ∷ calls) ≡ next_log call (log_after first calls)
 unfolding taken_after
 log_after-next first Cleared calls = ap (log_with first (enabled_after first calls) (taken_after first calls).total) (drop_all (0 - first.size) [] (omega arith))
 log_after-next first (Switched on) calls = refl
-log_after-next first (Recorded stamp body) calls = record_by _ _ first (enabled_after first calls) (taken_after first calls) stamp body (ap (λ full. enabled_after first calls && not (first.stops && full)) (full-kept first.size (taken_after first calls).records))
+log_after-next first (Recorded event) calls = record_by _ _ first (enabled_after first calls) (taken_after first calls) event (ap (λ full. enabled_after first calls && not (first.stops && full)) (full-kept first.size (taken_after first calls).records))
 
 pub follows : (call : Call) (old new : Log) → new ≡ next_log call old → FollowsCall call old new
 follows call old new e = record { after = λ first calls h from. e ∙ ap (next_log call) from ∙ sym (log_after-next first call calls) }
+
+-- no call was made of a new log
+pub new_after : (size : ℕ) (stops enabled : Bool) → new_log size stops enabled ≡ log_after (new_log size stops enabled) []
+unfolding taken_after
+new_after size stops enabled = ap (log_with (new_log size stops enabled) enabled 0) (sym (drop_all (0 - size) [] (omega arith)))

@@ -1,20 +1,19 @@
 -- A log by looking back over all calls that changed it, the newest first.
 use Rattle.std.specs.Prelude.{◌≡◌, ℕ, Bool, List, [], ◌∷◌, ◌++◌, length, if◌then◌else◌}
 use Rattle.circular_buffer.specs.Buffer.{keep_last}
-use Rattle.bac_values.specs.declared.stamp.Stamp.{Stamp}
 use Rattle.event_log.specs.declared.log_record.LogRecord.{LogRecord}
-use Rattle.event_log.specs.Log.{Log, IsLog, number_after, is_taken, entry_of, recorded, cleared, switched}
+use Rattle.event_log.specs.Log.{Log, IsLog, LoggedEvent, number_after, is_taken, entry_of, recorded, cleared, switched}
 
--- a record came, the buffer was cleared, or Enable was written
+-- an event came to be recorded, the buffer was cleared, or Enable was written
 pub data Call : Type 0 where
-  Recorded : Stamp → List ℕ → Call
+  Recorded : LoggedEvent → Call
   Cleared : Call
   Switched : Bool → Call
 
 -- Enable is what was written to it last
 abbrev pub enabled_after : Log → List Call → Bool
 enabled_after first [] = first.enabled
-enabled_after first (Recorded stamp body ∷ older) = enabled_after first older
+enabled_after first (Recorded event ∷ older) = enabled_after first older
 enabled_after first (Cleared ∷ older) = enabled_after first older
 enabled_after first (Switched on ∷ older) = on
 
@@ -26,13 +25,13 @@ pub record Taken : Type 0 where
 abbrev pub takes : Log → Bool → Taken → Bool
 takes first enabled taken = is_taken enabled first.stops first.size (length taken.records)
 
-abbrev pub one_more : Stamp → List ℕ → Taken → Taken
-one_more stamp body taken = record { total = number_after taken.total; records = taken.records ++ entry_of stamp body (number_after taken.total) ∷ [] }
+abbrev pub one_more : LoggedEvent → Taken → Taken
+one_more event taken = record { total = number_after taken.total; records = taken.records ++ entry_of event (number_after taken.total) ∷ [] }
 
 unfoldable pub taken_after : Log → List Call → Taken
 taken_after first [] = record { total = first.total; records = first.records }
-taken_after first (Recorded stamp body ∷ older) =
-    if takes first (enabled_after first older) (taken_after first older) then one_more stamp body (taken_after first older) else taken_after first older
+taken_after first (Recorded event ∷ older) =
+    if takes first (enabled_after first older) (taken_after first older) then one_more event (taken_after first older) else taken_after first older
 taken_after first (Cleared ∷ older) = record { total = (taken_after first older).total; records = [] }
 taken_after first (Switched on ∷ older) = taken_after first older
 
@@ -48,7 +47,7 @@ log_after first calls = record {
 
 -- what a call does to a log
 abbrev pub next_log : Call → Log → Log
-next_log (Recorded stamp body) log = recorded stamp body log
+next_log (Recorded event) log = recorded event log
 next_log Cleared log = cleared log
 next_log (Switched on) log = switched on log
 

@@ -12,6 +12,11 @@ pub record Log : Type 0 where
   pub total : ℕ
   pub records : List LogRecord
 
+-- what a record holds of an event notification: when it came, in local date and time, and the octets of its parameters
+pub record LoggedEvent : Type 0 where
+  pub stamp : Stamp
+  pub body : List ℕ
+
 -- the number that follows a number of records; 1 follows the greatest of 32 bits
 abbrev pub number_after : ℕ → ℕ
 number_after total = if total == 2 ^ 32 - 1 then 1 else total + 1
@@ -40,16 +45,17 @@ new_log size stops enabled = record { size = size; stops = stops; enabled = enab
 abbrev pub is_taken : Bool → Bool → ℕ → ℕ → Bool
 is_taken enabled stops size count = enabled && not (stops && nat_le size count)
 
-abbrev pub entry_of : Stamp → List ℕ → ℕ → LogRecord
-entry_of stamp body number = record { stamp = stamp; sequence = number; body = body }
+-- the record of an event, with its number
+abbrev pub entry_of : LoggedEvent → ℕ → LogRecord
+entry_of event number = record { stamp = event.stamp; sequence = number; body = event.body }
 
 -- with one more record, of which the last ones stay that the size allows
-abbrev pub with_entry : Stamp → List ℕ → Log → Log
-with_entry stamp body log = record log { total = number_after log.total; records = keep_last log.size (log.records ++ entry_of stamp body (number_after log.total) ∷ []) }
+abbrev pub with_entry : LoggedEvent → Log → Log
+with_entry event log = record log { total = number_after log.total; records = keep_last log.size (log.records ++ entry_of event (number_after log.total) ∷ []) }
 
 -- after a record came; where it isn't taken, the log is as it was
-abbrev pub recorded : Stamp → List ℕ → Log → Log
-recorded stamp body log = if is_taken log.enabled log.stops log.size (length log.records) then with_entry stamp body log else log
+abbrev pub recorded : LoggedEvent → Log → Log
+recorded event log = if is_taken log.enabled log.stops log.size (length log.records) then with_entry event log else log
 
 -- without records; the total stays
 abbrev pub cleared : Log → Log

@@ -1,11 +1,13 @@
-ghost use Rattle.std.specs.Prelude.{◌≡◌, ℕ, List, ◌∷◌, IfOk, option_copied, slice_get, length, ◌≤◌, ◌<◌, IfSome, false};
+ghost use Rattle.std.specs.Prelude.{◌≡◌, ℕ, List, [], ◌∷◌, IfOk, option_copied, slice_get, length, ◌≤◌, ◌<◌, IfSome, false};
 ghost use Rattle.std.specs.Option.{option_map_or};
 ghost use Rattle.circular_buffer.specs.Buffer.{buffer};
-ghost use Rattle.event_log.specs.Log.{Log, IsLog, new_log, is_taken, number_after, recorded, with_entry, cleared, switched};
-ghost use Rattle.event_log.specs.Ranges.{back_of, is_before, first_after, last_before, place_by_time, range_from, place_of_position, place_of_sequence};
-ghost use Rattle.event_log.specs.History.{Recorded, Cleared, Switched, FollowsCall};
+ghost use Rattle.event_log.specs.Log.{Log, IsLog, LoggedEvent, new_log, is_taken, recorded, with_entry, cleared, switched};
+ghost use Rattle.event_log.specs.Ranges.{is_before, first_after, last_before, place_by_time, range_from, place_of_position, place_of_sequence};
+ghost use Rattle.event_log.specs.History.{Recorded, Cleared, Switched, log_after, FollowsCall};
 
-use crate::{LogRange, LogRecord, is_before};
+use crate::numbers::{back_of, number_after};
+use crate::order::is_before;
+use crate::{LogRange, LogRecord};
 use bac_values::{Items, NoMemory, Stamp};
 use circular_buffer::HeapCircularBuffer;
 use std::alloc::Global;
@@ -34,6 +36,7 @@ impl Model for EventLog {
 
 impl EventLog {
     /// A log that has taken nothing yet, of at most `size` records.
+    #[tactic(auto, using(crate::proofs::Looking::new_after))]
     pub fn new(
         alloc: Global,
         size: u32,
@@ -41,6 +44,7 @@ impl EventLog {
         enabled: bool,
     ) -> Result<EventLog, NoMemory>
         ensures made { IfOk result (λ log. log ≡ new_log size stop_when_full enabled) }
+        ensures looking_back { IfOk result (λ log. log ≡ log_after (new_log size stop_when_full enabled) []) }
     {
         Ok(EventLog {
             size,
@@ -74,9 +78,10 @@ impl EventLog {
         })
     }
 
-    /// How many records were ever taken; 1 follows the greatest number of 32 bits.
+    /// How many records were ever taken; 1 follows the greatest number of 32 bits. What is so of every log is told here.
     pub fn total(&self) -> u32
         ensures total { result ≡ self.now.total }
+        ensures always { IsLog self.now }
     {
         self.total
     }
@@ -126,7 +131,7 @@ impl EventLog {
     // Takes a record; the oldest goes if there is no room.
     #[tactic(auto, using(crate::proofs::Numbering::is_log_with_entry))]
     fn push(&mut self, stamp: Stamp, body: Vec<u8>)
-        ensures now { self.new ≡ with_entry stamp body.items self.old }
+        ensures now { self.new ≡ with_entry (record { stamp = stamp; body = body.items }) self.old }
     {
         self.total = number_after(self.total);
         let _oldest = self.records.push_back(LogRecord {
@@ -140,8 +145,8 @@ impl EventLog {
     /// oldest record goes if there is no room. Otherwise nothing changes.
     #[tactic(auto, using(crate::proofs::Looking::follows))]
     pub fn record(&mut self, stamp: Stamp, body: Vec<u8>)
-        ensures now { self.new ≡ recorded stamp body.items self.old }
-        ensures looking_back { FollowsCall (Recorded stamp body.items) self.old self.new }
+        ensures now { self.new ≡ recorded (record { stamp = stamp; body = body.items }) self.old }
+        ensures looking_back { FollowsCall (Recorded (record { stamp = stamp; body = body.items })) self.old self.new }
     {
         if self.takes() {
             self.push(stamp, body);
@@ -246,27 +251,6 @@ fn filled(
         let _none = kept.push_back(entry);
     }
     Ok(kept)
-}
-
-// The number that follows a number of records.
-fn number_after(total: u32) -> u32
-    ensures number { result ≡ number_after total }
-{
-    if total == u32::MAX {
-        return 1;
-    }
-    total + 1
-}
-
-// How many records back the one with a number lies from the newest, whose number is the total.
-fn back_of(total: u32, sequence: u32) -> u32
-    ensures back { result ≡ back_of total sequence }
-{
-    if sequence <= total {
-        total - sequence
-    } else {
-        total + (u32::MAX - sequence)
-    }
 }
 
 // The place of a position, from 1, in a log of some length.

@@ -6,9 +6,10 @@
 mod event_log;
 mod log_range;
 mod log_record;
+mod numbers;
 mod order;
 
 pub use event_log::EventLog;
 pub use log_range::LogRange;
 pub use log_record::LogRecord;
-pub use order::is_before;
+pub use numbers::number_back;

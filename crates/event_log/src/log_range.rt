@@ -11,8 +11,8 @@ pub struct LogRange {
 }
 
 impl LogRange {
-    /// No records.
-    pub const EMPTY: LogRange = LogRange { first: 0, count: 0 };
+    // No records.
+    const EMPTY: LogRange = LogRange { first: 0, count: 0 };
 
     // The range at a place of a log of some length.
     pub(crate) fn at(count: i32, length: u32, place: u32) -> LogRange

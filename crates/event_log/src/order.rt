@@ -4,7 +4,7 @@ ghost use Rattle.event_log.specs.Ranges.{is_before};
 use bac_values::Stamp;
 
 /// Whether a stamp is strictly before another, by year, month and day, then by time. The weekday isn't looked at.
-pub fn is_before(a: &Stamp, b: &Stamp) -> bool
+pub(crate) fn is_before(a: &Stamp, b: &Stamp) -> bool
     ensures before { result ≡ is_before a.now b.now }
 {
     let [year, month, day, _, hour, minute, second, hundredth] = a.octets;

@@ -1,8 +1,8 @@
 -- How runs of entries follow each other, and what a crash may leave after them.
-use Rattle.std.proofs.Common.{◌≡◌, ◌⊎◌, inl, inr, ℕ, List, [], ◌∷◌, ◌++◌, Option, Some, None, refl, sym, ap, ◌∙◌, append_assoc, ◌+◌, ◌<◌, ◌≤◌, length, take, drop, get_or, unwrap_or, slice_get, arith, length-drop}
+use Rattle.std.proofs.Common.{◌≡◌, inl, inr, ℕ, List, [], ◌∷◌, ◌++◌, Option, Some, None, refl, sym, ap, ◌∙◌, append_assoc, ◌+◌, ◌<◌, length, take, drop, get_or, unwrap_or, slice_get, arith, length-drop}
 use Rattle.std.proofs.lemmas.List.{append-nil, ext_get_or, get_or-take, get_or-drop, length-take}
 use Rattle.std.proofs.lemmas.Option.{unwrap_or-slice_get}
-use Rattle.ground_io.specs.Disk.{Disk, MayLeave, Each, Always, IsOutside, after_entry, disk_after}
+use Rattle.ground_io.specs.Disk.{Disk, MayLeave, Each, Always, after_entry, disk_after}
 use Rattle.ground_io.specs.Trace.{Told, Adds, disk_of}
 use Rattle.ground_io.specs.declared.entry.Entry.{Entry}
 use Rattle.ground_io.proofs.Disks.{disk_after-append}

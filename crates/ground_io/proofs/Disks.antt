@@ -1,9 +1,9 @@
 -- Octets put over others, and runs of entries.
-use Rattle.std.proofs.Common.{◌≡◌, ℕ, suc, List, [], ◌∷◌, ◌++◌, refl, sym, ap, subst, ◌∙◌, append_assoc, ◌+◌, ◌-◌, ◌≤◌, length, take, drop, arith, length-append, length-drop, take-append-drop}
+use Rattle.std.proofs.Common.{◌≡◌, ℕ, suc, List, [], ◌∷◌, ◌++◌, refl, sym, ap, subst, ◌∙◌, append_assoc, ◌+◌, ◌≤◌, length, take, drop, arith, length-append, length-drop, take-append-drop}
 use Rattle.std.specs.Prelude.{All}
 use Rattle.std.proofs.lemmas.List.Elements.{All-head}
 use Rattle.std.proofs.lemmas.List.{length-take, drop-drop}
-use Rattle.ground_io.specs.Disk.{Disk, after_entry, disk_after, disk_with, with_octets, octets_at, IsInside}
+use Rattle.ground_io.specs.Disk.{Disk, after_entry, disk_after, with_octets, octets_at, IsInside}
 use Rattle.ground_io.specs.Image.{contents_with}
 use Rattle.ground_io.specs.declared.entry.Entry.{Entry}
 use Rattle.ground_io.specs.declared.entry.Entry.TheVariants.{Wrote, Broke, Synced, Emitted, Lost}

@@ -1,5 +1,5 @@
 -- A filling makes an image that a crash may leave.
-use Rattle.std.proofs.Common.{◌≡◌, ◌⊎◌, inl, inr, ℕ, List, [], ◌∷◌, ◌++◌, refl, sym, ap, subst, ◌∙◌, ◌+◌, ◌-◌, ◌<◌, ◌≤◌, length, take, drop, arith, replicate, slice_get, get_or, Option, Some, Result, Ok, Err, IfOk, Vec, length-append}
+use Rattle.std.proofs.Common.{◌≡◌, ◌⊎◌, inl, inr, ℕ, List, [], ◌∷◌, ◌++◌, refl, sym, ap, subst, ◌∙◌, ◌+◌, ◌-◌, ◌<◌, ◌≤◌, length, take, drop, arith, replicate, slice_get, get_or, Some, Result, Ok, Err, IfOk, Vec, length-append}
 use Rattle.std.specs.Prelude.{All}
 use Rattle.std.proofs.lemmas.List.Elements.{All-head}
 use Rattle.std.proofs.lemmas.List.{length-replicate, length-take, length-take-le, get_or-take, get_or-drop, get_or-append_right}
@@ -9,7 +9,7 @@ use Rattle.std.proofs.lemmas.Option.{slice_get-get_or, slice_get_past}
 use Rattle.std.specs.declared.alloc.Global.{Global}
 use Rattle.ground_io.specs.Trace.{disk_of}
 use Rattle.ground_io.proofs.Disks.{all_tail, contents_after, length-contents_with, length-with_octets}
-use Rattle.ground_io.specs.Disk.{Disk, MayLeave, IsInside, IsOutside, after_entry, disk_after, disk_with, with_octets}
+use Rattle.ground_io.specs.Disk.{Disk, MayLeave, IsInside, after_entry, disk_after, disk_with, with_octets}
 use Rattle.ground_io.specs.Image.{contents_with, filled, image_with, image_after}
 use Rattle.ground_io.specs.declared.filling.Filling.{Filling}
 use Rattle.ground_io.specs.declared.filling.Filling.TheVariants.{Old, New, Octet}

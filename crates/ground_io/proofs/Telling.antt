@@ -1,13 +1,12 @@
 -- What a ground in memory tells once an entry more came.
-use Rattle.std.proofs.Common.{◌≡◌, ℕ, Bool, true, false, List, [], ◌∷◌, ◌++◌, Option, Some, None, unwrap_or, Result, Ok, Err, IfOk, refl, sym, ap, subst, ◌∙◌, length, get_or, arith}
-use Rattle.std.specs.Prelude.{All}
+use Rattle.std.proofs.Common.{◌≡◌, ℕ, Bool, true, false, List, [], ◌∷◌, ◌++◌, Option, Some, None, unwrap_or, Result, Ok, Err, IfOk, refl, sym, ap, subst, ◌∙◌, length}
 use Rattle.std.proofs.lemmas.List.Elements.{All-append, All-cons, All-nil}
 use Rattle.std.specs.Result.{result_ok}
 use Rattle.bac_values.specs.Address.{Address}
-use Rattle.ground_io.specs.Disk.{Disk, after_entry, disk_after, IsInside}
+use Rattle.ground_io.specs.Disk.{Disk, IsInside}
 use Rattle.ground_io.specs.Image.{contents_with}
 use Rattle.ground_io.specs.InMemory.{AreTold}
-use Rattle.ground_io.specs.Past.{told_of, GoesOn}
+use Rattle.ground_io.specs.Past.{GoesOn}
 use Rattle.ground_io.specs.Trace.{Told, disk_of, sending}
 use Rattle.ground_io.specs.declared.entry.Entry.{Entry}
 use Rattle.ground_io.specs.declared.past.Past.{Past}

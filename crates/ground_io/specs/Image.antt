@@ -1,6 +1,6 @@
 -- The images that a filling makes: octets for the ranges that were written since the last sync, and in all else what a read gives.
 use Rattle.std.specs.Prelude.{ℕ, List, [], ◌∷◌, length, replicate}
-use Rattle.ground_io.specs.Disk.{Disk, with_octets, after_entry}
+use Rattle.ground_io.specs.Disk.{with_octets, after_entry}
 use Rattle.ground_io.specs.declared.entry.Entry.{Entry}
 use Rattle.ground_io.specs.declared.entry.Entry.TheVariants.{Wrote, Broke, Synced, Emitted, Lost}
 use Rattle.ground_io.specs.declared.filling.Filling.{Filling}

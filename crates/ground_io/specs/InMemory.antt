@@ -1,5 +1,6 @@
--- What contracts see of a source and of a ground in memory, and of a source over a reader.
+-- What contracts see of a source, a link and a ground in memory, and of the real ones.
 use Rattle.std.specs.Prelude.{◌≡◌, ◌↔◌, ◌⊎◌, ℕ, List, length, Option, Some, None, ⊤, Contains, IsNone, IsSome, All, refl}
+use Rattle.bac_values.specs.declared.note.Send.{Send}
 use Rattle.ground_io.specs.Counts.{next_count}
 use Rattle.ground_io.specs.Disk.{IsInside}
 use Rattle.ground_io.specs.Trace.{Told, HasSize, disk_of}
@@ -7,6 +8,13 @@ use Rattle.ground_io.specs.Trace.{Told, HasSize, disk_of}
 -- a source: the octets still to come, the numbers of the calls that fail, how many calls were made and how many of them failed
 pub record SourceInMemory : Type 0 where
   pub left : List ℕ
+  pub failing : List ℕ
+  pub calls : ℕ
+  pub faults : ℕ
+
+-- a link: the datagrams still to come, the numbers of the calls that fail, how many calls were made and how many of them failed
+pub record LinkInMemory : Type 0 where
+  pub left : List Send
   pub failing : List ℕ
   pub calls : ℕ
   pub faults : ℕ
@@ -63,3 +71,7 @@ pub record GroundOfFile : Type 0 where
   pub size : ℕ
   pub disk_faults : ℕ
   pub emit_faults : ℕ
+
+-- a link over a socket, which tells nothing: how many calls failed
+pub record LinkOfSocket : Type 0 where
+  pub faults : ℕ

@@ -1,5 +1,5 @@
 -- What a ground in memory keeps of its past, and what that tells.
-use Rattle.std.specs.Prelude.{◌≡◌, ℕ, List, [], ◌∷◌, length, Option, Some, None, ⊤, unwrap_or}
+use Rattle.std.specs.Prelude.{ℕ, List, [], ◌∷◌, Option, Some, None, unwrap_or}
 use Rattle.ground_io.specs.Trace.{Told, Adds}
 use Rattle.ground_io.specs.InMemory.{AreTold}
 use Rattle.ground_io.specs.declared.entry.Entry.{Entry}

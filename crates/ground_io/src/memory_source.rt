@@ -4,6 +4,7 @@ ghost use Rattle.std.specs.Io.KnownBytes.{ReadConsumes};
 ghost use Rattle.ground_io.specs.Counts.{HasCause, next_count};
 
 use crate::failing::is_listed_next;
+use crate::front::copy_front;
 use crate::{Failed, Source};
 use std::marker::Model;
 
@@ -34,16 +35,6 @@ fn rest(octets: &[u8], place: usize) -> &[u8]
     ensures rest { result.now ≡ drop place octets.now }
 {
     &octets[place..]
-}
-
-// Copies as many octets as fit, and says how many.
-fn copy_front(octets: &[u8], into: &mut [u8]) -> usize
-    ensures count { result ≡ min (length octets.now) (length into.old) }
-    ensures copied { take result into.new ≡ take result octets.now }
-{
-    let count = octets.len().min(into.len());
-    into[..count].copy_from_slice(&octets[..count]);
-    count
 }
 
 impl MemorySource {

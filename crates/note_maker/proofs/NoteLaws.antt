@@ -1,10 +1,11 @@
 -- The notes of the first recipients of a list, and of one more; and to whom they go.
-use Rattle.std.proofs.Common.{◌≡◌, ℤ, ℕ, ◌+◌, ◌<◌, ◌≤◌, Bool, true, false, cond, List, [], ◌∷◌, ◌++◌, length, take, map, get_or, All, Contains, sym, ap, subst, ◌∙◌}
+use Rattle.std.proofs.Common.{◌≡◌, ℕ, ◌+◌, ◌<◌, ◌≤◌, Bool, true, false, cond, List, [], ◌∷◌, ◌++◌, length, take, map, get_or, All, Contains, sym, ap, subst, ◌∙◌}
 use Rattle.std.specs.Prelude.{filter}
 use Rattle.std.proofs.lemmas.List.{append-nil, get_or-map, length-map, map-append, take_all}
 use Rattle.std.proofs.lemmas.List.Elements.{All-filter, All-map, filter_more}
 use Rattle.bac_values.specs.declared.note.Note.{Note}
 use Rattle.bac_values.specs.declared.transition.Transition.{Transition}
+use Rattle.civil_stamp.specs.LocalTime.{LocalZone}
 use Rattle.notify_class.specs.Edits.{peers_of}
 use Rattle.notify_class.specs.Recipients.{ListedRecipient}
 use Rattle.notify_class.specs.Windows.{is_in_window}
@@ -12,7 +13,7 @@ use Rattle.event_services.specs.declared.notification.Notification.{Notification
 use Rattle.note_maker.specs.Notes.{note_to, notes_for}
 
 -- one more recipient, that is to be notified or not
-more : (facts : Notification) (recipients : List ListedRecipient) (transition : Transition) (moment : ℕ) (zone : ℤ) (i : ℕ) (d : ListedRecipient) (test : Bool) → i < length recipients → is_in_window (get_or recipients i d) transition moment zone ≡ test
+more : (facts : Notification) (recipients : List ListedRecipient) (transition : Transition) (moment : ℕ) (zone : LocalZone) (i : ℕ) (d : ListedRecipient) (test : Bool) → i < length recipients → is_in_window (get_or recipients i d) transition moment zone ≡ test
     → notes_for facts (take (i + 1) recipients) transition moment zone ≡ notes_for facts (take i recipients) transition moment zone ++ map (note_to facts) (cond test (get_or recipients i d ∷ []) [])
 more facts recipients transition moment zone i d test lt e =
     ap (map (note_to facts)) (filter_more (λ recipient. is_in_window recipient transition moment zone) recipients i d lt)
@@ -20,7 +21,7 @@ more facts recipients transition moment zone i d test lt e =
     ∙ ap (λ (b : Bool). notes_for facts (take i recipients) transition moment zone ++ map (note_to facts) (cond b (get_or recipients i d ∷ []) [])) e
 
 -- a recipient that is notified has its note behind the others
-pub notified : (facts : Notification) (recipients : List ListedRecipient) (transition : Transition) (moment : ℕ) (zone : ℤ) (i : ℕ) (recipient : ListedRecipient) (note : Note) (notes now : List Note)
+pub notified : (facts : Notification) (recipients : List ListedRecipient) (transition : Transition) (moment : ℕ) (zone : LocalZone) (i : ℕ) (recipient : ListedRecipient) (note : Note) (notes now : List Note)
     → i < length recipients → recipient ≡ get_or recipients i recipient → is_in_window recipient transition moment zone ≡ true → note ≡ note_to facts recipient
     → notes ≡ notes_for facts (take i recipients) transition moment zone → now ≡ notes ++ note ∷ [] → now ≡ notes_for facts (take (i + 1) recipients) transition moment zone
 notified facts recipients transition moment zone i recipient note notes now lt there used is made added =
@@ -30,7 +31,7 @@ notified facts recipients transition moment zone i recipient note notes now lt t
     ∙ sym (more facts recipients transition moment zone i recipient true lt (ap (λ (r : ListedRecipient). is_in_window r transition moment zone) (sym there) ∙ used))
 
 -- and one that isn't has none
-pub passed_over : (facts : Notification) (recipients : List ListedRecipient) (transition : Transition) (moment : ℕ) (zone : ℤ) (i : ℕ) (recipient : ListedRecipient) (notes : List Note)
+pub passed_over : (facts : Notification) (recipients : List ListedRecipient) (transition : Transition) (moment : ℕ) (zone : LocalZone) (i : ℕ) (recipient : ListedRecipient) (notes : List Note)
     → i < length recipients → recipient ≡ get_or recipients i recipient → is_in_window recipient transition moment zone ≡ false
     → notes ≡ notes_for facts (take i recipients) transition moment zone → notes ≡ notes_for facts (take (i + 1) recipients) transition moment zone
 passed_over facts recipients transition moment zone i recipient notes lt there unused made =
@@ -43,7 +44,7 @@ listed recipients k d lt =
     (k, rw length-map lt, get_or-map (λ (recipient : ListedRecipient). recipient.peer) recipients k d (get_or recipients k d).peer lt)
 
 -- each note goes to the peer of a recipient
-pub to_recipients : (facts : Notification) (recipients : List ListedRecipient) (transition : Transition) (moment : ℕ) (zone : ℤ)
+pub to_recipients : (facts : Notification) (recipients : List ListedRecipient) (transition : Transition) (moment : ℕ) (zone : LocalZone)
     → All (λ (note : Note). Contains (peers_of recipients) note.peer) (notes_for facts recipients transition moment zone)
 to_recipients facts recipients transition moment zone =
     let test : ListedRecipient → Bool = λ recipient. is_in_window recipient transition moment zone in
@@ -51,7 +52,7 @@ to_recipients facts recipients transition moment zone =
     (All-filter test (λ (recipient : ListedRecipient). Contains (peers_of recipients) recipient.peer) recipients (listed recipients))
 
 -- the same of notes that were made of all the recipients
-pub all_to_recipients : (facts : Notification) (items recipients : List ListedRecipient) (transition : Transition) (moment : ℕ) (zone : ℤ) (i : ℕ) (notes : List Note) → items ≡ recipients → length items ≤ i → notes ≡ notes_for facts (take i items) transition moment zone
+pub all_to_recipients : (facts : Notification) (items recipients : List ListedRecipient) (transition : Transition) (moment : ℕ) (zone : LocalZone) (i : ℕ) (notes : List Note) → items ≡ recipients → length items ≤ i → notes ≡ notes_for facts (take i items) transition moment zone
     → All (λ (note : Note). Contains (peers_of recipients) note.peer) notes
 all_to_recipients facts items recipients transition moment zone i notes same le made =
     subst (All (λ (note : Note). Contains (peers_of recipients) note.peer)) (sym (made ∙ ap (λ (rs : List ListedRecipient). notes_for facts rs transition moment zone) (take_all i items le ∙ same)))

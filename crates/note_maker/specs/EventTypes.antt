@@ -3,24 +3,14 @@ use Rattle.std.specs.Prelude.{ℕ, if◌then◌else◌}
 use Rattle.bac_values.specs.EventTypes.{change_of_bitstring_type, change_of_state_type, command_failure_type, unsigned_range_type, signed_out_of_range_type, unsigned_out_of_range_type, change_of_characterstring_type, change_of_reliability_type}
 use Rattle.bac_values.specs.declared.event_state.EventState.{EventState}
 use Rattle.algorithm_rules.specs.declared.table.Algorithm.{Algorithm}
-use Rattle.algorithm_rules.specs.declared.table.Algorithm.TheVariants.{ChangeOfBitstring, ChangeOfState, CommandFailure, UnsignedRange, SignedOutOfRange, UnsignedOutOfRange, ChangeOfCharacterstring}
+use Rattle.algorithm_rules.specs.EventTypes.{event_type_of}
 use Rattle.event_machine.specs.declared.moves.Move.{Move}
 use Rattle.event_machine.specs.Detection.{is_fault}
 
--- the event type of each event algorithm
-abbrev pub algorithm_type : Algorithm → ℕ
-algorithm_type ChangeOfBitstring = change_of_bitstring_type
-algorithm_type ChangeOfState = change_of_state_type
-algorithm_type CommandFailure = command_failure_type
-algorithm_type UnsignedRange = unsigned_range_type
-algorithm_type SignedOutOfRange = signed_out_of_range_type
-algorithm_type UnsignedOutOfRange = unsigned_out_of_range_type
-algorithm_type ChangeOfCharacterstring = change_of_characterstring_type
-
 -- the event type of a transition: that of the algorithm, and CHANGE_OF_RELIABILITY where the object's reliability made it
 abbrev pub transition_type : Algorithm → Move → ℕ
-transition_type algorithm made = if made.by_fault then change_of_reliability_type else algorithm_type algorithm
+transition_type algorithm made = if made.by_fault then change_of_reliability_type else event_type_of algorithm
 
 -- the event type of an acknowledgement, by the state that is acknowledged
 abbrev pub acknowledgement_type : Algorithm → EventState → ℕ
-acknowledgement_type algorithm acknowledged = if is_fault acknowledged then change_of_reliability_type else algorithm_type algorithm
+acknowledgement_type algorithm acknowledged = if is_fault acknowledged then change_of_reliability_type else event_type_of algorithm

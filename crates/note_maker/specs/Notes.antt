@@ -1,7 +1,8 @@
 -- Notes: to each recipient that is to be notified of an event, one, in the order of the Recipient_List (ANSI/ASHRAE 135-2020, 13.2.5 and 12.21).
-use Rattle.std.specs.Prelude.{ℕ, ℤ, List, map}
+use Rattle.std.specs.Prelude.{ℕ, List, map}
 use Rattle.bac_values.specs.declared.note.Note.{Note}
 use Rattle.bac_values.specs.declared.transition.Transition.{Transition}
+use Rattle.civil_stamp.specs.LocalTime.{LocalZone}
 use Rattle.notify_class.specs.Recipients.{ListedRecipient}
 use Rattle.notify_class.specs.Chosen.{chosen_destinations}
 use Rattle.event_services.specs.declared.notification.Notification.{Notification}
@@ -16,5 +17,5 @@ note_to facts recipient = record {
 }
 
 -- the notes to those recipients that are to be notified of such a transition at the moment
-abbrev pub notes_for : Notification → List ListedRecipient → Transition → ℕ → ℤ → List Note
+abbrev pub notes_for : Notification → List ListedRecipient → Transition → ℕ → LocalZone → List Note
 notes_for facts recipients transition moment zone = map (note_to facts) (chosen_destinations recipients transition moment zone)

@@ -1,5 +1,4 @@
 ghost use Rattle.std.specs.Prelude.{◌≡◌, ◌≤◌, length, All, Contains, IfOk};
-ghost use Rattle.bac_values.specs.Moments.{IsMoment};
 ghost use Rattle.bac_values.specs.declared.note.Note.{Note};
 ghost use Rattle.event_services.specs.Notifications.{IsTold};
 ghost use Rattle.event_services.specs.NoteLengths.{most_octets};
@@ -7,9 +6,9 @@ ghost use Rattle.notify_class.specs.Edits.{peers_of};
 ghost use Rattle.note_maker.specs.Notes.{note_to, notes_for};
 
 use bac_values::{Items, NoMemory, Note, Transition, push};
-use civil_stamp::Zone;
+use civil_stamp::LocalMoment;
 use event_services::{Notification, write_notification_to};
-use notify_class::{Class, Destination, uses};
+use notify_class::{Class, Destination, uses_at};
 use std::alloc::Global;
 
 /// The note that tells a recipient.
@@ -27,25 +26,23 @@ fn note_to(alloc: Global, facts: &Notification, destination: &Destination) -> Re
 }
 
 /// The notes that tell the recipients of a class of an event at a moment: one for each that is notified of such a
-/// transition then, in the order of the list. Each is told its own process identifier.
+/// transition at the local date and time of it, in the order of the list. Each is told its own process identifier.
 pub fn notes_of(
     alloc: Global,
     facts: &Notification,
     class: &Class,
     transition: Transition,
-    moment: u64,
-    zone: &Zone,
+    at: &LocalMoment,
 ) -> Result<Vec<Note>, NoMemory>
     // The values are those of the event type, and each is one element.
     requires told { IsTold facts.now.event_type facts.now.values }
-    requires moment { IsMoment moment }
-    ensures notes { IfOk result (λ notes. notes.items ≡ notes_for facts.now class.now.destinations transition moment zone.now) }
+    ensures notes { IfOk result (λ notes. notes.items ≡ notes_for facts.now class.now.destinations transition at.now.moment at.now.zone) }
     ensures short { IfOk result (λ notes. All (λ (note : Note). length note.body ≤ most_octets) notes.items) }
     ensures peers { IfOk result (λ notes. All (λ (note : Note). Contains (peers_of class.now.destinations) note.peer) notes.items) }
 {
     let mut notes = Vec::new(alloc);
     for destination in class.destinations.as_slice() {
-        if uses(destination, transition, moment, zone) {
+        if uses_at(destination, transition, at) {
             push(&mut notes, note_to(alloc, facts, destination)?)?;
         }
     }

@@ -1,6 +1,6 @@
 ghost use Rattle.std.specs.Prelude.{◌≡◌};
 ghost use Rattle.event_services.specs.Notifications.{IsTold};
-ghost use Rattle.note_maker.specs.EventTypes.{acknowledgement_type, algorithm_type, transition_type};
+ghost use Rattle.note_maker.specs.EventTypes.{acknowledgement_type, transition_type};
 ghost use Rattle.note_maker.specs.Shapes.{acknowledgement_notification, transition_notification};
 
 use crate::Source;
@@ -10,20 +10,6 @@ use event_machine::Move;
 use event_services::{EventValues, Notification};
 use notify_class::Class;
 
-/// The number of the event type of an algorithm (BACnetEventType).
-pub fn algorithm_type(algorithm: Algorithm) -> u8
-    ensures number { result ≡ algorithm_type algorithm }
-{
-    match algorithm {
-        Algorithm::ChangeOfBitstring => EventType::CHANGE_OF_BITSTRING.0,
-        Algorithm::ChangeOfState => EventType::CHANGE_OF_STATE.0,
-        Algorithm::CommandFailure => EventType::COMMAND_FAILURE.0,
-        Algorithm::UnsignedRange => EventType::UNSIGNED_RANGE.0,
-        Algorithm::SignedOutOfRange => EventType::SIGNED_OUT_OF_RANGE.0,
-        Algorithm::UnsignedOutOfRange => EventType::UNSIGNED_OUT_OF_RANGE.0,
-        Algorithm::ChangeOfCharacterstring => EventType::CHANGE_OF_CHARACTERSTRING.0,
-    }
-}
 
 fn transition_type(algorithm: Algorithm, made: Move) -> u8
     ensures number { result ≡ transition_type algorithm made }
@@ -31,7 +17,7 @@ fn transition_type(algorithm: Algorithm, made: Move) -> u8
     if made.by_fault {
         EventType::CHANGE_OF_RELIABILITY.0
     } else {
-        algorithm_type(algorithm)
+        algorithm.event_type()
     }
 }
 
@@ -40,7 +26,7 @@ fn acknowledgement_type(algorithm: Algorithm, acknowledged: EventState) -> u8
 {
     match acknowledged {
         EventState::Fault => EventType::CHANGE_OF_RELIABILITY.0,
-        _ => algorithm_type(algorithm),
+        _ => algorithm.event_type(),
     }
 }
 

@@ -1,9 +1,10 @@
 ghost use Rattle.std.specs.Prelude.{◌≡◌, ◌≤◌, ℤ, Some, List, length, IfOk, IfSome, option_and_then};
 ghost use Rattle.std.specs.Option.{option_copied};
+ghost use Rattle.algorithm_rules.specs.EventTypes.{event_type_of};
 ghost use Rattle.algorithm_rules.specs.Facts.{facts_of};
 ghost use Rattle.event_machine.specs.Detection.{cause_on};
 ghost use Rattle.event_services.specs.Notifications.{IsOneValue, IsOneOrNone, IsTold};
-ghost use Rattle.note_maker.specs.EventTypes.{algorithm_type, transition_type};
+ghost use Rattle.note_maker.specs.EventTypes.{transition_type};
 ghost use Rattle.note_maker.specs.Told.{algorithm_values, as_signed, as_unsigned, bitstring_told, command_told, exceeded_limit, flags_in, one_value, range_told, reliability_values, signed_told, state_told, text_in, text_told, told_alarm, told_state, unsigned_told, values_at};
 
 use algorithm_rules::{Algorithm, Snapshot, matched};
@@ -247,7 +248,7 @@ fn algorithm_values(
 ) -> Result<Option<EventValues>, NoMemory>
     requires few { length snapshot.now.alarm_values.now ≤ 32 }
     ensures values { IfOk result (λ values. values ≡ algorithm_values snapshot.now.algorithm (facts_of snapshot.now) made cause flags) }
-    ensures told { IfOk result (λ values. IsTold (algorithm_type snapshot.now.algorithm) values) }
+    ensures told { IfOk result (λ values. IsTold (event_type_of snapshot.now.algorithm) values) }
 {
     let value = snapshot.value;
     let deadband = snapshot.deadband;

@@ -1,16 +1,17 @@
 -- The next recipient that is chosen, by the first element that passes the test of its window.
-use Rattle.std.proofs.Common.{rules, arith, ◌≡◌, ◌↔◌, ℕ, suc, ◌+◌, ◌-◌, ◌<◌, ◌≤◌, ℤ, Bool, true, false, true≢false, List, ◌∷◌, length, length-drop, drop, Option, Some, None, IsTrue, refl, sym, ap, ◌∙◌, inl, inr}
+use Rattle.std.proofs.Common.{rules, arith, ◌≡◌, ◌↔◌, ℕ, suc, ◌+◌, ◌-◌, ◌<◌, ◌≤◌, Bool, true, false, true≢false, List, ◌∷◌, length, length-drop, drop, Option, Some, None, IsTrue, refl, sym, ap, ◌∙◌, inl, inr}
 use Rattle.std.specs.List.{filter, slice_get, position_or_len, position}
 use Rattle.std.specs.Option.{IfSome, IsSomeAnd, option_map}
 use Rattle.std.proofs.lemmas.Bool.Decides.{leb_tells}
 use Rattle.std.proofs.lemmas.Option.{slice_get_past}
 use Rattle.bac_values.specs.declared.transition.Transition.{Transition}
+use Rattle.civil_stamp.specs.LocalTime.{LocalZone}
 use Rattle.notify_class.specs.Recipients.{ListedRecipient}
 use Rattle.notify_class.specs.Windows.{IsInWindow, is_in_window}
 use Rattle.notify_class.specs.Chosen.{IsChosenAt, IsNextChosen, GoesOn}
 use Rattle.notify_class.proofs.Positions.{before, none_kept, first_kept, slice_get-drop, drop-drop}
 
-window_tested : (recipient : ListedRecipient) (transition : Transition) (moment : ℕ) (zone : ℤ) → IsTrue (is_in_window recipient transition moment zone) ↔ IsInWindow recipient transition moment zone
+window_tested : (recipient : ListedRecipient) (transition : Transition) (moment : ℕ) (zone : LocalZone) → IsTrue (is_in_window recipient transition moment zone) ↔ IsInWindow recipient transition moment zone
 window_tested recipient transition moment zone = search rules
 
 -- nothing both fails and passes
@@ -22,7 +23,7 @@ one_of : {X : Type 0} (P Q : X → Type 0) → ((x : X) → P x → Q x) → (o 
 one_of P Q step None a = a
 one_of P Q step (Some x) a = step x a
 
-module _ (recipients : List ListedRecipient) (transition : Transition) (moment : ℕ) (zone : ℤ) (from : ℕ) where
+module _ (recipients : List ListedRecipient) (transition : Transition) (moment : ℕ) (zone : LocalZone) (from : ℕ) where
   abbrev test : ListedRecipient → Bool
   test recipient = is_in_window recipient transition moment zone
 

@@ -1,9 +1,9 @@
 -- When a recipient is to be notified (ANSI/ASHRAE 135-2020, 12.21, BACnetDestination: Valid Days, From Time, To Time, Transitions).
-use Rattle.std.specs.Prelude.{ℕ, ◌-◌, ◌^◌, ◌≤◌, ℤ, Bool, false, ◌&&◌, ◌==◌, not, nat_le, bit_and, IsBitSet, IsTrue, slice_index_or}
+use Rattle.std.specs.Prelude.{ℕ, ◌-◌, ◌^◌, ◌≤◌, Bool, false, ◌&&◌, ◌==◌, not, nat_le, bit_and, IsBitSet, IsTrue, slice_index_or}
 use Rattle.bac_values.specs.declared.transition.Transition.{Transition}
 use Rattle.bac_values.specs.declared.stamp.Stamp.{Stamp}
 use Rattle.bac_values.specs.EventStates.{place_of_transition}
-use Rattle.civil_stamp.specs.LocalTime.{local_stamp, stamp_weekday, stamp_time}
+use Rattle.civil_stamp.specs.LocalTime.{LocalZone, local_stamp, stamp_weekday, stamp_time}
 use Rattle.notify_class.specs.Recipients.{ListedRecipient}
 
 -- at what the local clock shows: the weekday is among the valid days, the first of which is Monday; the time of day
@@ -15,7 +15,7 @@ pub record IsOpenAt (recipient : ListedRecipient) (transition : Transition) (sho
   pub transitions : IsTrue (slice_index_or recipient.transitions (place_of_transition transition) false)
 
 -- the recipient is to be notified of a transition at the moment
-abbrev pub IsInWindow : ListedRecipient → Transition → ℕ → ℤ → Type 0
+abbrev pub IsInWindow : ListedRecipient → Transition → ℕ → LocalZone → Type 0
 IsInWindow recipient transition moment zone = IsOpenAt recipient transition (local_stamp zone moment)
 
 -- the test of it
@@ -26,6 +26,6 @@ is_open_at recipient transition weekday time =
     && nat_le recipient.from time
     && nat_le time recipient.to
 
-abbrev pub is_in_window : ListedRecipient → Transition → ℕ → ℤ → Bool
+abbrev pub is_in_window : ListedRecipient → Transition → ℕ → LocalZone → Bool
 is_in_window recipient transition moment zone =
     is_open_at recipient transition (stamp_weekday (local_stamp zone moment)) (stamp_time (local_stamp zone moment))

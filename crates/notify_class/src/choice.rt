@@ -6,7 +6,7 @@ ghost use Rattle.notify_class.specs.Chosen.{IsNextChosen, GoesOn};
 
 use crate::{Class, Destination};
 use bac_values::Transition;
-use civil_stamp::{Zone, weekday_and_time};
+use civil_stamp::{LocalMoment, Zone, weekday_and_time};
 
 /// Whether the window is open on a weekday, 1 for Monday, at so many hundredths of a second of the day.
 fn is_open_at(destination: &Destination, transition: Transition, weekday: u8, time: u32) -> bool
@@ -19,14 +19,22 @@ fn is_open_at(destination: &Destination, transition: Transition, weekday: u8, ti
         && time <= destination.to
 }
 
+/// Whether the destination is notified of such a transition at a moment, by the local date and time of it.
+pub fn uses_at(destination: &Destination, transition: Transition, at: &LocalMoment) -> bool
+    ensures window { IsTrue result ↔ IsInWindow destination.now transition at.now.moment at.now.zone }
+    ensures test { result ≡ is_in_window destination.now transition at.now.moment at.now.zone }
+{
+    let (weekday, time) = at.weekday_and_time();
+    is_open_at(destination, transition, weekday, time)
+}
+
 /// Whether the destination is notified of such a transition at the moment.
 pub fn uses(destination: &Destination, transition: Transition, moment: u64, zone: &Zone) -> bool
     requires moment { IsMoment moment }
     ensures window { IsTrue result ↔ IsInWindow destination.now transition moment zone.now }
     ensures test { result ≡ is_in_window destination.now transition moment zone.now }
 {
-    let (weekday, time) = weekday_and_time(moment, zone);
-    is_open_at(destination, transition, weekday, time)
+    uses_at(destination, transition, &LocalMoment::new(moment, zone))
 }
 
 /// The first place of a destination whose window is open on the weekday at the time of day.

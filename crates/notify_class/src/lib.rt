@@ -6,7 +6,7 @@ mod class;
 mod destination;
 mod edit;
 
-pub use choice::{chosen, uses};
+pub use choice::{chosen, uses, uses_at};
 pub use class::Class;
 pub use destination::Destination;
 pub use edit::{EditFault, check_edit};

@@ -1,14 +1,13 @@
-ghost use Rattle.std.specs.Prelude.{◌≡◌, ◌≤◌, ◌<◌, ◌^◌, IfOk, IsSome, IsTrue, OnOk, pos};
+ghost use Rattle.std.specs.Prelude.{◌≡◌, ◌≤◌, ◌<◌, ◌^◌, IfOk, OnOk, pos};
 ghost use Rattle.bac_values.specs.Moments.{IsMoment};
 ghost use Rattle.object_table.specs.Objects.{IsObject};
-ghost use Rattle.alarm_core.specs.Allowed.{IsAllowed, members_of, room_beside};
-ghost use Rattle.alarm_core.specs.Classes.{class_in};
+ghost use Rattle.alarm_core.specs.Allowed.{IsAllowed};
 ghost use Rattle.alarm_core.specs.Sites.{IsSite};
 
 use crate::comparing::holds;
 use alarm_core::*;
-use bac_values::{Items, ObjectId, ObjectKind, Peer, PropertyId, Send, Text, Value};
-use notify_class::{Class, Destination, check_edit};
+use bac_values::{Items, ObjectId, ObjectKind, Peer, Text, Value};
+use notify_class::{Class, Destination};
 use object_table::ObjectSite;
 use std::alloc::Global;
 use std::test::Fail;
@@ -29,34 +28,25 @@ fn operator() -> Peer {
     Peer::local(167_772_165, 47808)
 }
 
-/// Another recipient, whom the site doesn't list.
-fn guard() -> Peer {
-    Peer::local(167_772_166, 47808)
-}
-
-/// One that is told of everything at any time, and confirms it.
-fn told(peer: Peer, process: u32) -> Destination {
-    Destination {
-        days: 127,
-        from: 0,
-        to: 8_639_999,
-        peer,
-        process,
-        confirmed: true,
-        transitions: [true; 3],
-    }
-}
-
 fn operators(alloc: Global) -> Result<ClassSite, Fail>
     ensures instance { IfOk result (λ site. site.class.instance ≡ 7) }
 {
+    let told = Destination {
+        days: 127,
+        from: 0,
+        to: 8_639_999,
+        peer: operator(),
+        process: 1,
+        confirmed: true,
+        transitions: [true; 3],
+    };
     Ok(ClassSite {
         name: Text::new(alloc, "Operators")?,
         class: Class {
             instance: 7,
             priority: [100, 90, 200],
             ack_required: [true, true, false],
-            destinations: Items::of(vec![in alloc; told(operator(), 1)]?),
+            destinations: Items::of(vec![in alloc; told]?),
         },
     })
 }
@@ -157,59 +147,10 @@ fn answer(core: &mut Core, moment: u64, invoke: u8) -> Result<Outcome, Fail>
     Ok(take(core, moment, Act::Answer { peer, invoke, kind })??)
 }
 
-/// Whether there is no other class, and one object alone is its member.
-fn is_alone(core: &Core, class: u32) -> bool
-    ensures class { IsTrue result → IsSome (class_in class core.now.classes) }
-    ensures members { IsTrue result → members_of core.now class ≡ 1 }
-    ensures room { IsTrue result → room_beside core.now class ≡ core.now.site.device.outbox }
-{
-    match (core.classes(), core.table().rows()) {
-        ([only], [row]) => {
-            only.instance == class
-                && row.site.class == Some(class)
-                && core.site().enrollments.as_slice().is_empty()
-        }
-        _ => false,
-    }
-}
-
-/// The class of the operators gets another list.
-fn edit(core: &mut Core, moment: u64, list: Vec<Destination>) -> Result<Outcome, Fail>
-    requires moment { IsMoment moment }
-{
-    let class = 7;
-    let room = core.site().device.outbox;
-    let is_edit = check_edit(core.known_peers(), &list, 1, room).is_ok();
-    if !is_alone(core, class) || !is_edit {
-        return Err(Fail::new("it isn't allowed"));
-    }
-    let destinations = Items::of(list);
-    Ok(take(
-        core,
-        moment,
-        Act::Edit {
-            class,
-            destinations,
-        },
-    )??)
-}
-
-/// Whether a datagram goes to a recipient with these octets.
-fn is_sent(send: &Send, peer: Peer, octets: &[u8]) -> bool {
-    send.peer == peer && send.bytes.as_slice() == octets
-}
-
-/// Whether the Recipient_List of the operators' class is read as these octets.
-fn lists(alloc: Global, core: &Core, octets: &[u8]) -> Result<bool, Fail> {
-    let class = ObjectId::of_kind(ObjectKind::NotificationClass, 7)?;
-    let read = core.read(alloc, class, PropertyId(102), None)?;
-    Ok(read.as_slice() == octets)
-}
-
 /// Whether one datagram is sent, to the operator, with these octets.
 fn sends(outcome: &Outcome, octets: &[u8]) -> bool {
     match outcome.sends.as_slice() {
-        [send] => is_sent(send, operator(), octets),
+        [send] => send.peer == operator() && send.bytes.as_slice() == octets,
         _ => false,
     }
 }
@@ -234,59 +175,5 @@ fn nothing_fits_where_nothing_may_wait(rt: HostRuntime) -> Result<(), Fail> {
         Err(fault) => holds(&rt, fault == StepFault::Full { would: 1, limit: 0 }),
     }
     holds(&rt, core.events() == 0);
-    Ok(())
-}
-
-/// The list of the operator and of the guard, both at all times and of all transitions, to be confirmed.
-const BOTH: [u8; 62] = [
-    0x82, 0x01, 0xfe, 0xb4, 0x00, 0x00, 0x00, 0x00, 0xb4, 0x17, 0x3b, 0x3b, 0x63, 0x1e, 0x21, 0x00,
-    0x65, 0x06, 0x0a, 0x00, 0x00, 0x05, 0xba, 0xc0, 0x1f, 0x21, 0x01, 0x11, 0x82, 0x05, 0xe0, 0x82,
-    0x01, 0xfe, 0xb4, 0x00, 0x00, 0x00, 0x00, 0xb4, 0x17, 0x3b, 0x3b, 0x63, 0x1e, 0x21, 0x00, 0x65,
-    0x06, 0x0a, 0x00, 0x00, 0x06, 0xba, 0xc0, 0x1f, 0x21, 0x02, 0x11, 0x82, 0x05, 0xe0,
-];
-
-/// Whether the operator and the guard are the known peers.
-fn knows_both(core: &Core) -> bool {
-    let both = [operator(), guard()];
-    core.known_peers() == both.as_slice()
-}
-
-/// Whether the operator is told of HIGH_LIMIT as process 1, and the guard as process 2.
-fn tells_both(outcome: &Outcome) -> bool {
-    let mut guarded = HIGH_LIMIT;
-    guarded[11] = 2;
-    match outcome.sends.as_slice() {
-        [first, second] => {
-            is_sent(first, operator(), &HIGH_LIMIT) && is_sent(second, guard(), &guarded)
-        }
-        _ => false,
-    }
-}
-
-#[test]
-fn an_edit_is_read_and_its_recipients_are_told(rt: HostRuntime) -> Result<(), Fail> {
-    let mut core = Core::start(rt.alloc(), &plant(rt.alloc(), 64)?)?;
-    let list = vec![in rt.alloc(); told(operator(), 1), told(guard(), 2)]?;
-    let edited = edit(&mut core, START, list)?;
-    holds(
-        &rt,
-        edited.moves.as_slice().is_empty() && edited.sends.as_slice().is_empty(),
-    );
-    holds(&rt, knows_both(&core));
-    holds(&rt, lists(rt.alloc(), &core, &BOTH)?);
-    let _moved = set(&mut core, START, 90)??;
-    let sent = take(&mut core, START, Act::Pump)??;
-    holds(&rt, tells_both(&sent) && core.last_moment() == START);
-    Ok(())
-}
-
-#[test]
-fn a_peer_of_an_earlier_list_stays_known(rt: HostRuntime) -> Result<(), Fail> {
-    let mut core = Core::start(rt.alloc(), &plant(rt.alloc(), 64)?)?;
-    let list = vec![in rt.alloc(); told(guard(), 2)]?;
-    let _edited = edit(&mut core, START, list)?;
-    holds(&rt, knows_both(&core));
-    let _moved = set(&mut core, START, 90)??;
-    holds(&rt, core.outbox().room() == 63);
     Ok(())
 }

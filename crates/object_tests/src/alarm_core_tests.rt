@@ -119,7 +119,8 @@ fn gives(
     index: Option<u32>,
     octets: &[u8],
 ) -> bool {
-    match core.read(alloc, object, PropertyId(property), index) {
+    let answer = core.read(alloc, object, PropertyId(property), index);
+    match &answer {
         Ok(read) => read.as_slice() == octets,
         Err(_) => false,
     }
@@ -140,9 +141,10 @@ fn is_error(
     class: u8,
     code: u8,
 ) -> bool {
-    match core.read(alloc, object, PropertyId(property), index) {
+    let answer = core.read(alloc, object, PropertyId(property), index);
+    match &answer {
         Ok(_) => false,
-        Err(fault) => fault == ReadFault::Error { class, code },
+        Err(fault) => *fault == ReadFault::Error { class, code },
     }
 }
 

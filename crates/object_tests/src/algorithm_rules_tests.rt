@@ -1,6 +1,6 @@
 ghost use Rattle.std.specs.Prelude.{◌≡◌, ◌≤◌, length, []};
 
-use crate::comparing::same;
+use crate::comparing::{holds, same};
 use algorithm_rules::Algorithm::*;
 use algorithm_rules::Test::*;
 use algorithm_rules::Waiting::*;
@@ -373,4 +373,32 @@ fn feedback_is_compared_and_delays_are_chosen(rt: HostRuntime) {
         };
         same(&rt, &delay(&rule, &quick), &seconds);
     }
+}
+
+#[test]
+fn each_algorithm_has_the_number_of_its_event_type(rt: HostRuntime) {
+    let numbers = [
+        ChangeOfBitstring.event_type(),
+        ChangeOfState.event_type(),
+        CommandFailure.event_type(),
+        UnsignedRange.event_type(),
+        SignedOutOfRange.event_type(),
+        UnsignedOutOfRange.event_type(),
+        ChangeOfCharacterstring.event_type(),
+    ];
+    same(&rt, &numbers, &[0, 1, 3, 11, 15, 16, 17]);
+}
+
+#[test]
+fn a_value_matches_one_of_its_type(rt: HostRuntime) {
+    let one = Value::Unsigned(1);
+    holds(&rt, matches(None, &one, &Value::Unsigned(1)));
+    holds(&rt, !matches(None, &one, &Value::Enumerated(1)));
+    same(&rt, &number_of(&Value::Signed(-5)), &Some(-5));
+    same(
+        &rt,
+        &number_of(&Value::Unsigned(u32::MAX)),
+        &Some(4_294_967_295),
+    );
+    same(&rt, &number_of(&Value::Enumerated(1)), &None);
 }

@@ -1,7 +1,7 @@
 // Each wanted stamp was computed by Python's datetime.
 use crate::comparing::{holds, same};
 use bac_values::{FIRST_MOMENT, LAST_MOMENT};
-use civil_stamp::{Zone, ZoneRange, stamp_of, weekday_and_time};
+use civil_stamp::{LocalMoment, Zone, ZoneRange, stamp_of, weekday_and_time};
 use std::test::Fail;
 
 fn octets_at(moment: u64, minutes: i16) -> Option<[u8; 8]> {
@@ -105,6 +105,20 @@ fn tells_weekday_and_time(rt: HostRuntime) -> Result<(), Fail> {
         &weekday_and_time(1_704_067_199_990, &utc),
         &(7, 8_639_999),
     );
+    Ok(())
+}
+
+#[test]
+fn a_local_moment_has_the_date_and_time_of_its_zone(rt: HostRuntime) -> Result<(), Fail> {
+    // The last hundredth of the 31st of December 2023 in UTC, a Sunday, and an hour east of it a Monday.
+    let moment = 1_704_067_199_990;
+    let at = LocalMoment::new(moment, &Zone::fixed(60)?);
+    same(&rt, &at.moment(), &moment);
+    same(&rt, &at.stamp().octets, &[124, 1, 1, 1, 0, 59, 59, 99]);
+    same(&rt, &at.weekday_and_time(), &(1, 359_999));
+    let utc = LocalMoment::new(moment, &Zone::fixed(0)?);
+    same(&rt, &utc.stamp().octets, &[123, 12, 31, 7, 23, 59, 59, 99]);
+    holds(&rt, utc != at);
     Ok(())
 }
 

@@ -583,3 +583,24 @@ fn an_enrollment_has_fourteen_properties(rt: HostRuntime) {
         &None,
     );
 }
+
+#[test]
+fn each_kind_has_its_algorithm(rt: HostRuntime) {
+    let algorithms = [
+        algorithm_of(Some(ObjectKind::BinaryValue)),
+        algorithm_of(Some(ObjectKind::MultiStateValue)),
+        algorithm_of(Some(ObjectKind::BitStringValue)),
+        algorithm_of(Some(ObjectKind::CharacterStringValue)),
+        algorithm_of(Some(ObjectKind::IntegerValue)),
+        algorithm_of(Some(ObjectKind::PositiveIntegerValue)),
+    ];
+    let wanted = [
+        Algorithm::ChangeOfState,
+        Algorithm::ChangeOfState,
+        Algorithm::ChangeOfBitstring,
+        Algorithm::ChangeOfCharacterstring,
+        Algorithm::SignedOutOfRange,
+        Algorithm::UnsignedOutOfRange,
+    ];
+    same(&rt, &algorithms, &wanted);
+}

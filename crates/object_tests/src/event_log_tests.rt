@@ -68,8 +68,16 @@ fn a_restored_log_answers_as_before(rt: HostRuntime) -> Result<(), Fail> {
         sequence: 3,
         body: Items::of(vec![in alloc; 3u8]?),
     })?;
-    let log = EventLog::restore(alloc, 2, false, true, 3, records)?;
+    let mut log = EventLog::restore(alloc, 2, false, true, 3, records)?;
     answers_for_three_in_two(&rt, &log);
+    same(&rt, &log.item(0).map(|entry| entry.stamp), &Some(second(2)));
+    holds(&rt, log.enabled());
+    log.set_enabled(false);
+    put(alloc, &mut log, 4)?;
+    same(&rt, &log.item(1).map(|entry| entry.sequence), &Some(3));
+    log.set_enabled(true);
+    put(alloc, &mut log, 5)?;
+    same(&rt, &log.item(1).map(|entry| entry.sequence), &Some(4));
     Ok(())
 }
 
@@ -89,8 +97,8 @@ fn numbers_go_on_with_1(rt: HostRuntime) -> Result<(), Fail> {
     same(&rt, &log.range_by_sequence(u32::MAX, 3), &range(0, 3));
     same(&rt, &log.range_by_sequence(1, 5), &range(1, 2));
     same(&rt, &log.range_by_sequence(2, -2), &range(1, 2));
-    same(&rt, &log.range_by_sequence(3, 1), &LogRange::EMPTY);
-    same(&rt, &log.range_by_sequence(0, 1), &LogRange::EMPTY);
+    same(&rt, &log.range_by_sequence(3, 1), &range(0, 0));
+    same(&rt, &log.range_by_sequence(0, 1), &range(0, 0));
     Ok(())
 }
 
@@ -101,19 +109,19 @@ fn ranges_end_at_the_edges(rt: HostRuntime) -> Result<(), Fail> {
     for at in [1u8, 3, 3, 5] {
         put(alloc, &mut log, at)?;
     }
-    same(&rt, &log.range_by_position(0, 1), &LogRange::EMPTY);
-    same(&rt, &log.range_by_position(5, -1), &LogRange::EMPTY);
+    same(&rt, &log.range_by_position(0, 1), &range(0, 0));
+    same(&rt, &log.range_by_position(5, -1), &range(0, 0));
     same(&rt, &log.range_by_position(1, 9), &range(0, 4));
     same(&rt, &log.range_by_position(3, -2), &range(1, 2));
     same(&rt, &log.range_by_position(2, -9), &range(0, 2));
-    same(&rt, &log.range_by_position(2, 0), &LogRange::EMPTY);
+    same(&rt, &log.range_by_position(2, 0), &range(0, 0));
     same(&rt, &log.range_by_position(4, i32::MIN), &range(0, 4));
     same(&rt, &log.range_by_time(&second(3), 9), &range(3, 1));
     same(&rt, &log.range_by_time(&second(3), -9), &range(0, 1));
     same(&rt, &log.range_by_time(&second(0), 2), &range(0, 2));
     same(&rt, &log.range_by_time(&second(9), -3), &range(1, 3));
-    same(&rt, &log.range_by_time(&second(5), 1), &LogRange::EMPTY);
-    same(&rt, &log.range_by_time(&second(1), -1), &LogRange::EMPTY);
+    same(&rt, &log.range_by_time(&second(5), 1), &range(0, 0));
+    same(&rt, &log.range_by_time(&second(1), -1), &range(0, 0));
     Ok(())
 }
 
@@ -133,18 +141,51 @@ fn a_cleared_log_keeps_its_total(rt: HostRuntime) -> Result<(), Fail> {
     Ok(())
 }
 
+// A log with one record of a Tuesday, one of the same time and an unknown weekday, and one of the next day.
+fn of_two_days(alloc: Global) -> Result<EventLog, Fail> {
+    let mut log = EventLog::new(alloc, 8, false, true)?;
+    for (day, weekday) in [(14u8, 2u8), (14, 255), (15, 1)] {
+        log.record(at_day(day, weekday), Vec::new(alloc));
+    }
+    Ok(log)
+}
+
+fn at_day(day: u8, weekday: u8) -> Stamp {
+    Stamp {
+        octets: [123, 11, day, weekday, 22, 13, 20, 0],
+    }
+}
+
 #[test]
-fn the_weekday_is_not_looked_at(rt: HostRuntime) {
-    let tuesday = Stamp {
-        octets: [123, 11, 14, 2, 22, 13, 20, 0],
-    };
-    let no_day = Stamp {
-        octets: [123, 11, 14, 255, 22, 13, 20, 0],
-    };
-    let later = Stamp {
-        octets: [123, 11, 15, 1, 0, 0, 0, 0],
-    };
-    holds(&rt, !is_before(&tuesday, &no_day));
-    holds(&rt, !is_before(&no_day, &tuesday));
-    holds(&rt, is_before(&no_day, &later));
+fn the_weekday_is_not_looked_at(rt: HostRuntime) -> Result<(), Fail> {
+    let log = of_two_days(rt.alloc())?;
+    same(&rt, &log.range_by_time(&at_day(14, 255), 9), &range(2, 1));
+    same(&rt, &log.range_by_time(&at_day(14, 2), 9), &range(2, 1));
+    same(&rt, &log.range_by_time(&at_day(14, 7), -9), &range(0, 0));
+    same(&rt, &log.range_by_time(&at_day(15, 9), -9), &range(0, 2));
+    Ok(())
+}
+
+#[test]
+fn a_new_log_has_nothing(rt: HostRuntime) -> Result<(), Fail> {
+    let log = EventLog::new(rt.alloc(), 2, false, false)?;
+    same(&rt, &(log.len(), log.total()), &(0, 0));
+    holds(&rt, log.item(0).is_none());
+    holds(&rt, !log.enabled());
+    Ok(())
+}
+
+#[test]
+fn records_have_the_numbers_up_to_the_total(rt: HostRuntime) -> Result<(), Fail> {
+    let log = three_in_two(rt.alloc(), false)?;
+    same(
+        &rt,
+        &log.item(0).map(|entry| entry.sequence),
+        &Some(number_back(log.total(), 1)),
+    );
+    same(&rt, &number_back(3, 0), &3);
+    same(&rt, &number_back(2, 1), &1);
+    same(&rt, &number_back(2, 2), &u32::MAX);
+    same(&rt, &number_back(1, 2), &(u32::MAX - 1));
+    Ok(())
 }

@@ -11,7 +11,7 @@ use std::test::Fail;
 const START: u64 = 1_700_000_000_000;
 
 /// Limits of 20 and 80 with a deadband of 5, delays of so many seconds.
-fn limits<'a>(value: &'a Value, delay: u32) -> Snapshot<'a>
+pub(crate) fn limits<'a>(value: &'a Value, delay: u32) -> Snapshot<'a>
     ensures { length result.alarm_values.now ≤ 32 }
 {
     Snapshot {
@@ -31,7 +31,7 @@ fn limits<'a>(value: &'a Value, delay: u32) -> Snapshot<'a>
 }
 
 /// States that are alarms, and a delay of five seconds.
-fn states<'a>(value: &'a Value, alarm_values: &'a [Value]) -> Snapshot<'a>
+pub(crate) fn states<'a>(value: &'a Value, alarm_values: &'a [Value]) -> Snapshot<'a>
     requires { length alarm_values.now ≤ 32 }
     ensures { length result.alarm_values.now ≤ 32 }
 {
@@ -50,7 +50,7 @@ fn stamp(after: u32) -> Stamp {
     }
 }
 
-fn point(after: u32) -> PointFacts {
+pub(crate) fn point(after: u32) -> PointFacts {
     PointFacts {
         moment: START + u64::from(after),
         stamp: stamp(after),
@@ -60,7 +60,7 @@ fn point(after: u32) -> PointFacts {
     }
 }
 
-fn moves(from: EventState, to: EventState) -> Option<Move> {
+pub(crate) fn moves(from: EventState, to: EventState) -> Option<Move> {
     Some(Move {
         from,
         to,
@@ -68,7 +68,7 @@ fn moves(from: EventState, to: EventState) -> Option<Move> {
     })
 }
 
-fn faults(from: EventState, to: EventState) -> Option<Move> {
+pub(crate) fn faults(from: EventState, to: EventState) -> Option<Move> {
     Some(Move {
         from,
         to,
@@ -76,7 +76,7 @@ fn faults(from: EventState, to: EventState) -> Option<Move> {
     })
 }
 
-const NOTHING: Changed = Changed {
+pub(crate) const NOTHING: Changed = Changed {
     first: None,
     second: None,
 };
@@ -84,14 +84,25 @@ const NOTHING: Changed = Changed {
 fn started(alloc: Global, snapshot: &Snapshot<'_>) -> Result<(Alarm, Past), NoMemory>
     requires { length snapshot.now.alarm_values.now ≤ 32 }
 {
+    begun(alloc, snapshot, &point(0))
+}
+
+/// A new alarm and what is kept of its first point.
+pub(crate) fn begun(
+    alloc: Global,
+    snapshot: &Snapshot<'_>,
+    first: &PointFacts,
+) -> Result<(Alarm, Past), NoMemory>
+    requires { length snapshot.now.alarm_values.now ≤ 32 }
+{
     let none = Past::new(alloc);
     let mut past = none.copy(alloc)?;
     let alarm = Alarm::new();
-    begin(&alarm, &mut past, snapshot, &point(0));
+    begin(&alarm, &mut past, snapshot, first);
     Ok((alarm, past))
 }
 
-fn looked(
+pub(crate) fn looked(
     alloc: Global,
     alarm: &mut Alarm,
     past: &mut Past,

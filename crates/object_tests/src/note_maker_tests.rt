@@ -10,7 +10,7 @@ use bac_values::{
     Bits, EventState, Items, Note, ObjectId, Peer, Reliability, Stamp, StatusFlags, Text,
     Transition, Value,
 };
-use civil_stamp::Zone;
+use civil_stamp::{LocalMoment, Zone};
 use event_machine::Move;
 use event_services::{EventValues, Notification, read_notification};
 use note_maker::*;
@@ -46,7 +46,7 @@ const FAULTY: [u8; 59] = [
 const RAISED_AT: u64 = 1_700_000_010_000;
 
 /// The local date and time of it there.
-const RAISED: Stamp = Stamp {
+pub(crate) const RAISED: Stamp = Stamp {
     octets: [0x7b, 0x0b, 0x0e, 0x02, 0x16, 0x0d, 0x1e, 0x00],
 };
 
@@ -91,14 +91,14 @@ fn class(destinations: Vec<Destination>) -> Class {
 }
 
 /// Class 7 with one recipient, whose process is 1.
-fn class_of_one(alloc: Global) -> Result<Class, Fail> {
+pub(crate) fn class_of_one(alloc: Global) -> Result<Class, Fail> {
     let mut destinations = Vec::new(alloc);
     destinations.push(always(1))?;
     Ok(class(destinations))
 }
 
 /// A value with limits 20 and 80, both enabled, and a deadband of 5.
-fn snapshot<'a>(
+pub(crate) fn snapshot<'a>(
     algorithm: Algorithm,
     value: &'a Value,
     alarm_values: &'a [Value],
@@ -123,7 +123,7 @@ fn snapshot<'a>(
     }
 }
 
-fn by_algorithm(from: EventState, to: EventState) -> Move {
+pub(crate) fn by_algorithm(from: EventState, to: EventState) -> Move {
     Move {
         from,
         to,
@@ -159,8 +159,8 @@ fn body_of(
 ) -> Result<Vec<u8>, Fail>
     requires { IsTold facts.now.event_type facts.now.values }
 {
-    let utc = Zone::fixed(0)?;
-    let notes = notes_of(alloc, facts, class, transition, RAISED_AT, &utc)
+    let at = LocalMoment::new(RAISED_AT, &Zone::fixed(0)?);
+    let notes = notes_of(alloc, facts, class, transition, &at)
         .ok()
         .ok_or("no memory")?;
     let mut body = Vec::new(alloc);
@@ -171,7 +171,7 @@ fn body_of(
 }
 
 /// The octets are the one note of the facts to process 1, and are read back.
-fn expect_note(
+pub(crate) fn expect_note(
     rt: &impl Abort,
     alloc: Global,
     facts: Notification,
@@ -281,11 +281,11 @@ fn processes_told(alloc: Global, moment: u64, minutes: i16) -> Result<Vec<u32>, 
     requires { IsMoment moment }
 {
     let class = class_of_six(alloc)?;
-    let zone = Zone::fixed(minutes)?;
+    let at = LocalMoment::new(moment, &Zone::fixed(minutes)?);
     let facts = acknowledgement_notification(&source()?, &class, EventState::Normal, LATER);
     let mut processes = Vec::new(alloc);
     for transition in Transition::ALL {
-        let notes = notes_of(alloc, &facts, &class, transition, moment, &zone)
+        let notes = notes_of(alloc, &facts, &class, transition, &at)
             .ok()
             .ok_or("no memory")?;
         for note in notes.as_slice() {

@@ -3,8 +3,8 @@ ghost use Rattle.notify_class.specs.Recipients.{IsListedRecipient};
 // Each wanted answer at a moment was computed by Python's datetime.
 use crate::comparing::{holds, same};
 use bac_values::{Items, Peer, Transition};
-use civil_stamp::Zone;
-use notify_class::{Class, Destination, EditFault, check_edit, chosen, uses};
+use civil_stamp::{LocalMoment, Zone};
+use notify_class::{Class, Destination, EditFault, check_edit, chosen, uses, uses_at};
 use std::test::Fail;
 
 /// 2023-11-13, a Monday, at 08:00:00.000 UTC.
@@ -68,6 +68,16 @@ fn the_weekday_is_the_zones(rt: HostRuntime) -> Result<(), Fail> {
         &rt,
         !uses(&tuesdays, Transition::ToFault, midnight, &Zone::fixed(-1)?),
     );
+    Ok(())
+}
+
+#[test]
+fn the_time_of_day_is_the_zones(rt: HostRuntime) -> Result<(), Fail> {
+    // An hour east of UTC it is nine o'clock.
+    let at = LocalMoment::new(MONDAY_AT_EIGHT, &Zone::fixed(60)?);
+    let off = Transition::ToOffnormal;
+    holds(&rt, uses_at(&destination(1, 1, NINE, NINE), off, &at));
+    holds(&rt, !uses_at(&destination(1, 1, EIGHT, EIGHT), off, &at));
     Ok(())
 }
 

@@ -266,3 +266,50 @@ fn an_object_out_of_service_is_not_set(rt: HostRuntime) -> Result<(), Fail> {
     same(&rt, &row.field_fault, &12);
     Ok(())
 }
+
+/// A character string value without a class.
+fn label(alloc: Global) -> Result<ObjectSite, Fail>
+    ensures object { IfOk result (λ site. IsObject site) }
+{
+    Ok(ObjectSite {
+        object: ObjectId::of_kind(ObjectKind::CharacterStringValue, 1)?,
+        name: Text::new(alloc, "Label")?,
+        value: Value::Text(Text::new(alloc, "ok")?),
+        out_of_service: false,
+        reliability_inhibit: false,
+        states: 0,
+        fault_low: None,
+        fault_high: None,
+        fault_values: Items::of(Vec::new(alloc)),
+        class: None,
+        notify: 0,
+        enable: [false, false, false],
+        time_delay: 0,
+        time_delay_normal: None,
+        detection: false,
+        inhibit: false,
+        low: 0,
+        high: 0,
+        deadband: 0,
+        limit_enable: [false, false],
+        alarm_value: None,
+        alarm_values: Items::of(Vec::new(alloc)),
+        mask: None,
+    })
+}
+
+#[test]
+fn a_text_is_written_and_taken_back(rt: HostRuntime) -> Result<(), Fail> {
+    let alloc = rt.alloc();
+    let label_id = ObjectId::of_kind(ObjectKind::CharacterStringValue, 1)?;
+    let mut table = Table::new(alloc, vec![in alloc; label(alloc)?]?)?;
+    let text = Value::Text(Text::new(alloc, "hi")?);
+    let change = table.check_write(label_id, PropertyId::PRESENT_VALUE, None, &text)?;
+    let back = table.apply(change);
+    holds(&rt, table.value_of(label_id) == Some(&text));
+    let again = table.apply(back);
+    let before = Value::Text(Text::new(alloc, "ok")?);
+    holds(&rt, table.value_of(label_id) == Some(&before));
+    let _ = again;
+    Ok(())
+}

@@ -255,13 +255,165 @@ fn peers_are_learned_at_their_places(rt: HostRuntime) -> Result<(), Fail> {
     Ok(())
 }
 
+// The posts of an outbox, as they are told.
+fn posts_of(alloc: Global, outbox: &Outbox) -> Result<Vec<Post>, Fail> {
+    let mut posts = Vec::new(alloc);
+    for place in 0..3 {
+        if let Some(post) = outbox.post(place) {
+            posts.push(post)?;
+        }
+    }
+    Ok(posts)
+}
+
+// The first notes of the recipient at a place, so many.
+fn notes_at(alloc: Global, outbox: &Outbox, place: u32, count: u32) -> Result<Vec<Note>, Fail> {
+    let mut notes = Vec::new(alloc);
+    for index in 0..count {
+        if let Some(note) = outbox.note(place, index) {
+            notes.push(Note {
+                peer: note.peer,
+                confirmed: note.confirmed,
+                body: Items::of(Vec::from_slice(alloc, note.body.as_slice())?),
+            })?;
+        }
+    }
+    Ok(notes)
+}
+
+// An outbox of the same posts and notes.
+fn restored(alloc: Global, posts: Vec<Post>, notes: Vec<Note>) -> Result<Outbox, Fail> {
+    if !Outbox::can_restore(&posts, &notes, 64, 3_000, 3) {
+        return Err(Fail::from("no outbox"));
+    }
+    Ok(Outbox::restore(alloc, posts, notes, 64, 3_000, 3)?)
+}
+
+// An outbox with an alarm for 10.0.0.5 that was sent twice, at 10 seconds and at 13, and a fault behind it.
+fn sent_twice(rt: &impl Abort, alloc: Global) -> Result<Outbox, Fail> {
+    let mut outbox = outbox(alloc)?;
+    queue_at(alloc, &mut outbox, 0, true, &ALARM)?;
+    queue_at(alloc, &mut outbox, 0, true, &FAULT)?;
+    sent(
+        rt,
+        &pump_at(alloc, &mut outbox, 10_000)?,
+        &peer(5),
+        &ALARM_SENT,
+    );
+    sent(
+        rt,
+        &pump_at(alloc, &mut outbox, 13_000)?,
+        &peer(5),
+        &ALARM_SENT,
+    );
+    Ok(outbox)
+}
+
+// What was read out of it, made an outbox again.
+fn sent_twice_and_restored(rt: &impl Abort, alloc: Global) -> Result<Outbox, Fail> {
+    let told = sent_twice(rt, alloc)?;
+    let posts = posts_of(alloc, &told)?;
+    let notes = notes_at(alloc, &told, 0, 2)?;
+    counts(rt, posts.len(), 3);
+    same(rt, &posts[0], &first_post(2, T + 16_000));
+    counts(rt, notes.len(), 2);
+    same(rt, &notes[0].body.as_slice(), &ALARM.as_slice());
+    restored(alloc, posts, notes)
+}
+
+fn first_post(attempts: u8, deadline: u64) -> Post {
+    Post {
+        peer: peer(5),
+        next_invoke: 0,
+        attempts,
+        deadline,
+        notes: 2,
+    }
+}
+
 #[test]
 fn a_restored_outbox_goes_on(rt: HostRuntime) -> Result<(), Fail> {
     let alloc = rt.alloc();
-    let mut outbox = Outbox::restore(alloc, Vec::new(alloc), Vec::new(alloc), 64, 3_000, 3)?;
-    outbox.learn(alloc, &[peer(5)])?;
-    queue_at(alloc, &mut outbox, 0, true, &ALARM)?;
-    let sends = pump_at(alloc, &mut outbox, 0)?;
-    sent(&rt, &sends, &peer(5), &ALARM_SENT);
+    let mut outbox = sent_twice_and_restored(&rt, alloc)?;
+    same(&rt, &outbox.room(), &62);
+    holds(&rt, outbox.has_in_flight(&peer(5), 0));
+    holds(&rt, outbox.idle(T + 15_999));
+    sent(
+        &rt,
+        &pump_at(alloc, &mut outbox, 16_000)?,
+        &peer(5),
+        &ALARM_SENT,
+    );
+    sent(
+        &rt,
+        &pump_at(alloc, &mut outbox, 19_000)?,
+        &peer(5),
+        &ALARM_SENT,
+    );
+    sent(
+        &rt,
+        &pump_at(alloc, &mut outbox, 22_000)?,
+        &peer(5),
+        &FAULT_SENT,
+    );
     Ok(())
+}
+
+#[test]
+fn an_answer_after_a_restoring_lets_the_next_note_go(rt: HostRuntime) -> Result<(), Fail> {
+    let alloc = rt.alloc();
+    let mut outbox = sent_twice_and_restored(&rt, alloc)?;
+    same(&rt, &outbox.answer(&peer(5), 1), &Answered::Stray);
+    same(&rt, &outbox.answer(&peer(5), 0), &Answered::Answered);
+    sent(
+        &rt,
+        &pump_at(alloc, &mut outbox, 14_000)?,
+        &peer(5),
+        &FAULT_SENT,
+    );
+    Ok(())
+}
+
+// Whether an outbox may be made of this post, for 10.0.0.5, and these notes of an outbox, or of none.
+fn may_be(rt: &impl Abort, alloc: Global, post: Post, count: u32) -> Result<bool, Fail> {
+    let told = sent_twice(rt, alloc)?;
+    let notes = notes_at(alloc, &told, 0, count)?;
+    Ok(Outbox::can_restore(&[post], &notes, 64, 3_000, 3))
+}
+
+#[test]
+fn an_outbox_is_told_from_what_is_none(rt: HostRuntime) -> Result<(), Fail> {
+    let alloc = rt.alloc();
+    holds(&rt, may_be(&rt, alloc, first_post(2, T), 2)?);
+    holds(&rt, may_be(&rt, alloc, first_post(4, 0), 2)?);
+    holds(&rt, may_be(&rt, alloc, first_post(0, 0), 2)?);
+    holds(&rt, !may_be(&rt, alloc, first_post(5, T), 2)?);
+    holds(&rt, !may_be(&rt, alloc, first_post(0, T), 2)?);
+    holds(&rt, !may_be(&rt, alloc, first_post(2, T), 1)?);
+    Ok(())
+}
+
+// A recipient for whom no note waits.
+fn without_notes(number: u8) -> Post {
+    Post {
+        peer: peer(number),
+        notes: 0,
+        ..first_post(0, 0)
+    }
+}
+
+// Whether two recipients without notes make an outbox, in this order.
+fn may_be_two(first: u8, second: u8, limit: u32, timeout: u64, retries: u8) -> bool {
+    let posts = [without_notes(first), without_notes(second)];
+    Outbox::can_restore(&posts, &[], limit, timeout, retries)
+}
+
+#[test]
+fn an_outbox_is_told_by_its_peers_and_settings(rt: HostRuntime) {
+    holds(&rt, may_be_two(5, 6, 0, 3_600_000, 15));
+    holds(&rt, !may_be_two(6, 5, 64, 3_000, 3));
+    holds(&rt, !may_be_two(5, 5, 64, 3_000, 3));
+    holds(&rt, !may_be_two(5, 6, 16_385, 3_000, 3));
+    holds(&rt, !may_be_two(5, 6, 64, 3_600_001, 3));
+    holds(&rt, !may_be_two(5, 6, 64, 3_000, 16));
 }

@@ -8,7 +8,7 @@ use Rattle.bac_values.specs.declared.note.Note.{Note}
 use Rattle.outbox.specs.Delivery.{Operation, NoteQueued, PumpedAt, AnswerCame, Timing, Delivery, is_confirmed, invoke_id, next_confirmed, is_awaited, sent_from, pumped_at, answered_with, delivery_after}
 use Rattle.outbox.specs.Finishing.{as_number, is_sent_at, transmissions, IsSentSo, SendsSeldom}
 use Rattle.outbox.proofs.Laws.{IsDelivery, delivery_is}
-use Rattle.outbox.proofs.Finished.{few_after}
+use Rattle.outbox.proofs.Finished.{few_after, le_true, le_false, lt_true, lt_false}
 
 one_at : (place here : ℕ) → place ≡ here → as_number (place == here) ≡ 1
 one_at place here e = grind (arith, nat_tests)
@@ -19,18 +19,6 @@ none_at place here e = by_test (place == here) refl
     by_test : (b : Bool) → (place == here) ≡ b → as_number (b) ≡ 0
     by_test true f = absurd (e (eqb-true place here f))
     by_test false f = refl
-
-le_true : (a b : ℕ) → a ≤ b → nat_le a b ≡ true
-le_true a b h = grind (arith, nat_tests)
-
-le_false : (a b : ℕ) → b < a → nat_le a b ≡ false
-le_false a b h = grind (arith, nat_tests)
-
-lt_true : (a b : ℕ) → a < b → nat_lt a b ≡ true
-lt_true a b h = grind (arith, nat_tests)
-
-lt_false : (a b : ℕ) → b ≤ a → nat_lt a b ≡ false
-lt_false a b h = grind (arith, nat_tests)
 
 -- a note among those from one place up to another
 within_one : (from to end place : ℕ) → from ≤ place → place ≤ to → place < end → as_number (nat_le from place && nat_le place to && nat_lt place end) ≡ 1

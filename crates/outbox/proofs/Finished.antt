@@ -2,6 +2,7 @@
 use Rattle.std.proofs.Common.{◌≡◌, ℕ, ◌+◌, ◌-◌, ◌%◌, ◌<◌, ◌≤◌, Bool, true, false, not, nat_lt, nat_le, ◌&&◌, ◌==◌, List, [], ◌∷◌, length, drop, get_or, refl, sym, ◌∙◌, ap, inl, inr, arith, rules}
 use Rattle.std.specs.List.{position_or_len, count_by}
 use Rattle.std.proofs.lemmas.Bool.{ltb-true, ltb-false, eqb-true, cases_lt}
+use Rattle.std.proofs.lemmas.Bool.Decides.{nat_tests}
 use Rattle.std.proofs.lemmas.List.{length-drop, get_or-drop, take-append-le}
 use Rattle.std.proofs.lemmas.List.Sums.{fails_before_first, prefix_len-le-length}
 use Rattle.bac_values.specs.declared.note.Note.{Note}
@@ -14,6 +15,18 @@ le-true a b e = search (rules, e)
 
 le-false : (a b : ℕ) → nat_le a b ≡ false → b < a
 le-false a b e = search (rules, e)
+
+pub le_true : (a b : ℕ) → a ≤ b → nat_le a b ≡ true
+le_true a b h = grind (arith, nat_tests)
+
+pub le_false : (a b : ℕ) → b < a → nat_le a b ≡ false
+le_false a b h = grind (arith, nat_tests)
+
+pub lt_true : (a b : ℕ) → a < b → nat_lt a b ≡ true
+lt_true a b h = grind (arith, nat_tests)
+
+pub lt_false : (a b : ℕ) → b ≤ a → nat_lt a b ≡ false
+lt_false a b h = grind (arith, nat_tests)
 
 -- how often a note is sent
 sent_few : (timing : Timing) (moment place : ℕ) (d : Delivery) → (sent_from timing moment place d).attempts ≤ 1 + timing.retries
@@ -47,7 +60,7 @@ few_after timing (PumpedAt moment ∷ older) = pumped_few timing moment (deliver
 few_after timing (AnswerCame invoke ∷ older) = answered_few timing.retries invoke (delivery_after timing older) (few_after timing older)
 
 -- those before the first that is to be confirmed
-unconfirmed_between : (all : List Note) (from place : ℕ) → from ≤ place → place < next_confirmed all from → IsConfirmedAt all place false
+pub unconfirmed_between : (all : List Note) (from place : ℕ) → from ≤ place → place < next_confirmed all from → IsConfirmedAt all place false
 unconfirmed_between all from place above below =
     let size = length-drop from all in
     let most = prefix_len-le-length (λ (n : Note). not (is_confirmed n)) (drop from all) in
@@ -70,6 +83,10 @@ module _ (timing : Timing) (moment : ℕ) (d : Delivery) (few : d.attempts ≤ 1
   same_none : {P : Type 0} (place : ℕ) → d.finished ≤ place → place < d.finished → P
   same_none place above below = absurd (omega (arith, above, below))
 
+  -- a note before the first that is to be confirmed is sent
+  sent_between : (from place : ℕ) → from ≤ place → place < next_confirmed d.all from → (nat_le from place && nat_le place (next_confirmed d.all from) && nat_lt place (length d.all)) ≡ true
+  sent_between from place above below = rw (le_true from place above, le_true place (next_confirmed d.all from) (omega (arith, below)), lt_true place (length d.all) (unconfirmed_between d.all from place above below).0) refl
+
   pumped_cause : (place : ℕ) → d.finished ≤ place → place < (pumped_at timing moment d).finished → IsFinishedBy timing d place (PumpedAt moment)
   pumped_cause place above below = by_test (nat_lt 0 d.attempts) (nat_lt moment d.deadline) (nat_le d.attempts timing.retries) refl refl refl
     where
@@ -84,11 +101,11 @@ module _ (timing : Timing) (moment : ℕ) (d : Delivery) (few : d.attempts ≤ 1
           let under : place < next_confirmed d.all (d.finished + 1) = rw (e, f, g) at below in
           elim (cases_lt place (d.finished + 1)) [
             | inl first ↦ inl ((omega (arith, above, first), sent), (last, late))
-            | inr behind ↦ inr (rw e (behind), unconfirmed_between d.all (d.finished + 1) place behind under)
+            | inr behind ↦ inr (rw (e, f, g) (sent_between (d.finished + 1) place behind under), unconfirmed_between d.all (d.finished + 1) place behind under)
           ]
       by_test false b c e f g =
           let under : place < next_confirmed d.all d.finished = rw e at below in
-          inr (rw e above, unconfirmed_between d.all d.finished place above under)
+          inr (rw e (sent_between d.finished place above under), unconfirmed_between d.all d.finished place above under)
 
 -- an answer
 module _ (timing : Timing) (invoke : ℕ) (d : Delivery) where

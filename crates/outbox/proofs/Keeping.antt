@@ -1,7 +1,9 @@
 -- What is so of every outbox stays so.
-use Rattle.std.proofs.Common.{◌≡◌, ℕ, suc, ◌+◌, ◌<◌, ◌≤◌, Bool, true, false, true≢false, nat_lt, nat_le, ◌||◌, IsTrue, List, [], ◌∷◌, length, drop, map, refl, sym, ◌∙◌, subst, inl, inr, arith, rules}
+use Rattle.std.proofs.Common.{◌≡◌, ℕ, suc, ◌+◌, ◌^◌, ◌<◌, ◌≤◌, Bool, true, false, true≢false, nat_lt, nat_le, ◌||◌, IsTrue, List, [], ◌∷◌, length, drop, map, refl, sym, ◌∙◌, subst, inl, inr, arith, rules}
 use Rattle.std.specs.List.{list_any, position_or_len, All, slice_get}
 use Rattle.std.specs.Option.{IsSomeAnd}
+use Rattle.std.proofs.Math.Nat.{mod-lt}
+use Rattle.bac_values.specs.Moments.{IsMoment}
 use Rattle.std.proofs.lemmas.Bool.{ltb-true, cases_Bool}
 use Rattle.std.proofs.lemmas.List.{length-drop}
 use Rattle.std.proofs.lemmas.List.Elements.{All-map, All-weaker, All-drop}
@@ -27,6 +29,8 @@ first_confirmed (note ∷ notes) h = elim (cases_Bool (is_confirmed note)) [
 
 without_first_keeps : (retries : ℕ) (post : PostState) → IsPost retries post → IsPost retries (without_first post)
 without_first_keeps retries post is = record {
+  number = mod-lt (post.next_invoke + 1) (omega arith);
+  fits = omega arith;
   attempts = omega arith;
   in_flight = λ h. absurd (omega (arith, h));
   resting = λ h. refl;
@@ -41,14 +45,23 @@ unsent_keeps retries post is = by_test (nat_lt 0 post.attempts) refl
     by_test true e = rw e (without_first_keeps retries post is)
     by_test false e = rw e is
 
-post_sent_keeps : (timing : Timing) (moment : ℕ) (post : PostState) → IsPost timing.retries post → IsPost timing.retries (post_sent timing moment post)
-post_sent_keeps timing moment post is = by_test (nat_lt count (length post.notes)) refl
+-- a deadline from this moment on fits 64 bits
+abbrev pub EndsInTime : Timing → ℕ → Type 0
+EndsInTime timing moment = moment + timing.timeout < 2 ^ 64
+
+pub ends_in_time : (timing : Timing) (moment : ℕ) → IsMoment moment → timing.timeout ≤ 3_600_000 → EndsInTime timing moment
+ends_in_time timing moment in_range short = omega (arith, in_range.1, short)
+
+post_sent_keeps : (timing : Timing) (moment : ℕ) (post : PostState) → EndsInTime timing moment → IsPost timing.retries post → IsPost timing.retries (post_sent timing moment post)
+post_sent_keeps timing moment post ends is = by_test (nat_lt count (length post.notes)) refl
   where
     count : ℕ
     count = position_or_len is_confirmed post.notes
 
     by_test : (b : Bool) → nat_lt (position_or_len is_confirmed post.notes) (length post.notes) ≡ b → IsPost timing.retries (post_sent timing moment post)
     by_test true e = record {
+      number = is.number;
+      fits = rw e ends;
       attempts = rw e (omega arith);
       in_flight = λ h. first_confirmed post.notes (ltb-true _ _ e);
       resting = rw e (λ h. absurd (omega (arith, h)));
@@ -56,6 +69,8 @@ post_sent_keeps timing moment post is = by_test (nat_lt count (length post.notes
       own = All-drop (λ (note : Note). note.peer ≡ post.peer) (position_or_len is_confirmed post.notes) post.notes is.own;
     }
     by_test false e = record {
+      number = is.number;
+      fits = rw e (omega arith);
       attempts = rw e (omega arith);
       in_flight = rw e (λ h. absurd (omega (arith, h)));
       resting = rw e (λ h. refl);
@@ -66,22 +81,24 @@ post_sent_keeps timing moment post is = by_test (nat_lt count (length post.notes
 le-true : (a b : ℕ) → nat_le a b ≡ true → a ≤ b
 le-true a b e = search (rules, e)
 
-post_pumped_keeps : (timing : Timing) (moment : ℕ) (post : PostState) → IsPost timing.retries post → IsPost timing.retries (post_pumped timing moment post)
-post_pumped_keeps timing moment post is = by_test (is_awaited moment post.attempts post.deadline) (nat_lt 0 post.attempts) (nat_le post.attempts timing.retries) refl refl refl
+post_pumped_keeps : (timing : Timing) (moment : ℕ) → EndsInTime timing moment → (post : PostState) → IsPost timing.retries post → IsPost timing.retries (post_pumped timing moment post)
+post_pumped_keeps timing moment ends post is = by_test (is_awaited moment post.attempts post.deadline) (nat_lt 0 post.attempts) (nat_le post.attempts timing.retries) refl refl refl
   where
     by_test : (a b c : Bool) → is_awaited moment post.attempts post.deadline ≡ a → nat_lt 0 post.attempts ≡ b → nat_le post.attempts timing.retries ≡ c → IsPost timing.retries (post_pumped timing moment post)
     by_test true b c e f g = rw e is
     by_test false true true e f g =
         let most = le-true post.attempts timing.retries g in
         rw (e, f, g) (record {
+          number = is.number;
+          fits = ends;
           attempts = omega arith;
           in_flight = λ h. is.in_flight (ltb-true 0 post.attempts f);
           resting = λ h. absurd (omega (arith, h));
           short = is.short;
           own = is.own;
         })
-    by_test false true false e f g = rw (e, f, g) (post_sent_keeps timing moment (without_first post) (without_first_keeps timing.retries post is))
-    by_test false false c e f g = rw (e, f) (post_sent_keeps timing moment post is)
+    by_test false true false e f g = rw (e, f, g) (post_sent_keeps timing moment (without_first post) ends (without_first_keeps timing.retries post is))
+    by_test false false c e f g = rw (e, f) (post_sent_keeps timing moment post ends is)
 
 post_answered_keeps : (retries invoke : ℕ) (post : PostState) → IsPost retries post → IsPost retries (post_answered invoke post)
 post_answered_keeps retries invoke post is = by_test (is_in_flight invoke post) refl
@@ -108,15 +125,16 @@ pumped_fewer timing moment post = by_test (is_awaited moment post.attempts post.
     by_test false false true e f g = rw (e, f, g) (omega (arith, length-drop (position_or_len is_confirmed (drop 1 post.notes)) (drop 1 post.notes), length-drop 1 post.notes))
     by_test false false false e f g = rw (e, f, g) (omega (arith, length-drop (position_or_len is_confirmed post.notes) post.notes))
 
-pub pump_keeps : (moment : ℕ) (outbox : OutboxState) → IsOutbox outbox → IsOutbox (pumped moment outbox)
-pump_keeps moment outbox is =
+pub pump_keeps : (moment : ℕ) (outbox : OutboxState) → IsMoment moment → IsOutbox outbox → IsOutbox (pumped moment outbox)
+pump_keeps moment outbox in_range is =
+    let ends : EndsInTime (timing_of outbox) moment = ends_in_time (timing_of outbox) moment in_range is.settings.ends in
     let timing = timing_of outbox in
     let change : PostState → PostState = post_pumped (timing_of outbox) moment in
     let less = fewer_in_all change (pumped_fewer (timing_of outbox) moment) outbox.posts in
     record {
       settings = is.settings;
       ascending = subst IsAscending (sym (peers_stay change (pumped_peer (timing_of outbox) moment) outbox.posts)) is.ascending;
-      posts = All-map (IsPost outbox.retries) change outbox.posts (All-weaker (IsPost outbox.retries) (λ post. IsPost outbox.retries (change post)) (post_pumped_keeps (timing_of outbox) moment) outbox.posts is.posts);
+      posts = All-map (IsPost outbox.retries) change outbox.posts (All-weaker (IsPost outbox.retries) (λ post. IsPost outbox.retries (change post)) (post_pumped_keeps (timing_of outbox) moment ends) outbox.posts is.posts);
       room = omega (arith, less, is.room);
     }
 

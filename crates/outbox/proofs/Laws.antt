@@ -88,7 +88,7 @@ unsent_peer peer d = by_sent (nat_lt 0 d.attempts) refl
     by_sent true e = rw e refl
     by_sent false e = rw e refl
 
-first_unsent-le : (d : Delivery) → IsDelivery d → first_unsent d ≤ length d.all
+pub first_unsent-le : (d : Delivery) → IsDelivery d → first_unsent d ≤ length d.all
 first_unsent-le d is = by_sent (nat_lt 0 d.attempts) refl
   where
     by_sent : (b : Bool) → nat_lt 0 d.attempts ≡ b → first_unsent d ≤ length d.all

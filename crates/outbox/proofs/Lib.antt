@@ -11,6 +11,8 @@ pub mod Making
 pub mod Learning
 mod Finished
 mod Counting
+mod Sending
+mod Tested
 mod Idling
 mod Told
 mod QueueLemmas

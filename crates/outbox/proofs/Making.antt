@@ -19,6 +19,8 @@ none_unfinished (peer ∷ peers) =
 
 pub empty_is : (retries : ℕ) (peer : Address) → IsPost retries (empty_post peer)
 empty_is retries peer = record {
+  number = omega arith;
+  fits = omega arith;
   attempts = omega arith;
   in_flight = λ h. absurd (omega (arith, h));
   resting = λ h. refl;

@@ -52,6 +52,8 @@ first_stays (note ∷ notes) more h = h
 
 with_notes_keeps : (retries : ℕ) (notes : List Note) → All (λ (note : Note). length note.body ≤ most_octets) notes → (post : PostState) → IsPost retries post → IsPost retries (with_notes notes post)
 with_notes_keeps retries notes short post is = record {
+  number = is.number;
+  fits = is.fits;
   attempts = is.attempts;
   in_flight = λ h. first_stays post.notes (notes_for post.peer notes) (is.in_flight h);
   resting = is.resting;

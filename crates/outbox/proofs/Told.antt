@@ -13,13 +13,13 @@ no_notes (note ∷ notes) e = absurd (omega (arith, e))
 
 -- the first post's notes, and those of the others
 module _ (post : Post) (posts : List Post) (notes : List Note) (counts : notes_told (post ∷ posts) ≡ length notes) where
-  first_within : post.notes ≤ length notes
+  pub first_within : post.notes ≤ length notes
   first_within = let sums = sum_by-cons (λ (p : Post). p.notes) post posts in omega (arith, sums, counts)
 
-  first_long : length (take post.notes notes) ≡ post.notes
+  pub first_long : length (take post.notes notes) ≡ post.notes
   first_long = length-take-le post.notes notes first_within
 
-  others_count : notes_told posts ≡ length (drop post.notes notes)
+  pub others_count : notes_told posts ≡ length (drop post.notes notes)
   others_count =
       let sums = sum_by-cons (λ (p : Post). p.notes) post posts in
       let rest = length-drop post.notes notes in

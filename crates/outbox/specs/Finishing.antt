@@ -1,7 +1,10 @@
 -- How the notes of one recipient come to be finished (ANSI/ASHRAE 135-2020, 5.4.4).
-use Rattle.std.specs.Prelude.{◌≡◌, ◌⊎◌, ℕ, ◌+◌, ◌<◌, ◌≤◌, ◌==◌, nat_lt, nat_le, Bool, true, false, ◌&&◌, List, [], ◌∷◌, length, slice_index_or, if◌then◌else◌}
+use Rattle.std.specs.Prelude.{◌≡◌, ◌⊎◌, ℕ, ◌+◌, ◌<◌, ◌≤◌, ◌==◌, nat_lt, nat_le, Bool, true, false, ◌&&◌, IsTrue, List, [], ◌∷◌, length, filter, slice_index_or, if◌then◌else◌}
+use Rattle.std.specs.List.{flat_map, range_with_len}
+use Rattle.bac_values.specs.Address.{Address}
 use Rattle.bac_values.specs.declared.note.Note.{Note}
-use Rattle.outbox.specs.Delivery.{Operation, NoteQueued, PumpedAt, AnswerCame, Timing, Delivery, is_confirmed, invoke_id, next_confirmed, is_awaited, is_repeated, first_unsent, delivery_after}
+use Rattle.bac_values.specs.declared.note.Send.{Send}
+use Rattle.outbox.specs.Delivery.{Operation, NoteQueued, PumpedAt, AnswerCame, Timing, Delivery, is_confirmed, invoke_id, next_confirmed, is_awaited, is_repeated, first_unsent, datagrams_between, sent_at, delivery_after}
 
 -- whether the note at a place is to be confirmed
 abbrev pub IsConfirmedAt : List Note → ℕ → Bool → Type 0
@@ -15,13 +18,21 @@ IsInFlight delivery place = (place ≡ delivery.finished) × (0 < delivery.attem
 abbrev pub IsGivenUpAt : Timing → ℕ → Delivery → Type 0
 IsGivenUpAt timing moment delivery = (delivery.attempts ≡ 1 + timing.retries) × (delivery.deadline ≤ moment)
 
+-- whether the note at a place is among those that a pump sends: none while an answer is awaited, the one in flight where it is
+-- repeated, and else those that were never sent, up to and with the first that is to be confirmed
+abbrev pub is_sent_at : Timing → ℕ → Delivery → ℕ → Bool
+is_sent_at timing moment delivery place =
+    if is_awaited moment delivery.attempts delivery.deadline then false
+    else (if is_repeated timing.retries delivery.attempts then place == delivery.finished
+    else nat_le (first_unsent delivery) place && nat_le place (next_confirmed delivery.all (first_unsent delivery)) && nat_lt place (length delivery.all))
+
 -- What finishes the note at a place: while it is in flight an answer with its invoke ID, or a pump at its last deadline; and the
--- pump that sends it, where it was never sent and isn't to be confirmed.
+-- pump that sends it, where it isn't to be confirmed.
 abbrev pub IsFinishedBy : Timing → Delivery → ℕ → Operation → Type 0
 IsFinishedBy timing delivery place (NoteQueued note) = ⊥
 IsFinishedBy timing delivery place (AnswerCame invoke) = IsInFlight delivery place × (invoke ≡ invoke_id delivery.all place)
 IsFinishedBy timing delivery place (PumpedAt moment) =
-    (IsInFlight delivery place × IsGivenUpAt timing moment delivery) ⊎ ((first_unsent delivery ≤ place) × IsConfirmedAt delivery.all place false)
+    (IsInFlight delivery place × IsGivenUpAt timing moment delivery) ⊎ (IsTrue (is_sent_at timing moment delivery place) × IsConfirmedAt delivery.all place false)
 
 -- Whatever is done: notes are finished in their order and for good, each by what may finish it; the one note in flight is to be
 -- confirmed, is sent at most once more than there are retries, and keeps its invoke ID.
@@ -36,14 +47,6 @@ pub record FinishesInOrder : Type 0 where
   pub few : (timing : Timing) (older : List Operation) → (delivery_after timing older).attempts ≤ 1 + timing.retries
   pub one_number : (timing : Timing) (older : List Operation) (operation : Operation) (place : ℕ) → place ≤ (delivery_after timing older).finished →
       invoke_id (delivery_after timing (operation ∷ older)).all place ≡ invoke_id (delivery_after timing older).all place
-
--- whether the note at a place is among those that a pump sends: none while an answer is awaited, the one in flight where it is
--- repeated, and else those that were never sent, up to and with the first that is to be confirmed
-abbrev pub is_sent_at : Timing → ℕ → Delivery → ℕ → Bool
-is_sent_at timing moment delivery place =
-    if is_awaited moment delivery.attempts delivery.deadline then false
-    else (if is_repeated timing.retries delivery.attempts then place == delivery.finished
-    else nat_le (first_unsent delivery) place && nat_le place (next_confirmed delivery.all (first_unsent delivery)) && nat_lt place (length delivery.all))
 
 -- one where it is so
 abbrev pub as_number : Bool → ℕ
@@ -66,3 +69,16 @@ pub record IsSentSo (timing : Timing) (delivery : Delivery) (place times : ℕ) 
 -- whatever is done, each note is sent so
 abbrev pub SendsSeldom : Type 0
 SendsSeldom = (timing : Timing) (place : ℕ) (operations : List Operation) → IsSentSo timing (delivery_after timing operations) place (transmissions timing place operations)
+
+-- the places of the notes that a pump sends
+abbrev pub places_sent : Timing → ℕ → Delivery → List ℕ
+places_sent timing moment delivery = filter (is_sent_at timing moment delivery) (range_with_len 0 (length delivery.all))
+
+-- the note at a place as a datagram; one that is to be confirmed has its own invoke ID
+abbrev pub datagram_at : Address → List Note → ℕ → List Send
+datagram_at peer all place = datagrams_between peer (invoke_id all place) all place (place + 1)
+
+-- whatever was done, a pump sends the notes at these places, in their order, and nothing else
+abbrev pub SendsThesePlaces : Type 0
+SendsThesePlaces = (timing : Timing) (moment : ℕ) (peer : Address) (operations : List Operation) →
+    (let delivery = delivery_after timing operations in sent_at timing moment peer delivery ≡ flat_map (datagram_at peer delivery.all) (places_sent timing moment delivery))

@@ -1,5 +1,5 @@
 -- The notes of all recipients, as plain data.
-use Rattle.std.specs.Prelude.{ℕ, ◌≤◌, Bool, ◌&&◌, IsTrue, List, [], ◌∷◌, ◌++◌, length, take, drop, map, filter, sum_by, All, flat_map, if◌then◌else◌}
+use Rattle.std.specs.Prelude.{◌≡◌, ℕ, ◌≤◌, ◌==◌, nat_le, Bool, ◌&&◌, IsTrue, List, [], ◌∷◌, ◌++◌, length, take, drop, map, filter, sum_by, All, flat_map, if◌then◌else◌}
 use Rattle.std.specs.Ordering.{is_lt}
 use Rattle.std.specs.List.{list_any, list_all}
 use Rattle.bac_values.specs.Address.{Address}
@@ -8,7 +8,7 @@ use Rattle.bac_values.specs.declared.note.Send.{Send}
 use Rattle.bac_values.specs.Orders.{peer_order, is_same, IsAscending}
 use Rattle.outbox.specs.declared.post.Post.{Post}
 use Rattle.outbox.specs.Delivery.{Timing}
-use Rattle.outbox.specs.Posts.{PostState, IsPost, empty_post, is_in_flight, post_answered, post_pumped, post_sends, is_post_idle}
+use Rattle.outbox.specs.Posts.{PostState, IsPost, is_post, empty_post, is_in_flight, post_answered, post_pumped, post_sends, is_post_idle}
 
 -- the posts in the order of their recipients, how many notes there may be that are not finished, APDU_Timeout and Number_Of_APDU_Retries
 pub record OutboxState : Type 0 where
@@ -118,6 +118,17 @@ restored posts notes limit timeout retries = record { posts = restored_posts pos
 -- how many notes the posts of which this was told have
 abbrev pub notes_told : List Post → ℕ
 notes_told posts = sum_by (λ (post : Post). post.notes) posts
+
+-- Posts of which this was told and notes make an outbox with these settings: each note belongs to a post, and what comes of them
+-- is an outbox.
+abbrev pub AreParts : List Post → List Note → ℕ → ℕ → ℕ → Type 0
+AreParts posts notes limit timeout retries = (notes_told posts ≡ length notes) × IsOutbox (restored posts notes limit timeout retries)
+
+-- whether each post of which this was told has its notes among these, none is left, and it is a post
+abbrev pub are_posts : ℕ → List Post → List Note → Bool
+are_posts retries [] notes = length notes == 0
+are_posts retries (post ∷ posts) notes =
+    nat_le post.notes (length notes) && (is_post retries (restored_post post (take post.notes notes)) && are_posts retries posts (drop post.notes notes))
 
 -- the notes of all posts, one post's after the other's
 abbrev pub notes_of : List PostState → List Note

@@ -1,9 +1,11 @@
 -- What is kept of one recipient: what is not finished.
-use Rattle.std.specs.Prelude.{◌≡◌, ℕ, ◌+◌, ◌%◌, ◌<◌, ◌≤◌, Bool, ◌&&◌, ◌||◌, IsTrue, IsSomeAnd, nat_lt, ◌==◌, List, [], ◌∷◌, ◌++◌, length, take, drop, map, slice_get, All, if◌then◌else◌}
-use Rattle.std.specs.List.{position_or_len}
+use Rattle.std.specs.Prelude.{◌≡◌, ℕ, ◌+◌, ◌%◌, ◌^◌, ◌<◌, ◌≤◌, ◌↔◌, Bool, false, ◌&&◌, ◌||◌, IsTrue, IsSomeAnd, nat_lt, nat_le, ◌==◌, List, [], ◌∷◌, ◌++◌, length, take, drop, map, slice_get, All, if◌then◌else◌}
+use Rattle.std.specs.List.{list_all, position_or_len}
+use Rattle.std.specs.Option.{option_map_or}
 use Rattle.bac_values.specs.Address.{Address}
 use Rattle.bac_values.specs.declared.note.Note.{Note}
 use Rattle.bac_values.specs.declared.note.Send.{Send}
+use Rattle.bac_values.specs.Orders.{is_same}
 use Rattle.outbox.specs.Notifying.{datagram_of}
 use Rattle.outbox.specs.Delivery.{Operation, Timing, Delivery, delivery_after, invoke_id, is_confirmed, is_awaited, is_repeated}
 
@@ -34,14 +36,34 @@ post_after timing peer operations = post_of peer (delivery_after timing operatio
 abbrev pub most_octets : ℕ
 most_octets = 1_024
 
--- what is so of every post: at most one more transmission than there are retries, a note in flight is to be confirmed, no
--- deadline where none is, and short notes for this recipient
+-- what is so of every post: an invoke ID of 8 bits and a deadline of 64, at most one more transmission than there are retries,
+-- a note in flight is to be confirmed, no deadline where none is, and short notes for this recipient
 pub record IsPost (retries : ℕ) (post : PostState) : Type 0 where
+  pub number : post.next_invoke < 256
+  pub fits : post.deadline < 2 ^ 64
   pub attempts : post.attempts ≤ 1 + retries
   pub in_flight : 0 < post.attempts → IsSomeAnd (slice_get post.notes 0) (λ (note : Note). IsTrue note.confirmed)
   pub resting : post.attempts ≡ 0 → post.deadline ≡ 0
   pub short : All (λ (note : Note). length note.body ≤ most_octets) post.notes
   pub own : All (λ (note : Note). note.peer ≡ post.peer) post.notes
+
+-- whether a note is short, and for this recipient
+abbrev pub is_own : Address → Note → Bool
+is_own peer note = nat_le (length note.body) most_octets && is_same note.peer peer
+
+-- whether it is so of a post's attempts and deadline: none where its first note isn't to be confirmed, or isn't there
+abbrev pub is_tried : ℕ → PostState → Bool
+is_tried retries post =
+    if post.attempts == 0 then post.deadline == 0
+    else nat_le post.attempts (1 + retries) && option_map_or is_confirmed (slice_get post.notes 0) false
+
+-- whether it is so of a post
+abbrev pub is_post : ℕ → PostState → Bool
+is_post retries post = (nat_lt post.next_invoke 256 && nat_lt post.deadline (2 ^ 64)) && (is_tried retries post && list_all (is_own post.peer) post.notes)
+
+-- the test tells it exactly
+abbrev pub TestsPosts : Type 0
+TestsPosts = (retries : ℕ) (post : PostState) → IsTrue (is_post retries post) ↔ IsPost retries post
 
 abbrev pub empty_post : Address → PostState
 empty_post peer = record { peer = peer; next_invoke = 0; attempts = 0; deadline = 0; notes = [] }

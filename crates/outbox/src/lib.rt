@@ -7,6 +7,7 @@
 
 mod all;
 mod answers;
+mod deciding;
 mod mailbox;
 mod order;
 mod outbox;
@@ -15,6 +16,7 @@ mod queueing;
 mod restoring;
 
 pub use answers::{Answered, QueueFault};
+pub use deciding::tests_posts;
 pub use order::finishes_in_order;
 pub use outbox::Outbox;
 pub use post::Post;

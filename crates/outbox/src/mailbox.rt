@@ -12,6 +12,7 @@ use bvlc_npdu::wrap;
 use std::alloc::{AllocFailed, Global};
 use std::collections::VecDeque;
 use std::marker::Model;
+use std::ops::Range;
 
 /// What is kept of one recipient: its notes that are not finished, the first of which may be in flight.
 #[derive(Debug, Drop)]
@@ -225,22 +226,15 @@ impl Mailbox {
         }
         let invoke = self.next_invoke;
         if self.is_repeated(retries) {
-            return append_between(alloc, &self.peer, invoke, &self.notes, 0, 1, sends);
+            return append_between(alloc, &self.peer, invoke, &self.notes, 0..1, sends);
         }
         if self.attempts == 0 {
             let end = unsent_end(&self.notes, 0);
-            return append_between(alloc, &self.peer, invoke, &self.notes, 0, end, sends);
+            return append_between(alloc, &self.peer, invoke, &self.notes, 0..end, sends);
         }
         let end = unsent_end(&self.notes, 1);
-        append_between(
-            alloc,
-            &self.peer,
-            invoke.wrapping_add(1),
-            &self.notes,
-            1,
-            end,
-            sends,
-        )
+        let next = invoke.wrapping_add(1);
+        append_between(alloc, &self.peer, next, &self.notes, 1..end, sends)
     }
 
     /// A note in flight, whose last deadline has come, is finished.
@@ -312,20 +306,19 @@ fn push_send(sends: &mut Vec<Send>, send: Send) -> Result<(), NoMemory>
     }
 }
 
-/// Writes the datagrams of the notes from one place up to another behind others.
+/// Writes the datagrams of the notes at some places behind others.
 fn append_between(
     alloc: Global,
     peer: &Peer,
     invoke: u8,
     notes: &VecDeque<Note>,
-    from: usize,
-    to: usize,
+    places: Range<usize>,
     sends: &mut Vec<Send>,
 ) -> Result<(), NoMemory>
     requires short { All (λ (note : Note). length note.body ≤ most_octets) notes.now.items }
-    ensures appended { OnOk result (sends.new.items ≡ sends.old.items ++ datagrams_between peer.now invoke notes.now.items from to) }
+    ensures appended { OnOk result (sends.new.items ≡ sends.old.items ++ datagrams_between peer.now invoke notes.now.items places.start places.end) }
 {
-    for place in from..to.min(notes.len()) {
+    for place in places.start..places.end.min(notes.len()) {
         let send = datagram_of(alloc, peer, invoke, &notes[place])?;
         push_send(sends, send)?;
     }

@@ -4,7 +4,7 @@ ghost use Rattle.bac_values.specs.Moments.{IsMoment};
 ghost use Rattle.bac_values.specs.declared.note.Note.{Note};
 ghost use Rattle.bac_values.specs.Orders.{IsAscending};
 ghost use Rattle.outbox.specs.Posts.{PostState, most_octets};
-ghost use Rattle.outbox.specs.Outboxes.{OutboxState, AreSettings, IsOutbox, peers_of, unfinished_in, new_outbox, queued, pumped, sends_of, has_in_flight, answered, is_idle, AreKnown, learned, shown, restored, notes_told, notes_of};
+ghost use Rattle.outbox.specs.Outboxes.{OutboxState, AreSettings, IsOutbox, AreParts, peers_of, unfinished_in, new_outbox, queued, pumped, sends_of, has_in_flight, answered, is_idle, AreKnown, learned, shown, restored, notes_told, notes_of};
 ghost use Rattle.outbox.specs.Following.{StandsFor, Follows, Learns, AreSent, no_operations, after_queue, after_pump, after_answer};
 ghost use Rattle.outbox.specs.Verdicts.{returned};
 
@@ -12,6 +12,7 @@ use crate::all::{
     add_all, answer_one, are_idle, count_unfinished, empty_mailboxes, has_flight, pump_all,
     sends_of,
 };
+use crate::deciding::{are_posts, are_settings, is_ascending};
 use crate::mailbox::Mailbox;
 use crate::queueing::put_all;
 use crate::restoring::restored_mailboxes;
@@ -180,7 +181,31 @@ impl Outbox {
         Ok(())
     }
 
+    /// Whether an outbox may be made of these posts and notes by `restore`.
+    #[tactic(auto, using(crate::proofs::Tested::refused_settings))]
+    pub fn can_restore(
+        posts: &[Post],
+        notes: &[Note],
+        limit: u32,
+        timeout: u64,
+        retries: u8,
+    ) -> bool
+        ensures exact { IsTrue result ↔ AreParts posts.now notes.now limit timeout retries }
+    {
+        if !are_settings(limit, timeout, retries) {
+            return false;
+        }
+        if notes.len() > limit as usize {
+            return false;
+        }
+        if !is_ascending(posts) {
+            return false;
+        }
+        are_posts(posts, notes, retries)
+    }
+
     /// An outbox with these posts and notes, one post's after the other's. Each post tells how many are its own.
+    /// `can_restore` tells whether they are those of an outbox.
     pub fn restore(
         alloc: Global,
         posts: Vec<Post>,

@@ -1,12 +1,10 @@
 //! How far the present values of value objects can be relied on.
 #![tactic(auto)]
 
-ghost use Rattle.std.specs.Prelude.{◌≡◌, None};
-ghost use Rattle.algorithm_rules.specs.Conditions.{number_in};
-ghost use Rattle.algorithm_rules.specs.Matches.{matches};
+ghost use Rattle.std.specs.Prelude.{◌≡◌};
 ghost use Rattle.reliability_eval.specs.Reliability.{fault_of_field, is_fault_value, is_over, is_under, list_fault, range_fault, reliability_in, reliability_of, value_fault};
 
-use algorithm_rules::{Algorithm, Snapshot, matched};
+use algorithm_rules::{matches, number_of};
 use bac_values::{ObjectId, ObjectKind, Reliability, Value};
 use object_table::{ObjectSite, Row, Table};
 
@@ -72,33 +70,13 @@ fn list_fault(faults: &[Value], value: &Value) -> Reliability
 fn is_fault_value(faults: &[Value], value: &Value) -> bool
     ensures fault { result ≡ is_fault_value faults.now value.now }
 {
-    faults.iter().any(|fault| is_match(fault, value))
-}
-
-fn is_match<'a>(fault: &'a Value, value: &'a Value) -> bool
-    ensures same { result ≡ matches None fault.now value.now }
-{
-    let snapshot = Snapshot {
-        algorithm: Algorithm::ChangeOfState,
-        value,
-        feedback: None,
-        alarm_value: Some(fault),
-        alarm_values: &[],
-        mask: None,
-        low: 0,
-        high: 0,
-        limit_enable: [false, false],
-        deadband: 0,
-        time_delay: 0,
-        time_delay_normal: None,
-    };
-    matched(&snapshot).is_some()
+    faults.iter().any(|fault| matches(None, fault, value))
 }
 
 fn range_fault(low: Option<i64>, high: Option<i64>, value: &Value) -> Reliability
     ensures fault { result ≡ range_fault low high value.now }
 {
-    let number = whole_number(value);
+    let number = number_of(value);
     if is_over(high, number) {
         Reliability::OverRange
     } else if is_under(low, number) {
@@ -108,30 +86,20 @@ fn range_fault(low: Option<i64>, high: Option<i64>, value: &Value) -> Reliabilit
     }
 }
 
-fn is_over(high: Option<i64>, number: Option<i64>) -> bool
+fn is_over(high: Option<i64>, number: Option<i128>) -> bool
     ensures over { result ≡ is_over high number }
 {
     match (high, number) {
-        (Some(high), Some(number)) => high < number,
+        (Some(high), Some(number)) => i128::from(high) < number,
         _ => false,
     }
 }
 
-fn is_under(low: Option<i64>, number: Option<i64>) -> bool
+fn is_under(low: Option<i64>, number: Option<i128>) -> bool
     ensures under { result ≡ is_under low number }
 {
     match (low, number) {
-        (Some(low), Some(number)) => number < low,
+        (Some(low), Some(number)) => number < i128::from(low),
         _ => false,
-    }
-}
-
-fn whole_number(value: &Value) -> Option<i64>
-    ensures number { result ≡ number_in value.now }
-{
-    match value {
-        Value::Signed(number) => Some(i64::from(*number)),
-        Value::Unsigned(number) => Some(i64::from(*number)),
-        _ => None,
     }
 }

@@ -8,6 +8,7 @@ pub mod MoreLines
 pub mod Utf8
 pub mod Parts
 pub mod BitDigits
+pub mod Octets
 pub mod SpelledSession
 pub mod Marks
 pub mod ObjectText

@@ -1,8 +1,7 @@
 -- The parts of a session's line, from what is known of their own parts.
-use Rattle.std.proofs.Common.{◌≡◌, ℕ, ◌+◌, ◌*◌, ◌<◌, Option, Some, None, List, length, refl, arith}
-use Rattle.std.proofs.lemmas.Bool.Decides.{nat_tests}
+use Rattle.std.proofs.Common.{◌≡◌, ℕ, ◌+◌, ◌*◌, Option, Some, None, List, refl}
 use Rattle.script_lines.specs.Number.{unsigned_of}
-use Rattle.script_lines.specs.SessionLine.{◌>>=◌, before, behind, dot, ip_of, octets_of, text_of}
+use Rattle.script_lines.specs.SessionLine.{◌>>=◌, before, behind, dot, ip_of}
 
 -- four numbers of an address, one after the other
 abbrev pub four : Option ℕ → Option ℕ → Option ℕ → Option ℕ → Option ℕ
@@ -26,7 +25,3 @@ no_fourth o p q r a b c e f g h = rw (e, f, g, h) refl
 pub three_dots : (text a b c b' c' d : List ℕ) (o p q r : Option ℕ) → a ≡ before dot text → b' ≡ behind dot text → b ≡ before dot b' → c' ≡ behind dot b' → c ≡ before dot c' → d ≡ behind dot c'
     → o ≡ unsigned_of 255 a → p ≡ unsigned_of 255 b → q ≡ unsigned_of 255 c → r ≡ unsigned_of 255 d → four o p q r ≡ ip_of text
 three_dots text a b c b' c' d o p q r is_a is_b' is_b is_c' is_c is_d is_o is_p is_q is_r = rw (is_o, is_p, is_q, is_r, is_a, is_b, is_c, is_d, is_c', is_b') refl
-
--- octets that are too many are no text
-pub too_long : (digits octets : List ℕ) → octets_of digits ≡ Some octets → 256 < length octets → None ≡ text_of digits
-too_long digits octets e long = rw e (grind (arith, nat_tests))

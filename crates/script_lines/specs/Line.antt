@@ -14,7 +14,7 @@ use Rattle.script_lines.specs.declared.line.LineSays.{LineSays}
 use Rattle.script_lines.specs.declared.line.LineSays.TheVariants.{Skipped, Outside, Spells}
 use Rattle.script_lines.specs.Number.{signed_of}
 use Rattle.script_lines.specs.Words.{first_word, other_words, moment_of}
-use Rattle.script_lines.specs.SessionLine.{session_line_of, IsSessionLine}
+use Rattle.script_lines.specs.SessionLine.{session_line_of, IsOfOctets, IsSessionLine}
 
 -- the object on trial: integer-value 1
 abbrev pub trial_object : Identifier
@@ -89,3 +89,9 @@ abbrev pub SpellsLine : Grammar → ℕ → LineSays → Type 0
 SpellsLine grammar number Skipped = Unit {0}
 SpellsLine grammar number Outside = Unit {0}
 SpellsLine grammar number (Spells line) = (line.number ≡ number) × IsLineOf grammar line
+
+-- a line of the grammar that sets an object to a text, or brings a datagram: holding its octets takes memory, as no other line does
+abbrev pub HoldsOctets : LineSays → Type 0
+HoldsOctets Skipped = ⊥
+HoldsOctets Outside = ⊥
+HoldsOctets (Spells line) = IsOfOctets line

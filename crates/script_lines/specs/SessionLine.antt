@@ -105,16 +105,18 @@ abbrev pub octets_of : List ℕ → Option (List ℕ)
 octets_of digits = result_ok (decode_of digits)
 
 -- a text of UTF-8, which may be empty, of at most 256 octets
+abbrev pub text_from : List ℕ → Option (List ℕ)
+text_from octets = if is_utf8 octets && nat_le (length octets) 256 then Some octets else None
+
 abbrev pub text_of : List ℕ → Option (List ℕ)
-text_of digits = do
-  octets ← octets_of digits
-  if is_utf8 octets && nat_le (length octets) 256 then Some octets else None
+text_of digits = octets_of digits >>= text_from
 
 -- a datagram, which isn't empty, of at most 1,497 octets
+abbrev pub datagram_from : List ℕ → Option (List ℕ)
+datagram_from octets = if nat_le 1 (length octets) && nat_le (length octets) 1497 then Some octets else None
+
 abbrev pub datagram_of : List ℕ → Option (List ℕ)
-datagram_of digits = do
-  octets ← octets_of digits
-  if nat_le 1 (length octets) && nat_le (length octets) 1497 then Some octets else None
+datagram_of digits = octets_of digits >>= datagram_from
 
 -- a name and the colon behind it
 abbrev pub name_of : List ℕ → List ℕ
@@ -189,3 +191,19 @@ IsSessionInput (Datagram peer octets) = IsDatagram octets
 pub record IsSessionLine (line : Line) : Type 0 where
   pub moment : IsMoment line.moment
   pub input : IsSessionInput line.input
+
+-- a value that is a text
+abbrev pub IsText : Value → Type 0
+IsText (Text octets) = Unit {0}
+IsText _ = ⊥
+
+-- an object is set to a text, or a datagram came
+abbrev pub BringsOctets : Input → Type 0
+BringsOctets (Set object value) = IsText value
+BringsOctets (Datagram peer octets) = Unit {0}
+BringsOctets Tick = ⊥
+BringsOctets Pump = ⊥
+BringsOctets (Fault object reliability) = ⊥
+
+abbrev pub IsOfOctets : Line → Type 0
+IsOfOctets line = BringsOctets line.input

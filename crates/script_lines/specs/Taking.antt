@@ -3,7 +3,6 @@ use Rattle.std.specs.Prelude.{◌≡◌, ℕ, ◌+◌, List, Some, None, Result,
 use Rattle.std.specs.List.{after_first}
 use Rattle.script_lines.specs.declared.line.Grammar.{Grammar}
 use Rattle.script_lines.specs.declared.lines.LineFault.{LineFault}
-use Rattle.script_lines.specs.declared.lines.LineFault.TheVariants.{Read, NoMemory}
 use Rattle.script_lines.specs.declared.lines.LineFault.TheVariants as line_fault
 use Rattle.script_lines.specs.declared.line.LineSays.{LineSays}
 use Rattle.script_lines.specs.declared.line.LineSays.TheVariants.{Skipped, Outside, Spells}
@@ -12,12 +11,6 @@ use Rattle.script_lines.specs.declared.lines.Taken.TheVariants.{End, Passed, Too
 use Rattle.script_lines.specs.Line.{IsLineOf}
 use Rattle.script_lines.specs.Reading.{Reading}
 use Rattle.script_lines.specs.Script.{is_line_feed, lines_of, next_in, ReadsLine}
-
--- a fault that says nothing of the script
-abbrev pub IsOutside : LineFault → Type 0
-IsOutside (line_fault.Grammar line) = ⊥
-IsOutside Read = Unit {0}
-IsOutside NoMemory = Unit {0}
 
 -- what one line gave: that there is none, as ReadsLine has it for the script's end; that it was skipped, and what comes next is the same; or as ReadsLine has it
 abbrev pub TakesLine : Grammar → ℕ → ℕ → Result Taken LineFault → List ℕ → List ℕ → Type 0

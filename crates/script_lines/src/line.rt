@@ -58,8 +58,9 @@ fn is_skipped(text: &[u8]) -> bool
 }
 
 impl Line {
-    ghost use Rattle.std.specs.Prelude.{◌≡◌, IfOk, IfSome, IsOk};
+    ghost use Rattle.std.specs.Prelude.{◌≡◌, IfOk, IfSome, IsErr, IsOk, IsSomeAnd};
     ghost use Rattle.script_lines.specs.Line.{line_by_word, line_of, IsLineOf, IsTrialLine};
+    ghost use Rattle.script_lines.specs.SessionLine.{IsOfOctets};
     ghost use Rattle.script_lines.specs.declared.line.Grammar.TheVariants.{Trial};
 
     // The line of a trial that a text spells.
@@ -101,6 +102,7 @@ impl Line {
         ensures line { IfOk result (λ found. found ≡ line_of grammar number text.now) }
         ensures number { IfOk result (λ found. IfSome found (λ line. line.number ≡ number)) }
         ensures of_grammar { IfOk result (λ found. IfSome found (IsLineOf grammar)) }
+        ensures wants { IsErr result → IsSomeAnd (line_of grammar number text.now) IsOfOctets }
         ensures trial { grammar ≡ Trial → IsOk result }
     {
         match grammar {
@@ -111,13 +113,13 @@ impl Line {
 }
 
 impl LineSays {
-    ghost use Rattle.std.specs.Prelude.{◌≡◌, IfOk, IsOk};
-    ghost use Rattle.script_lines.specs.Line.{line_says, SpellsLine};
+    ghost use Rattle.std.specs.Prelude.{◌≡◌, IfOk, IsErr, IsOk};
+    ghost use Rattle.script_lines.specs.Line.{line_says, HoldsOctets, SpellsLine};
     ghost use Rattle.script_lines.specs.declared.line.Grammar.TheVariants.{Trial};
 
     /// What the octets of a line say in a grammar; its number counts blank lines and comments. A line has no line feed,
-    /// at most 4,096 octets, and a number up to 1,000,000: what is beyond that is outside each grammar. Only a session's
-    /// line may want memory.
+    /// at most 4,096 octets, and a number up to 1,000,000: what is beyond that is outside each grammar. Memory is wanted only
+    /// by a line of the grammar that sets an object to a text or brings a datagram.
     pub fn read(
         alloc: Global,
         grammar: Grammar,
@@ -126,6 +128,7 @@ impl LineSays {
     ) -> Result<LineSays, NoMemory>
         ensures says { IfOk result (λ says. says ≡ line_says grammar number text.now) }
         ensures of_grammar { IfOk result (SpellsLine grammar number) }
+        ensures wants { IsErr result → HoldsOctets (line_says grammar number text.now) }
         ensures trial { grammar ≡ Trial → IsOk result }
     {
         if number > MOST_LINES || text.len() > LONGEST_LINE {

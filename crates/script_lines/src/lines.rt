@@ -1,9 +1,9 @@
-ghost use Rattle.std.specs.Prelude.{◌≡◌, ◌<◌, ◌≤◌, ◌⊎◌, true, false, length, position, IfOk, IfErr, OnErr, IsErrOf};
+ghost use Rattle.std.specs.Prelude.{◌≡◌, ◌<◌, ◌≤◌, ◌⊎◌, true, false, length, position, IfOk, IsErr, OnErr, IsErrOf};
 ghost use Rattle.std.specs.List.{position_or_len};
 ghost use Rattle.std.specs.Io.KnownBytes.{Keeps, prepend_known, IsAtEnd};
 ghost use Rattle.ground_io.specs.Counts.{HasCause};
 ghost use Rattle.script_lines.specs.Script.{is_line_feed};
-ghost use Rattle.script_lines.specs.Taking.{IsOutside, taken_of};
+ghost use Rattle.script_lines.specs.Taking.{taken_of};
 ghost use Rattle.script_lines.specs.declared.line.Grammar.TheVariants.{Trial, Session};
 ghost use Rattle.script_lines.specs.declared.lines.LineFault.TheVariants.{Read, NoMemory as WantsMemory};
 
@@ -12,7 +12,7 @@ use crate::pending::Pending;
 use crate::{Grammar, Line, LineSays};
 use bac_values::NoMemory;
 use ground_io::{Failed, Source};
-use std::alloc::{AllocError, Global};
+use std::alloc::Global;
 use std::marker::Model;
 
 /// Why a script gave no line.
@@ -27,14 +27,6 @@ pub enum LineFault {
     Read,
     /// Memory was refused. The lines still to come are the same.
     NoMemory,
-}
-
-impl From<AllocError> for LineFault {
-    ghost from_gives = { λ _ fault. fault ≡ WantsMemory };
-
-    fn from(_refused: AllocError) -> LineFault {
-        LineFault::NoMemory
-    }
 }
 
 impl From<NoMemory> for LineFault {
@@ -78,7 +70,7 @@ fn find_end<S: Source>(
     source: &mut S,
     pending: &mut Pending,
     ended: &mut bool,
-) -> Result<usize, LineFault>
+) -> Result<usize, Failed>
     requires source { ended.old ≡ true → IsAtEnd (S.left source.old) }
     ensures source { ended.new ≡ true → IsAtEnd (S.left source.new) }
     ensures octets { Keeps (prepend_known pending.old (S.left source.old)) (prepend_known pending.new (S.left source.new)) }
@@ -86,8 +78,7 @@ fn find_end<S: Source>(
     ensures found { IfOk result (λ end. (end < length pending.new) ⊎ ((4096 < length pending.new) ⊎ (ended.new ≡ true))) }
     ensures ended { ended.new ≡ false → ended.old ≡ false }
     ensures waits { OnErr result ((ended.new ≡ false) × (position is_line_feed pending.new ≡ None)) }
-    ensures fault { IfErr result IsOutside }
-    ensures cause { HasCause (S.faults source.old) (S.faults source.new) (IsErrOf result LineFault.Read) }
+    ensures cause { HasCause (S.faults source.old) (S.faults source.new) (IsErr result) }
 {
     let mut end = 0;
     loop {
@@ -148,12 +139,12 @@ impl Model for Lines {
 }
 
 impl Lines {
-    ghost use Rattle.std.specs.Prelude.{◌+◌, ◌<◌, ◌≤◌, [], true, false, position, IfSome, OnSome};
+    ghost use Rattle.std.specs.Prelude.{◌≢◌, ◌+◌, ◌<◌, ◌≤◌, [], true, false, position, IfSome, IsOk, OnSome};
     ghost use Rattle.std.specs.List.{before_first, position_or_len};
-    ghost use Rattle.script_lines.specs.Line.{IsLineOf, SpellsLine, line_says};
+    ghost use Rattle.script_lines.specs.Line.{HoldsOctets, IsLineOf, SpellsLine, line_says};
     ghost use Rattle.script_lines.specs.Reading.{octets_to_come};
     ghost use Rattle.ground_io.specs.Trace.{WhereTold};
-    ghost use Rattle.script_lines.specs.Script.{is_line_feed, ReadsLine, TakesLines};
+    ghost use Rattle.script_lines.specs.Script.{front_says, is_line_feed, ReadsLine, TakesLines};
     ghost use Rattle.script_lines.specs.Taking.{CountsLine, TakesLine, TakesLineOf, behind_line};
 
     // A reader of a script in a grammar, at its first line.
@@ -200,6 +191,8 @@ impl Lines {
         ensures of_grammar { IfOk result (SpellsLine self.old.grammar (self.old.number + 1)) }
         ensures limit { self.new.number ≤ 1000000 }
         ensures same { OnErr result (self.new ≡ self.old) }
+        ensures wants { IsErr result → HoldsOctets (front_says self.new) }
+        ensures trial { self.old.grammar ≡ Trial → IsOk result }
     {
         let octets = self.pending.octets();
         let says = LineSays::read(self.alloc, self.grammar, self.number + 1, &octets[..end])?;
@@ -227,6 +220,8 @@ impl Lines {
         ensures ended { self.new.ended ≡ false → self.old.ended ≡ false }
         ensures waits { result ≡ Err LineFault.Read → (self.new.ended ≡ false) × (position is_line_feed self.new.pending ≡ None) }
         ensures cause { HasCause (S.faults source.old) (S.faults source.new) (IsErrOf result LineFault.Read) }
+        ensures wants { result ≡ Err LineFault.NoMemory → HoldsOctets (front_says self.new) }
+        ensures trial { self.old.grammar ≡ Trial → result ≢ Err LineFault.NoMemory }
     {
         let end = find_end(source, &mut self.pending, &mut self.ended)?;
         if self.pending.octets().is_empty() {
@@ -239,8 +234,9 @@ impl Lines {
 
     /// The next line of the script, or none at its end. Blank lines and comments are passed over and counted.
     ///
-    /// `Grammar` comes at a line outside the grammar, which stays the next one. After `NoMemory` the line that wanted it
-    /// is still to come. After the source's end it is never read again.
+    /// `Grammar` comes at a line outside the grammar, which stays the next one. `NoMemory` comes only at a line that sets an
+    /// object to a text or brings a datagram, which is still to come; so a trial's lines want none. After the source's end it
+    /// is never read again.
     pub fn next_line<S: Source>(&mut self, source: &mut S) -> Result<Option<Line>, LineFault>
         // The same source is handed to each call: where its end was seen, it is at its end.
         requires source { self.old.ended ≡ true → IsAtEnd (S.left source.old) }
@@ -259,6 +255,8 @@ impl Lines {
         ensures ended { self.new.ended ≡ false → self.old.ended ≡ false }
         ensures waits { result ≡ Err LineFault.Read → (self.new.ended ≡ false) × (position is_line_feed self.new.pending ≡ None) }
         ensures cause { HasCause (S.faults source.old) (S.faults source.new) (IsErrOf result LineFault.Read) }
+        ensures wants { result ≡ Err LineFault.NoMemory → HoldsOctets (front_says self.new) }
+        ensures trial { self.old.grammar ≡ Trial → result ≢ Err LineFault.NoMemory }
     {
         loop {
             match self.take_line(source)? {

@@ -1,5 +1,5 @@
-ghost use Rattle.std.specs.Prelude.{◌≡◌, IfOk};
-ghost use Rattle.script_lines.specs.SessionLine.{moment_line, value_line, fault_line, datagram_line, session_line_of};
+ghost use Rattle.std.specs.Prelude.{◌≡◌, IfOk, IsErr, IsSomeAnd};
+ghost use Rattle.script_lines.specs.SessionLine.{IsOfOctets, moment_line, value_line, fault_line, datagram_line, session_line_of};
 
 use crate::Line;
 use crate::address::read_peer;
@@ -27,6 +27,7 @@ fn moment_line(input: Input, number: u64, words: &[u8]) -> Option<Line>
 #[tactic(auto, unfolding(crate::specs::SessionLine::value_line))]
 fn value_line(alloc: Global, number: u64, words: &[u8]) -> Result<Option<Line>, NoMemory>
     ensures line { IfOk result (λ found. found ≡ value_line number words.now) }
+    ensures wants { IsErr result → IsSomeAnd (value_line number words.now) IsOfOctets }
 {
     let (moment, words) = split_word(words);
     let (object, value) = split_word(words);
@@ -70,6 +71,7 @@ fn fault_line(number: u64, words: &[u8]) -> Option<Line>
 #[tactic(auto, unfolding(crate::specs::SessionLine::datagram_line))]
 fn datagram_line(alloc: Global, number: u64, words: &[u8]) -> Result<Option<Line>, NoMemory>
     ensures line { IfOk result (λ found. found ≡ datagram_line number words.now) }
+    ensures wants { IsErr result → IsSomeAnd (datagram_line number words.now) IsOfOctets }
 {
     let (moment, words) = split_word(words);
     let (peer, octets) = split_word(words);
@@ -93,6 +95,7 @@ fn datagram_line(alloc: Global, number: u64, words: &[u8]) -> Result<Option<Line
 #[tactic(auto, unfolding(crate::specs::SessionLine::session_line_of))]
 pub fn session_line(alloc: Global, number: u64, text: &[u8]) -> Result<Option<Line>, NoMemory>
     ensures line { IfOk result (λ found. found ≡ session_line_of number text.now) }
+    ensures wants { IsErr result → IsSomeAnd (session_line_of number text.now) IsOfOctets }
 {
     let (word, others) = split_word(text);
     if word == b"tick".as_slice() {

@@ -1,12 +1,10 @@
-ghost use Rattle.std.specs.Prelude.{◌≡◌, ◌≤◌, true, false, IfOk, IfSome, MatchOption, length};
-ghost use Rattle.std.specs.Option.{option_map};
+ghost use Rattle.std.specs.Prelude.{◌≡◌, ◌/◌, ◌≤◌, true, false, Some, None, IfOk, IsErr, IsSome, IsSomeAnd, MatchBool, MatchOption, length};
 ghost use Rattle.std.specs.Str.{is_utf8};
-ghost use Rattle.script_lines.specs.SessionLine.{IsDatagram, bit_of, bits_number, bits_of, datagram_of, name_of, octets_of, text_of, value_named, value_of, behind, colon};
+ghost use Rattle.script_lines.specs.SessionLine.{IsText, bit_of, bits_number, bits_of, datagram_from, datagram_of, name_of, octets_of, text_from, text_of, value_named, value_of, behind, colon};
 
 use crate::number::{signed, unsigned};
 use crate::words::place_of;
-use bac_values::{Bits, Items, NoMemory, Text, TextFault, Value};
-use hex::FromHexError;
+use bac_values::{Bits, Items, NoMemory, Text, Value};
 use std::alloc::Global;
 
 // The bit that a digit stands for.
@@ -43,15 +41,14 @@ pub fn read_bits(digits: &[u8]) -> Option<Bits>
     Bits::new(digits.len() as u8, number).ok()
 }
 
-// The octets that pairs of hexadecimal digits spell.
-fn octets(alloc: Global, digits: &[u8]) -> Result<Option<Vec<u8>>, NoMemory>
-    ensures octets { IfOk result (λ found. option_map (λ octets. octets.items) found ≡ octets_of digits.now) }
+// Puts the octets that pairs of hexadecimal digits spell into a room for just so many. `false` if none are spelled.
+#[tactic(auto, using(crate::proofs::Octets::sized_halves))]
+fn fill(digits: &[u8], room: &mut [u8]) -> bool
+    requires half { length room.old ≡ length digits.now / 2 }
+    ensures octets { MatchBool result (octets_of digits.now ≡ Some room.new) (octets_of digits.now ≡ None) }
+    ensures size { length room.new ≡ length room.old }
 {
-    match hex::decode(alloc, digits) {
-        Ok(octets) => Ok(Some(octets)),
-        Err(FromHexError::OutOfMemory) => Err(NoMemory),
-        Err(_) => Ok(None),
-    }
+    hex::decode_to_slice(digits, room).is_ok()
 }
 
 // The octets as a text, if they are UTF-8.
@@ -62,38 +59,73 @@ fn utf8(octets: &[u8]) -> Option<&str>
     std::str::from_utf8(octets).ok()
 }
 
-// The text whose octets are spelled.
-fn text(alloc: Global, digits: &[u8]) -> Result<Option<Text>, NoMemory>
-    ensures text { IfOk result (λ found. found ≡ text_of digits.now) }
+// How many octets a text may have.
+const LONGEST_TEXT: usize = 256;
+
+// The text of these octets.
+fn text_from(alloc: Global, octets: &[u8]) -> Result<Option<Text>, NoMemory>
+    requires size { length octets.now ≤ 256 }
+    ensures text { IfOk result (λ found. found ≡ text_from octets.now) }
+    ensures wants { IsErr result → IsSome (text_from octets.now) }
 {
-    let Some(octets) = octets(alloc, digits)? else {
-        return Ok(None);
-    };
-    let Some(source) = utf8(octets.as_slice()) else {
+    let Some(source) = utf8(octets) else {
         return Ok(None);
     };
     match Text::new(alloc, source) {
         Ok(text) => Ok(Some(text)),
-        Err(TextFault::NoMemory) => Err(NoMemory),
-        Err(TextFault::TooLong { .. }) => Ok(None),
+        Err(_refused) => Err(NoMemory),
     }
+}
+
+// The text whose octets are spelled.
+#[tactic(auto, using(crate::proofs::Octets::long_text))]
+fn text(alloc: Global, digits: &[u8]) -> Result<Option<Text>, NoMemory>
+    ensures text { IfOk result (λ found. found ≡ text_of digits.now) }
+    ensures wants { IsErr result → IsSome (text_of digits.now) }
+{
+    if digits.len() > 2 * LONGEST_TEXT {
+        return Ok(None);
+    }
+    let mut room = [0; LONGEST_TEXT];
+    let octets = &mut room[..digits.len() / 2];
+    if !fill(digits, octets) {
+        return Ok(None);
+    }
+    text_from(alloc, octets)
 }
 
 // How many octets a datagram may have.
 const LONGEST_DATAGRAM: usize = 1497;
 
-/// The datagram whose octets pairs of hexadecimal digits spell. It has 1 to 1,497 octets.
-pub fn read_datagram(alloc: Global, digits: &[u8]) -> Result<Option<Items<u8>>, NoMemory>
-    ensures datagram { IfOk result (λ found. found ≡ datagram_of digits.now) }
-    ensures size { IfOk result (λ found. IfSome found IsDatagram) }
+// A datagram of these octets.
+fn datagram_from(alloc: Global, octets: &[u8]) -> Result<Option<Items<u8>>, NoMemory>
+    requires size { length octets.now ≤ 1497 }
+    ensures datagram { IfOk result (λ found. found ≡ datagram_from octets.now) }
+    ensures wants { IsErr result → IsSome (datagram_from octets.now) }
 {
-    let Some(octets) = octets(alloc, digits)? else {
-        return Ok(None);
-    };
-    if octets.is_empty() || octets.len() > LONGEST_DATAGRAM {
+    if octets.is_empty() {
         return Ok(None);
     }
-    Ok(Some(Items::of(octets)))
+    let mut bytes = Vec::new(alloc);
+    bytes.extend_from_slice(octets)?;
+    Ok(Some(Items::of(bytes)))
+}
+
+/// The datagram whose octets pairs of hexadecimal digits spell. It has 1 to 1,497 octets.
+#[tactic(auto, using(crate::proofs::Octets::long_datagram))]
+pub fn read_datagram(alloc: Global, digits: &[u8]) -> Result<Option<Items<u8>>, NoMemory>
+    ensures datagram { IfOk result (λ found. found ≡ datagram_of digits.now) }
+    ensures wants { IsErr result → IsSome (datagram_of digits.now) }
+{
+    if digits.len() > 2 * LONGEST_DATAGRAM {
+        return Ok(None);
+    }
+    let mut room = [0; LONGEST_DATAGRAM];
+    let octets = &mut room[..digits.len() / 2];
+    if !fill(digits, octets) {
+        return Ok(None);
+    }
+    datagram_from(alloc, octets)
 }
 
 // A name and the colon behind it, and what follows.
@@ -110,6 +142,7 @@ fn split_name(text: &[u8]) -> (&[u8], &[u8])
 // The value that is spelled behind a name.
 fn value_named(alloc: Global, name: &[u8], digits: &[u8]) -> Result<Option<Value>, NoMemory>
     ensures value { IfOk result (λ found. found ≡ value_named name.now digits.now) }
+    ensures wants { IsErr result → IsSomeAnd (value_named name.now digits.now) IsText }
 {
     if name == b"signed:".as_slice() {
         return Ok(signed(digits).map(Value::Signed));
@@ -130,6 +163,7 @@ fn value_named(alloc: Global, name: &[u8], digits: &[u8]) -> Result<Option<Value
 /// The value that a text names: `signed:N`, `unsigned:N`, `active`, `inactive`, `bits:0101` or `text:HEX`.
 pub fn read_value(alloc: Global, text: &[u8]) -> Result<Option<Value>, NoMemory>
     ensures value { IfOk result (λ found. found ≡ value_of text.now) }
+    ensures wants { IsErr result → IsSomeAnd (value_of text.now) IsText }
 {
     if text == b"active".as_slice() {
         return Ok(Some(Value::Enumerated(1)));

@@ -1,8 +1,8 @@
 -- The site of a text keeps to what a site keeps to.
 use Rattle.std.proofs.Common.{◌≡◌, ◌≤◌, ℕ, ℤ, pos, List, [], ◌∷◌, length, true, false, Bool, Option, Some, None, Ok, Err, if◌then◌else◌, refl, arith}
 use Rattle.std.specs.Prelude.{codes, Result, neg_ℤ, nat_lt, IfOk}
-use Rattle.std.specs.List.{AllByRecursion}
-use Rattle.std.proofs.lemmas.List.Elements.{All-nil, All-map}
+use Rattle.std.specs.List.{All, AllByRecursion}
+use Rattle.std.proofs.lemmas.List.Elements.{All-nil, All-map, All-weaker}
 use Rattle.toml.specs.Data.{Members, as_bool, get_member, Items, no_items, item, table, array, string, integer, float, boolean, datetime}
 use Rattle.bac_values.specs.Identifier.{Identifier}
 use Rattle.bac_values.specs.Moments.{IsMoment}
@@ -15,6 +15,7 @@ use Rattle.object_table.specs.Rows.{rows_of}
 use Rattle.outbox.specs.Outboxes.{AreSettings}
 use Rattle.alarm_core.specs.declared.site.DeviceSite.{DeviceSite}
 use Rattle.alarm_core.specs.declared.site.Site.{Site}
+use Rattle.alarm_core.specs.Room.{HasRoom}
 use Rattle.alarm_core.specs.Sites.{HasInstance, IsLogSite, IsSite}
 use Rattle.enrollment.specs.Enrollments.{IsEnrollment}
 use Rattle.enrollment.specs.Snapshots.{HasObjects}
@@ -36,6 +37,7 @@ use Rattle.site_config.specs.Keys.{has_key}
 use Rattle.site_config.specs.Limits.{limits_of}
 use Rattle.site_config.specs.Members.{required, or_else, first_unknown, refused_key}
 use Rattle.site_config.specs.Objects.{keys_of_object, object_of}
+use Rattle.site_config.specs.Notes.{members_of, notes_of}
 use Rattle.site_config.specs.References.{enrollment_dangles, least_dangling}
 use Rattle.site_config.specs.Sections.{placed, device_item, device_from, device_table, device_section, lesser_key, items_of, next_number, section_from, section_of, section_name, tables_at}
 use Rattle.site_config.specs.Sites.{document_of, site_or_no_toml, site_of_document, site_of_draft, site_of, duplicate_of, dangling_of, notes_fit, verdict_on, in_order, with_destinations}
@@ -44,6 +46,7 @@ use Rattle.site_config.proofs.Ascending.{fold_ascends, fold_keeps}
 use Rattle.site_config.proofs.KeptEnrollments.{KeepsKeys, enrollment_kept, log_kept}
 use Rattle.site_config.proofs.KeptObjects.{object_kept}
 use Rattle.site_config.proofs.KeptReferences.{same_ids, none_dangles, are_enrollments, have_objects}
+use Rattle.site_config.proofs.KeptRoom.{HasClassId, fit_within, room_kept}
 use Rattle.site_config.proofs.Numbers.{instance_kept, moment_kept, unsigned_kept, whole_kept}
 use Rattle.site_config.proofs.Steps.{after, ok_is, required_keeps, or_else_keeps}
 
@@ -83,11 +86,12 @@ item_kept ms site h =
 
 -- ---- the classes
 
-HasGoodInstance : ClassItem → Type 0
-HasGoodInstance made = made.object.instance ≤ 4194302
+record IsClassPart (made : ClassItem) : Type 0 where
+  instance : made.object.instance ≤ 4194302
+  class : HasClassId made
 
-class_part_kept : (ms : Members) (made : ClassItem) → class_of ms ≡ Ok made → HasGoodInstance made
-unfolding class_of HasGoodInstance
+class_part_kept : (ms : Members) (made : ClassItem) → class_of ms ≡ Ok made → IsClassPart made
+unfolding class_of
 class_part_kept ms made h =
     let instance = after (required instance_in (codes "instance") ms) _ made h in
     let name = after (name_of (object_with kinds.NotificationClass instance.value) ms) _ made instance.next_is in
@@ -96,9 +100,9 @@ class_part_kept ms made h =
     let whole : ClassItem = record { object = object_with kinds.NotificationClass instance.value; name = name.value; priority = priority.value; ack_required = ack_required.value } in
     let is : whole ≡ made = ok_is whole made ack_required.next_is in
     let I : ℕ → Type 0 = λ n. n ≤ 4194302 in
-    rw (← is) (required_keeps I instance_in instance_kept (codes "instance") ms instance.value instance.first_is)
+    rw (← is) (record { instance = required_keeps I instance_in instance_kept (codes "instance") ms instance.value instance.first_is; class = refl })
 
-class_kept : (ms : Members) (made : ClassItem) → class_item ms ≡ Ok made → HasGoodInstance made
+class_kept : (ms : Members) (made : ClassItem) → class_item ms ≡ Ok made → IsClassPart made
 class_kept ms made h =
     let known = after (refused_key (first_unknown (has_key keys.Class) ms)) (λ _. class_of ms) made h in
     class_part_kept ms made known.next_is
@@ -153,7 +157,7 @@ device_from_kept document (Some ms) device h =
 
 record IsDraft (draft : Draft) : Type 0 where
   device : IsDevice draft.device
-  classes : AllByRecursion HasGoodInstance draft.classes
+  classes : AllByRecursion IsClassPart draft.classes
   objects : AllByRecursion IsObject draft.objects
   enrollments : AllByRecursion KeepsKeys draft.enrollments
   logs : AllByRecursion IsLogSite draft.logs
@@ -170,7 +174,7 @@ draft_kept document draft h =
     let is : record { device = device.value; classes = classes.value; destinations = destinations.value; objects = objects.value; enrollments = enrollments.value; logs = logs.value } ≡ draft = cc in
     rw (← is) (record {
       device = device_from_kept document (device_table (get_member (codes "device") document)) device.value device.first_is;
-      classes = section_kept HasGoodInstance class_item class_kept Class document classes.value classes.first_is;
+      classes = section_kept IsClassPart class_item class_kept Class document classes.value classes.first_is;
       objects = section_kept IsObject object_item item_kept Object document objects.value objects.first_is;
       enrollments = section_kept KeepsKeys enrollment_item enrollment_kept Enrollment document enrollments.value enrollments.first_is;
       logs = section_kept IsLogSite log_item log_kept Log document logs.value logs.first_is;
@@ -181,25 +185,32 @@ nothing_dangles : (found : Option Identifier) (verdict : Unit {0}) → dangling_
 nothing_dangles None verdict h = refl
 nothing_dangles (Some object) verdict h = absurd cc
 
-verdict_kept : (draft : Draft) (verdict : Unit {0}) → verdict_on draft ≡ Ok verdict → least_dangling draft ≡ None
+-- nothing dangles, and the notifications fit
+record Passes (draft : Draft) : Type 0 where
+  refers : least_dangling draft ≡ None
+  fits : notes_of draft.destinations (members_of draft) ≤ draft.device.outbox
+
+verdict_kept : (draft : Draft) (verdict : Unit {0}) → verdict_on draft ≡ Ok verdict → Passes draft
 unfolding verdict_on
 verdict_kept draft verdict h =
     let limits = after (limits_of draft) _ verdict h in
     let identifiers = after (duplicate_of (least_twice (identifiers draft))) _ verdict limits.next_is in
     let references = after (dangling_of (least_dangling draft)) (λ _. notes_fit draft) verdict identifiers.next_is in
-    nothing_dangles (least_dangling draft) references.value references.first_is
+    record { refers = nothing_dangles (least_dangling draft) references.value references.first_is; fits = fit_within draft verdict references.next_is }
 
 -- ---- the site
 
+classes_kept : (draft : Draft) → IsDraft draft → All IsClassPart (in_order id_of_class draft.classes)
+classes_kept draft kept = fold_keeps identifiers_are_total same_ids id_of_class IsClassPart [] draft.classes (All-nil IsClassPart) kept.classes
+
 of_draft_kept : (draft : Draft) → IsDraft draft → AllByRecursion (λ site. enrollment_dangles draft.classes draft.objects site ≡ false) draft.enrollments → IsSite (site_of_draft draft)
-unfolding HasGoodInstance
 of_draft_kept draft kept refer = record {
   start = kept.device.start;
   zone = kept.device.zone;
   instance = kept.device.instance;
   settings = kept.device.settings;
   classes = All-map HasInstance (with_destinations draft.destinations) (in_order id_of_class draft.classes)
-      (fold_keeps identifiers_are_total same_ids id_of_class HasGoodInstance [] draft.classes (All-nil HasGoodInstance) kept.classes);
+      (All-weaker IsClassPart (λ item. HasInstance (with_destinations draft.destinations item)) (λ item is. is.instance) (in_order id_of_class draft.classes) (classes_kept draft kept));
   ascending = fold_ascends identifiers_are_total same_ids id_of_object draft.objects;
   objects = fold_keeps identifiers_are_total same_ids id_of_object IsObject [] draft.objects (All-nil IsObject) kept.objects;
   enrollments_ascend = fold_ascends identifiers_are_total same_ids id_of_enrollment draft.enrollments;
@@ -210,28 +221,46 @@ of_draft_kept draft kept refer = record {
   logs = fold_keeps identifiers_are_total same_ids id_of_log IsLogSite [] draft.logs (All-nil IsLogSite) kept.logs;
 }
 
-document_kept : (document : Members) (site : Site) → site_of_document document ≡ Ok site → IsSite site
+of_draft_room : (draft : Draft) → IsDraft draft → Passes draft → HasRoom (site_of_draft draft)
+of_draft_room draft kept passes =
+    room_kept draft (All-weaker IsClassPart HasClassId (λ item is. is.class) (in_order id_of_class draft.classes) (classes_kept draft kept))
+    (fold_ascends identifiers_are_total same_ids id_of_class draft.classes) passes.fits
+
+-- what is known of a site that is given
+record IsGiven (site : Site) : Type 0 where
+  keeps : IsSite site
+  room : HasRoom site
+
+document_kept : (document : Members) (site : Site) → site_of_document document ≡ Ok site → IsGiven site
 unfolding site_of_document
 document_kept document site h =
     let draft = after (draft_of document) _ site h in
     let verdict = after (verdict_on draft.value) (λ _. Ok (site_of_draft draft.value)) site draft.next_is in
     let is : site_of_draft draft.value ≡ site = cc in
-    let nothing = verdict_kept draft.value verdict.value verdict.first_is in
-    rw (← is) (of_draft_kept draft.value (draft_kept document draft.value draft.first_is) (none_dangles draft.value nothing))
+    let passes = verdict_kept draft.value verdict.value verdict.first_is in
+    let kept = draft_kept document draft.value draft.first_is in
+    rw (← is) (record {
+      keeps = of_draft_kept draft.value kept (none_dangles draft.value passes.refers);
+      room = of_draft_room draft.value kept passes;
+    })
 
-found_kept : (found : Option Members) (site : Site) → site_or_no_toml found ≡ Ok site → IsSite site
+found_kept : (found : Option Members) (site : Site) → site_or_no_toml found ≡ Ok site → IsGiven site
 found_kept None site h = absurd cc
 found_kept (Some document) site h = document_kept document site h
 
-pub site_kept : (text : List ℕ) (site : Site) → site_of text ≡ Ok site → IsSite site
+site_kept : (text : List ℕ) (site : Site) → site_of text ≡ Ok site → IsGiven site
 unfolding site_of
 site_kept text site h = by (nat_lt 1048576 (length text)) h
   where
-    by : (long : Bool) → (if long then Err TooLong else site_or_no_toml (document_of text)) ≡ Ok site → IsSite site
+    by : (long : Bool) → (if long then Err TooLong else site_or_no_toml (document_of text)) ≡ Ok site → IsGiven site
     by true e = absurd cc
     by false e = found_kept (document_of text) site e
 
 -- what is given where memory isn't refused
 pub gives_kept : (answer : Result Site SiteFault) (text : List ℕ) → Gives NoMemory answer (site_of text) → IfOk answer IsSite
-gives_kept (Ok site) text h = site_kept text site h
+gives_kept (Ok site) text h = (site_kept text site h).keeps
 gives_kept (Err fault) text h = tt
+
+pub gives_room : (answer : Result Site SiteFault) (text : List ℕ) → Gives NoMemory answer (site_of text) → IfOk answer HasRoom
+gives_room (Ok site) text h = (site_kept text site h).room
+gives_room (Err fault) text h = tt

@@ -5,6 +5,9 @@ pub mod Named
 pub mod Steps
 pub mod Numbers
 pub mod Ascending
+pub mod InOrder
+pub mod ClassByClass
+pub mod KeptRoom
 pub mod Present
 pub mod KeptFaults
 pub mod KeptAlarms

@@ -1,6 +1,8 @@
 -- How much a site may have.
-use Rattle.std.specs.Prelude.{ℕ, ◌+◌, ◌==◌, nat_lt, Bool, List, length, count_by, sum_by, Result, Ok, Err, if◌then◌else◌}
+use Rattle.std.specs.Prelude.{ℕ, ◌+◌, ◌==◌, nat_lt, Bool, List, length, count_by, sum_by, unwrap_or, Result, Ok, Err, if◌then◌else◌}
+use Rattle.std.specs.BTreeMap.{BTreeMap, get}
 use Rattle.std.specs.List.{list_any}
+use Rattle.std.specs.Ordering.{nat_cmp}
 use Rattle.alarm_core.specs.declared.site.LogSite.{LogSite}
 use Rattle.site_config.specs.declared.destination.DestinationSite.{DestinationSite}
 use Rattle.site_config.specs.declared.draft.Draft.{Draft}
@@ -16,6 +18,10 @@ names_class class destination = destination.class.instance == class
 
 abbrev pub count_of : ℕ → List DestinationSite → ℕ
 count_of class destinations = count_by (names_class class) destinations
+
+-- how many a map counts of a class
+abbrev pub count_in : BTreeMap ℕ ℕ → ℕ → ℕ
+count_in counts class = unwrap_or (get nat_cmp counts class) 0
 
 -- more than 32 destinations name one class
 abbrev pub are_crowded : List DestinationSite → Bool

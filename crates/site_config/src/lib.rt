@@ -6,6 +6,7 @@
 
 mod alarm_keys;
 mod class;
+mod counts;
 mod destination;
 mod device;
 mod draft;

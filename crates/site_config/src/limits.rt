@@ -1,10 +1,14 @@
-ghost use Rattle.std.specs.Prelude.{◌≡◌, ◌≤◌, nat_lt, length, sum_by};
+ghost use Rattle.std.specs.Prelude.{◌≡◌, ◌≤◌, nat_lt, length, sum_by, IfOk};
+ghost use Rattle.site_config.specs.Answers.{Gives};
 ghost use Rattle.site_config.specs.Limits.{count_of, are_crowded, size_of, limits_of};
 
+use crate::counts::{count_in, counts_of};
 use crate::destination::DestinationSite;
 use crate::draft::Draft;
 use crate::fault::{Counted, Section, SiteFault};
 use alarm_core::LogSite;
+use bac_values::NoMemory;
+use std::alloc::Global;
 
 /// How many destinations the class has.
 pub fn count_of(class: u32, destinations: &[DestinationSite]) -> usize
@@ -17,12 +21,15 @@ pub fn count_of(class: u32, destinations: &[DestinationSite]) -> usize
 }
 
 /// Whether more than 32 destinations name one class.
-fn are_crowded(destinations: &[DestinationSite]) -> bool
-    ensures crowded { result ≡ are_crowded destinations.now }
+fn are_crowded(alloc: Global, destinations: &[DestinationSite]) -> Result<bool, NoMemory>
+    ensures crowded { IfOk result (λ crowded. crowded ≡ are_crowded destinations.now) }
 {
-    destinations
-        .iter()
-        .any(|site| count_of(site.class.instance(), destinations) > 32)
+    let counts = counts_of(alloc, destinations)?;
+    Ok(
+        destinations
+            .iter()
+            .any(|site| count_in(&counts, site.class.instance()) > 32),
+    )
 }
 
 /// Whether the logs have room for more than 16,384 records together.
@@ -47,14 +54,14 @@ fn too_many(section: Section) -> SiteFault
 }
 
 /// Whether there is too much of something, section by section, and then of the records of logs.
-pub fn limits_of(draft: &Draft) -> Result<(), SiteFault>
-    ensures verdict { result ≡ limits_of draft.now }
+pub fn limits_of(alloc: Global, draft: &Draft) -> Result<(), SiteFault>
+    ensures verdict { Gives SiteFault.NoMemory result (limits_of draft.now) }
 {
     let objects = draft.objects.as_slice().len();
     if draft.classes.as_slice().len() > 256 {
         return Err(too_many(Section::Class));
     }
-    if are_crowded(draft.destinations.as_slice()) {
+    if are_crowded(alloc, draft.destinations.as_slice())? {
         return Err(too_many(Section::Destination));
     }
     if objects > 2048 {

@@ -1,5 +1,6 @@
 ghost use Rattle.std.specs.Prelude.{◌≡◌, ◌⊎◌, Some, None, map, IfOk, IfErr};
 ghost use Rattle.toml.specs.View.{table_view};
+ghost use Rattle.alarm_core.specs.Room.{HasRoom};
 ghost use Rattle.alarm_core.specs.Sites.{IsSite};
 ghost use Rattle.site_config.specs.Answers.{Gives};
 ghost use Rattle.site_config.specs.Identifiers.{identifiers, least_twice};
@@ -62,7 +63,7 @@ fn check_notes(alloc: Global, draft: &Draft) -> Result<(), SiteFault>
 fn check(alloc: Global, draft: &Draft) -> Result<(), SiteFault>
     ensures answer { Gives SiteFault.NoMemory result (verdict_on draft.now) }
 {
-    limits_of(draft)?;
+    limits_of(alloc, draft)?;
     check_identifiers(alloc, draft)?;
     check_references(draft)?;
     check_notes(alloc, draft)
@@ -195,10 +196,12 @@ fn site_of_text(alloc: Global, text: &[u8]) -> Result<Site, SiteFault>
 }
 
 /// Reads the text of a site: TOML of at most 1,048,576 octets. The answer is the site that the text is, or the first fault
-/// in the order of `docs/SITE.md`, unless memory is refused.
+/// in the order of `docs/SITE.md`, unless memory is refused. The core can start from that site, and the notifications of one
+/// tick always fit its empty outbox.
 pub fn read_site(alloc: Global, text: &[u8]) -> Result<Site, SiteFault>
     ensures answer { Gives SiteFault.NoMemory result (site_of text.now) }
     ensures keeps { IfOk result IsSite }
+    ensures room { IfOk result HasRoom }
 {
     site_of_text(alloc, text)
 }

@@ -77,20 +77,24 @@ fn commit<G: Ground>(alloc: Global, press: Press<G>, step: &Step) -> Result<Pres
     press.commit_batch(&job)
 }
 
-// Opens and commits all steps, and says how many were done; none where the opening failed.
-fn run(alloc: Global, device: MemoryGround) -> (MemoryGround, Option<usize>) {
+// Opens and commits these steps, and says how many were done; none where the opening failed.
+fn run_steps(alloc: Global, device: MemoryGround, steps: &[Step]) -> (MemoryGround, Option<usize>) {
     let mut press = match Press::open(alloc, device, SITE, NEED) {
         Ok((press, _)) => press,
         Err((device, _)) => return (device, None),
     };
-    let all = steps();
-    for (done, step) in all.iter().enumerate() {
+    for (done, step) in steps.iter().enumerate() {
         match commit(alloc, press, step) {
             Ok(next) => press = next,
             Err(device) => return (device, Some(done)),
         }
     }
-    (press.into_ground(), Some(all.len()))
+    (press.into_ground(), Some(steps.len()))
+}
+
+// Opens and commits all steps.
+fn run(alloc: Global, device: MemoryGround) -> (MemoryGround, Option<usize>) {
+    run_steps(alloc, device, &steps())
 }
 
 // What the journal holds behind so many steps.
@@ -254,6 +258,109 @@ fn refusals_come_in_their_order(rt: HostRuntime) -> Result<(), Fail> {
         &rt,
         &refused(alloc, batch, SITE),
         &Some(OpenFault::Damaged { at: 33 }),
+    );
+    Ok(())
+}
+
+// A device of 91 octets, of which each area has 32, and the first one is selected and begins with these.
+fn image_with(alloc: Global, area: &[u8]) -> Result<Vec<u8>, AllocError> {
+    let header = b"\x01BACALRM1\0\0\0\0\0\0\0\x5b\0\0\0\x04site\0";
+    let mut octets = header.to_vec(alloc)?;
+    octets.extend_from_slice(area)?;
+    octets.resize(91, 0)?;
+    Ok(octets)
+}
+
+// An empty snapshot and a batch with a body of so many octets, and behind it a gate.
+fn area_with(alloc: Global, length: u8, gate: u8) -> Result<Vec<u8>, AllocError> {
+    let mut area = [0, 0, 0, 0, 1, 0, 0, 0, length].to_vec(alloc)?;
+    area.resize(9 + usize::from(length), 1)?;
+    area.push(gate)?;
+    Ok(area)
+}
+
+// What the octets open to.
+fn opened(alloc: Global, octets: Vec<u8>) -> Option<Opened> {
+    let device = MemoryGround::new(alloc, octets, Vec::new(alloc));
+    match Press::open(alloc, device, SITE, NEED) {
+        Ok((_, opened)) => Some(opened),
+        Err(_) => None,
+    }
+}
+
+// Whether it is the snapshot with this place, and these are the places and octets of the bodies.
+fn lies(opened: &Option<Opened>, place: u64, snapshot: &[u8], bodies: &[(u64, &[u8])]) -> bool {
+    let Some(opened) = opened else {
+        return false;
+    };
+    let mut rest = opened.batches.as_slice();
+    let found = opened.bodies.as_slice();
+    if found.len() != bodies.len() {
+        return false;
+    }
+    for (body, wanted) in found.iter().zip(bodies) {
+        let length = body.length as usize;
+        if body.place != wanted.0 || length > rest.len() || &rest[..length] != wanted.1 {
+            return false;
+        }
+        rest = &rest[length..];
+    }
+    rest.is_empty() && opened.snapshot_place == place && opened.snapshot.as_slice() == snapshot
+}
+
+#[test]
+fn bodies_stand_apart_at_their_places(rt: HostRuntime) -> Result<(), Fail> {
+    let alloc = rt.alloc();
+    let (device, _) = run_steps(alloc, device_of(alloc, 91, &[])?, &steps()[..2]);
+    let two = opened(alloc, device.contents().to_vec(alloc)?);
+    holds(&rt, lies(&two, 30, b"", &[(35, b"one"), (43, b"two")]));
+    let (device, _) = run_steps(alloc, device_of(alloc, 91, &[])?, &steps()[..4]);
+    let other = opened(alloc, device.contents().to_vec(alloc)?);
+    holds(
+        &rt,
+        lies(&other, 62, b"state", &[(72, &[1, 0, 0, 0, 1, 1])]),
+    );
+    let blank = opened(alloc, vec![in alloc; 0u8; 91]?);
+    holds(&rt, lies(&blank, 30, b"", &[]));
+    Ok(())
+}
+
+#[test]
+fn an_open_gate_without_room_for_its_length_is_damage(rt: HostRuntime) -> Result<(), Fail> {
+    let alloc = rt.alloc();
+    let four_left = image_with(alloc, &area_with(alloc, 19, 1)?)?;
+    let damaged = Some(OpenFault::Damaged { at: 55 });
+    same(&rt, &refused(alloc, four_left, SITE), &damaged);
+    let one_left = image_with(alloc, &area_with(alloc, 22, 1)?)?;
+    let damaged = Some(OpenFault::Damaged { at: 58 });
+    same(&rt, &refused(alloc, one_left, SITE), &damaged);
+    let closed = image_with(alloc, &area_with(alloc, 22, 0)?)?;
+    holds(
+        &rt,
+        lies(&opened(alloc, closed), 30, b"", &[(35, &[1; 22])]),
+    );
+    let full = image_with(alloc, &area_with(alloc, 23, 1)?)?;
+    holds(&rt, lies(&opened(alloc, full), 30, b"", &[(35, &[1; 23])]));
+    let over = image_with(alloc, &area_with(alloc, 24, 1)?)?;
+    let damaged = Some(OpenFault::Damaged { at: 31 });
+    same(&rt, &refused(alloc, over, SITE), &damaged);
+    Ok(())
+}
+
+#[test]
+fn a_large_area_is_read_as_far_as_it_is_used(rt: HostRuntime) -> Result<(), Fail> {
+    let alloc = rt.alloc();
+    let (device, done) = run_steps(alloc, device_of(alloc, 4_194_304, &[])?, &steps()[..4]);
+    same(&rt, &done, &Some(4));
+    let large = opened(alloc, device.contents().to_vec(alloc)?);
+    holds(
+        &rt,
+        lies(
+            &large,
+            2_097_169,
+            b"state",
+            &[(2_097_179, &[1, 0, 0, 0, 1, 1])],
+        ),
     );
     Ok(())
 }

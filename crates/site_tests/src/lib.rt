@@ -15,3 +15,5 @@ mod ground_io_tests;
 mod script_lines_tests;
 #[cfg(test)]
 mod site_config_tests;
+#[cfg(test)]
+mod work_load_tests;

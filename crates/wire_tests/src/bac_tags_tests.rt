@@ -1,3 +1,5 @@
+ghost use Rattle.bac_tags.specs.Values.{IsWritable};
+
 use crate::comparing::{counts, holds, same};
 use bac_tags::*;
 use bac_values::{Bits, Foreign, ObjectId, Stamp, Text, Value};
@@ -392,4 +394,47 @@ fn the_shortest_spelling_is_written(rt: HostRuntime) -> Result<(), Fail> {
     ];
     same(&rt, &out.as_slice(), &expected.as_slice());
     Ok(())
+}
+
+/// The value is written as these octets, and nothing else is.
+fn expect_value_written(
+    rt: &impl Abort,
+    alloc: Global,
+    value: Value,
+    octets: &[u8],
+) -> Result<(), Fail>
+    requires { IsWritable value }
+{
+    let mut out = Vec::new(alloc);
+    write_value(&mut out, &value)?;
+    same(rt, &out.as_slice(), &octets);
+    Ok(())
+}
+
+#[test]
+fn numbers_are_written_as_values(rt: HostRuntime) -> Result<(), Fail> {
+    let alloc = rt.alloc();
+    expect_value_written(&rt, alloc, Value::Null, &[0x00])?;
+    expect_value_written(&rt, alloc, Value::Unsigned(0), &[0x21, 0x00])?;
+    expect_value_written(&rt, alloc, Value::Unsigned(1476), &[0x22, 0x05, 0xc4])?;
+    expect_value_written(&rt, alloc, Value::Signed(-100), &[0x31, 0x9c])?;
+    expect_value_written(&rt, alloc, Value::Signed(128), &[0x32, 0x00, 0x80])
+}
+
+#[test]
+fn other_values_are_written(rt: HostRuntime) -> Result<(), Fail> {
+    let alloc = rt.alloc();
+    let flags = Value::Bits(Bits::new(3, 6)?);
+    expect_value_written(&rt, alloc, flags, &[0x82, 0x05, 0x60])?;
+    let device = Value::Object(ObjectId::new(8, 1001)?);
+    let octets = [0xc4, 0x02, 0x00, 0x03, 0xe9];
+    expect_value_written(&rt, alloc, device, &octets)?;
+    let stamp = Stamp {
+        octets: [0x7b, 0x0b, 0x0e, 0x02, 0x16, 0x0d, 0x1e, 0x00],
+    };
+    let octets = [0xa4, 0x7b, 0x0b, 0x0e, 0x02, 0xb4, 0x16, 0x0d, 0x1e, 0x00];
+    expect_value_written(&rt, alloc, Value::DateTime(stamp), &octets)?;
+    let text = Value::Text(Text::new(alloc, "Lüfter")?);
+    let octets = [0x75, 0x08, 0x00, 0x4c, 0xc3, 0xbc, 0x66, 0x74, 0x65, 0x72];
+    expect_value_written(&rt, alloc, text, &octets)
 }

@@ -1,6 +1,8 @@
-use crate::comparing::{holds, same};
+use crate::comparing::{counts, holds, same};
 use bac_values::{Mac, Peer};
 use bvlc_npdu::*;
+use std::alloc::Global;
+use std::process::Abort;
 use std::test::Fail;
 
 /// A device of the local network: 10.0.0.9, port 47808.
@@ -64,6 +66,38 @@ fn a_station_behind_a_router_is_answered_through_it(rt: HostRuntime) -> Result<(
     ];
     same(&rt, &written.as_slice(), &expected.as_slice());
     Ok(())
+}
+
+/// The longest APDU stands behind these octets in a datagram to a peer, which has so many octets.
+fn expect_longest(
+    rt: &impl Abort,
+    alloc: Global,
+    peer: &Peer,
+    front: &[u8],
+    octets: usize,
+) -> Result<(), Fail> {
+    let apdu = [0x5a; 1476];
+    let written = wrap(alloc, peer, true, &apdu).ok().ok_or("no memory")?;
+    counts(rt, written.len(), octets);
+    holds(rt, written.as_slice().starts_with(front));
+    holds(rt, written.as_slice().ends_with(&apdu));
+    Ok(())
+}
+
+#[test]
+fn an_apdu_of_1476_octets_is_the_longest(rt: HostRuntime) -> Result<(), Fail> {
+    let front = [0x81, 0x0a, 0x05, 0xca, 0x01, 0x04];
+    expect_longest(&rt, rt.alloc(), &sender(), &front, 1482)?;
+    // Through a router, to a station whose address is the longest.
+    let station = Peer {
+        net: 0x0105,
+        mac: Mac::new(&[1, 2, 3, 4, 5, 6, 7]).ok_or("no station")?,
+        ..sender()
+    };
+    let front = [
+        0x81, 0x0a, 0x05, 0xd5, 0x01, 0x24, 0x01, 0x05, 0x07, 1, 2, 3, 4, 5, 6, 7, 0xff,
+    ];
+    expect_longest(&rt, rt.alloc(), &station, &front, 1493)
 }
 
 #[test]

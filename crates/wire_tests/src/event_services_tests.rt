@@ -114,7 +114,7 @@ fn more_than_an_acknowledgement_is_refused(rt: HostRuntime) {
 }
 
 /// An integer value of 90 enters HIGH_LIMIT, whose limit is 80.
-const HIGH: [u8; 55] = [
+pub(crate) const HIGH: [u8; 55] = [
     0x09, 0x01, 0x1c, 0x02, 0x00, 0x03, 0xe9, 0x2c, 0x0b, 0x40, 0x00, 0x01, 0x3e, 0x2e, 0xa4, 0x7b,
     0x0b, 0x0e, 0x02, 0xb4, 0x16, 0x0d, 0x1e, 0x00, 0x2f, 0x3f, 0x49, 0x07, 0x59, 0x64, 0x69, 0x0f,
     0x89, 0x00, 0x99, 0x01, 0xa9, 0x00, 0xb9, 0x03, 0xce, 0xfe, 0x0f, 0x09, 0x5a, 0x1a, 0x04, 0x80,
@@ -146,7 +146,7 @@ const INFORMATION: [u8; 65] = [
 ];
 
 /// The notification of `HIGH`.
-fn high() -> Result<Notification, Fail>
+pub(crate) fn high() -> Result<Notification, Fail>
     ensures told { IfOk result (λ note. IsTold note.event_type note.values) }
 {
     Ok(Notification {
@@ -216,7 +216,7 @@ fn faulty() -> Result<Notification, Fail>
 }
 
 /// The notification is written as these octets.
-fn expect_written(
+pub(crate) fn expect_written(
     rt: &impl Abort,
     alloc: Global,
     note: &Notification,
@@ -303,7 +303,13 @@ fn notifications_are_read(rt: HostRuntime) -> Result<(), Fail> {
 }
 
 /// The octets are no notification, for a reason and at a place.
-fn expect_no_notification(rt: &impl Abort, alloc: Global, octets: &[u8], reject: u8, at: usize) {
+pub(crate) fn expect_no_notification(
+    rt: &impl Abort,
+    alloc: Global,
+    octets: &[u8],
+    reject: u8,
+    at: usize,
+) {
     same(
         rt,
         &read_notification(alloc, octets),

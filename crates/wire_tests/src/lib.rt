@@ -14,6 +14,8 @@ mod comparing;
 #[cfg(test)]
 mod event_services_tests;
 #[cfg(test)]
+mod event_values_tests;
+#[cfg(test)]
 mod parameters_tests;
 #[cfg(test)]
 mod property_services_tests;

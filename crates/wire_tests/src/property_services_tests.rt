@@ -1,6 +1,6 @@
 use crate::comparing::{holds, same};
 use bac_tags::{invalid_tag, missing_parameter, too_many_arguments};
-use bac_values::{Foreign, ObjectId, PropertyId, Stamp, Value};
+use bac_values::{Foreign, ObjectId, PropertyId, Stamp, Text, Value};
 use property_services::*;
 use std::alloc::Global;
 use std::process::Abort;
@@ -149,6 +149,34 @@ fn write_property_is_read(rt: HostRuntime) {
     expect_written(&rt, alloc, &[0x3e, 0x09, 0x3f, 0x3f], opaque(0));
     expect_written(&rt, alloc, &[0x3e, 0x3e, 0x3f, 0x3f], opaque(0));
     expect_written(&rt, alloc, &[0x3e, 0x01, 0x3f, 0x3f], opaque(0));
+}
+
+#[test]
+fn a_text_is_written_as_a_property(rt: HostRuntime) -> Result<(), Fail> {
+    let alloc = rt.alloc();
+    let text = Value::Text(Text::new(alloc, "hi")?);
+    expect_written(&rt, alloc, &[0x3e, 0x73, 0x00, 0x68, 0x69, 0x3f], text);
+    // Without a letter, and with a priority behind it.
+    let empty = Value::Text(Text::new(alloc, "")?);
+    let octets = [0x3e, 0x71, 0x00, 0x3f, 0x49, 0x08];
+    expect_written(&rt, alloc, &octets, empty);
+    // Letters of two octets, in a length that is longer than it need be.
+    let text = Value::Text(Text::new(alloc, "üß")?);
+    let octets = [
+        0x3e, 0x75, 0xfe, 0x00, 0x05, 0x00, 0xc3, 0xbc, 0xc3, 0x9f, 0x3f,
+    ];
+    expect_written(&rt, alloc, &octets, text);
+    Ok(())
+}
+
+#[test]
+fn what_is_no_text_is_opaque_by_its_reason(rt: HostRuntime) {
+    let why = |why| Value::Opaque { tag: 7, why };
+    // In UCS-2, and octets that aren't UTF-8.
+    let octets = [0x3e, 0x73, 0x04, 0x00, 0x68, 0x3f];
+    expect_written(&rt, rt.alloc(), &octets, why(Foreign::CharacterSet));
+    let octets = [0x3e, 0x73, 0x00, 0xc3, 0x28, 0x3f];
+    expect_written(&rt, rt.alloc(), &octets, why(Foreign::NotUtf8));
 }
 
 #[test]

@@ -1,4 +1,4 @@
-use super::{SURROUNDINGS, TANK, joined};
+use super::{PLANT, SURROUNDINGS, TANK, joined};
 use crate::comparing::same;
 use site_config::read_site;
 use std::alloc::Global;
@@ -112,6 +112,26 @@ fn names_and_keys_have_at_most_256_octets(rt: HostRuntime) -> Result<(), Fail> {
     ];
     for (before, after, want) in rows {
         let text = format!(in alloc; "{SMALL_DEVICE}{before}{long}{after}")?;
+        same(&rt, &told(alloc, text.as_str().as_bytes())?.as_str(), &want);
+    }
+    Ok(())
+}
+
+/// The plant, whose log has so many classes more than one.
+fn plant_with_classes(alloc: Global, more: usize) -> Result<String, Fail> {
+    let others = ", 7".repeat(alloc, more)?;
+    let classes = format!(in alloc; "classes = [7{others}]")?;
+    Ok(PLANT.replacen(alloc, "classes = [7, 8]", classes.as_str(), 1)?)
+}
+
+#[test]
+fn a_log_has_at_most_256_classes(rt: HostRuntime) -> Result<(), Fail> {
+    let alloc = rt.alloc();
+    for (more, want) in [
+        (255, "read"),
+        (256, "site refused: bad-value log 1 classes"),
+    ] {
+        let text = plant_with_classes(alloc, more)?;
         same(&rt, &told(alloc, text.as_str().as_bytes())?.as_str(), &want);
     }
     Ok(())

@@ -9,7 +9,8 @@ use Rattle.alarm_core.proofs.recording.add_entries.Goals as goal
 
 pub returns : goal.returns
 returns c = record {
-  entries = λ moment stamp.
+  entries =
+      let moment = c.args.at.now.moment in
       let site = c.args.site.now in
       let classes = c.args.classes.now in
       let listed = c.args.kept.now.site in
@@ -18,6 +19,6 @@ returns c = record {
       let turned = c.turned.inside in
       let old = c.args.entries.now.items in
       two_made (λ (made : Move). record_of_transition site classes listed (transition_with turned.object moment values states turned.cause made)) turned.changed.first turned.changed.second
-      old c.add_entry.new.entries.items c.add_entry-2.new.entries.items (c.in_ok-add_entry.ensures.entries moment stamp) (c.in_ok-add_entry-2.ensures.entries moment stamp)
+      old c.add_entry.new.entries.items c.add_entry-2.new.entries.items c.in_ok-add_entry.ensures.entries c.in_ok-add_entry-2.ensures.entries
       ∙ ap (λ (turn : Turn). old ++ recorded_turn site classes listed moment values states turn) c.turned.view_is;
 }

@@ -18,7 +18,7 @@ returns-clause-notes c =
     let found : subject_in c.args.object values ≡ Some subject = search rules in
     let enabled : is_enabled kind subject ≡ true = search rules in
     let has : class_for subject c.args.classes.now ≡ Some class = search rules in
-    let same : facts ≡ notification_of site (transition_with c.args.object c.args.moment values states c.args.cause c.args.made) subject class = c.in_ok-facts.ensures.notification c.args.moment c.requires.stamp in
-    let move = told_move site c.args.classes.now c.args.moment c.args.object values states c.args.cause c.args.made subject class facts kind c.args.zone.now
+    let same : facts ≡ notification_of site (transition_with c.args.object c.args.at.now.moment values states c.args.cause c.args.made) subject class = c.in_ok-facts.ensures.notification in
+    let move = told_move site c.args.classes.now c.args.at.now.moment c.args.object values states c.args.cause c.args.made subject class facts kind c.args.at.now.zone
     found enabled has same (search rules) c.requires.zone in
     subst (λ notes. IfOk c.notes_of.result (λ made. made.items ≡ notes)) move c.notes_of.ensures.notes

@@ -1,6 +1,6 @@
-use Rattle.std.proofs.Common.{◌≡◌, ◌+◌, ◌<◌, ◌≤◌, ◌^◌, ◌∷◌, ◌⊎◌, inl, inr, [], length, arith, ap, subst, sym, ◌∙◌, List, ℕ, Option, Some, None}
+use Rattle.std.proofs.Common.{◌≡◌, ◌∷◌, ◌⊎◌, inr, [], arith, subst, sym, ◌∙◌, List, ℕ}
 use Rattle.std.proofs.lemmas.Result.{err_from_is_err_and}
-use Rattle.ground_io.specs.Trace.{Adds, HasSize, Told}
+use Rattle.ground_io.specs.Trace.{Adds, HasSize}
 use Rattle.ground_io.specs.declared.entry.Entry.{Entry}
 use Rattle.ground_io.proofs.Crashes.{adds_none}
 use Rattle.alarm_journal.specs.Journal.{Site, heading}

@@ -1,7 +1,6 @@
-use Rattle.std.proofs.Common.{◌≡◌, ◌+◌, ◌<◌, ◌≤◌, [], ◌∷◌, ◌++◌, length, take, arith, ap, sym, ◌∙◌, subst, List, ℕ, refl}
+use Rattle.std.proofs.Common.{◌≡◌, ◌+◌, ◌<◌, [], ◌∷◌, ◌++◌, length, take, arith, ap, sym, ◌∙◌, subst, List, ℕ, refl}
 use Rattle.std.proofs.lemmas.List.{take_more}
 use Rattle.bac_values.specs.declared.note.Send.{Send}
-use Rattle.ground_io.specs.Counts.{HasCause}
 use Rattle.alarm_journal.specs.Emissions.{EmitsAll}
 use Rattle.alarm_journal.proofs.Emitting.{emits_sent, emits_lost}
 use Rattle.alarm_journal.proofs.press.emit_each.Goals as goal

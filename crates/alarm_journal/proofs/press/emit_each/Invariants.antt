@@ -1,4 +1,4 @@
-use Rattle.std.proofs.Common.{◌≡◌, ◌≤◌, ◌<◌, ◌+◌, take}
+use Rattle.std.proofs.Common.{◌≡◌, ◌<◌, ◌+◌, take}
 use Rattle.ground_io.specs.Counts.{HasCause}
 use Rattle.alarm_journal.specs.Emissions.{EmitsAll}
 use Rattle.alarm_journal.proofs.press.emit_each.Given as goal

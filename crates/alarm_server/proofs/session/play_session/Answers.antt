@@ -11,7 +11,7 @@ use Rattle.alarm_server.specs.Status.{of_line_fault, of_unsent}
 use Rattle.alarm_server.proofs.OfUnsent.{emit_cause, is_fault, is_no_read_fault, read_cause, refuses_no_line}
 use Rattle.alarm_server.proofs.Progress.{grammar_fault, read_fault}
 use Rattle.alarm_server.proofs.Played.{line_adds}
-use Rattle.alarm_server.proofs.SessionProgress.{begins, by_history, ends, ends_at_end, ends_at_first, ends_at_line, ends_at_once, ends_at_piece, goes_on, refused_first, stops_by_history, stops_reading}
+use Rattle.alarm_server.proofs.SessionProgress.{accepts, begins, by_history, ends, ends_at_end, ends_at_first, ends_at_line, ends_at_once, ends_at_piece, goes_on, refused_first, stops_by_history, stops_reading}
 use Rattle.alarm_server.proofs.session.play_session.Goals as goal
 
 pub returns-in_err-lines-clause-ends : goal.returns-in_err-lines-clause-ends
@@ -250,3 +250,10 @@ returns-clause-ends g c =
     by_history site text Done before after
     (ends (first_state site) text (octets_to_come here.lines (g.T.Source.left here.script)) (octets_to_come next.self (g.T.Source.left next.source)) before (g.G.Ground.told here.device) after here.lines.number next.self.number here.lines.ended here.core (end_piece c.count.result here.core) here.invariant.progress read
     (ap (λ n. end_piece n here.core) c.count.ensures.number) c.in_ok-end.ensures.sends)
+
+pub returns-clause-accepted : goal.returns-clause-accepted
+returns-clause-accepted g c =
+    let here = c.loop-core in
+    let next = c.next_line.new in
+    let read = rw (c.in_default.is, here.invariant.grammar) at c.in_ok-line.ensures.line in
+    accepts (first_state c.args.site.now) (g.T.Source.left c.args.script.now) (octets_to_come here.lines (g.T.Source.left here.script)) (octets_to_come next.self (g.T.Source.left next.source)) (g.G.Ground.told c.args.device.now) (g.G.Ground.told here.device) here.lines.number next.self.number here.lines.ended here.core here.invariant.progress read

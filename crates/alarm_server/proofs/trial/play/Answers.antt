@@ -10,7 +10,7 @@ use Rattle.alarm_server.specs.declared.status.Status.TheVariants.{ScriptRefused,
 use Rattle.alarm_server.specs.Emission.{SendsUpTo, sent}
 use Rattle.alarm_server.specs.Status.{of_line_fault}
 use Rattle.alarm_server.specs.Trial.{first_point}
-use Rattle.alarm_server.proofs.Progress.{begins, ends_at_line, refused_first, grammar_fault, read_fault, ends_at_event, goes_on, ends, ends_at_end, stops_reading}
+use Rattle.alarm_server.proofs.Progress.{accepts, begins, ends_at_line, refused_first, grammar_fault, read_fault, ends_at_event, goes_on, ends, ends_at_end, stops_reading}
 use Rattle.alarm_server.proofs.trial.play.Goals as goal
 
 pub loop-watch-init : goal.loop-watch-init
@@ -106,3 +106,10 @@ returns-clause-ends g c =
     let after = g.G.Ground.told c.emit.new.device in
     ends c.args.settings (g.T.Source.left c.args.script.now) (octets_to_come here.lines (g.T.Source.left here.script)) (octets_to_come next.self (g.T.Source.left next.source)) (g.G.Ground.told c.args.device.now) before after here.lines.number next.self.number here.lines.ended here.watch here.invariant.progress read
     (subst (λ n. Adds before after (sent report_text (TrialEnd n ∷ []))) c.count.ensures.number c.in_ok-emit.ensures.sends)
+
+pub returns-clause-accepted : goal.returns-clause-accepted
+returns-clause-accepted g c =
+    let here = c.loop-watch in
+    let next = c.next_line.new in
+    let read = rw (c.in_default.is, here.invariant.grammar) at c.in_ok-line.ensures.line in
+    accepts c.args.settings (g.T.Source.left c.args.script.now) (octets_to_come here.lines (g.T.Source.left here.script)) (octets_to_come next.self (g.T.Source.left next.source)) (g.G.Ground.told c.args.device.now) (g.G.Ground.told here.device) here.lines.number next.self.number here.lines.ended here.watch here.invariant.progress read

@@ -1,4 +1,4 @@
-use Rattle.std.proofs.Common.{◌≡◌, refl, sym, subst, Option, Some, length}
+use Rattle.std.proofs.Common.{sym, subst, Option, Some, length}
 use Rattle.ground_io.specs.Disk.{octets_at}
 use Rattle.ground_io.specs.Past.{GoesOn}
 use Rattle.ground_io.specs.declared.entry.Entry.TheVariants.{Broke}

@@ -1,4 +1,4 @@
-use Rattle.std.proofs.Common.{◌≡◌, refl, sym, subst, Option, Some, List, ℕ}
+use Rattle.std.proofs.Common.{refl, sym, subst, Option, Some, List, ℕ}
 use Rattle.ground_io.specs.Past.{GoesOn}
 use Rattle.ground_io.specs.declared.entry.Entry.TheVariants.{Synced}
 use Rattle.ground_io.specs.declared.past.Past.{Past}

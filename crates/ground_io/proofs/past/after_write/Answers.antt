@@ -1,4 +1,4 @@
-use Rattle.std.proofs.Common.{◌≡◌, refl, sym, subst, Option, Some}
+use Rattle.std.proofs.Common.{refl, sym, subst, Option, Some}
 use Rattle.ground_io.specs.Disk.{with_octets}
 use Rattle.ground_io.specs.Past.{GoesOn}
 use Rattle.ground_io.specs.declared.entry.Entry.TheVariants.{Wrote}

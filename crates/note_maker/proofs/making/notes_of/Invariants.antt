@@ -6,6 +6,6 @@ use Rattle.note_maker.proofs.making.notes_of.Given as goal
 
 abbrev pub invariant-loop-destination : goal.invariant-loop-destination
 invariant-loop-destination l = record {
-  made : l.notes.items ≡ notes_for l.facts (take l.destination-index l.destination-items) l.transition l.moment l.zone;
+  made : l.notes.items ≡ notes_for l.facts (take l.destination-index l.destination-items) l.transition l.at.moment l.at.zone;
   short : All (λ (note : Note). length note.body ≤ most_octets) l.notes.items;
 }

@@ -6,7 +6,7 @@ use Rattle.outbox.proofs.Making.{peers_empty}
 use Rattle.alarm_core.specs.declared.site.ClassSite.{ClassSite}
 use Rattle.alarm_core.specs.Classes.{first_classes, known_peers_of, peers_in}
 use Rattle.alarm_core.specs.Next.{first_kept, first_with}
-use Rattle.alarm_core.specs.Sights.{site_stamp}
+use Rattle.alarm_core.specs.Sights.{site_stamp, site_zone}
 use Rattle.alarm_core.specs.Sites.{IsSite}
 use Rattle.alarm_core.specs.Subjects.{ack_required_of, detecting_subjects}
 use Rattle.alarm_core.specs.Values.{Values, first_values}
@@ -27,7 +27,7 @@ invariant_of-result c =
     let outbox : c.in_ok-outbox.outbox ≡ new_outbox c.in_ok-peers.peers site.device.outbox site.device.apdu_timeout site.device.retries = search rules in
     record {
       site = subst IsSite (sym same) c.requires.site;
-      zone = c.zone_of-zone.ensures.zone ∙ sym (ap (λ s. s.device.zone_minutes) same);
+      zone = c.zone_of-zone.ensures.zone ∙ sym (ap site_zone same);
       moment = c.requires.site.start;
       limit = ap (λ o. o.limit) outbox ∙ sym (ap (λ s. s.device.outbox) same);
       peers = sym (ap (λ o. peers_of o.posts) outbox ∙ peers_empty c.in_ok-peers.peers);

@@ -1,10 +1,10 @@
 use Rattle.std.proofs.Common.{◌≡◌, ◌+◌, ◌-◌, ◌<◌, ◌≤◌, ◌^◌, ◌∷◌, [], length, arith, ap, subst, sym, ◌∙◌, List, ℕ}
 use Rattle.ground_io.specs.Trace.{Adds}
-use Rattle.alarm_journal.specs.Journal.{Site, Content, framed, with_batch, only_snapshot}
-use Rattle.alarm_journal.specs.Press.{Standing, Settled, Lasts, Between, IsSound, behind_batch, behind_snapshot, end_of, other_of, room_of, selector_of}
+use Rattle.alarm_journal.specs.Journal.{Site, Content, framed, with_batch}
+use Rattle.alarm_journal.specs.Press.{Standing, Settled, Between, IsSound, behind_batch, end_of, room_of}
 use Rattle.alarm_journal.specs.Protocol.{AddsSome, IsTwoCutShort, two_writes}
 use Rattle.alarm_journal.specs.declared.layout.Layout.{Layout}
-use Rattle.alarm_journal.proofs.Rest.{lasts, sound_batch, sound_snapshot}
+use Rattle.alarm_journal.proofs.Rest.{lasts, sound_batch}
 use Rattle.alarm_journal.proofs.TwoWrites.{cut_short, done, ended}
 use Rattle.alarm_journal.proofs.Committing.{ready, committed}
 use Rattle.alarm_journal.proofs.press.Press.commit_batch.Goals as goal

@@ -1,4 +1,4 @@
-use Rattle.std.proofs.Common.{◌≡◌, subst}
+use Rattle.std.proofs.Common.{subst}
 use Rattle.alarm_journal.specs.Journal.{Site, Content}
 use Rattle.alarm_journal.specs.Press.{Standing, Settled, Lasts, Throughout}
 use Rattle.alarm_journal.proofs.Emitting.{settled_still, throughout}

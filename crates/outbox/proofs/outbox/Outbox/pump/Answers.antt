@@ -24,7 +24,7 @@ count_unfinished-self-inside-requires c =
     let items = c.self.inside.mailboxes.items in
     let state : OutboxState = record { posts = items; limit = c.self.inside.limit; timeout = c.self.inside.timeout; retries = c.self.inside.retries } in
     let written = all_written (post_pumped (timing_of state) c.args.moment) items c.deref_mut.result.now c.pump_all.new.mailboxes c.self.inside.mailboxes.len c.self.inside.mailboxes.ok.0 c.deref_mut.ensures.value c.pump_all.ensures.pumped in
-    let is = pump_keeps c.args.moment state c.self.invariant.1 in
+    let is = pump_keeps c.args.moment state c.requires.moment c.self.invariant.1 in
     let counts = ap unfinished_in (c.deref-2.ensures.value ∙ written) in
     record { room = omega (arith, counts, is.room, is.settings.fits) }
 
@@ -33,7 +33,7 @@ invariant_of-self c =
     let items = c.self.inside.mailboxes.items in
     let state : OutboxState = record { posts = items; limit = c.self.inside.limit; timeout = c.self.inside.timeout; retries = c.self.inside.retries } in
     let written = all_written (post_pumped (timing_of state) c.args.moment) items c.deref_mut.result.now c.pump_all.new.mailboxes c.self.inside.mailboxes.len c.self.inside.mailboxes.ok.0 c.deref_mut.ensures.value c.pump_all.ensures.pumped in
-    (c.count_unfinished-self-inside.ensures.count ∙ ap unfinished_in c.deref-2.ensures.value, is_with state _ _ written (pump_keeps c.args.moment state c.self.invariant.1))
+    (c.count_unfinished-self-inside.ensures.count ∙ ap unfinished_in c.deref-2.ensures.value, is_with state _ _ written (pump_keeps c.args.moment state c.requires.moment c.self.invariant.1))
 
 pub returns-clause-pumped : goal.returns-clause-pumped
 returns-clause-pumped c =

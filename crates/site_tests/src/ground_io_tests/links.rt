@@ -1,0 +1,84 @@
+use crate::comparing::same;
+use bac_values::{Items, Peer, Send};
+use ground_io::{Failed, Link, MemoryLink, Received, UdpLink};
+use std::alloc::{AllocError, Global};
+use std::io;
+use std::net::{Ipv4Addr, SocketAddrV4, UdpSocket};
+use std::test::Fail;
+use std::time::Duration;
+
+const LOOPBACK: u32 = 0x7f00_0001;
+
+/// Two datagrams, of five octets and of one.
+fn two_datagrams(alloc: Global) -> Result<Vec<Send>, AllocError> {
+    let mut datagrams = Vec::new(alloc);
+    for (port, octets) in [(1, b"alarm".as_slice()), (2, b"x".as_slice())] {
+        datagrams.push(Send {
+            peer: Peer::local(LOOPBACK, port),
+            bytes: Items::of(octets.to_vec(alloc)?),
+        })?;
+    }
+    Ok(datagrams)
+}
+
+fn from_port(port: u16, length: usize) -> Result<Received, Failed> {
+    let peer = Peer::local(LOOPBACK, port);
+    Ok(Received::Datagram { peer, length })
+}
+
+#[test]
+fn memory_link_gives_its_datagrams_and_fails_at_the_listed_calls(
+    rt: HostRuntime,
+) -> Result<(), Fail> {
+    let alloc = rt.alloc();
+    let mut link = MemoryLink::new(two_datagrams(alloc)?, vec![in alloc; 2u64, 4]?);
+    let mut into = *b"....";
+    same(&rt, &link.receive(&mut into), &from_port(1, 4));
+    same(&rt, &into, &*b"alar");
+    same(&rt, &link.receive(&mut into), &Err(Failed));
+    same(&rt, &link.receive(&mut into), &from_port(2, 1));
+    same(&rt, &into, &*b"xlar");
+    same(&rt, &link.receive(&mut into), &Err(Failed));
+    same(&rt, &link.receive(&mut into), &Ok(Received::Nothing));
+    same(&rt, &into, &*b"xlar");
+    Ok(())
+}
+
+/// A socket on the loopback address, and its port.
+fn local_socket(rt: &HostRuntime) -> io::Result<(UdpSocket, u16)> {
+    let socket = UdpSocket::bind(rt, "127.0.0.1:0")?;
+    let port = socket.local_addr()?.port();
+    Ok((socket, port))
+}
+
+fn at_port(port: u16) -> SocketAddrV4 {
+    SocketAddrV4::new(Ipv4Addr::LOCALHOST, port)
+}
+
+#[test]
+fn udp_link_hears_a_socket_and_finds_nothing_when_its_time_is_up(
+    rt: HostRuntime,
+) -> Result<(), Fail> {
+    let (socket, port) = local_socket(&rt)?;
+    let (asker, asker_port) = local_socket(&rt)?;
+    let mut link = UdpLink::new(&socket, Duration::from_millis(20))?;
+    let mut into = *b"....";
+    same(&rt, &link.receive(&mut into), &Ok(Received::Nothing));
+    asker.send_to(b"who-is", at_port(port))?;
+    same(&rt, &link.receive(&mut into), &from_port(asker_port, 4));
+    same(&rt, &into, &*b"who-");
+    same(&rt, &link.receive(&mut into), &Ok(Received::Nothing));
+    Ok(())
+}
+
+#[test]
+fn udp_link_fails_where_its_socket_does(rt: HostRuntime) -> Result<(), Fail> {
+    let (socket, _) = local_socket(&rt)?;
+    let (closed, closed_port) = local_socket(&rt)?;
+    drop(closed);
+    let mut link = UdpLink::new(&socket, Duration::from_secs(5))?;
+    socket.connect(at_port(closed_port))?;
+    socket.send(b"who-is")?;
+    same(&rt, &link.receive(&mut [0u8; 4]), &Err(Failed));
+    Ok(())
+}
