@@ -6,10 +6,9 @@ ghost use Rattle.enrollment.specs.Snapshots.{Holds};
 ghost use Rattle.alarm_core.specs.Sites.{HasInstance, IsLogSite, IsSite};
 ghost use Rattle.alarm_server.specs.BenchSites.{class_eight, class_of, class_seven, engineer, full_plant, logged_tank, mode, operator, operators_class, plain, plain_bits, plain_flow, plain_mode, plain_note, plain_pump, plant, plant_device, plant_of, plant_with, printer, range, recipient, short_log, site_named, six_kinds, tank, tank_in, watched_flow};
 
-use crate::growing::{add, single};
 use alarm_core::{ClassSite, DeviceSite, EnrollmentSite, LogSite, Site};
 use algorithm_rules::Algorithm;
-use bac_values::{Bits, Items, NoMemory, ObjectId, ObjectKind, Peer, Text, Value};
+use bac_values::{Bits, Items, NoMemory, ObjectId, ObjectKind, Peer, Text, Value, push, single};
 use notify_class::{Class, Destination};
 use object_table::ObjectSite;
 use std::alloc::Global;
@@ -150,7 +149,7 @@ fn mode(alloc: Global) -> Result<ObjectSite, NoMemory>
     ensures object { IfOk result (λ object. IsObject object) }
 {
     let mut alarm_values = single(alloc, Value::Unsigned(2))?;
-    add(&mut alarm_values, Value::Unsigned(3))?;
+    push(&mut alarm_values, Value::Unsigned(3))?;
     Ok(ObjectSite {
         object: ObjectId::of_kind(ObjectKind::MultiStateValue, 1).unwrap(),
         name: text(alloc, "multi-state-value:1")?,
@@ -375,7 +374,7 @@ fn two_tanks(alloc: Global) -> Result<Site, NoMemory>
     ensures keeps { IfOk result (λ site. IsSite site) }
 {
     let mut objects = single(alloc, tank(alloc, 1, 0)?)?;
-    add(&mut objects, tank(alloc, 2, 10)?)?;
+    push(&mut objects, tank(alloc, 2, 10)?)?;
     plant(alloc, objects)
 }
 
@@ -384,8 +383,8 @@ fn three_tanks(alloc: Global) -> Result<Site, NoMemory>
     ensures keeps { IfOk result (λ site. IsSite site) }
 {
     let mut objects = single(alloc, tank(alloc, 1, 10)?)?;
-    add(&mut objects, tank(alloc, 2, 10)?)?;
-    add(&mut objects, tank(alloc, 3, 10)?)?;
+    push(&mut objects, tank(alloc, 2, 10)?)?;
+    push(&mut objects, tank(alloc, 3, 10)?)?;
     plant(alloc, objects)
 }
 
@@ -394,11 +393,11 @@ fn six_kinds(alloc: Global) -> Result<Site, NoMemory>
     ensures keeps { IfOk result (λ site. IsSite site) }
 {
     let mut objects = single(alloc, plain_pump(alloc)?)?;
-    add(&mut objects, plain_mode(alloc)?)?;
-    add(&mut objects, plain_bits(alloc)?)?;
-    add(&mut objects, plain_note(alloc)?)?;
-    add(&mut objects, tank(alloc, 1, 10)?)?;
-    add(&mut objects, plain_flow(alloc)?)?;
+    push(&mut objects, plain_mode(alloc)?)?;
+    push(&mut objects, plain_bits(alloc)?)?;
+    push(&mut objects, plain_note(alloc)?)?;
+    push(&mut objects, tank(alloc, 1, 10)?)?;
+    push(&mut objects, plain_flow(alloc)?)?;
     plant(alloc, objects)
 }
 
@@ -407,11 +406,11 @@ fn full_plant(alloc: Global) -> Result<Site, NoMemory>
     ensures keeps { IfOk result (λ site. IsSite site) }
 {
     let mut recipients = single(alloc, operator())?;
-    add(&mut recipients, printer())?;
+    push(&mut recipients, printer())?;
     let mut classes = single(alloc, class_seven(alloc, recipients)?)?;
-    add(&mut classes, class_eight(alloc)?)?;
+    push(&mut classes, class_eight(alloc)?)?;
     let mut objects = single(alloc, tank_in(alloc, 8, 1, 0)?)?;
-    add(&mut objects, tank(alloc, 2, 0)?)?;
+    push(&mut objects, tank(alloc, 2, 0)?)?;
     plant_with(alloc, 64, classes, objects)
 }
 
@@ -421,7 +420,7 @@ fn watched_flow(alloc: Global) -> Result<Site, NoMemory>
     ensures keeps { IfOk result (λ site. IsSite site) }
 {
     let mut objects = single(alloc, tank(alloc, 1, 0)?)?;
-    add(&mut objects, plain_flow(alloc)?)?;
+    push(&mut objects, plain_flow(alloc)?)?;
     let classes = operators_class(alloc)?;
     let enrollments = single(alloc, range(alloc)?)?;
     plant_of(alloc, 256, classes, objects, enrollments, Vec::new(alloc))

@@ -7,7 +7,6 @@
 mod bench_site;
 mod command;
 mod emission;
-mod growing;
 mod paths;
 mod pieces;
 mod run;

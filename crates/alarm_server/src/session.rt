@@ -15,11 +15,10 @@ ghost use Rattle.alarm_server.specs.Status.{IsFault, status_of};
 ghost use Rattle.alarm_server.specs.Stopping.{StopsReading};
 
 use crate::emission::Unsent;
-use crate::growing::{add, single};
 use crate::pieces::emit_piece;
 use crate::status::Status;
 use alarm_core::{Core, Event, Site, StepFault};
-use bac_values::{Moved, NoMemory, ReportLine, Send};
+use bac_values::{Moved, NoMemory, ReportLine, Send, push, single};
 use ground_io::{Ground, Source};
 use script_lines::{Line, Lines};
 use service_desk::{Decision, decide};
@@ -34,7 +33,7 @@ fn add_changes(piece: &mut Vec<ReportLine>, number: u64, moves: &[Moved]) -> Res
             line: number,
             moved: *moved,
         };
-        add(piece, line)?;
+        push(piece, line)?;
     }
     Ok(())
 }
@@ -44,7 +43,7 @@ fn add_sends(piece: &mut Vec<ReportLine>, number: u64, sends: Vec<Send>) -> Resu
     ensures sends { OnOk result (piece.new.items ≡ piece.old.items ++ map (send_line number) sends.items) }
 {
     for send in sends {
-        add(piece, ReportLine::Sent { line: number, send })?;
+        push(piece, ReportLine::Sent { line: number, send })?;
     }
     Ok(())
 }
@@ -53,7 +52,7 @@ fn add_reply(piece: &mut Vec<ReportLine>, number: u64, reply: Option<Send>) -> R
     ensures reply { OnOk result (piece.new.items ≡ piece.old.items ++ reply_lines number reply) }
 {
     match reply {
-        Some(send) => add(piece, ReportLine::Sent { line: number, send }),
+        Some(send) => push(piece, ReportLine::Sent { line: number, send }),
         None => Ok(()),
     }
 }
@@ -117,7 +116,7 @@ fn replied(alloc: Global, number: u64, send: Send) -> Result<Vec<ReportLine>, No
     ensures piece { IfOk result (λ piece. piece.items ≡ ReportLine.Reply number ∷ (ReportLine.Sent number send ∷ [])) }
 {
     let mut piece = single(alloc, ReportLine::Reply { line: number })?;
-    add(&mut piece, ReportLine::Sent { line: number, send })?;
+    push(&mut piece, ReportLine::Sent { line: number, send })?;
     Ok(piece)
 }
 

@@ -1,7 +1,7 @@
 ghost use Rattle.std.specs.Prelude.{◌≡◌};
 ghost use Rattle.algorithm_rules.specs.EventTypes.{event_type_of};
 
-use bac_values::EventState;
+use bac_values::{EventState, EventType};
 
 /// The event algorithms (ANSI/ASHRAE 135-2020, 13.3).
 #[derive(Clone, Copy, Debug, PartialEq, Eq)]
@@ -28,13 +28,13 @@ impl Algorithm {
         ensures number { result ≡ event_type_of self }
     {
         match self {
-            Algorithm::ChangeOfBitstring => 0,
-            Algorithm::ChangeOfState => 1,
-            Algorithm::CommandFailure => 3,
-            Algorithm::UnsignedRange => 11,
-            Algorithm::SignedOutOfRange => 15,
-            Algorithm::UnsignedOutOfRange => 16,
-            Algorithm::ChangeOfCharacterstring => 17,
+            Algorithm::ChangeOfBitstring => EventType::CHANGE_OF_BITSTRING.0,
+            Algorithm::ChangeOfState => EventType::CHANGE_OF_STATE.0,
+            Algorithm::CommandFailure => EventType::COMMAND_FAILURE.0,
+            Algorithm::UnsignedRange => EventType::UNSIGNED_RANGE.0,
+            Algorithm::SignedOutOfRange => EventType::SIGNED_OUT_OF_RANGE.0,
+            Algorithm::UnsignedOutOfRange => EventType::UNSIGNED_OUT_OF_RANGE.0,
+            Algorithm::ChangeOfCharacterstring => EventType::CHANGE_OF_CHARACTERSTRING.0,
         }
     }
 }

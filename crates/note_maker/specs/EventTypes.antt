@@ -1,6 +1,6 @@
 -- The event types of notifications (ANSI/ASHRAE 135-2020, 13.3, 13.4 and clause 21, BACnetEventType).
 use Rattle.std.specs.Prelude.{ℕ, if◌then◌else◌}
-use Rattle.bac_values.specs.EventTypes.{change_of_bitstring_type, change_of_state_type, command_failure_type, unsigned_range_type, signed_out_of_range_type, unsigned_out_of_range_type, change_of_characterstring_type, change_of_reliability_type}
+use Rattle.bac_values.specs.EventTypes.{change_of_reliability_type}
 use Rattle.bac_values.specs.declared.event_state.EventState.{EventState}
 use Rattle.algorithm_rules.specs.declared.table.Algorithm.{Algorithm}
 use Rattle.algorithm_rules.specs.EventTypes.{event_type_of}

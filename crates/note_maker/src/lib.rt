@@ -8,6 +8,6 @@ mod source;
 mod values;
 
 pub use making::notes_of;
-pub use shaping::{acknowledgement_notification, algorithm_type, transition_notification};
+pub use shaping::{acknowledgement_notification, transition_notification};
 pub use source::Source;
 pub use values::{status_flags, values_of};

@@ -10,7 +10,6 @@ use event_machine::Move;
 use event_services::{EventValues, Notification};
 use notify_class::Class;
 
-
 fn transition_type(algorithm: Algorithm, made: Move) -> u8
     ensures number { result ≡ transition_type algorithm made }
 {

@@ -2,9 +2,8 @@ ghost use Rattle.std.specs.Prelude.{◌≡◌, ◌++◌, map, IfOk, OnOk};
 ghost use Rattle.site_config.specs.Identifiers.{identifiers, lesser, is_twice, least_twice};
 
 use crate::draft::Draft;
-use crate::growing::add;
 use crate::order::Identified;
-use bac_values::{NoMemory, ObjectId};
+use bac_values::{NoMemory, ObjectId, push};
 use std::alloc::Global;
 use std::cmp::Ordering;
 
@@ -26,7 +25,7 @@ fn add_identifiers<T: Identified>(objects: &mut Vec<ObjectId>, items: &[T]) -> R
     ensures added { OnOk result (objects.new.items ≡ objects.old.items ++ map T.id_of items.now) }
 {
     for item in items {
-        add(objects, item.object())?;
+        push(objects, item.object())?;
     }
     Ok(())
 }

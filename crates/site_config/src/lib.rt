@@ -14,7 +14,6 @@ mod enrollment_item;
 mod fault;
 mod fault_keys;
 mod fault_text;
-mod growing;
 mod identifiers;
 mod item;
 mod item_fault;

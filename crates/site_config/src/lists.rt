@@ -4,9 +4,8 @@ ghost use Rattle.bac_values.specs.declared.value.Value.{Value as PropertyValue};
 ghost use Rattle.site_config.specs.Values.{unsigned_in, instance_in, value_in, present_in, all_in, list_in, three_of, three_in};
 ghost use Rattle.toml.specs.Data.{as_bool};
 
-use crate::growing::add;
 use crate::values::{LAST_INSTANCE, binary_in, bits_in, limit_in, text_in, unsigned_in};
-use bac_values::{Items, NoMemory, ObjectKind, Value};
+use bac_values::{Items, NoMemory, ObjectKind, Value, push};
 use std::alloc::Global;
 use toml::value::Array;
 
@@ -60,7 +59,7 @@ fn all_values(
         let Some(value) = value_in(alloc, item, kind)? else {
             return Ok(None);
         };
-        add(&mut values, value)?;
+        push(&mut values, value)?;
     }
     Ok(Some(Items::of(values)))
 }
@@ -95,7 +94,7 @@ fn all_instances(alloc: Global, array: &Array) -> Result<Option<Items<u32>>, NoM
         let Some(instance) = unsigned_in(item, 0, LAST_INSTANCE) else {
             return Ok(None);
         };
-        add(&mut instances, instance)?;
+        push(&mut instances, instance)?;
     }
     Ok(Some(Items::of(instances)))
 }

@@ -4,10 +4,9 @@ ghost use Rattle.site_config.specs.Notes.{class_of_object, class_of_enrollment, 
 
 use crate::destination::DestinationSite;
 use crate::draft::Draft;
-use crate::growing::add;
 use crate::limits::count_of;
 use alarm_core::EnrollmentSite;
-use bac_values::NoMemory;
+use bac_values::{NoMemory, push};
 use object_table::ObjectSite;
 use std::alloc::Global;
 
@@ -18,7 +17,7 @@ fn add_objects(members: &mut Vec<u32>, objects: &[ObjectSite]) -> Result<(), NoM
 {
     for site in objects {
         if let Some(class) = site.class {
-            add(members, class)?;
+            push(members, class)?;
         }
     }
     Ok(())
@@ -29,7 +28,7 @@ fn add_enrollments(members: &mut Vec<u32>, enrollments: &[EnrollmentSite]) -> Re
     ensures added { OnOk result (members.new.items ≡ members.old.items ++ map class_of_enrollment enrollments.now) }
 {
     for site in enrollments {
-        add(members, site.class)?;
+        push(members, site.class)?;
     }
     Ok(())
 }

@@ -9,13 +9,12 @@ ghost use Rattle.site_config.specs.Sections.{placed, section_name, section_fault
 
 use crate::device::device_of;
 use crate::fault::{Section, SiteFault};
-use crate::growing::add;
 use crate::item::Item;
 use crate::item_fault::{ItemFault, bad_value, unknown};
 use crate::keys::{Keys, unknown_key};
 use crate::members::member_at;
 use alarm_core::DeviceSite;
-use bac_values::Items;
+use bac_values::{Items, push};
 use std::alloc::Global;
 use std::cmp::Ordering;
 use toml::value::Array;
@@ -146,7 +145,7 @@ fn read_items<T: Item>(
             continue;
         };
         let item = read_item::<T>(alloc, section, number, table)?;
-        add(&mut items, item)?;
+        push(&mut items, item)?;
         number = number.saturating_add(1);
     }
     Ok(Items::of(items))

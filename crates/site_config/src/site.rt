@@ -11,14 +11,13 @@ use crate::class::ClassItem;
 use crate::destination::DestinationSite;
 use crate::draft::{Draft, draft_of};
 use crate::fault::{Counted, SiteFault};
-use crate::growing::add;
 use crate::identifiers::{identifiers, least_twice};
 use crate::limits::limits_of;
 use crate::notes::{exceed, members_of};
 use crate::order::in_order;
 use crate::references::least_dangling;
 use alarm_core::{ClassSite, Site};
-use bac_values::{Items, NoMemory};
+use bac_values::{Items, NoMemory, push};
 use notify_class::{Class, Destination};
 use std::alloc::Global;
 use toml::Table;
@@ -119,7 +118,7 @@ fn classes_of(
 {
     let mut classes = Vec::new(alloc);
     for item in items {
-        add(&mut classes, with_destinations(alloc, destinations, item)?)?;
+        push(&mut classes, with_destinations(alloc, destinations, item)?)?;
     }
     Ok(Items::of(classes))
 }

@@ -7,12 +7,12 @@ use Rattle.alarm_server.proofs.bench_site.six_kinds.Goals as goal
 
 pub plant-requires-clause-ascending : goal.plant-requires-clause-ascending
 plant-requires-clause-ascending c =
-    let same : c.add-5.new.items.items ≡ six_kinds = search rules in
+    let same : c.push-5.new.items.items ≡ six_kinds = search rules in
     subst AscendsById (sym same) six_ascend
 
 pub plant-requires-clause-objects : goal.plant-requires-clause-objects
 plant-requires-clause-objects c =
-    let same : c.add-5.new.items.items ≡ six_kinds = search rules in
+    let same : c.push-5.new.items.items ≡ six_kinds = search rules in
     let pump = subst IsObject c.in_ok-plain_pump.ensures.pump c.in_ok-plain_pump.ensures.object in
     let mode = subst IsObject c.in_ok-plain_mode.ensures.mode c.in_ok-plain_mode.ensures.object in
     let bits = subst IsObject c.in_ok-plain_bits.ensures.bits c.in_ok-plain_bits.ensures.object in
