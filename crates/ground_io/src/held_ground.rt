@@ -4,6 +4,7 @@ ghost use Rattle.ground_io.specs.Disk.{with_octets};
 ghost use Rattle.ground_io.specs.InMemory.{FailsAsListed, FailsAsListedOrUntold, size_of};
 ghost use Rattle.ground_io.specs.Trace.{Adds, AddsBroken, Reads, emission};
 ghost use Rattle.ground_io.specs.declared.entry.Entry.TheVariants.{Wrote, Synced};
+ghost use Rattle.ground_io.specs.declared.gate.Worker.TheVariants.{Committer};
 
 use crate::{Failed, Gate, Ground, MemoryGround, Worker};
 use bac_values::Peer;
@@ -122,7 +123,7 @@ impl<W: Gate> Ground for HeldGround<W> {
     {
         self.syncs = self.syncs.saturating_add(1);
         self.gate.turn(Worker::Committer, self.syncs);
-        self.inner.sync()
+        sync_behind(&mut self.inner, &self.gate, self.syncs)
     }
 
     fn emit(&mut self, peer: Peer, octets: &[u8]) -> Result<(), Failed>
@@ -138,4 +139,22 @@ impl<W: Gate> Ground for HeldGround<W> {
     {
         self.inner.emit(peer, octets)
     }
+}
+
+// The sync of a ground whose gate was passed for it.
+fn sync_behind<W: Gate>(ground: &mut MemoryGround, _gate: &W, step: u64) -> Result<(), Failed>
+    requires passed { W.passed _gate.now Committer step }
+    ensures synced { OnOk result (Adds ground.old.told ground.new.told (Synced ∷ [])) }
+    ensures failed { OnErr result (Adds ground.old.told ground.new.told []) }
+    ensures same { size_of ground.new ≡ size_of ground.old }
+    ensures cause { HasCause ground.old.disk_faults ground.new.disk_faults (IsErr result) }
+    ensures emitted { ground.new.emit_faults ≡ ground.old.emit_faults }
+    ensures failing { FailsAsListedOrUntold ground.old ground.new (IsErr result) }
+    ensures contents { ground.new.contents ≡ ground.old.contents }
+    ensures tells { OnOk result (IsSome ground.old.told → IsSome ground.new.told) }
+    ensures failed_tells { Contains ground.old.failing ground.new.calls → ground.new.told ≡ ground.old.told }
+    ensures uncounted { OnOk result (ground.new.disk_faults ≡ ground.old.disk_faults) }
+    ensures counted { OnErr result (ground.new.disk_faults ≡ next_count ground.old.disk_faults) }
+{
+    ground.sync()
 }

@@ -18,6 +18,8 @@ impl<R: Clock> RestingGate<R> {
 }
 
 impl<R: Clock> Gate for RestingGate<R> {
+    ghost passed = { λ gate worker step. Unit {0} };
+
     fn turn(&self, worker: Worker, _step: u64) {
         match worker {
             Worker::Receiver => {}

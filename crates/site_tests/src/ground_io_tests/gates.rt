@@ -33,6 +33,8 @@ impl Counting {
 }
 
 impl Gate for Counting {
+    ghost passed = { λ gate worker step. Unit {0} };
+
     fn turn(&self, worker: Worker, step: u64) {
         let turns = self.turns.fetch_add(1, Ordering::SeqCst);
         if worker != Worker::Committer || step != turns.wrapping_add(1) {
