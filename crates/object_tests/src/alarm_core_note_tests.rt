@@ -1,19 +1,19 @@
-ghost use Rattle.std.specs.Prelude.{◌≡◌, ◌≤◌, ◌<◌, ◌^◌, IfOk, OnOk, pos};
-ghost use Rattle.bac_values.specs.Moments.{IsMoment};
+ghost use Rattle.std.specs.Prelude.{◌≡◌, IfOk, IsSome, IsTrue};
 ghost use Rattle.object_table.specs.Objects.{IsObject};
-ghost use Rattle.alarm_core.specs.Allowed.{IsAllowed};
-ghost use Rattle.alarm_core.specs.Sites.{IsSite};
+ghost use Rattle.alarm_core.specs.Allowed.{members_of, room_beside};
+ghost use Rattle.alarm_core.specs.Classes.{class_in};
 
+use crate::alarm_core_plant::{
+    Play, START, answer, is_sent, operator, plant, play_on, pump, set, take, told,
+};
 use crate::comparing::holds;
 use alarm_core::*;
-use bac_values::{Items, ObjectId, ObjectKind, Peer, Text, Value};
-use notify_class::{Class, Destination};
+use bac_values::{Items, ObjectId, ObjectKind, Peer, PropertyId, Text, Value};
+use notify_class::{Destination, check_edit};
 use object_table::ObjectSite;
 use std::alloc::Global;
+use std::process::Abort;
 use std::test::Fail;
-
-/// When the site starts.
-const START: u64 = 1_700_000_000_000;
 
 /// The notification of HIGH_LIMIT at the start, to be confirmed with invoke ID 0.
 const HIGH_LIMIT: [u8; 65] = [
@@ -24,33 +24,12 @@ const HIGH_LIMIT: [u8; 65] = [
     0xcf,
 ];
 
-fn operator() -> Peer {
-    Peer::local(167_772_165, 47808)
+/// Another recipient, whom the site doesn't list.
+fn guard() -> Peer {
+    Peer::local(167_772_166, 47808)
 }
 
-fn operators(alloc: Global) -> Result<ClassSite, Fail>
-    ensures instance { IfOk result (λ site. site.class.instance ≡ 7) }
-{
-    let told = Destination {
-        days: 127,
-        from: 0,
-        to: 8_639_999,
-        peer: operator(),
-        process: 1,
-        confirmed: true,
-        transitions: [true; 3],
-    };
-    Ok(ClassSite {
-        name: Text::new(alloc, "Operators")?,
-        class: Class {
-            instance: 7,
-            priority: [100, 90, 200],
-            ack_required: [true, true, false],
-            destinations: Items::of(vec![in alloc; told]?),
-        },
-    })
-}
-
+/// An integer value of 50 with limits 20 and 80.
 fn tank(alloc: Global) -> Result<ObjectSite, Fail>
     ensures object { IfOk result (λ site. IsObject site) }
 {
@@ -81,99 +60,147 @@ fn tank(alloc: Global) -> Result<ObjectSite, Fail>
     })
 }
 
-fn device(alloc: Global, outbox: u32) -> Result<DeviceSite, Fail>
-    ensures instance { IfOk result (λ site. site.instance ≡ 1001) }
-    ensures start { IfOk result (λ site. site.start ≡ 1700000000000) }
-    ensures zone { IfOk result (λ site. site.zone_minutes ≡ pos 0) }
-    ensures timeout { IfOk result (λ site. site.apdu_timeout ≡ 3000) }
-    ensures retries { IfOk result (λ site. site.retries ≡ 3) }
-    ensures outbox { IfOk result (λ site. site.outbox ≡ outbox) }
-{
-    Ok(DeviceSite {
-        instance: 1001,
-        name: Text::new(alloc, "Plant")?,
-        vendor: 999,
-        start: 1_700_000_000_000,
-        zone_minutes: 0,
-        apdu_timeout: 3000,
-        retries: 3,
-        outbox,
-    })
+fn rise(core: &mut Core) -> Result<Result<Outcome, StepFault>, Fail> {
+    set(core, ObjectKind::IntegerValue, Value::Signed(90))
 }
 
-/// A tank whose transitions one operator is told.
-fn plant(alloc: Global, outbox: u32) -> Result<Site, Fail>
-    requires outbox { outbox ≤ 16_384 }
-    ensures keeps { IfOk result (λ site. IsSite site) }
-{
-    Ok(Site {
-        device: device(alloc, outbox)?,
-        classes: Items::of(vec![in alloc; operators(alloc)?]?),
-        objects: Items::of(vec![in alloc; tank(alloc)?]?),
-        enrollments: Items::of(Vec::new(alloc)),
-        logs: Items::of(Vec::new(alloc)),
-    })
-}
+/// A transition is told, and the operator answers.
+struct Told;
 
-fn the_tank() -> Result<ObjectId, Fail> {
-    Ok(ObjectId::of_kind(ObjectKind::IntegerValue, 1)?)
-}
-
-/// An event at a moment, while there are few.
-fn take(core: &mut Core, moment: u64, act: Act) -> Result<Result<Outcome, StepFault>, Fail>
-    requires moment { IsMoment moment }
-    requires allowed { IsAllowed core.old act }
-{
-    let _few = u8::try_from(core.events())?;
-    Ok(core.step(&Event { moment, act }))
-}
-
-fn set(core: &mut Core, moment: u64, value: i32) -> Result<Result<Outcome, StepFault>, Fail>
-    requires moment { IsMoment moment }
-{
-    let change = core.table().check_set(the_tank()?, Value::Signed(value))?;
-    take(core, moment, Act::Write { change })
-}
-
-/// The operator answers a notification in flight by SimpleACK.
-fn answer(core: &mut Core, moment: u64, invoke: u8) -> Result<Outcome, Fail>
-    requires moment { IsMoment moment }
-{
-    let peer = operator();
-    if !core.has_in_flight(&peer, invoke) {
-        return Err(Fail::new("nothing is in flight"));
-    }
-    let kind = 2;
-    Ok(take(core, moment, Act::Answer { peer, invoke, kind })??)
-}
-
-/// Whether one datagram is sent, to the operator, with these octets.
-fn sends(outcome: &Outcome, octets: &[u8]) -> bool {
-    match outcome.sends.as_slice() {
-        [send] => send.peer == operator() && send.bytes.as_slice() == octets,
-        _ => false,
+impl Play for Told {
+    fn play(&self, rt: &impl Abort, _alloc: Global, core: &mut Core) -> Result<(), Fail> {
+        let _moved = rise(core)??;
+        pump(rt, core, &HIGH_LIMIT)?;
+        answer(core, 0)?;
+        holds(rt, core.outbox().room() == 64 && core.idle_pump(START + 3));
+        Ok(())
     }
 }
 
 #[test]
 fn a_transition_is_told_and_answered(rt: HostRuntime) -> Result<(), Fail> {
-    let mut core = Core::start(rt.alloc(), &plant(rt.alloc(), 64)?)?;
-    let _moved = set(&mut core, START, 90)??;
-    let sent = take(&mut core, START + 1, Act::Pump)??;
-    holds(&rt, sends(&sent, &HIGH_LIMIT));
-    let _answered = answer(&mut core, START + 2, 0)?;
-    holds(&rt, core.outbox().room() == 64 && core.idle_pump(START + 3));
-    Ok(())
+    let site = plant(rt.alloc(), tank(rt.alloc())?, 64)?;
+    play_on(&rt, rt.alloc(), &site, &Told)
+}
+
+/// Whether an event is refused since one notification would wait, and none may.
+fn is_full(answer: &Result<Outcome, StepFault>) -> bool {
+    match answer {
+        Ok(_) => false,
+        Err(fault) => *fault == StepFault::Full { would: 1, limit: 0 },
+    }
+}
+
+/// A transition that no room is for.
+struct Refused;
+
+impl Play for Refused {
+    fn play(&self, rt: &impl Abort, _alloc: Global, core: &mut Core) -> Result<(), Fail> {
+        let answer = rise(core)?;
+        holds(rt, is_full(&answer) && core.events() == 0);
+        Ok(())
+    }
 }
 
 #[test]
 fn nothing_fits_where_nothing_may_wait(rt: HostRuntime) -> Result<(), Fail> {
-    let mut core = Core::start(rt.alloc(), &plant(rt.alloc(), 0)?)?;
-    let refused = set(&mut core, START, 90)?;
-    match refused {
-        Ok(_) => return Err(Fail::new("it is queued")),
-        Err(fault) => holds(&rt, fault == StepFault::Full { would: 1, limit: 0 }),
+    let site = plant(rt.alloc(), tank(rt.alloc())?, 0)?;
+    play_on(&rt, rt.alloc(), &site, &Refused)
+}
+
+/// The list of the operator and of the guard, both at all times and of all transitions, to be confirmed.
+const BOTH: [u8; 62] = [
+    0x82, 0x01, 0xfe, 0xb4, 0x00, 0x00, 0x00, 0x00, 0xb4, 0x17, 0x3b, 0x3b, 0x63, 0x1e, 0x21, 0x00,
+    0x65, 0x06, 0x0a, 0x00, 0x00, 0x05, 0xba, 0xc0, 0x1f, 0x21, 0x01, 0x11, 0x82, 0x05, 0xe0, 0x82,
+    0x01, 0xfe, 0xb4, 0x00, 0x00, 0x00, 0x00, 0xb4, 0x17, 0x3b, 0x3b, 0x63, 0x1e, 0x21, 0x00, 0x65,
+    0x06, 0x0a, 0x00, 0x00, 0x06, 0xba, 0xc0, 0x1f, 0x21, 0x02, 0x11, 0x82, 0x05, 0xe0,
+];
+
+/// Whether there is no other class, and one object alone is its member.
+fn is_alone(core: &Core, class: u32) -> bool
+    ensures class { IsTrue result → IsSome (class_in class core.now.classes) }
+    ensures members { IsTrue result → members_of core.now class ≡ 1 }
+    ensures room { IsTrue result → room_beside core.now class ≡ core.now.site.device.outbox }
+{
+    match (core.classes(), core.table().rows()) {
+        ([only], [row]) => {
+            only.instance == class
+                && row.site.class == Some(class)
+                && core.site().enrollments.as_slice().is_empty()
+        }
+        _ => false,
     }
-    holds(&rt, core.events() == 0);
+}
+
+/// The class of the operators gets a list, which is allowed, at the start. Nothing moves, and nothing is sent.
+fn edit(rt: &impl Abort, core: &mut Core, list: Vec<Destination>) -> Result<(), Fail> {
+    let class = 7;
+    let room = core.site().device.outbox;
+    let is_edit = check_edit(core.known_peers(), &list, 1, room).is_ok();
+    if !is_alone(core, class) || !is_edit {
+        return Err(Fail::new("it isn't allowed"));
+    }
+    let destinations = Items::of(list);
+    let act = Act::Edit {
+        class,
+        destinations,
+    };
+    let outcome = take(core, START, act)??;
+    holds(
+        rt,
+        outcome.moves.as_slice().is_empty() && outcome.sends.as_slice().is_empty(),
+    );
     Ok(())
+}
+
+/// Whether the Recipient_List of the operators' class is read as these octets.
+fn lists(alloc: Global, core: &Core, octets: &[u8]) -> Result<bool, Fail> {
+    let class = ObjectId::of_kind(ObjectKind::NotificationClass, 7)?;
+    let read = core.read(alloc, class, PropertyId::RECIPIENT_LIST, None)?;
+    Ok(read.as_slice() == octets)
+}
+
+/// Whether the operator and the guard are the known peers.
+fn knows_both(core: &Core) -> bool {
+    let both = [operator(), guard()];
+    core.known_peers() == both.as_slice()
+}
+
+/// Whether the operator is told of HIGH_LIMIT as process 1, and the guard as process 2.
+fn tells_both(outcome: &Outcome) -> bool {
+    let mut guarded = HIGH_LIMIT;
+    guarded[11] = 2;
+    match outcome.sends.as_slice() {
+        [first, second] => {
+            is_sent(first, operator(), &HIGH_LIMIT) && is_sent(second, guard(), &guarded)
+        }
+        _ => false,
+    }
+}
+
+/// The recipients are told of the tank's rise.
+fn tell(rt: &impl Abort, core: &mut Core) -> Result<(), Fail> {
+    let _moved = rise(core)??;
+    let outcome = take(core, START, Act::Pump)??;
+    holds(rt, tells_both(&outcome));
+    Ok(())
+}
+
+/// The list gets a new peer behind the one that is known.
+struct Edited;
+
+impl Play for Edited {
+    fn play(&self, rt: &impl Abort, alloc: Global, core: &mut Core) -> Result<(), Fail> {
+        let list = vec![in alloc; told(operator(), 1), told(guard(), 2)]?;
+        edit(rt, core, list)?;
+        holds(rt, knows_both(core));
+        holds(rt, lists(alloc, core, &BOTH)?);
+        tell(rt, core)
+    }
+}
+
+#[test]
+fn an_edit_is_read_and_its_recipients_are_told(rt: HostRuntime) -> Result<(), Fail> {
+    let site = plant(rt.alloc(), tank(rt.alloc())?, 64)?;
+    play_on(&rt, rt.alloc(), &site, &Edited)
 }

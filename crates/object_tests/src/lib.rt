@@ -4,7 +4,11 @@
 #![tactic(auto)]
 
 #[cfg(test)]
+mod alarm_core_fault_tests;
+#[cfg(test)]
 mod alarm_core_note_tests;
+#[cfg(test)]
+mod alarm_core_plant;
 #[cfg(test)]
 mod alarm_core_tests;
 #[cfg(test)]

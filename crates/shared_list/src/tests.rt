@@ -82,37 +82,3 @@ fn eight_callers_take_a_hundred_thousand_turns(rt: HostRuntime) -> Result<(), Fa
     assert_eq!(rt; line.as_str(), "8 callers, 100000 entries, 100000 in order");
     Ok(())
 }
-
-// The pass after an append that may find no memory, and how many entries the list gained.
-fn try_append<R: Wait>(
-    rt: &R,
-    list: &Turnstile<SharedList>,
-    pass: ListPass,
-    entry: u64,
-) -> (ListPass, usize)
-    requires { IsOf list.now pass }
-    ensures here { IsOf list.entry.now result.0 }
-{
-    match append(rt, list, pass, entry) {
-        Ok(after) => (after, 1),
-        Err((back, _)) => (back, 0),
-    }
-}
-
-// Under `rt try --test --fail-alloc N` the append is the one that finds no memory, for one N.
-#[test]
-fn an_append_gives_its_turn_back_also_where_it_finds_no_memory(
-    rt: HostRuntime,
-) -> Result<(), Fail> {
-    let alloc = rt.alloc();
-    let (list, pass) = match Turnstile::open(alloc, SharedList::new(alloc)) {
-        Ok(opened) => opened,
-        Err((_, refused)) => return Err(Fail::from(refused)),
-    };
-    let (pass, gained) = try_append(&rt, &list, pass, 7);
-    let turn = list.take(&rt, pass);
-    assert_eq!(rt; turn.place, 2);
-    let closed = list.close(turn);
-    assert_eq!(rt; closed.as_slice().len(), gained);
-    Ok(())
-}

@@ -98,21 +98,6 @@ fn images_show_what_a_crash_may_leave(rt: HostRuntime) -> Result<(), Fail> {
 }
 
 #[test]
-fn memory_ground_fails_where_it_finds_no_memory_for_an_entry(rt: HostRuntime) -> Result<(), Fail> {
-    let alloc = rt.alloc();
-    let mut device = MemoryGround::new(alloc, vec![in alloc; 7u8; 4]?, Vec::new(alloc));
-    let wrote = write_within(&mut device, 1, b"ab");
-    same(&rt, &device.trace().is_some(), &wrote.is_ok());
-    let synced = device.sync();
-    let emitted = device.emit(Peer::console(), b"line");
-    let failures = [wrote.is_err(), synced.is_err(), emitted.is_err()];
-    let count = failures.iter().filter(|failed| **failed).count();
-    same(&rt, &count, &usize::from(device.trace().is_none()));
-    same(&rt, &device.size(), &Ok(4));
-    Ok(())
-}
-
-#[test]
 fn file_ground_keeps_a_file_and_sends_to_peers(rt: HostRuntime) -> Result<(), Fail> {
     let path = "ground_io_test_device";
     let file = OpenOptions::new()

@@ -1,0 +1,157 @@
+ghost use Rattle.std.specs.Prelude.{◌≡◌, ◌≤◌, ◌<◌, ◌^◌, IfOk, OnOk, pos};
+ghost use Rattle.bac_values.specs.Moments.{IsMoment};
+ghost use Rattle.object_table.specs.Objects.{IsObject};
+ghost use Rattle.alarm_core.specs.Allowed.{IsAllowed};
+ghost use Rattle.alarm_core.specs.Sites.{IsSite};
+
+use crate::comparing::holds;
+use alarm_core::*;
+use bac_values::{Items, ObjectId, ObjectKind, Peer, Send, Text, Value};
+use notify_class::{Class, Destination};
+use object_table::ObjectSite;
+use std::alloc::Global;
+use std::process::Abort;
+use std::test::Fail;
+
+/// When the site starts.
+pub(crate) const START: u64 = 1_700_000_000_000;
+
+pub(crate) fn operator() -> Peer {
+    Peer::local(167_772_165, 47808)
+}
+
+/// One that is told of everything at any time, and confirms it.
+pub(crate) fn told(peer: Peer, process: u32) -> Destination {
+    Destination {
+        days: 127,
+        from: 0,
+        to: 8_639_999,
+        peer,
+        process,
+        confirmed: true,
+        transitions: [true; 3],
+    }
+}
+
+fn operators(alloc: Global) -> Result<ClassSite, Fail>
+    ensures instance { IfOk result (λ site. site.class.instance ≡ 7) }
+{
+    Ok(ClassSite {
+        name: Text::new(alloc, "Operators")?,
+        class: Class {
+            instance: 7,
+            priority: [100, 90, 200],
+            ack_required: [true, true, false],
+            destinations: Items::of(vec![in alloc; told(operator(), 1)]?),
+        },
+    })
+}
+
+fn device(alloc: Global, outbox: u32) -> Result<DeviceSite, Fail>
+    ensures instance { IfOk result (λ site. site.instance ≡ 1001) }
+    ensures start { IfOk result (λ site. site.start ≡ 1700000000000) }
+    ensures zone { IfOk result (λ site. site.zone_minutes ≡ pos 0) }
+    ensures timeout { IfOk result (λ site. site.apdu_timeout ≡ 3000) }
+    ensures retries { IfOk result (λ site. site.retries ≡ 3) }
+    ensures outbox { IfOk result (λ site. site.outbox ≡ outbox) }
+{
+    Ok(DeviceSite {
+        instance: 1001,
+        name: Text::new(alloc, "Plant")?,
+        vendor: 999,
+        start: 1_700_000_000_000,
+        zone_minutes: 0,
+        apdu_timeout: 3000,
+        retries: 3,
+        outbox,
+    })
+}
+
+/// One object, whose transitions one operator is told.
+pub(crate) fn plant(alloc: Global, object: ObjectSite, outbox: u32) -> Result<Site, Fail>
+    requires object { IsObject object }
+    requires outbox { outbox ≤ 16_384 }
+    ensures keeps { IfOk result (λ site. IsSite site) }
+{
+    Ok(Site {
+        device: device(alloc, outbox)?,
+        classes: Items::of(vec![in alloc; operators(alloc)?]?),
+        objects: Items::of(vec![in alloc; object]?),
+        enrollments: Items::of(Vec::new(alloc)),
+        logs: Items::of(Vec::new(alloc)),
+    })
+}
+
+/// What happens to a core. Whoever plays it only borrows the core: a function that drops one, and goes on after each of
+/// several calls of it, takes minutes to prove.
+pub(crate) trait Play {
+    /// Does it, and looks at what comes of it.
+    fn play(&self, rt: &impl Abort, alloc: Global, core: &mut Core) -> Result<(), Fail>;
+}
+
+/// Plays to the core of a site, from its start on.
+pub(crate) fn play_on(
+    rt: &impl Abort,
+    alloc: Global,
+    site: &Site,
+    play: &impl Play,
+) -> Result<(), Fail>
+    requires site { IsSite site.now }
+{
+    let mut core = Core::start(alloc, site)?;
+    play.play(rt, alloc, &mut core)
+}
+
+/// An event at a moment, while there are few.
+pub(crate) fn take(
+    core: &mut Core,
+    moment: u64,
+    act: Act,
+) -> Result<Result<Outcome, StepFault>, Fail>
+    requires moment { IsMoment moment }
+    requires allowed { IsAllowed core.old act }
+{
+    let _few = u8::try_from(core.events())?;
+    Ok(core.step(&Event { moment, act }))
+}
+
+/// The value of object 1 of a kind comes from the field, at the start.
+pub(crate) fn set(
+    core: &mut Core,
+    kind: ObjectKind,
+    value: Value,
+) -> Result<Result<Outcome, StepFault>, Fail> {
+    let object = ObjectId::of_kind(kind, 1)?;
+    let change = core.table().check_set(object, value)?;
+    take(core, START, Act::Write { change })
+}
+
+/// Whether a datagram goes to a recipient with these octets.
+pub(crate) fn is_sent(send: &Send, peer: Peer, octets: &[u8]) -> bool {
+    send.peer == peer && send.bytes.as_slice() == octets
+}
+
+fn sends(outcome: &Outcome, octets: &[u8]) -> bool {
+    match outcome.sends.as_slice() {
+        [send] => is_sent(send, operator(), octets),
+        _ => false,
+    }
+}
+
+/// One datagram goes out, to the operator, with these octets.
+pub(crate) fn pump(rt: &impl Abort, core: &mut Core, octets: &[u8]) -> Result<(), Fail> {
+    let outcome = take(core, START, Act::Pump)??;
+    holds(rt, sends(&outcome, octets));
+    Ok(())
+}
+
+/// The operator answers a notification in flight by SimpleACK.
+pub(crate) fn answer(core: &mut Core, invoke: u8) -> Result<(), Fail> {
+    let peer = operator();
+    if !core.has_in_flight(&peer, invoke) {
+        return Err(Fail::new("nothing is in flight"));
+    }
+    let kind = 2;
+    let _outcome = take(core, START, Act::Answer { peer, invoke, kind })??;
+    Ok(())
+}
