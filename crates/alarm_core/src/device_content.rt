@@ -1,5 +1,5 @@
 ghost use Rattle.std.specs.Prelude.{◌≡◌, ◌==◌, ◌++◌, All, IfOk, OnOk, filter, map};
-ghost use Rattle.bac_values.specs.Identifier.{Identifier, number_of_kind};
+ghost use Rattle.bac_values.specs.Identifier.{Identifier, known_kinds, number_of_kind};
 ghost use Rattle.alarm_core.specs.Found.{class_object, device_object};
 ghost use Rattle.alarm_core.specs.Properties.{device_content, identifiers_of, object_list};
 ghost use Rattle.alarm_core.specs.Reading.{AnswersContent};
@@ -97,13 +97,20 @@ fn add_of_kind(
     Ok(())
 }
 
+// All types, ascending by number.
+fn known_kinds() -> [ObjectKind; 10]
+    ensures kinds { result ≡ known_kinds }
+{
+    ObjectKind::ALL
+}
+
 // Object_List, type by type.
 fn object_list(alloc: Global, site: &Site) -> Result<Vec<ObjectId>, NoMemory>
     requires site { IsSite site.now }
     ensures list { IfOk result (λ list. list.items ≡ object_list site.now) }
 {
     let identifiers = identifiers_of(alloc, site)?;
-    let kinds = ObjectKind::ALL;
+    let kinds = known_kinds();
     let mut list = Vec::new(alloc);
     for kind in &kinds {
         add_of_kind(&mut list, *kind, &identifiers)?;

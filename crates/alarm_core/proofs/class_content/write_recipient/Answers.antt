@@ -1,6 +1,6 @@
 use Rattle.std.proofs.Common.{◌≡◌, List, ◌++◌, None, OnOk, Result, Ok, Err, append_assoc, rules}
 use Rattle.bac_tags.specs.Writing.{written_bits, written_boolean, written_unsigned}
-use Rattle.object_table.specs.Flags.{string_of}
+use Rattle.bac_values.specs.BitString.{string_of_flags}
 use Rattle.alarm_core.specs.ClassProperties.{days_of, written_peer, written_time}
 use Rattle.alarm_core.proofs.class_content.write_recipient.Goals as goal
 
@@ -27,5 +27,5 @@ returns c =
     let peer : c.write_peer.new.out.items ≡ c.write_time-2.new.out.items ++ written_peer recipient.peer = search rules in
     let process : c.write_unsigned.new.out.items ≡ c.write_peer.new.out.items ++ written_unsigned None recipient.process = search rules in
     let confirmed : c.write_bool.new.out.items ≡ c.write_unsigned.new.out.items ++ written_boolean None recipient.confirmed = search rules in
-    let last : OnOk c.write_bits-2.result (c.write_bits-2.new.out.items ≡ c.write_bool.new.out.items ++ written_bits None (string_of recipient.transitions)) = search rules in
+    let last : OnOk c.write_bits-2.result (c.write_bits-2.new.out.items ≡ c.write_bool.new.out.items ++ written_bits None (string_of_flags recipient.transitions)) = search rules in
     record { written = on_ok c.write_bits-2.result _ _ (λ g. gathered start _ _ _ _ _ _ _ _ _ _ _ _ _ _ days from to peer process confirmed g) last }
