@@ -5,7 +5,8 @@ use Rattle.std.proofs.lemmas.Bool.{eqb-true, le-leb, leb-true}
 use Rattle.std.proofs.lemmas.List.{length-append}
 use Rattle.bac_tags.specs.Writing.{unsigned_size, written_bits, written_tag, written_unsigned}
 use Rattle.property_services.specs.declared.requests.RangeRequest.{RangeRequest}
-use Rattle.property_services.specs.Writing.{string_of_flags, written_range_ack, written_reference}
+use Rattle.bac_values.specs.BitString.{string_of_flags}
+use Rattle.property_services.specs.Writing.{written_range_ack, written_reference}
 use Rattle.bac_tags.specs.ParameterWriting.{written_if_given, written_enclosed}
 use Rattle.event_log.specs.declared.log_range.LogRange.{LogRange}
 use Rattle.event_log.specs.Log.{Log}
