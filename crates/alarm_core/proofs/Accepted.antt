@@ -22,15 +22,15 @@ use Rattle.enrollment.specs.Enrollments.{site_of}
 use Rattle.enrollment.specs.Verdicts.{write_by_site}
 use Rattle.enrollment.specs.Writes as sites
 use Rattle.enrollment.proofs.Taking.{takes_what_writes_make as sites_take}
-use Rattle.alarm_core.specs.declared.content.Content.{Content}
-use Rattle.alarm_core.specs.declared.content.ReadFault.{ReadFault}
+use Rattle.property_values.specs.declared.content.Content.{Content}
+use Rattle.property_values.specs.declared.content.ReadFault.{ReadFault}
 use Rattle.alarm_core.specs.declared.event.Act.TheVariants.{Write}
 use Rattle.alarm_core.specs.declared.event.Event.{Event}
 use Rattle.alarm_core.specs.declared.site.Site.{Site}
 use Rattle.alarm_core.specs.Allowed.{IsAllowed}
 use Rattle.alarm_core.specs.Contents.{other_content}
 use Rattle.alarm_core.specs.Laws.{AllowsWhatChecksAccept}
-use Rattle.alarm_core.specs.LogProperties.{log_content, log_write, writable_tag, write_with}
+use Rattle.property_values.specs.LogProperties.{log_content, log_write, property_of, writable_tag, write_with}
 use Rattle.alarm_core.specs.Logs.{KeptLog, kept_log, logs_after}
 use Rattle.alarm_core.specs.Logs as logs
 use Rattle.alarm_core.specs.Reading.{denied, write_by, write_of}
@@ -62,16 +62,17 @@ passed content number value true e h = refl
 passed (Err fault) number value false e h = cc
 passed (Ok content) number value false e h = absurd (value_fails (writable_tag number) value (ap (λ b. value_verdict (writable_tag number) b value) (sym e) ∙ h))
 
-log_fits : (kept : KeptLog) (number : ℕ) (value : Value) → IsTrue (logs.takes_value number value) → IsOk (log_write kept number None value)
-log_fits kept number (Truth on) h = subst (λ n. IsOk (log_write kept n None (Truth on))) (sym (eqb-true number 133 h)) refl
-log_fits kept number (Unsigned zero) h = subst (λ n. IsOk (log_write kept n None (Unsigned 0))) (sym (eqb-true number 141 h)) refl
+log_fits : (kept : KeptLog) (number : ℕ) (value : Value) → IsTrue (logs.takes_value number value) → IsOk (log_write kept.site kept.log number None value)
+unfolding property_of
+log_fits kept number (Truth on) h = subst (λ n. IsOk (log_write kept.site kept.log n None (Truth on))) (sym (eqb-true number 133 h)) refl
+log_fits kept number (Unsigned zero) h = subst (λ n. IsOk (log_write kept.site kept.log n None (Unsigned 0))) (sym (eqb-true number 141 h)) refl
 log_fits kept number (Unsigned (suc count)) h = absurd (true≢false (sym h))
 log_fits kept number _ h = absurd (true≢false (sym h))
 
-log_takes : (kept : KeptLog) (number : ℕ) (value : Value) → IsTrue (logs.takes_value number value) ↔ IsOk (log_write kept number None value)
+log_takes : (kept : KeptLog) (number : ℕ) (value : Value) → IsTrue (logs.takes_value number value) ↔ IsOk (log_write kept.site kept.log number None value)
 log_takes kept number value = (
   log_fits kept number value,
-  λ h. passed (log_content kept number) number value (logs.takes_value number value) refl (ok_verdict (write_with (log_content kept number) number None value) (property_change kept.site.object number value) h),
+  λ h. passed (log_content kept.site kept.log number) number value (logs.takes_value number value) refl (ok_verdict (write_with (log_content kept.site kept.log number) number None value) (property_change kept.site.object number value) h),
 )
 
 -- ---- what is found, where it is one thing at most

@@ -16,7 +16,7 @@ use Rattle.alarm_core.specs.declared.event.Event.{Event}
 use Rattle.alarm_core.specs.declared.event.StepFault.{StepFault}
 use Rattle.alarm_core.specs.declared.event.StepFault.TheVariants.{Full}
 use Rattle.alarm_core.specs.declared.site.Site.{Site}
-use Rattle.alarm_core.specs.Allowed.{IsHistory}
+use Rattle.alarm_core.specs.Allowed.{Comes, IsHistory}
 use Rattle.alarm_core.specs.Classes.{known_peers_of}
 use Rattle.alarm_core.specs.Deliveries.{event_notes, outbox_after}
 use Rattle.alarm_core.specs.Laws.{CountsTheLongerHistory, may_notify}
@@ -79,8 +79,8 @@ module _ (site : Site) (event : Event) (history : List Event) where
       let fewer = adds_none event.moment (event_notes site event history) (outbox_after site history) event.act not in
       subst (λ n. n ≤ unfinished site history) longer fewer
 
-  adds : IsTrue (may_notify event.act) → unfinished site (event ∷ history) ≡ unfinished site history + length (next_notes event (state_of site history))
-  adds may = adds_notes may ∙ ap (λ (notes : List Note). unfinished site history + length notes) (sym (same_notes site event history))
+  adds : Comes site event history → IsTrue (may_notify event.act) → unfinished site (event ∷ history) ≡ unfinished site history + length (next_notes event (state_of site history))
+  adds comes may = adds_notes may ∙ ap (λ (notes : List Note). unfinished site history + length notes) (sym (same_notes site event history comes))
 
 -- an act that gives no notifications
 no_notes : (site : Site) (moment : ℕ) (act : Act) (history : List Event) → may_notify act ≡ false → length (event_notes site (record { moment = moment; act = act }) history) ≡ 0
@@ -132,7 +132,7 @@ refuses notes outbox would limit e = elim (cases_Bool (nat_lt 0 (length notes) &
       absurd (true≢false (ap is_refusal (sym e ∙ fits)))
 ]
 
-module _ (site : Site) (event : Event) (history : List Event) (is : IsHistory site history) (would limit : ℕ) where
+module _ (site : Site) (event : Event) (history : List Event) (comes : Comes site event history) (would limit : ℕ) where
   -- more would be unfinished than may be
   abbrev IsFull : Type 0
   IsFull = (would ≡ unfinished site (event ∷ history)) × (limit ≡ site.device.outbox) × (limit < would)
@@ -148,17 +148,17 @@ module _ (site : Site) (event : Event) (history : List Event) (is : IsHistory si
   full_by : (may : Bool) → may_notify event.act ≡ may → IsFull → queue_verdict (event_notes site event history) (outbox_after site history) ≡ Err (Full would limit)
   full_by true e full =
       let longer = adds_notes site event history e in
-      let before = within site history is in
+      let before = within site history comes.is_history in
       let many = full.0 ∙ longer in
       above_verdict (event_notes site event history) (outbox_after site history) (omega (arith, many, full.1, full.2, before), omega (arith, many, full.1, full.2))
       ∙ (ap (λ n. Err (Full n site.device.outbox)) (sym many) ∙ ap (λ n. Err (Full would n)) (sym full.1))
   full_by false e full =
       let fewer = no_more site event history e in
-      let before = within site history is in
+      let before = within site history comes.is_history in
       absurd (omega (arith, fewer, before, full.0, full.1, full.2))
 
   verdict_is : step_verdict event (state_of site history) ≡ queue_verdict (event_notes site event history) (outbox_after site history)
-  verdict_is = ap (λ notes. queue_verdict notes (outbox_after site history)) (same_notes site event history)
+  verdict_is = ap (λ notes. queue_verdict notes (outbox_after site history)) (same_notes site event history comes)
 
   full : (step_verdict event (state_of site history) ≡ Err (Full would limit)) ↔ IsFull
   full = (

@@ -10,17 +10,18 @@ use Rattle.object_table.specs.Rows.{is_object, row_of}
 use Rattle.alarm_core.specs.declared.event.Act.{Act}
 use Rattle.alarm_core.specs.declared.event.Act.TheVariants.{Edit}
 use Rattle.alarm_core.specs.declared.event.Event.{Event}
-use Rattle.alarm_core.specs.declared.site.ClassSite.{ClassSite}
+use Rattle.notify_class.specs.declared.class_site.ClassSite.{ClassSite}
 use Rattle.alarm_core.specs.declared.site.Site.{Site}
-use Rattle.alarm_core.specs.ClassProperties.{class_content, listed_class, recipients_of, written_recipient}
+use Rattle.property_values.specs.ClassProperties.{class_content, property_of, written_recipient}
+use Rattle.property_values.specs.DeviceProperties.{device_content}
+use Rattle.property_values.specs.Reading.{part_in}
 use Rattle.alarm_core.specs.Classes.{class_in, classes_after, classes_with, edited, first_classes}
-use Rattle.alarm_core.specs.Contents.{class_or_other, content_by}
-use Rattle.alarm_core.specs.Devices.{class_object, device_object}
+use Rattle.alarm_core.specs.Contents.{class_or_other, content_by, recipients_of}
+use Rattle.alarm_core.specs.Devices.{class_object, device_object, identifiers_of, listed_class}
 use Rattle.alarm_core.specs.History.{values_after}
 use Rattle.alarm_core.specs.LastLists.{ReadsTheLastList, last_list, list_with}
 use Rattle.alarm_core.specs.Logs.{kept_log, logs_after}
-use Rattle.alarm_core.specs.Properties.{device_content}
-use Rattle.alarm_core.specs.Reading.{part_in, read_of}
+use Rattle.alarm_core.specs.Reading.{read_of}
 use Rattle.alarm_core.specs.Sites.{IsSite}
 use Rattle.alarm_core.specs.State.{state_of}
 use Rattle.alarm_core.proofs.Searches.{find_map, find_same, passes}
@@ -108,13 +109,14 @@ module _ (site : Site) (keeps : IsSite site) (history : List Event) (object : Id
   number = sym (eqb-true 15 object.number (both (15 == object.number) (listed.class.instance == object.instance) is_class).0)
 
   reads : read_of (state_of site history) object 102 None ≡ Ok (flat_map written_recipient (last_list listed history))
+  unfolding property_of
   reads =
       let classes = classes_after site history in
       let values = values_after site history in
       ap (λ enrollment. part_in (content_by (state_of site history) object 102 enrollment (row_of object values.rows) (kept_log object (logs_after site history))) None) (no_enrollment site history object keeps.enrollments (λ nine. let wrong : 15 ≡ 9 = sym number ∙ nine in cc))
       ∙ ap (λ row. part_in (content_by (state_of site history) object 102 None row (kept_log object (logs_after site history))) None) (no_row site history object keeps.objects (subst HasNoValue (sym number) no_class_value))
       ∙ ap (λ kept. part_in (content_by (state_of site history) object 102 None None kept) None) (no_log site history object keeps.logs (λ log. let wrong : 15 ≡ 25 = sym number ∙ log in cc))
-      ∙ ap (λ b. part_in (if b then device_content site 102 else class_or_other site classes object 102 (listed_class object site.classes)) None) (no_device object site listed is_class)
+      ∙ ap (λ b. part_in (if b then device_content site.device (identifiers_of site) 102 else class_or_other site classes object 102 (listed_class object site.classes)) None) (no_device object site listed is_class)
       ∙ ap (λ one. part_in (class_or_other site classes object 102 one) None) found
       ∙ ap (λ class. part_in (class_content listed (recipients_of class) 102) None) (class_after site object listed found history)
 

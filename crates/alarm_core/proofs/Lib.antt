@@ -7,7 +7,8 @@ pub mod KnownPeers
 pub mod NotesGo
 pub mod Delivering
 pub mod Still
-pub mod Runs
+pub mod Agreeing
+pub mod Courses
 pub mod MovesOnce
 pub mod Settled
 pub mod Shares
@@ -17,12 +18,11 @@ pub mod Logging
 pub mod Entering
 pub mod Standing
 pub mod Moved
-pub mod Told
 pub mod ToldBy
+pub mod Looking
 pub mod RecordedBy
 pub mod Apart
 pub mod Parted
-pub mod AllTurned
 pub mod Queued
 pub mod ToldKnown
 pub mod Acted

@@ -7,19 +7,13 @@ use Rattle.event_log.specs.History.{Call, log_after, next_log, taken_after}
 use Rattle.event_log.specs.Log.{Log}
 use Rattle.event_log.proofs.Looking.{log_after-next}
 use Rattle.object_table.specs.declared.change.Change.{Change}
-use Rattle.alarm_core.specs.declared.event.Act.{Act}
-use Rattle.alarm_core.specs.declared.event.Act.TheVariants.{Tick, Write, Ack, Pump, Answer, Edit}
 use Rattle.alarm_core.specs.declared.event.Event.{Event}
-use Rattle.alarm_core.specs.declared.site.LogSite.{LogSite}
+use Rattle.event_log.specs.declared.log_site.LogSite.{LogSite}
 use Rattle.alarm_core.specs.declared.site.Site.{Site}
-use Rattle.notify_class.specs.declared.class.Class.{Class}
 use Rattle.alarm_core.specs.Classes.{classes_after}
-use Rattle.alarm_core.specs.History.{AllLooked, Occurrence, look_transitions, occurrences_of, values_after}
-use Rattle.alarm_core.specs.Logs.{KeptLog, behind, call_of_change, calls_by, calls_of, first_log, kept_log_of, logs_after, records_of}
-use Rattle.alarm_core.specs.Next.{after_calls, calls_with, first_kept, log_with, logs_with, looked_all, transitions_all}
-use Rattle.alarm_core.specs.Sights.{site_stamp}
-use Rattle.alarm_core.specs.State.{alarms_of}
-use Rattle.alarm_core.specs.Values.{Values, written}
+use Rattle.alarm_core.specs.History.{event_looks}
+use Rattle.alarm_core.specs.Logs.{KeptLog, behind, call_of_change, calls_by, calls_of, first_log, kept_log_of, logs_after}
+use Rattle.alarm_core.specs.Next.{after_calls, first_kept, logs_with}
 
 -- calls behind older ones are made after those
 behind_after : (first : Log) (calls older : List Call) → log_after first (behind calls older) ≡ after_calls calls (log_after first older)
@@ -32,44 +26,19 @@ pub after_both : (calls later : List Call) (log : Log) → after_calls (calls ++
 after_both [] later log = refl
 after_both (call ∷ calls) later log = after_both calls later (next_log call log)
 
--- one look, as the state has it and by looking back
-pub record LooksAlike (site : Site) : Type 0 where
-  pub transitions : (moment : ℕ) (values : Values) (w : List Occurrence) → transitions_all moment (site_stamp site moment) values (alarms_of site w) ≡ look_transitions site moment values w
-  pub alarms : (moment : ℕ) (values : Values) (w : List Occurrence) → looked_all moment (site_stamp site moment) values (alarms_of site w) ≡ alarms_of site (AllLooked moment values ∷ w)
-
-calls_same : (site : Site) → LooksAlike site → (classes : List Class) (listed : LogSite) (moment : ℕ) (act : Act) (values : Values) (w : List Occurrence) →
-    calls_with site classes listed moment (site_stamp site moment) act values (alarms_of site w) ≡ calls_by site classes listed moment act values w
-calls_same site alike classes listed moment Tick values w = ap (records_of site classes listed) (alike.transitions moment values w)
-calls_same site alike classes listed moment (Write change) values w =
-    let stamp = site_stamp site moment in
-    let after = written change values in
-    ap (λ ts. records_of site classes listed ts ++ (call_of_change listed change ++ records_of site classes listed (transitions_all moment stamp after (looked_all moment stamp values (alarms_of site w))))) (alike.transitions moment values w)
-    ∙ (ap (λ alarms. records_of site classes listed (look_transitions site moment values w) ++ (call_of_change listed change ++ records_of site classes listed (transitions_all moment stamp after alarms))) (alike.alarms moment values w)
-    ∙ ap (λ ts. records_of site classes listed (look_transitions site moment values w) ++ (call_of_change listed change ++ records_of site classes listed ts)) (alike.transitions moment after (AllLooked moment values ∷ w)))
-calls_same site alike classes listed moment (Ack object transition state) values w = refl
-calls_same site alike classes listed moment Pump values w = refl
-calls_same site alike classes listed moment (Answer peer invoke kind) values w = refl
-calls_same site alike classes listed moment (Edit number recipients) values w = refl
-
-one_more : (site : Site) → LooksAlike site → (event : Event) (history : List Event) (listed : LogSite) →
-    log_with site (classes_after site history) event.moment (site_stamp site event.moment) event.act (values_after site history) (alarms_of site (occurrences_of site history)) (kept_log_of site history listed)
-    ≡ kept_log_of site (event ∷ history) listed
-one_more site alike event history listed =
-    let classes = classes_after site history in
-    let values = values_after site history in
-    let w = occurrences_of site history in
-    let calls = calls_by site classes listed event.moment event.act values w in
-    let log = log_after (first_log listed) (calls_of site listed history) in
-    ap (λ cs. record { site = listed; log = after_calls cs log }) (calls_same site alike classes listed event.moment event.act values w)
-    ∙ ap (λ (l : Log). record { site = listed; log = l }) (sym (behind_after (first_log listed) calls (calls_of site listed history)))
+one_more : (site : Site) (event : Event) (history : List Event) (listed : LogSite) →
+    let log = (kept_log_of site history listed).log in
+    record { site = listed; log = after_calls (calls_by site (classes_after site history) listed event.act (event_looks site event history)) log } ≡ kept_log_of site (event ∷ history) listed
+one_more site event history listed =
+    let calls = calls_by site (classes_after site history) listed event.act (event_looks site event history) in
+    ap (λ (log : Log). record { site = listed; log = log }) (sym (behind_after (first_log listed) calls (calls_of site listed history)))
 
 -- the logs of one more event
-pub logs_more : (site : Site) → LooksAlike site → (event : Event) (history : List Event) →
-    logs_with site (classes_after site history) event.moment (site_stamp site event.moment) event.act (values_after site history) (alarms_of site (occurrences_of site history)) (logs_after site history)
-    ≡ logs_after site (event ∷ history)
-logs_more site alike event history =
-    map-map (log_with site (classes_after site history) event.moment (site_stamp site event.moment) event.act (values_after site history) (alarms_of site (occurrences_of site history))) (kept_log_of site history) site.logs
-    ∙ ap (λ f. map f site.logs) (fun_ext (one_more site alike event history))
+pub logs_more : (site : Site) (event : Event) (history : List Event) →
+    logs_with site (classes_after site history) event.act (event_looks site event history) (logs_after site history) ≡ logs_after site (event ∷ history)
+logs_more site event history =
+    map-map (λ (kept : KeptLog). record kept { log = after_calls (calls_by site (classes_after site history) kept.site event.act (event_looks site event history)) kept.log }) (kept_log_of site history) site.logs
+    ∙ ap (λ f. map f site.logs) (fun_ext (one_more site event history))
 
 -- a log that nothing was done to
 kept_first : (site : Site) (listed : LogSite) → first_kept listed ≡ kept_log_of site [] listed

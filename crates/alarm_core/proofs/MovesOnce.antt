@@ -12,9 +12,12 @@ use Rattle.algorithm_rules.specs.Rules.{command_rules, limit_rules, match_rules,
 use Rattle.algorithm_rules.specs.declared.table.Algorithm.{Algorithm}
 use Rattle.algorithm_rules.specs.declared.table.Algorithm.TheVariants.{ChangeOfBitstring, ChangeOfState, CommandFailure, UnsignedRange, SignedOutOfRange, UnsignedOutOfRange, ChangeOfCharacterstring}
 use Rattle.algorithm_rules.specs.declared.table.Rule.{Rule}
-use Rattle.event_machine.specs.Detection.{Detection, and_then, enters, fault_by, fault_target, inhibited_step, is_fault, is_normal, later_step, look_step, rule_by, rule_held, sees, stays}
+use Rattle.event_machine.specs.Detection.{Detection, enters, fault_by, fault_target, inhibited_step, is_fault, is_normal, look_step, rule_by, rule_held, sees, stays}
 use Rattle.event_machine.specs.Held.{is_held}
+use Rattle.event_machine.specs.Next as next
+use Rattle.event_machine.specs.Next.{goes_on, inhibited_change, later_change, next_look, relied_on, rule_lasting}
 use Rattle.event_machine.specs.Points.{Point}
+use Rattle.event_machine.specs.Summary.{AlarmState}
 use Rattle.alarm_core.proofs.NotesGo.{found}
 
 -- ---- no rule leads to FAULT
@@ -60,23 +63,25 @@ rules_lead UnsignedRange state = range_leads state
 held_leads : (algorithm : Algorithm) (d : Detection) → IfSome (rule_held algorithm d) IsNotFault
 held_leads algorithm d = found IsNotFault (λ rule. is_held rule d.cause d.newest d.older) (rules_of algorithm d.state) (rules_lead algorithm d.state)
 
--- ---- behind the fault step
+-- ---- behind the fault step: at most one move, and none into FAULT
 
-rule_few : (held : Option Rule) (d : Detection) → length (rule_by held d).moves ≤ 1
-rule_few None d = omega arith
-rule_few (Some rule) d = omega arith
+rule_few : (lasting : Option Rule) (algorithm : Algorithm) (point : Point) (alarm : AlarmState) → length (next.rule_by lasting algorithm point alarm).moves ≤ 1
+rule_few None algorithm point alarm = omega arith
+rule_few (Some rule) algorithm point alarm = omega arith
 
-inhibited_few : (normal : Bool) (d : Detection) → length (if normal then stays (record d { older = [] }) else enters Normal false d).moves ≤ 1
-inhibited_few true d = omega arith
-inhibited_few false d = omega arith
+inhibited_few : (normal : Bool) (algorithm : Algorithm) (point : Point) (alarm : AlarmState) → length (if normal then next.stays alarm else next.enters algorithm point Normal false alarm).moves ≤ 1
+inhibited_few true algorithm point alarm = omega arith
+inhibited_few false algorithm point alarm = omega arith
 
-free_few : (inhibited : Bool) (held : Option Rule) (d : Detection) → length (if inhibited then inhibited_step d else rule_by held d).moves ≤ 1
-free_few true held d = inhibited_few (is_normal d.state) d
-free_few false held d = rule_few held d
+free_few : (inhibited : Bool) (lasting : Option Rule) (algorithm : Algorithm) (point : Point) (alarm : AlarmState) →
+    length (if inhibited then inhibited_change algorithm point alarm else next.rule_by lasting algorithm point alarm).moves ≤ 1
+free_few true lasting algorithm point alarm = inhibited_few (is_normal alarm.state) algorithm point alarm
+free_few false lasting algorithm point alarm = rule_few lasting algorithm point alarm
 
-later_few : (fault : Bool) (held : Option Rule) (d : Detection) → length (if fault then stays d else (if d.newest.inhibited then inhibited_step d else rule_by held d)).moves ≤ 1
-later_few true held d = omega arith
-later_few false held d = free_few d.newest.inhibited held d
+later_few : (fault : Bool) (lasting : Option Rule) (algorithm : Algorithm) (point : Point) (alarm : AlarmState) →
+    length (if fault then next.stays alarm else (if point.inhibited then inhibited_change algorithm point alarm else next.rule_by lasting algorithm point alarm)).moves ≤ 1
+later_few true lasting algorithm point alarm = omega arith
+later_few false lasting algorithm point alarm = free_few point.inhibited lasting algorithm point alarm
 
 rule_free : (held : Option Rule) (d : Detection) → IfSome held IsNotFault → is_fault d.state ≡ false → is_fault (rule_by held d).detection.state ≡ false
 unfolding IsNotFault
@@ -116,14 +121,18 @@ target_by false false same shows = refl
 fault_or_none : (now last : Reliability) (state : EventState) → FaultShows state now → OnlyFault (fault_target now last state)
 fault_or_none now last state shows = target_by (number_of_reliability now == 0) (is_fault state) (number_of_reliability now == number_of_reliability last) shows
 
-once_by : (to : Option EventState) → OnlyFault to → (algorithm : Algorithm) (d : Detection) → length (and_then (fault_by to d) (later_step algorithm)).moves ≤ 1
+once_by : (to : Option EventState) → OnlyFault to → (algorithm : Algorithm) (point : Point) (alarm : AlarmState) →
+    length (next.and_then (next.fault_by to algorithm point alarm) (later_change algorithm point)).moves ≤ 1
 unfolding OnlyFault
-once_by None only algorithm d = later_few (is_fault d.state) (rule_held algorithm d) d
-once_by (Some to) only algorithm d = subst (λ state. length (and_then (fault_by (Some state) d) (later_step algorithm)).moves ≤ 1) (sym only) (omega arith)
+once_by None only algorithm point alarm =
+    let before = goes_on algorithm point alarm in
+    later_few (is_fault before.state) (rule_lasting algorithm point before.state before.runs) algorithm point before
+once_by (Some to) only algorithm point alarm =
+    subst (λ state. length (next.and_then (next.fault_by (Some state) algorithm point alarm) (later_change algorithm point)).moves ≤ 1) (sym only) (omega arith)
 
-pub moves_once : (algorithm : Algorithm) (point : Point) (d : Detection) → FaultShows d.state point.reliability → length (look_step algorithm point d).moves ≤ 1
-moves_once algorithm point d shows =
-    once_by (fault_target point.reliability d.reliability d.state) (fault_or_none point.reliability d.reliability d.state shows) algorithm (sees point d)
+pub moves_once : (algorithm : Algorithm) (point : Point) (alarm : AlarmState) → FaultShows alarm.state point.reliability → length (next_look algorithm point alarm).moves ≤ 1
+moves_once algorithm point alarm shows =
+    once_by (fault_target point.reliability alarm.last_reliability alarm.state) (fault_or_none point.reliability alarm.last_reliability alarm.state shows) algorithm point (relied_on point alarm)
 
 -- where there is no fault, the fault step ends FAULT
 sound_free : (fault : Bool) (d : Detection) → is_fault d.state ≡ fault → is_fault (fault_by (if fault then Some Normal else None) d).detection.state ≡ false

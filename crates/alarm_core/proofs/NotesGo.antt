@@ -1,7 +1,7 @@
 -- Notes go to peers that are known.
 use Rattle.std.proofs.Common.{ℕ, Bool, true, false, cond, if◌then◌else◌, Option, Some, None, option_and_then, List, [], ◌∷◌}
 use Rattle.std.specs.List.{All, find, flat_map}
-use Rattle.std.specs.Option.{IfSome}
+use Rattle.std.specs.Option.{IfSome, option_map, option_to_list}
 use Rattle.std.specs.Prelude.{◌==◌}
 use Rattle.std.proofs.lemmas.List.Elements.{All-nil, All-cons, All-head, All-tail, All-append, All-filter, All-map}
 use Rattle.bac_values.specs.Address.{Address}
@@ -12,7 +12,7 @@ use Rattle.bac_values.specs.declared.transition.Transition.{Transition}
 use Rattle.civil_stamp.specs.LocalTime.{LocalZone}
 use Rattle.event_services.specs.declared.notification.Notification.{Notification}
 use Rattle.note_maker.specs.Notes.{note_to, notes_for}
-use Rattle.note_maker.specs.Shapes.{acknowledgement_notification, transition_notification}
+use Rattle.note_maker.specs.Shapes.{acknowledgement_notification}
 use Rattle.notify_class.specs.Edits.{peers_of}
 use Rattle.notify_class.specs.Chosen.{chosen_destinations}
 use Rattle.notify_class.specs.Recipients.{ListedRecipient}
@@ -24,9 +24,9 @@ use Rattle.alarm_core.specs.declared.event.Event.{Event}
 use Rattle.alarm_core.specs.declared.site.Site.{Site}
 use Rattle.alarm_core.specs.Classes.{class_in, classes_after, known_peers_of}
 use Rattle.alarm_core.specs.Deliveries.{event_notes, notes_by}
-use Rattle.alarm_core.specs.History.{StateTransition, event_transitions, occurrences_of, values_after}
-use Rattle.alarm_core.specs.Notes.{acknowledged_by, acknowledged_of, class_for, is_enabled, move_of, notes_of_transition, source_of, told_in, told_of, values_of}
-use Rattle.alarm_core.specs.Sights.{site_stamp, site_zone}
+use Rattle.alarm_core.specs.History.{StateTransition, event_transitions, values_after}
+use Rattle.alarm_core.specs.Notes.{addressed, class_for, is_enabled, notes_of_acknowledgement, notes_of_transition, notes_of_transitions, notification_of, source_of, with_class}
+use Rattle.alarm_core.specs.Evaluations.{site_stamp, site_zone}
 use Rattle.alarm_core.specs.declared.subject.Subject.{Subject}
 use Rattle.alarm_core.specs.Subjects.{subject_in}
 use Rattle.alarm_core.specs.Values.{Values}
@@ -61,41 +61,56 @@ class_known : (known : List Address) (classes : List Class) → All (KnowsClass 
 class_known known classes h None = tt
 class_known known classes h (Some n) = found (KnowsClass known) (λ (class : Class). class.instance == n) classes h
 
+-- who is told, if anybody is, has a class whose recipients are known
+abbrev IsToldKnown : List Address → Option (Subject × Class) → Type 0
+IsToldKnown known told = IfSome told (λ to. KnowsClass known to.1)
+
+known_as : (known : List Address) (subject : Subject) (class : Option Class) → IfSome class (KnowsClass known) → IsToldKnown known (option_map (λ class. (subject, class)) class)
+known_as known subject None k = tt
+known_as known subject (Some class) k = k
+
+enabled_known : (known : List Address) (b : Bool) (told : Option (Subject × Class)) → IsToldKnown known told → IsToldKnown known (if b then told else None)
+enabled_known known true told k = k
+enabled_known known false told k = tt
+
+told_go : (known : List Address) (make : Subject × Class → List Note) → ((to : Subject × Class) → KnowsClass known to.1 → All (GoesTo known) (make to)) →
+    (told : Option (Subject × Class)) → IsToldKnown known told → All (GoesTo known) (flat_map make (option_to_list told))
+told_go known make go None k = All-nil (GoesTo known)
+told_go known make go (Some to) k = All-append (GoesTo known) (make to) [] (go to k) (All-nil (GoesTo known))
+
 module _ (site : Site) (known : List Address) (classes : List Class) (h : All (KnowsClass known) classes) where
-  told_go : (transition : StateTransition) (subject : Subject) (class : Option Class) → IfSome class (KnowsClass known) → All (GoesTo known) (told_in site transition subject class)
-  told_go transition subject None k = All-nil (GoesTo known)
-  told_go transition subject (Some class) k =
-      notes_go known (transition_notification (source_of site subject) class (move_of transition) (site_stamp site transition.moment) (values_of transition))
-      class.destinations (transition_to transition.to) transition.moment (site_zone site) k
+  with_class_known : (subject : Subject) → IsToldKnown known (with_class classes subject)
+  with_class_known subject = known_as known subject (class_for subject classes) (class_known known classes h subject.class)
 
-  enabled_go : (b : Bool) (notes : List Note) → All (GoesTo known) notes → All (GoesTo known) (if b then notes else [])
-  enabled_go true notes k = k
-  enabled_go false notes k = All-nil (GoesTo known)
+  addressed_known : (kind : Transition) (found : Option Subject) → IsToldKnown known (option_and_then (λ subject. if is_enabled kind subject then with_class classes subject else None) found)
+  addressed_known kind None = tt
+  addressed_known kind (Some subject) = enabled_known known (is_enabled kind subject) (with_class classes subject) (with_class_known subject)
 
-  transition_go : (transition : StateTransition) (subject : Option Subject) → All (GoesTo known) (told_of site classes transition subject)
-  transition_go transition None = All-nil (GoesTo known)
-  transition_go transition (Some subject) =
-      enabled_go (is_enabled (transition_to transition.to) subject) (told_in site transition subject (class_for subject classes))
-      (told_go transition subject (class_for subject classes) (class_known known classes h subject.class))
+  found_known : (found : Option Subject) → IsToldKnown known (option_and_then (with_class classes) found)
+  found_known None = tt
+  found_known (Some subject) = with_class_known subject
 
-  transitions_go : (transitions : List StateTransition) → All (GoesTo known) (flat_map (notes_of_transition site classes) transitions)
+  transition_go : (transition : StateTransition) → All (GoesTo known) (notes_of_transition site classes transition)
+  transition_go transition =
+      let kind = transition_to transition.to in
+      told_go known (λ (to : Subject × Class). notes_for (notification_of site transition to.0 to.1) to.1.destinations kind transition.moment (site_zone site))
+      (λ to k. notes_go known (notification_of site transition to.0 to.1) to.1.destinations kind transition.moment (site_zone site) k)
+      (addressed classes transition) (addressed_known kind (subject_in transition.object transition.values))
+
+  transitions_go : (transitions : List StateTransition) → All (GoesTo known) (notes_of_transitions site classes transitions)
   transitions_go [] = All-nil (GoesTo known)
   transitions_go (transition ∷ transitions) =
-      All-append (GoesTo known) (notes_of_transition site classes transition) (flat_map (notes_of_transition site classes) transitions)
-      (transition_go transition (subject_in transition.object transition.values)) (transitions_go transitions)
+      All-append (GoesTo known) (notes_of_transition site classes transition) (notes_of_transitions site classes transitions) (transition_go transition) (transitions_go transitions)
 
-  acknowledged_go : (subject : Subject) (moment : ℕ) (transition : Transition) (named : EventState) (class : Option Class) → IfSome class (KnowsClass known) →
-      All (GoesTo known) (acknowledged_by site subject moment transition named class)
-  acknowledged_go subject moment transition named None k = All-nil (GoesTo known)
-  acknowledged_go subject moment transition named (Some class) k =
-      notes_go known (acknowledgement_notification (source_of site subject) class named (site_stamp site moment)) class.destinations transition moment (site_zone site) k
-
-  acknowledgement_go : (moment : ℕ) (transition : Transition) (named : EventState) (subject : Option Subject) → All (GoesTo known) (acknowledged_of site classes moment transition named subject)
-  acknowledgement_go moment transition named None = All-nil (GoesTo known)
-  acknowledgement_go moment transition named (Some subject) = acknowledged_go subject moment transition named (class_for subject classes) (class_known known classes h subject.class)
+  acknowledgement_go : (moment : ℕ) (subject : Option Subject) (transition : Transition) (named : EventState) → All (GoesTo known) (notes_of_acknowledgement site classes moment subject transition named)
+  acknowledgement_go moment subject transition named =
+      let facts = λ (to : Subject × Class). acknowledgement_notification (source_of site to.0) to.1 named (site_stamp site moment) in
+      told_go known (λ (to : Subject × Class). notes_for (facts to) to.1.destinations transition moment (site_zone site))
+      (λ to k. notes_go known (facts to) to.1.destinations transition moment (site_zone site) k)
+      (option_and_then (with_class classes) subject) (found_known subject)
 
   pub notes_go_by : (values : Values) (moment : ℕ) (act : Act) (transitions : List StateTransition) → All (GoesTo known) (notes_by site classes values moment act transitions)
-  notes_go_by values moment (Ack object transition named) transitions = acknowledgement_go moment transition named (subject_in object values)
+  notes_go_by values moment (Ack object transition named) transitions = acknowledgement_go moment (subject_in object values) transition named
   notes_go_by values moment Tick transitions = transitions_go transitions
   notes_go_by values moment (Write change) transitions = transitions_go transitions
   notes_go_by values moment Pump transitions = transitions_go transitions
@@ -104,5 +119,4 @@ module _ (site : Site) (known : List Address) (classes : List Class) (h : All (K
 
 pub notes_known : (site : Site) (event : Event) (older : List Event) → All (GoesTo (known_peers_of site older)) (event_notes site event older)
 notes_known site event older =
-    notes_go_by site (known_peers_of site older) (classes_after site older) (classes_known site older) (values_after site older) event.moment event.act
-    (event_transitions site event.moment event.act (values_after site older) (occurrences_of site older))
+    notes_go_by site (known_peers_of site older) (classes_after site older) (classes_known site older) (values_after site older) event.moment event.act (event_transitions site event older)

@@ -1,13 +1,13 @@
 -- The notifications of the longer history are those of the state's event behind the others.
 use Rattle.std.proofs.Common.{◌≡◌, List, ◌∷◌, ◌++◌, ap, ◌∙◌, sym}
 use Rattle.alarm_core.specs.declared.event.Event.{Event}
-use Rattle.alarm_core.specs.Allowed.{Represents}
+use Rattle.alarm_core.specs.Allowed.{Comes, Represents}
 use Rattle.alarm_core.specs.Deliveries.{notifications_of}
 use Rattle.alarm_core.specs.Next.{next_notes}
 use Rattle.alarm_core.specs.State.{State}
 use Rattle.alarm_core.proofs.Standing.{stands}
 
-pub notifications_after : (history : List Event) (old : State) (event : Event) → Represents old history →
+pub notifications_after : (history : List Event) (old : State) (event : Event) → Comes old.site event history → Represents old history →
     notifications_of old.site (event ∷ history) ≡ notifications_of old.site history ++ next_notes event old
-notifications_after history old event r =
-    stands.notifications old.site event history ∙ ap (λ (s : State). notifications_of old.site history ++ next_notes event s) (sym r.shows)
+notifications_after history old event comes r =
+    stands.notifications old.site event history comes ∙ ap (λ (s : State). notifications_of old.site history ++ next_notes event s) (sym r.shows)

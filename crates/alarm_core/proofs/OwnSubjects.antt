@@ -19,7 +19,7 @@ use Rattle.enrollment.specs.Enrollments.{IsEnrollment, identifier_of, site_of}
 use Rattle.enrollment.specs.Snapshots.{algorithm_by_site, algorithm_with, facts_by_site, facts_of_enrollment, facts_of_row, value_in}
 use Rattle.alarm_core.specs.declared.site.Site.{Site}
 use Rattle.alarm_core.specs.declared.subject.Subject.{Subject}
-use Rattle.alarm_core.specs.Sights.{facts_at}
+use Rattle.alarm_core.specs.Evaluations.{facts_at}
 use Rattle.alarm_core.specs.Sites.{IsSite}
 use Rattle.alarm_core.specs.Subjects.{detecting_subjects, is_before_enrollments, is_behind_enrollments, is_detecting, subject_by, subject_in, subject_of_enrollment, subject_of_object, subjects_of}
 use Rattle.alarm_core.specs.Values.{first_values}

@@ -22,11 +22,11 @@ use Rattle.outbox.specs.Outboxes.{peers_of}
 use Rattle.alarm_core.specs.declared.event.Act.{Act}
 use Rattle.alarm_core.specs.declared.event.Act.TheVariants.{Tick, Write, Ack, Pump, Answer, Edit}
 use Rattle.alarm_core.specs.declared.event.Event.{Event}
-use Rattle.alarm_core.specs.declared.site.ClassSite.{ClassSite}
+use Rattle.notify_class.specs.declared.class_site.ClassSite.{ClassSite}
 use Rattle.alarm_core.specs.declared.site.Site.{Site}
 use Rattle.alarm_core.specs.Allowed.{IsAllowed, IsHistory, members_of, room_beside, share_of}
 use Rattle.alarm_core.specs.Classes.{classes_after, classes_with, edited, is_member}
-use Rattle.alarm_core.specs.Deliveries.{event_notes}
+use Rattle.alarm_core.specs.Next.{next_notes}
 use Rattle.alarm_core.specs.History.{tick_at, values_after, values_with}
 use Rattle.alarm_core.specs.Room.{HasRoom, instance_of}
 use Rattle.alarm_core.specs.declared.subject.Subject.{Subject}
@@ -166,7 +166,7 @@ module _ (site : Site) (room : HasRoom site) where
   members_share class =
       mul-le-mul_right (length class.destinations) (let same : members_in (subjects_of site) class.instance ≡ members_of (state_of site []) class.instance = subject_members class.instance site in omega (arith, same))
 
-  pub tick_fits : IsSite site → (history : List Event) → IsHistory site history → (moment : ℕ) → length (event_notes site (tick_at moment) history) ≤ site.device.outbox
+  pub tick_fits : IsSite site → (history : List Event) → IsHistory site history → (moment : ℕ) → length (next_notes (tick_at moment) (state_of site history)) ≤ site.device.outbox
   unfolding shares
   tick_fits is history is_history moment =
       let classes = classes_after site history in

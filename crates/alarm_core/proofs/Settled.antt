@@ -14,11 +14,13 @@ use Rattle.alarm_core.specs.declared.site.Site.{Site}
 use Rattle.alarm_core.specs.declared.subject.Subject.{Subject}
 use Rattle.alarm_core.specs.Subjects.{ack_required_of}
 use Rattle.alarm_core.specs.Values.{Values, written}
-use Rattle.alarm_core.specs.Sights.{facts_at, first_point, point_of, point_with, reliability_at, site_stamp}
-use Rattle.alarm_core.specs.History.{Occurrence, AllLooked, detection_of, incidents_of, looked_with, moves_with, occurrences_of, occurrences_with, values_after, values_with}
+use Rattle.alarm_core.specs.Evaluations.{facts_at, first_point, point_with, reliability_at, site_moment}
+use Rattle.alarm_core.specs.Next.{change_at, change_by}
+use Rattle.alarm_core.specs.State.{detected_object_of}
+use Rattle.alarm_core.specs.History.{Occurrence, AllEvaluated, detection_of, incidents_of, looked_with, occurrences_of, occurrences_with, values_after, values_with}
 use Rattle.alarm_core.proofs.MovesOnce.{FaultShows, look_shows, moves_once}
 use Rattle.alarm_core.proofs.OwnSubjects.{IsOwn}
-use Rattle.alarm_core.proofs.Runs.{own_facts}
+use Rattle.alarm_core.proofs.Courses.{own_facts}
 
 -- in FAULT after a course only where a reliability shows a fault
 abbrev CourseShows : Site → Subject → List Incident → Reliability → Type 0
@@ -28,14 +30,14 @@ abbrev pub IsSettled : Site → Subject → Values → List Occurrence → Type 
 IsSettled site subject values w = FaultShows (detection_of site subject w).state (reliability_at subject.object values)
 
 settled_by : (site : Site) (subject : Subject) (moment : ℕ) (values : Values) (incidents : List Incident) (facts : Option Facts) → is_some facts ≡ true →
-    CourseShows site subject (looked_with (option_map (point_with moment (site_stamp site moment) (ack_required_of site subject) subject.object values) facts) incidents) (reliability_at subject.object values)
+    CourseShows site subject (looked_with (option_map (point_with (site_moment site moment) (ack_required_of site subject) subject.object values) facts) incidents) (reliability_at subject.object values)
 unfolding detection_at
 settled_by site subject moment values incidents (Some facts) there =
-    look_shows subject.algorithm (point_with moment (site_stamp site moment) (ack_required_of site subject) subject.object values facts)
+    look_shows subject.algorithm (point_with (site_moment site moment) (ack_required_of site subject) subject.object values facts)
     (detection_at subject.algorithm (first_point site subject) incidents)
 settled_by site subject moment values incidents None there = cc
 
-settled_looked : (site : Site) (subject : Subject) (moment : ℕ) (values : Values) (w : List Occurrence) → is_some (facts_at subject.object values) ≡ true → IsSettled site subject values (AllLooked moment values ∷ w)
+settled_looked : (site : Site) (subject : Subject) (moment : ℕ) (values : Values) (w : List Occurrence) → is_some (facts_at subject.object values) ≡ true → IsSettled site subject values (AllEvaluated moment values ∷ w)
 settled_looked site subject moment values w there = settled_by site subject moment values (incidents_of site subject w) (facts_at subject.object values) there
 
 acknowledged_shows : (same : Bool) (site : Site) (subject : Subject) (transition : Transition) (incidents : List Incident) (reliability : Reliability) →
@@ -47,7 +49,7 @@ acknowledged_shows false site subject transition incidents reliability shows = s
 settled_more : (site : Site) (subject : Subject) (moment : ℕ) (act : Act) (values : Values) (w : List Occurrence) → is_some (facts_at subject.object (values_with act values)) ≡ true →
     IsSettled site subject values w → IsSettled site subject (values_with act values) (occurrences_with moment act values w)
 settled_more site subject moment Tick values w there settled = settled_looked site subject moment values w there
-settled_more site subject moment (Write change) values w there settled = settled_looked site subject moment (written change values) (AllLooked moment values ∷ w) there
+settled_more site subject moment (Write change) values w there settled = settled_looked site subject moment (written change values) (AllEvaluated moment values ∷ w) there
 settled_more site subject moment (Ack object transition state) values w there settled =
     acknowledged_shows (is_object object subject.object) site subject transition (incidents_of site subject w) (reliability_at subject.object values) settled
 settled_more site subject moment Pump values w there settled = settled
@@ -62,11 +64,11 @@ settled_after site subject own (event ∷ older) =
 
 -- one more look
 once_by : (site : Site) (subject : Subject) (moment : ℕ) (values : Values) (w : List Occurrence) (facts : Option Facts) → IsSettled site subject values w →
-    length (moves_with site subject (option_map (point_with moment (site_stamp site moment) (ack_required_of site subject) subject.object values) facts) w) ≤ 1
+    length (change_by subject.algorithm (option_map (point_with (site_moment site moment) (ack_required_of site subject) subject.object values) facts) (detected_object_of site w subject).alarm).moves ≤ 1
 once_by site subject moment values w None settled = omega arith
 once_by site subject moment values w (Some facts) settled =
-    moves_once subject.algorithm (point_with moment (site_stamp site moment) (ack_required_of site subject) subject.object values facts) (detection_of site subject w) settled
+    moves_once subject.algorithm (point_with (site_moment site moment) (ack_required_of site subject) subject.object values facts) (detected_object_of site w subject).alarm settled
 
 pub moved_once : (site : Site) (subject : Subject) (moment : ℕ) (values : Values) (w : List Occurrence) → IsSettled site subject values w →
-    length (moves_with site subject (point_of site subject moment values) w) ≤ 1
+    length (change_at (site_moment site moment) values (detected_object_of site w subject)).moves ≤ 1
 moved_once site subject moment values w settled = once_by site subject moment values w (facts_at subject.object values) settled

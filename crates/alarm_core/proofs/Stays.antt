@@ -30,7 +30,7 @@ use Rattle.alarm_core.specs.declared.event.Event.{Event}
 use Rattle.alarm_core.specs.declared.site.Site.{Site}
 use Rattle.alarm_core.specs.declared.subject.Subject.{Subject}
 use Rattle.alarm_core.specs.History.{values_after, values_with}
-use Rattle.alarm_core.specs.Sights.{facts_at}
+use Rattle.alarm_core.specs.Evaluations.{facts_at}
 use Rattle.alarm_core.specs.Subjects.{subject_by, subject_in}
 use Rattle.alarm_core.specs.Values.{Values, first_values, written}
 use Rattle.alarm_core.proofs.Searches.{find_map, find_same, is_some-map}

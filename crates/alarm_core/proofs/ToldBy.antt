@@ -1,10 +1,11 @@
 -- What is told of a move and of an acknowledgement, by what is found of the object's class.
-use Rattle.std.proofs.Common.{◌≡◌, ℕ, Bool, true, false, if◌then◌else◌, Option, Some, None, option_and_then, List, [], ◌∷◌, ◌++◌, refl, sym, ap, ◌∙◌, append_assoc}
-use Rattle.civil_stamp.specs.LocalTime.{LocalZone}
+use Rattle.std.proofs.Common.{◌≡◌, ℕ, Bool, true, false, if◌then◌else◌, Option, Some, None, option_and_then, List, [], ◌∷◌, map, refl, sym, ap, ◌∙◌}
+use Rattle.civil_stamp.specs.LocalTime.{LocalZone, ZonedMoment}
 use Rattle.std.specs.List.{find, flat_map}
-use Rattle.std.specs.Option.{option_to_list}
+use Rattle.std.specs.Option.{option_map, option_to_list}
 use Rattle.std.proofs.lemmas.List.{append-nil}
-use Rattle.std.proofs.lemmas.List.Concat.{flat_map-append}
+use Rattle.std.proofs.lemmas.List.Folds.{flat_map-map}
+use Rattle.std.proofs.Math.Path.{fun_ext}
 use Rattle.bac_values.specs.EventStates.{transition_to}
 use Rattle.bac_values.specs.Identifier.{Identifier}
 use Rattle.bac_values.specs.declared.event_state.EventState.{EventState}
@@ -18,8 +19,6 @@ use Rattle.bac_values.specs.declared.value.Value.{Value}
 use Rattle.algorithm_rules.specs.declared.table.Algorithm.{Algorithm}
 use Rattle.algorithm_rules.specs.Facts.{Facts}
 use Rattle.event_machine.specs.declared.moves.Move.{Move}
-use Rattle.event_machine.specs.declared.moves.Changed.{Changed}
-use Rattle.event_machine.specs.Given.{moves_in}
 use Rattle.event_services.specs.declared.notification.EventValues.{EventValues}
 use Rattle.event_services.specs.declared.notification.Notification.{Notification}
 use Rattle.note_maker.specs.declared.source.Source.{Source}
@@ -31,30 +30,39 @@ use Rattle.object_table.specs.Rows.{is_object}
 use Rattle.enrollment.specs.Enrollments.{site_of}
 use Rattle.enrollment.specs.Snapshots.{algorithm_with}
 use Rattle.alarm_core.specs.declared.site.Site.{Site}
+use Rattle.event_log.specs.declared.log_site.LogSite.{LogSite}
 use Rattle.alarm_core.specs.declared.subject.Subject.{Subject}
-use Rattle.alarm_core.specs.Found.{tracked_in}
-use Rattle.alarm_core.specs.History.{ObjectState, StateTransition, state_found, state_in, transition_with}
-use Rattle.alarm_core.specs.Next.{state_of_tracked, states_of}
-use Rattle.alarm_core.specs.Notes.{acknowledged_by, acknowledged_of, class_for, is_enabled, move_of, notes_of_acknowledgement, notification_of, source_of, told_by, told_flags, told_in, told_of, told_value, values_of}
-use Rattle.alarm_core.specs.Sights.{facts_at, reliability_at, site_stamp, site_zone}
-use Rattle.alarm_core.specs.State.{Tracked}
+use Rattle.alarm_core.specs.declared.transition.ObjectTransition.{ObjectTransition}
+use Rattle.alarm_core.specs.Found.{detected_object_in}
+use Rattle.alarm_core.specs.History.{ObjectState, StateTransition, state_found, state_in}
+use Rattle.alarm_core.specs.Next.{state_of_detected, states_of}
+use Rattle.alarm_core.specs.Notes.{addressed, class_for, is_enabled, move_of, notes_of_acknowledgement, notes_of_transition, notes_of_transitions, notification_of, source_of, told_flags, told_value, values_of, with_class}
+use Rattle.alarm_core.specs.Evaluations.{facts_at, reliability_at, site_moment, site_stamp, site_zone}
+use Rattle.alarm_core.specs.State.{DetectedObjectState}
+use Rattle.alarm_core.specs.Logs.{KeptLog, record_of_transition, records_of}
 use Rattle.alarm_core.specs.Subjects.{subject_in}
-use Rattle.alarm_core.specs.Values.{Values}
+use Rattle.alarm_core.specs.Views.{AddressedNotification, SiteData, addressed_in, notes_to, record_to, transition_in}
+use Rattle.alarm_core.proofs.Flattened.{flat_map-flat_map}
+
+-- what is made of each, where it is mapped before
+each_mapped : {X Y Z : Type 0} (f : Y → List Z) (g : X → Y) (x : Option X) → flat_map f (option_to_list (option_map g x)) ≡ flat_map (λ x. f (g x)) (option_to_list x)
+each_mapped f g None = refl
+each_mapped f g (Some x) = refl
 
 -- the event state of an object is that of its alarm
-abbrev pub state_shown : Option Tracked → EventState
-state_shown (Some tracked) = tracked.alarm.state
+abbrev pub state_shown : Option DetectedObjectState → EventState
+state_shown (Some detected) = detected.alarm.state
 state_shown None = Normal
 
-either_state : (b : Bool) (tracked : Tracked) (listed : Option ObjectState) (rest : Option Tracked) → state_found listed ≡ state_shown rest →
-    state_found (if b then Some (state_of_tracked tracked) else listed) ≡ state_shown (if b then Some tracked else rest)
-either_state true tracked listed rest e = refl
-either_state false tracked listed rest e = e
+either_state : (b : Bool) (detected : DetectedObjectState) (listed : Option ObjectState) (rest : Option DetectedObjectState) → state_found listed ≡ state_shown rest →
+    state_found (if b then Some (state_of_detected detected) else listed) ≡ state_shown (if b then Some detected else rest)
+either_state true detected listed rest e = refl
+either_state false detected listed rest e = e
 
-pub state_is_shown : (object : Identifier) (alarms : List Tracked) → state_in object (states_of alarms) ≡ state_shown (tracked_in object alarms)
+pub state_is_shown : (object : Identifier) (alarms : List DetectedObjectState) → state_in object (states_of alarms) ≡ state_shown (detected_object_in object alarms)
 state_is_shown object [] = refl
-state_is_shown object (tracked ∷ alarms) =
-    either_state (is_object object tracked.object) tracked (find (λ (listed : ObjectState). is_object object listed.object) (states_of alarms)) (tracked_in object alarms) (state_is_shown object alarms)
+state_is_shown object (detected ∷ alarms) =
+    either_state (is_object object detected.object) detected (find (λ (listed : ObjectState). is_object object listed.object) (states_of alarms)) (detected_object_in object alarms) (state_is_shown object alarms)
 
 -- what is told of a transition at its point, by what its algorithm looks at
 pub values_missing : (transition : StateTransition) → facts_at transition.object transition.values ≡ None → None ≡ values_of transition
@@ -73,72 +81,104 @@ values_found transition facts algorithm reliability flags value values f a r g v
     λ k. values_at (a k) facts (move_of transition) transition.cause (r k) (g k) (v k) in
     e ∙ (told ∙ sym (ap (option_and_then (λ facts. values_at (algorithm_with transition.object transition.values.enrollments) facts (move_of transition) transition.cause (reliability_at transition.object transition.values) (told_flags listed transition) (told_value listed transition))) f))
 
-module _ (site : Site) (classes : List Class) where
-  either_none : (b : Bool) (notes : List Note) → notes ≡ [] → (if b then notes else []) ≡ []
-  either_none true notes e = e
-  either_none false notes e = refl
+-- the notification of a transition with the class whose recipients are told
+abbrev as_told : SiteData → StateTransition → Option (Subject × Class) → Option AddressedNotification
+as_told seen transition told = option_map (λ (to : Subject × Class). record { class = to.1; kind = transition_to transition.to; facts = notification_of seen.site transition to.0 to.1 }) told
 
-  module _ (moment : ℕ) (object : Identifier) (values : Values) (states : List ObjectState) (cause : Option ℕ) (made : Move) where
-    pub told_nowhere : subject_in object values ≡ None → [] ≡ told_by site classes moment object values states cause made
-    told_nowhere s = sym (ap (told_of site classes (transition_with object moment values states cause made)) s)
+-- of what is found under its identifier
+abbrev found_as : SiteData → StateTransition → Option Subject → Option (Subject × Class)
+found_as seen transition found = option_and_then (λ subject. if is_enabled (transition_to transition.to) subject then with_class seen.classes subject else None) found
 
-    pub told_disabled : (subject : Subject) → subject_in object values ≡ Some subject → is_enabled (transition_to made.to) subject ≡ false → [] ≡ told_by site classes moment object values states cause made
-    told_disabled subject s e =
-        let transition = transition_with object moment values states cause made in
-        sym (ap (told_of site classes transition) s ∙ ap (λ b. if b then told_in site transition subject (class_for subject classes) else []) e)
+abbrev paired : Subject → Option Class → Option (Subject × Class)
+paired subject class = option_map (λ class. (subject, class)) class
 
-    pub told_classless : (subject : Subject) → subject_in object values ≡ Some subject → class_for subject classes ≡ None → [] ≡ told_by site classes moment object values states cause made
-    told_classless subject s e =
-        let transition = transition_with object moment values states cause made in
-        sym (ap (told_of site classes transition) s ∙ either_none (is_enabled (transition_to made.to) subject) (told_in site transition subject (class_for subject classes)) (ap (told_in site transition subject) e))
+either_none : (b : Bool) (told : Option (Subject × Class)) → told ≡ None → (if b then told else None) ≡ None
+either_none true told e = e
+either_none false told e = refl
 
-    pub notified : (subject : Subject) (class : Class) (source : Source) (stamp : Stamp) (told : Option EventValues) →
-        source ≡ source_of site subject → stamp ≡ site_stamp site moment → told ≡ values_of (transition_with object moment values states cause made) →
-        transition_notification source class made stamp told ≡ notification_of site (transition_with object moment values states cause made) subject class
-    notified subject class source stamp told p q r = λ k. transition_notification (p k) class made (q k) (r k)
+module _ (seen : SiteData) (transition : StateTransition) where
+  pub told_nowhere : subject_in transition.object transition.values ≡ None → None ≡ addressed_in seen transition
+  told_nowhere s = sym (ap (λ found. as_told seen transition (found_as seen transition found)) s)
 
-    pub told_move : (subject : Subject) (class : Class) (facts : Notification) (kind : Transition) (zone : LocalZone) →
-        subject_in object values ≡ Some subject → is_enabled kind subject ≡ true → class_for subject classes ≡ Some class →
-        facts ≡ notification_of site (transition_with object moment values states cause made) subject class →
-        kind ≡ transition_to made.to → zone ≡ site_zone site →
-        notes_for facts class.destinations kind moment zone ≡ told_by site classes moment object values states cause made
-    told_move subject class facts kind zone u e f p s t =
-        let transition = transition_with object moment values states cause made in
-        let given : notes_for facts class.destinations kind moment zone ≡ told_in site transition subject (Some class) =
-        λ k. notes_for (p k) class.destinations (s k) moment (t k) in
-        let enabled : is_enabled (transition_to made.to) subject ≡ true = ap (λ k. is_enabled k subject) (sym s) ∙ e in
-        given
-        ∙ sym (ap (told_of site classes transition) u
-        ∙ (ap (λ b. if b then told_in site transition subject (class_for subject classes) else []) enabled
-        ∙ ap (told_in site transition subject) f))
+  pub told_disabled : (subject : Subject) → subject_in transition.object transition.values ≡ Some subject → is_enabled (transition_to transition.to) subject ≡ false → None ≡ addressed_in seen transition
+  told_disabled subject s e =
+      sym (ap (λ found. as_told seen transition (found_as seen transition found)) s ∙ ap (λ b. as_told seen transition (if b then with_class seen.classes subject else None)) e)
 
-    -- the notes of no move, of one, and of two
-    pub one_told : (old new more : List Note) → new ≡ old ++ more → more ≡ told_by site classes moment object values states cause made →
-        new ≡ old ++ flat_map (told_by site classes moment object values states cause) (option_to_list (Some made))
-    one_told old new more e f = e ∙ ap (λ ns. old ++ ns) (f ∙ sym (append-nil (told_by site classes moment object values states cause made)))
+  pub told_classless : (subject : Subject) → subject_in transition.object transition.values ≡ Some subject → class_for subject seen.classes ≡ None → None ≡ addressed_in seen transition
+  told_classless subject s e =
+      sym (ap (λ found. as_told seen transition (found_as seen transition found)) s
+      ∙ ap (as_told seen transition) (either_none (is_enabled (transition_to transition.to) subject) (with_class seen.classes subject) (ap (paired subject) e)))
 
-  pub two_told : (moment : ℕ) (object : Identifier) (values : Values) (states : List ObjectState) (cause : Option ℕ) (old between new : List Note) (changed : Changed) →
-      between ≡ old ++ flat_map (told_by site classes moment object values states cause) (option_to_list changed.first) →
-      new ≡ between ++ flat_map (told_by site classes moment object values states cause) (option_to_list changed.second) →
-      new ≡ old ++ flat_map (told_by site classes moment object values states cause) (moves_in changed)
-  two_told moment object values states cause old between new changed e f =
-      let told = told_by site classes moment object values states cause in
-      f
-      ∙ (ap (λ ns. ns ++ flat_map told (option_to_list changed.second)) e
-      ∙ (append_assoc old (flat_map told (option_to_list changed.first)) (flat_map told (option_to_list changed.second))
-      ∙ ap (λ ns. old ++ ns) (sym (flat_map-append told (option_to_list changed.first) (option_to_list changed.second)))))
+  pub told_move : (subject : Subject) (class : Class) (facts : Notification) (kind : Transition) →
+      subject_in transition.object transition.values ≡ Some subject → is_enabled kind subject ≡ true → class_for subject seen.classes ≡ Some class →
+      facts ≡ notification_of seen.site transition subject class → kind ≡ transition_to transition.to →
+      Some (record { class = class; kind = kind; facts = facts }) ≡ addressed_in seen transition
+  told_move subject class facts kind u e f p s =
+      let enabled : is_enabled (transition_to transition.to) subject ≡ true = ap (λ k. is_enabled k subject) (sym s) ∙ e in
+      (λ k. Some (record { class = class; kind = s k; facts = p k }))
+      ∙ sym (ap (λ found. as_told seen transition (found_as seen transition found)) u
+      ∙ (ap (λ b. as_told seen transition (if b then with_class seen.classes subject else None)) enabled
+      ∙ ap (λ c. as_told seen transition (paired subject c)) f))
 
-  module _ (values : Values) (moment : ℕ) (object : Identifier) (transition : Transition) (named : EventState) where
-    pub acknowledged_nowhere : subject_in object values ≡ None → [] ≡ notes_of_acknowledgement site classes values moment object transition named
-    acknowledged_nowhere s = sym (ap (acknowledged_of site classes moment transition named) s)
+  pub notified : (subject : Subject) (class : Class) (source : Source) (stamp : Stamp) (told : Option EventValues) (made : Move) →
+      source ≡ source_of seen.site subject → stamp ≡ site_stamp seen.site transition.moment → told ≡ values_of transition → made ≡ move_of transition →
+      transition_notification source class made stamp told ≡ notification_of seen.site transition subject class
+  notified subject class source stamp told made p q r s = λ k. transition_notification (p k) class (s k) (q k) (r k)
 
-    pub acknowledged_classless : (subject : Subject) → subject_in object values ≡ Some subject → class_for subject classes ≡ None → [] ≡ notes_of_acknowledgement site classes values moment object transition named
-    acknowledged_classless subject s e = sym (ap (acknowledged_of site classes moment transition named) s ∙ ap (acknowledged_by site subject moment transition named) e)
+  -- its notes, and its record in a log
+  pub notes_same : (at : ZonedMoment) → at ≡ site_moment seen.site transition.moment → flat_map (notes_to at) (option_to_list (addressed_in seen transition)) ≡ notes_of_transition seen.site seen.classes transition
+  notes_same at e =
+      ap (λ a. flat_map (notes_to a) (option_to_list (addressed_in seen transition))) e
+      ∙ each_mapped (notes_to (site_moment seen.site transition.moment)) (λ (to : Subject × Class). record { class = to.1; kind = transition_to transition.to; facts = notification_of seen.site transition to.0 to.1 }) (addressed seen.classes transition)
 
-    pub told_acknowledgement : (subject : Subject) (class : Class) (source : Source) (stamp : Stamp) (zone : LocalZone) →
-        subject_in object values ≡ Some subject → class_for subject classes ≡ Some class → source ≡ source_of site subject → stamp ≡ site_stamp site moment → zone ≡ site_zone site →
-        notes_for (acknowledgement_notification source class named stamp) class.destinations transition moment zone ≡ notes_of_acknowledgement site classes values moment object transition named
-    told_acknowledgement subject class source stamp zone s f p q t =
-        let given : notes_for (acknowledgement_notification source class named stamp) class.destinations transition moment zone ≡ acknowledged_by site subject moment transition named (Some class) =
-        λ k. notes_for (acknowledgement_notification (p k) class named (q k)) class.destinations transition moment (t k) in
-        given ∙ sym (ap (acknowledged_of site classes moment transition named) s ∙ ap (acknowledged_by site subject moment transition named) f)
+  pub record_same : (at : ZonedMoment) (listed : LogSite) → at ≡ site_moment seen.site transition.moment →
+      flat_map (record_to at listed) (option_to_list (addressed_in seen transition)) ≡ record_of_transition seen.site seen.classes listed transition
+  record_same at listed e =
+      ap (λ a. flat_map (record_to a listed) (option_to_list (addressed_in seen transition))) e
+      ∙ each_mapped (record_to (site_moment seen.site transition.moment) listed) (λ (to : Subject × Class). record { class = to.1; kind = transition_to transition.to; facts = notification_of seen.site transition to.0 to.1 }) (addressed seen.classes transition)
+
+-- those of all transitions of a look
+module _ (seen : SiteData) (at : ZonedMoment) (here : at ≡ site_moment seen.site seen.moment) where
+  made_of_all : {A : Type 0} (f : AddressedNotification → List A) (g : StateTransition → List A) →
+      ((transition : ObjectTransition) → flat_map f (option_to_list (addressed_in seen (transition_in seen transition))) ≡ g (transition_in seen transition)) →
+      (transitions : List ObjectTransition) → flat_map f (flat_map (λ transition. option_to_list (addressed_in seen (transition_in seen transition))) transitions) ≡ flat_map g (map (transition_in seen) transitions)
+  made_of_all f g same transitions =
+      flat_map-flat_map f (λ transition. option_to_list (addressed_in seen (transition_in seen transition))) transitions
+      ∙ (ap (λ h. flat_map h transitions) (fun_ext same)
+      ∙ sym (flat_map-map g (transition_in seen) transitions))
+
+  pub all_notes : (transitions : List ObjectTransition) (told : List AddressedNotification) (notes : List Note) →
+      told ≡ flat_map (λ transition. option_to_list (addressed_in seen (transition_in seen transition))) transitions → notes ≡ flat_map (notes_to at) told →
+      notes ≡ notes_of_transitions seen.site seen.classes (map (transition_in seen) transitions)
+  all_notes transitions told notes t e =
+      e ∙ (ap (flat_map (notes_to at)) t
+      ∙ made_of_all (notes_to at) (notes_of_transition seen.site seen.classes) (λ transition. notes_same seen (transition_in seen transition) at here) transitions)
+
+  pub all_records : (transitions : List ObjectTransition) (told : List AddressedNotification) (logs : List KeptLog) →
+      told ≡ flat_map (λ transition. option_to_list (addressed_in seen (transition_in seen transition))) transitions →
+      map (λ (kept : KeptLog). flat_map (record_to at kept.site) told) logs ≡ map (λ (kept : KeptLog). records_of seen.site seen.classes kept.site (map (transition_in seen) transitions)) logs
+  all_records transitions told logs t =
+      ap (λ f. map f logs) (fun_ext (λ (kept : KeptLog). ap (flat_map (record_to at kept.site)) t
+      ∙ made_of_all (record_to at kept.site) (record_of_transition seen.site seen.classes kept.site) (λ transition. record_same seen (transition_in seen transition) at kept.site here) transitions))
+
+-- ---- of an acknowledgement
+
+module _ (site : Site) (classes : List Class) (moment : ℕ) (transition : Transition) (named : EventState) where
+  abbrev acknowledged_to : Option (Subject × Class) → List Note
+  acknowledged_to told =
+      flat_map (λ (to : Subject × Class). notes_for (acknowledgement_notification (source_of site to.0) to.1 named (site_stamp site moment)) to.1.destinations transition moment (site_zone site)) (option_to_list told)
+
+  pub acknowledged_nowhere : (found : Option Subject) → found ≡ None → [] ≡ notes_of_acknowledgement site classes moment found transition named
+  acknowledged_nowhere found s = sym (ap (λ f. acknowledged_to (option_and_then (with_class classes) f)) s)
+
+  pub acknowledged_classless : (found : Option Subject) (subject : Subject) → found ≡ Some subject → class_for subject classes ≡ None → [] ≡ notes_of_acknowledgement site classes moment found transition named
+  acknowledged_classless found subject s e = sym (ap (λ f. acknowledged_to (option_and_then (with_class classes) f)) s ∙ ap (λ c. acknowledged_to (paired subject c)) e)
+
+  pub told_acknowledgement : (found : Option Subject) (subject : Subject) (class : Class) (source : Source) (stamp : Stamp) (zone : LocalZone) →
+      found ≡ Some subject → class_for subject classes ≡ Some class → source ≡ source_of site subject → stamp ≡ site_stamp site moment → zone ≡ site_zone site →
+      notes_for (acknowledgement_notification source class named stamp) class.destinations transition moment zone ≡ notes_of_acknowledgement site classes moment found transition named
+  told_acknowledgement found subject class source stamp zone s f p q t =
+      let notes = notes_for (acknowledgement_notification (source_of site subject) class named (site_stamp site moment)) class.destinations transition moment (site_zone site) in
+      let given : notes_for (acknowledgement_notification source class named stamp) class.destinations transition moment zone ≡ notes =
+      λ k. notes_for (acknowledgement_notification (p k) class named (q k)) class.destinations transition moment (t k) in
+      given ∙ (sym (append-nil notes) ∙ sym (ap (λ f. acknowledged_to (option_and_then (with_class classes) f)) s ∙ ap (λ c. acknowledged_to (paired subject c)) f))

@@ -5,7 +5,6 @@ use Rattle.std.proofs.lemmas.List.Elements.{All-append, All-weaker}
 use Rattle.bac_values.specs.Address.{Address}
 use Rattle.bac_values.specs.Orders.{is_among}
 use Rattle.bac_values.specs.declared.note.Note.{Note}
-use Rattle.bac_values.specs.declared.stamp.Stamp.{Stamp}
 use Rattle.notify_class.specs.declared.class.Class.{Class}
 use Rattle.outbox.specs.Outboxes.{AreKnown, is_known, peers_of}
 use Rattle.outbox.specs.Posts.{PostState}
@@ -15,13 +14,12 @@ use Rattle.alarm_core.specs.declared.event.Act.TheVariants.{Tick}
 use Rattle.alarm_core.specs.declared.site.Site.{Site}
 use Rattle.alarm_core.specs.Classes.{first_classes, known_peers_of}
 use Rattle.alarm_core.specs.Known.{KnowsClass}
-use Rattle.alarm_core.specs.Moves.{told_all, told_with}
-use Rattle.alarm_core.specs.Next.{transitions_with}
-use Rattle.alarm_core.specs.State.{Tracked}
+use Rattle.alarm_core.specs.Deliveries.{notes_by}
+use Rattle.alarm_core.specs.History.{StateTransition}
+use Rattle.alarm_core.specs.Notes.{notes_of_transitions}
 use Rattle.alarm_core.specs.Values.{Values}
 use Rattle.alarm_core.proofs.KnownPeers.{classes_known}
 use Rattle.alarm_core.proofs.NotesGo.{GoesTo, notes_go_by}
-use Rattle.alarm_core.proofs.Told.{told_is}
 
 -- the classes' recipients are the outbox's peers
 pub record KnowsAll (peers : List Address) (classes : List Class) (posts : List PostState) : Type 0 where
@@ -29,22 +27,18 @@ pub record KnowsAll (peers : List Address) (classes : List Class) (posts : List 
   pub knows : All (KnowsClass peers) classes
 
 module _ (site : Site) (classes : List Class) (peers : List Address) (posts : List PostState) (known : KnowsAll peers classes posts) where
-  pub told_known : (moment : ℕ) (stamp : Stamp) (act : Act) (values : Values) (alarms : List Tracked) → AreKnown (told_with site classes moment stamp act values alarms) posts
-  told_known moment stamp act values alarms =
-      let notes = told_with site classes moment stamp act values alarms in
-      let go : All (GoesTo peers) notes =
-      subst (All (GoesTo peers)) (told_is site classes moment stamp act values alarms)
-      (notes_go_by site peers classes known.knows values moment act (transitions_with moment stamp act values alarms)) in
+  pub told_known : (values : Values) (moment : ℕ) (act : Act) (transitions : List StateTransition) → AreKnown (notes_by site classes values moment act transitions) posts
+  told_known values moment act transitions =
       All-weaker (GoesTo peers) (λ (note : Note). IsTrue (is_known note.peer posts))
-      (λ (note : Note) k. known_addresses note.peer posts ∙ subst (λ ps. IsTrue (is_among ps note.peer)) known.peers_are k) notes go
+      (λ (note : Note) k. known_addresses note.peer posts ∙ subst (λ ps. IsTrue (is_among ps note.peer)) known.peers_are k)
+      (notes_by site classes values moment act transitions) (notes_go_by site peers classes known.knows values moment act transitions)
 
-  pub look_known : (moment : ℕ) (stamp : Stamp) (values : Values) (alarms : List Tracked) → AreKnown (told_all site classes moment stamp values alarms) posts
-  look_known moment stamp values alarms = told_known moment stamp Tick values alarms
+  pub look_known : (values : Values) (transitions : List StateTransition) → AreKnown (notes_of_transitions site classes transitions) posts
+  look_known values transitions = told_known values 0 Tick transitions
 
-  pub more_known : (notes : List Note) (moment : ℕ) (stamp : Stamp) (values : Values) (alarms : List Tracked) → AreKnown notes posts →
-      AreKnown (notes ++ told_all site classes moment stamp values alarms) posts
-  more_known notes moment stamp values alarms h =
-      All-append (λ (note : Note). IsTrue (is_known note.peer posts)) notes (told_all site classes moment stamp values alarms) h (look_known moment stamp values alarms)
+  pub more_known : (values : Values) (notes : List Note) (transitions : List StateTransition) → AreKnown notes posts → AreKnown (notes ++ notes_of_transitions site classes transitions) posts
+  more_known values notes transitions h =
+      All-append (λ (note : Note). IsTrue (is_known note.peer posts)) notes (notes_of_transitions site classes transitions) h (look_known values transitions)
 
 pub first_known : (site : Site) (peers : List Address) (classes : List Class) → peers ≡ known_peers_of site [] → classes ≡ first_classes site → All (KnowsClass peers) classes
 first_known site peers classes e f =

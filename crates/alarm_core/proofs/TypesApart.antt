@@ -12,7 +12,7 @@ use Rattle.object_table.specs.Values.{is_present_value}
 use Rattle.object_table.proofs.Places.{find_none}
 use Rattle.enrollment.specs.Enrollments.{IsEnrollment, identifier_of, site_of}
 use Rattle.alarm_core.specs.declared.event.Event.{Event}
-use Rattle.alarm_core.specs.declared.site.LogSite.{LogSite}
+use Rattle.event_log.specs.declared.log_site.LogSite.{LogSite}
 use Rattle.alarm_core.specs.declared.site.Site.{Site}
 use Rattle.alarm_core.specs.History.{values_after}
 use Rattle.alarm_core.specs.Logs.{KeptLog, kept_log, kept_log_of, logs_after}

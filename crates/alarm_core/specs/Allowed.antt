@@ -18,6 +18,7 @@ use Rattle.alarm_core.specs.History.{last_moment_of}
 use Rattle.alarm_core.specs.State.{State, state_of}
 use Rattle.alarm_core.specs.Found.{found_in}
 use Rattle.alarm_core.specs.Logs.{IsTakenByLog}
+use Rattle.alarm_core.specs.Sites.{IsSite}
 use Rattle.alarm_core.specs.Values.{IsTaken}
 
 -- the kinds of PDU by which a confirmed request is answered (20.1.2): SimpleACK, Error, Reject and Abort
@@ -54,6 +55,12 @@ IsHistory site [] = Unit {0}
 IsHistory site (event ∷ older) =
     (last_moment_of site older ≤ event.moment) × IsMoment event.moment × IsAllowed (state_of site older) event.act
     × (unfinished_in (outbox_after site (event ∷ older)).posts ≤ site.device.outbox) × IsHistory site older
+
+-- An event comes after a history of a site: the site is one that may be, the history is one of it, and the event isn't before the history's last one, nor before the site's start.
+pub record Comes (site : Site) (event : Event) (history : List Event) : Type 0 where
+  pub is_site : IsSite site
+  pub is_history : IsHistory site history
+  pub not_before : last_moment_of site history ≤ event.moment
 
 -- a state is the one that a history leaves
 pub record Represents (state : State) (history : List Event) : Type 0 where

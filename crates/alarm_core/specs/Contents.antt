@@ -1,23 +1,31 @@
 -- What a property of an object is, or why there is none (ANSI/ASHRAE 135-2020, clause 12).
-use Rattle.std.specs.Prelude.{ℕ, if◌then◌else◌, Option, Some, None, Result, Err, List}
+use Rattle.std.specs.Prelude.{ℕ, if◌then◌else◌, Option, Some, None, Result, Err, List, []}
 use Rattle.bac_values.specs.Identifier.{Identifier}
 use Rattle.notify_class.specs.declared.class.Class.{Class}
+use Rattle.notify_class.specs.Recipients.{ListedRecipient}
 use Rattle.object_table.specs.declared.row.Row.{Row}
 use Rattle.object_table.specs.Rows.{is_object, row_of}
 use Rattle.enrollment.specs.declared.enrollment_site.EnrollmentSite.{EnrollmentSite}
 use Rattle.enrollment.specs.Enrollments.{site_of}
-use Rattle.alarm_core.specs.declared.content.Content.{Content}
-use Rattle.alarm_core.specs.declared.content.ReadFault.{ReadFault}
-use Rattle.alarm_core.specs.declared.site.ClassSite.{ClassSite}
+use Rattle.property_values.specs.declared.content.Content.{Content}
+use Rattle.property_values.specs.declared.content.ReadFault.{ReadFault}
+use Rattle.notify_class.specs.declared.class_site.ClassSite.{ClassSite}
 use Rattle.alarm_core.specs.declared.site.Site.{Site}
 use Rattle.alarm_core.specs.Classes.{class_in}
-use Rattle.alarm_core.specs.ClassProperties.{class_content, listed_class, recipients_of}
+use Rattle.property_values.specs.ClassProperties.{class_content}
+use Rattle.property_values.specs.DeviceProperties.{device_content}
+use Rattle.property_values.specs.LogProperties.{log_content}
+use Rattle.property_values.specs.Properties.{row_content, unknown_object, unknown_property}
+use Rattle.alarm_core.specs.Devices.{device_object, identifiers_of, listed_class}
 use Rattle.alarm_core.specs.EnrollmentProperties.{enrollment_content}
-use Rattle.alarm_core.specs.LogProperties.{log_content}
 use Rattle.alarm_core.specs.Logs.{KeptLog, kept_log}
-use Rattle.alarm_core.specs.Found.{device_object, is_other_object}
-use Rattle.alarm_core.specs.Properties.{alarm_in, device_content, row_content, unknown_object, unknown_property}
+use Rattle.alarm_core.specs.Found.{alarm_in, is_other_object}
 use Rattle.alarm_core.specs.State.{State}
+
+-- the recipients of a class, if there is one
+abbrev pub recipients_of : Option Class → List ListedRecipient
+recipients_of (Some class) = class.destinations
+recipients_of None = []
 
 -- a class has the site's properties, but for its recipients, which are those that the last edit left
 abbrev pub class_or_other : Site → List Class → Identifier → ℕ → Option ClassSite → Result Content ReadFault
@@ -27,13 +35,13 @@ class_or_other site classes object number None = if is_other_object site object 
 -- a property of an object beside the value objects, the enrollments and the logs
 abbrev pub other_content : Site → List Class → Identifier → ℕ → Result Content ReadFault
 other_content site classes object number =
-    if is_object object (device_object site) then device_content site number
+    if is_object object (device_object site) then device_content site.device (identifiers_of site) number
     else class_or_other site classes object number (listed_class object site.classes)
 
 abbrev pub content_by : State → Identifier → ℕ → Option EnrollmentSite → Option Row → Option KeptLog → Result Content ReadFault
 content_by state object number (Some site) row kept = enrollment_content (alarm_in state object) site state.values.rows number
 content_by state object number None (Some row) kept = row_content (alarm_in state object) row number
-content_by state object number None None (Some kept) = log_content kept number
+content_by state object number None None (Some kept) = log_content kept.site kept.log number
 content_by state object number None None None = other_content state.site state.classes object number
 
 -- what a property of an object is, or why there is none

@@ -14,20 +14,19 @@ use Rattle.alarm_core.specs.declared.event.Act.TheVariants.{Ack, Pump, Answer, E
 use Rattle.alarm_core.specs.declared.event.Event.{Event}
 use Rattle.alarm_core.specs.declared.site.Site.{Site}
 use Rattle.alarm_core.specs.Classes.{classes_after, known_peers_of}
-use Rattle.alarm_core.specs.History.{StateTransition, event_transitions, occurrences_of, values_after}
-use Rattle.alarm_core.specs.Notes.{notes_of_acknowledgement, notes_of_transition}
+use Rattle.alarm_core.specs.History.{StateTransition, event_transitions, values_after}
+use Rattle.alarm_core.specs.Notes.{notes_of_acknowledgement, notes_of_transitions}
+use Rattle.alarm_core.specs.Subjects.{subject_in}
 use Rattle.alarm_core.specs.Values.{Values}
 
 -- the notifications that an act gives: of each of its event-state transitions, or of its acknowledgement
 abbrev pub notes_by : Site → List Class → Values → ℕ → Act → List StateTransition → List Note
-notes_by site classes values moment (Ack object transition named) transitions = notes_of_acknowledgement site classes values moment object transition named
-notes_by site classes values moment act transitions = flat_map (notes_of_transition site classes) transitions
+notes_by site classes values moment (Ack object transition named) transitions = notes_of_acknowledgement site classes moment (subject_in object values) transition named
+notes_by site classes values moment act transitions = notes_of_transitions site classes transitions
 
 -- those of an event behind a history
 abbrev pub event_notes : Site → Event → List Event → List Note
-event_notes site event older =
-    notes_by site (classes_after site older) (values_after site older) event.moment event.act
-    (event_transitions site event.moment event.act (values_after site older) (occurrences_of site older))
+event_notes site event older = notes_by site (classes_after site older) (values_after site older) event.moment event.act (event_transitions site event older)
 
 -- all notifications of a history, in their order
 abbrev pub notifications_of : Site → List Event → List Note

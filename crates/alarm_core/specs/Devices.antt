@@ -1,11 +1,27 @@
--- The identifiers of a site's device and of its notification classes.
-use Rattle.bac_values.specs.Identifier.{Identifier, number_of_kind}
-use Rattle.bac_values.specs.declared.object_kind.ObjectKind.TheVariants.{Device, NotificationClass}
-use Rattle.alarm_core.specs.declared.site.ClassSite.{ClassSite}
+-- The identifiers of a site's objects.
+use Rattle.std.specs.Prelude.{List, ◌∷◌, ◌++◌, map, Option, find}
+use Rattle.bac_values.specs.Identifier.{Identifier}
+use Rattle.event_log.specs.declared.log_site.LogSite.{LogSite}
+use Rattle.notify_class.specs.declared.class_site.ClassSite.{ClassSite}
+use Rattle.object_table.specs.declared.object_site.ObjectSite.{ObjectSite}
+use Rattle.object_table.specs.Rows.{is_object}
+use Rattle.enrollment.specs.declared.enrollment_site.EnrollmentSite.{EnrollmentSite}
+use Rattle.property_values.specs.Devices.{object_of_device}
+pub use Rattle.property_values.specs.Devices.{class_object}
 use Rattle.alarm_core.specs.declared.site.Site.{Site}
 
 abbrev pub device_object : Site → Identifier
-device_object site = record { number = number_of_kind Device; instance = site.device.instance }
+device_object site = object_of_device site.device
 
-abbrev pub class_object : ClassSite → Identifier
-class_object listed = record { number = number_of_kind NotificationClass; instance = listed.class.instance }
+-- the identifiers of a site's objects, each type in the order of its instances
+abbrev pub identifiers_of : Site → List Identifier
+identifiers_of site =
+    device_object site
+    ∷ (map (λ (object : ObjectSite). object.object) site.objects
+    ++ (map class_object site.classes
+    ++ (map (λ (enrollment : EnrollmentSite). enrollment.object) site.enrollments
+    ++ map (λ (log : LogSite). log.object) site.logs)))
+
+-- the class of the site with an identifier
+abbrev pub listed_class : Identifier → List ClassSite → Option ClassSite
+listed_class object classes = find (λ (listed : ClassSite). is_object object (class_object listed)) classes

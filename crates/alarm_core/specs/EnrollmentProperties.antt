@@ -14,10 +14,10 @@ use Rattle.enrollment.specs.declared.enrollment_property.EnrollmentProperty.TheV
 use Rattle.enrollment.specs.declared.enrollment_site.EnrollmentSite.{EnrollmentSite}
 use Rattle.enrollment.specs.Properties.{property_of}
 use Rattle.enrollment.specs.Reliabilities.{reliability_of_enrollment}
-use Rattle.alarm_core.specs.declared.content.Content.{Content}
-use Rattle.alarm_core.specs.declared.content.Content.TheVariants.{Elements}
-use Rattle.alarm_core.specs.declared.content.ReadFault.{ReadFault}
-use Rattle.alarm_core.specs.Properties.{flags, one, unknown_property, written_time_stamp}
+use Rattle.property_values.specs.declared.content.Content.{Content}
+use Rattle.property_values.specs.declared.content.Content.TheVariants.{Elements}
+use Rattle.property_values.specs.declared.content.ReadFault.{ReadFault}
+use Rattle.property_values.specs.Properties.{flags, one, unknown_property, written_time_stamp}
 
 -- Status_Flags: in alarm where the event state isn't NORMAL, in fault where the reliability isn't NO_FAULT_DETECTED, never overridden, and never out of service
 abbrev pub enrollment_status : State' → Reliability' → List Bool

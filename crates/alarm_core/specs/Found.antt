@@ -2,14 +2,16 @@
 use Rattle.std.specs.Prelude.{Bool, ◌||◌, if◌then◌else◌, Option, Some, None, List, find, is_some}
 use Rattle.std.specs.List.{list_any}
 use Rattle.bac_values.specs.Identifier.{Identifier}
+use Rattle.event_machine.specs.Next.{new_alarm}
+use Rattle.event_machine.specs.Summary.{AlarmState}
 use Rattle.event_machine.specs.Finding.{Finding, NoSuchObject, WithoutAlarm, WithAlarm}
 use Rattle.object_table.specs.Rows.{is_object, row_of}
-use Rattle.alarm_core.specs.declared.site.ClassSite.{ClassSite}
+use Rattle.notify_class.specs.declared.class_site.ClassSite.{ClassSite}
 use Rattle.enrollment.specs.declared.enrollment_site.EnrollmentSite.{EnrollmentSite}
-use Rattle.alarm_core.specs.declared.site.LogSite.{LogSite}
+use Rattle.event_log.specs.declared.log_site.LogSite.{LogSite}
 use Rattle.alarm_core.specs.declared.site.Site.{Site}
 pub use Rattle.alarm_core.specs.Devices.{device_object, class_object}
-use Rattle.alarm_core.specs.State.{State, Tracked}
+use Rattle.alarm_core.specs.State.{State, DetectedObjectState}
 
 -- whether a site has the object beside its value objects
 abbrev pub is_other_object : Site → Identifier → Bool
@@ -22,12 +24,20 @@ is_other_object site object =
 abbrev pub has_object : State → Identifier → Bool
 has_object state object = is_some (row_of object state.values.rows) || is_other_object state.site object
 
-abbrev pub tracked_in : Identifier → List Tracked → Option Tracked
-tracked_in object alarms = find (λ tracked. is_object object tracked.object) alarms
+abbrev pub detected_object_in : Identifier → List DetectedObjectState → Option DetectedObjectState
+detected_object_in object alarms = find (λ detected. is_object object detected.object) alarms
 
-abbrev pub finding_of : Option Tracked → Bool → Finding
-finding_of (Some tracked) there = WithAlarm tracked.alarm
+-- the alarm of an object; one whose event detection isn't enabled has the alarm of an object that never moved
+abbrev pub alarm_or_new : Option DetectedObjectState → AlarmState
+alarm_or_new (Some detected) = detected.alarm
+alarm_or_new None = new_alarm
+
+abbrev pub alarm_in : State → Identifier → AlarmState
+alarm_in state object = alarm_or_new (detected_object_in object state.alarms)
+
+abbrev pub finding_of : Option DetectedObjectState → Bool → Finding
+finding_of (Some detected) there = WithAlarm detected.alarm
 finding_of None there = if there then WithoutAlarm else NoSuchObject
 
 abbrev pub found_in : State → Identifier → Finding
-found_in state object = finding_of (tracked_in object state.alarms) (has_object state object)
+found_in state object = finding_of (detected_object_in object state.alarms) (has_object state object)

@@ -14,8 +14,9 @@ use Rattle.alarm_core.specs.declared.event.Act.{Act}
 use Rattle.alarm_core.specs.declared.event.Act.TheVariants.{Tick, Write, Ack}
 use Rattle.alarm_core.specs.declared.event.Event.{Event}
 use Rattle.alarm_core.specs.declared.site.Site.{Site}
-use Rattle.alarm_core.specs.Sights.{first_point, point_of}
+use Rattle.alarm_core.specs.Evaluations.{first_point, point_of}
 use Rattle.alarm_core.specs.declared.subject.Subject.{Subject}
+use Rattle.alarm_core.specs.declared.transition.ObjectTransition.{ObjectTransition}
 use Rattle.alarm_core.specs.Subjects.{detecting_subjects}
 use Rattle.alarm_core.specs.Values.{Values, first_values, written}
 
@@ -28,8 +29,11 @@ last_moment_of site (event ∷ older) = event.moment
 abbrev pub raised : ℕ → Event → Event
 raised last event = record event { moment = max event.moment last }
 
+abbrev pub event_at : ℕ → Act → Event
+event_at moment act = record { moment = moment; act = act }
+
 abbrev pub tick_at : ℕ → Event
-tick_at moment = record { moment = moment; act = Tick }
+tick_at moment = event_at moment Tick
 
 abbrev pub values_with : Act → Values → Values
 values_with (Write change) values = written change values
@@ -40,24 +44,33 @@ abbrev pub values_after : Site → List Event → Values
 values_after site [] = first_values site
 values_after site (event ∷ older) = values_with event.act (values_after site older)
 
--- every object is looked at, at a moment and with the properties of that moment; or a transition of one is acknowledged
+-- the properties that each look of an act sees, the oldest first: a tick is one look; a write is one with the properties before it, and then one with those after it; nothing else is one
+abbrev pub looks_of : Act → Values → List Values
+looks_of Tick values = values ∷ []
+looks_of (Write change) values = values ∷ written change values ∷ []
+looks_of act values = []
+
+-- at a look all objects are evaluated, at a moment and with the properties of that moment; or a transition of one is acknowledged
 pub data Occurrence : Type 0 where
-  AllLooked : ℕ → Values → Occurrence
+  AllEvaluated : ℕ → Values → Occurrence
   OneAcknowledged : Identifier → Transition → Occurrence
 
--- a tick is one look; a write is one with the properties before it, and then one with those after it; nothing else is one
+-- some looks at a moment, one after the other, behind older ones
+abbrev pub looks_over : ℕ → List Values → List Occurrence → List Occurrence
+looks_over moment [] older = older
+looks_over moment (values ∷ later) older = looks_over moment later (AllEvaluated moment values ∷ older)
+
+-- an acknowledgement, or the looks of an act
 abbrev pub occurrences_with : ℕ → Act → Values → List Occurrence → List Occurrence
-occurrences_with moment Tick values older = AllLooked moment values ∷ older
-occurrences_with moment (Write change) values older = AllLooked moment (written change values) ∷ AllLooked moment values ∷ older
 occurrences_with moment (Ack object transition state) values older = OneAcknowledged object transition ∷ older
-occurrences_with moment act values older = older
+occurrences_with moment act values older = looks_over moment (looks_of act values) older
 
 -- the looks and acknowledgements of a history, the newest first; the point at the start is not among them
 abbrev pub occurrences_of : Site → List Event → List Occurrence
 occurrences_of site [] = []
 occurrences_of site (event ∷ older) = occurrences_with event.moment event.act (values_after site older) (occurrences_of site older)
 
--- an object is looked at, if it is there
+-- an object is evaluated, if it is there
 abbrev pub looked_with : Option Point → List Incident → List Incident
 looked_with None older = older
 looked_with (Some point) older = Looked point ∷ older
@@ -65,7 +78,7 @@ looked_with (Some point) older = Looked point ∷ older
 -- the course of one object
 abbrev pub incidents_of : Site → Subject → List Occurrence → List Incident
 incidents_of site subject [] = []
-incidents_of site subject (AllLooked moment values ∷ older) = looked_with (point_of site subject moment values) (incidents_of site subject older)
+incidents_of site subject (AllEvaluated moment values ∷ older) = looked_with (point_of site subject moment values) (incidents_of site subject older)
 incidents_of site subject (OneAcknowledged object transition ∷ older) =
     if is_object object subject.object then Acknowledged transition ∷ incidents_of site subject older else incidents_of site subject older
 
@@ -104,14 +117,19 @@ pub record StateTransition : Type 0 where
   pub values : Values
   pub states : List ObjectState
 
-abbrev pub transition_with : Identifier → ℕ → Values → List ObjectState → Option ℕ → Move → StateTransition
-transition_with object moment values states cause move = record {
+-- a transition of an object, by the cause of the state that it left and how it moved
+abbrev pub object_transition : Identifier → Option ℕ → Move → ObjectTransition
+object_transition object cause made = record { object = object; cause = cause; made = made }
+
+-- a transition of an object at a point with these properties, after which these are the event states
+abbrev pub transition_of : ℕ → Values → List ObjectState → ObjectTransition → StateTransition
+transition_of moment values states transition = record {
   moment = moment;
-  object = object;
-  from = move.from;
-  to = move.to;
-  by_fault = move.by_fault;
-  cause = cause;
+  object = transition.object;
+  from = transition.made.from;
+  to = transition.made.to;
+  by_fault = transition.made.by_fault;
+  cause = transition.cause;
   values = values;
   states = states;
 }
@@ -120,32 +138,38 @@ transition_with object moment values states cause move = record {
 abbrev pub moved_by : StateTransition → Moved
 moved_by transition = record { object = transition.object; from = transition.from; to = transition.to }
 
--- the moves of an object as it is looked at once more, if it is there
+-- the moves of an object as it is evaluated once more, if it is there
 abbrev pub moves_with : Site → Subject → Option Point → List Occurrence → List Move
 moves_with site subject None older = []
 moves_with site subject (Some point) older = moves_at subject.algorithm (first_point site subject) (Looked point ∷ incidents_of site subject older)
 
-abbrev pub transitions_at : Site → ℕ → Values → List ObjectState → List Occurrence → Subject → List StateTransition
-transitions_at site moment values states older subject =
-    map (transition_with subject.object moment values states (detection_of site subject older).cause) (moves_with site subject (point_of site subject moment values) older)
+-- its transitions then
+abbrev pub object_transitions : Site → ℕ → Values → List Occurrence → Subject → List ObjectTransition
+object_transitions site moment values older subject =
+    map (object_transition subject.object (detection_of site subject older).cause) (moves_with site subject (point_of site subject moment values) older)
 
 -- those of all objects at one more look
 abbrev pub look_transitions : Site → ℕ → Values → List Occurrence → List StateTransition
 look_transitions site moment values older =
-    flat_map (transitions_at site moment values (states_over site (AllLooked moment values ∷ older)) older) (detecting_subjects site)
+    map (transition_of moment values (states_over site (AllEvaluated moment values ∷ older))) (flat_map (object_transitions site moment values older) (detecting_subjects site))
 
--- those that an act makes
-abbrev pub event_transitions : Site → ℕ → Act → Values → List Occurrence → List StateTransition
-event_transitions site moment Tick values older = look_transitions site moment values older
-event_transitions site moment (Write change) values older =
-    look_transitions site moment values older ++ look_transitions site moment (written change values) (AllLooked moment values ∷ older)
-event_transitions site moment act values older = []
+-- those of each of some looks at a moment, one after the other
+abbrev pub looks_transitions : Site → ℕ → List Values → List Occurrence → List (List StateTransition)
+looks_transitions site moment [] older = []
+looks_transitions site moment (values ∷ later) older = look_transitions site moment values older ∷ looks_transitions site moment later (AllEvaluated moment values ∷ older)
 
-abbrev pub transitions_over : Site → List Occurrence → List StateTransition
-transitions_over site [] = []
-transitions_over site (AllLooked moment values ∷ older) = transitions_over site older ++ look_transitions site moment values older
-transitions_over site (OneAcknowledged object transition ∷ older) = transitions_over site older
+-- those of some looks in their order
+abbrev pub joined : List (List StateTransition) → List StateTransition
+joined looks = flat_map (λ transitions. transitions) looks
+
+-- those of each look of an event behind a history, and those of all its looks
+abbrev pub event_looks : Site → Event → List Event → List (List StateTransition)
+event_looks site event older = looks_transitions site event.moment (looks_of event.act (values_after site older)) (occurrences_of site older)
+
+abbrev pub event_transitions : Site → Event → List Event → List StateTransition
+event_transitions site event older = joined (event_looks site event older)
 
 -- the event-state transitions of a history: by point, then by ascending object, then the one that the reliability made first
 abbrev pub transitions_of : Site → List Event → List StateTransition
-transitions_of site history = transitions_over site (occurrences_of site history)
+transitions_of site [] = []
+transitions_of site (event ∷ older) = transitions_of site older ++ event_transitions site event older

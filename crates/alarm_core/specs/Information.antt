@@ -9,24 +9,24 @@ use Rattle.event_machine.specs.Detection.{is_normal}
 use Rattle.event_services.specs.declared.information.EventSummary.{EventSummary}
 use Rattle.notify_class.specs.declared.class.Class.{Class}
 use Rattle.alarm_core.specs.Notes.{class_for}
-use Rattle.alarm_core.specs.State.{State, Tracked}
+use Rattle.alarm_core.specs.State.{State, DetectedObjectState}
 use Rattle.alarm_core.specs.declared.subject.Subject.{Subject}
 use Rattle.alarm_core.specs.Subjects.{subject_in}
 
 -- an object is active where its event state isn't NORMAL, or a transition of it isn't acknowledged
-abbrev pub is_active : Tracked → Bool
-is_active tracked = not (is_normal tracked.alarm.state) || list_any not tracked.alarm.acked
+abbrev pub is_active : DetectedObjectState → Bool
+is_active detected = not (is_normal detected.alarm.state) || list_any not detected.alarm.acked
 
 -- whether an object is behind the last one that was received, if one was
 abbrev pub is_behind : Option Identifier → Identifier → Bool
 is_behind None object = true
 is_behind (Some last) object = is_lt (identifier_order last object)
 
-abbrev pub is_told : Option Identifier → Tracked → Bool
-is_told last tracked = is_behind last tracked.object && is_active tracked
+abbrev pub is_told : Option Identifier → DetectedObjectState → Bool
+is_told last detected = is_behind last detected.object && is_active detected
 
 -- the active objects behind it, by ascending identifier
-abbrev pub active_behind : Option Identifier → State → List Tracked
+abbrev pub active_behind : Option Identifier → State → List DetectedObjectState
 active_behind last state = filter (is_told last) state.alarms
 
 abbrev pub notify_of : Option Subject → ℕ
@@ -42,19 +42,19 @@ priority_of (Some class) = class.priority
 priority_of None = replicate 3 0
 
 -- a BACnetEventSummary: what the object's alarm shows, with Notify_Type and Event_Enable of the object and Priority of its notification class
-abbrev pub summary_by : State → Tracked → Option Subject → EventSummary
-summary_by state tracked subject = record {
-  object = tracked.object;
-  state = tracked.alarm.state;
-  acked = tracked.alarm.acked;
-  stamps = tracked.alarm.stamps;
+abbrev pub summary_by : State → DetectedObjectState → Option Subject → EventSummary
+summary_by state detected subject = record {
+  object = detected.object;
+  state = detected.alarm.state;
+  acked = detected.alarm.acked;
+  stamps = detected.alarm.stamps;
   notify = notify_of subject;
   enable = enable_of subject;
   priority = priority_of (option_and_then (λ s. class_for s state.classes) subject);
 }
 
-abbrev pub summary_of : State → Tracked → EventSummary
-summary_of state tracked = summary_by state tracked (subject_in tracked.object state.values)
+abbrev pub summary_of : State → DetectedObjectState → EventSummary
+summary_of state detected = summary_by state detected (subject_in detected.object state.values)
 
 -- a summary has 61 octets
 abbrev pub most_summaries : ℕ → ℕ

@@ -7,9 +7,10 @@ use Rattle.notify_class.specs.Recipients.{ListedRecipient}
 use Rattle.alarm_core.specs.declared.event.Act.{Act}
 use Rattle.alarm_core.specs.declared.event.Act.TheVariants.{Edit}
 use Rattle.alarm_core.specs.declared.event.Event.{Event}
-use Rattle.alarm_core.specs.declared.site.ClassSite.{ClassSite}
+use Rattle.notify_class.specs.declared.class_site.ClassSite.{ClassSite}
 use Rattle.alarm_core.specs.declared.site.Site.{Site}
-use Rattle.alarm_core.specs.ClassProperties.{listed_class, written_recipient}
+use Rattle.property_values.specs.ClassProperties.{written_recipient}
+use Rattle.alarm_core.specs.Devices.{listed_class}
 use Rattle.alarm_core.specs.Reading.{read_of}
 use Rattle.alarm_core.specs.Sites.{IsSite}
 use Rattle.alarm_core.specs.State.{state_of}

@@ -16,7 +16,7 @@ use Rattle.alarm_core.specs.declared.site.Site.{Site}
 use Rattle.alarm_core.specs.declared.subject.Subject.{Subject}
 use Rattle.alarm_core.specs.History.{tick_at, transitions_of}
 use Rattle.alarm_core.specs.State.{State, state_of}
-use Rattle.alarm_core.specs.Allowed.{IsAllowed, IsHistory}
+use Rattle.alarm_core.specs.Allowed.{Comes, IsAllowed, IsHistory}
 use Rattle.alarm_core.specs.Classes.{known_peers_of, listed_peers}
 use Rattle.alarm_core.specs.Deliveries.{event_sends, notifications_of, outbox_after}
 use Rattle.alarm_core.specs.Next.{first_state, next_notes, next_sends, next_state, next_transitions}
@@ -31,16 +31,16 @@ use Rattle.alarm_core.specs.Verdicts.{step_verdict}
 abbrev pub object_of : Subject → Identifier
 object_of subject = subject.object
 
--- going on from event to event is looking back over the whole history
+-- going on from event to event, as they come, is looking back over the whole history
 pub record StandsForItsHistory : Type 0 where
   pub starts : (site : Site) → first_state site ≡ state_of site []
-  pub state : (site : Site) (event : Event) (history : List Event) → next_state event (state_of site history) ≡ state_of site (event ∷ history)
-  pub transitions : (site : Site) (event : Event) (history : List Event) →
+  pub state : (site : Site) (event : Event) (history : List Event) → Comes site event history → next_state event (state_of site history) ≡ state_of site (event ∷ history)
+  pub transitions : (site : Site) (event : Event) (history : List Event) → Comes site event history →
       transitions_of site (event ∷ history) ≡ transitions_of site history ++ next_transitions event (state_of site history)
-  pub notifications : (site : Site) (event : Event) (history : List Event) →
+  pub notifications : (site : Site) (event : Event) (history : List Event) → Comes site event history →
       notifications_of site (event ∷ history) ≡ notifications_of site history ++ next_notes event (state_of site history)
   pub sends : (site : Site) (event : Event) (history : List Event) → next_sends event (state_of site history) ≡ event_sends site event history
-  pub run_starts : (site : Site) → IsSite site → (history : List Event) → run_starts_in (state_of site history) ≡ run_starts_of site history
+  pub run_starts : (site : Site) (history : List Event) → run_starts_in (state_of site history) ≡ run_starts_of site history
   -- the objects that have event detection stand in the order of their identifiers
   pub ascending : (site : Site) → IsSite site → Ascends (map object_of (subjects_of site))
   -- where the classes have instances of their own and leave room, and no notification is unfinished, a tick is never refused
@@ -56,10 +56,10 @@ may_notify act = false
 
 -- the number that a refusal tells is that of the unfinished notifications of the longer history, which are those before the event and those that it gives
 pub record CountsTheLongerHistory : Type 0 where
-  pub adds : (site : Site) (event : Event) (history : List Event) → IsTrue (may_notify event.act) →
+  pub adds : (site : Site) (event : Event) (history : List Event) → Comes site event history → IsTrue (may_notify event.act) →
       unfinished_in (outbox_after site (event ∷ history)).posts ≡ unfinished_in (outbox_after site history).posts + length (next_notes event (state_of site history))
   -- an event is refused exactly where more of them would be unfinished than may be
-  pub full : (site : Site) (event : Event) (history : List Event) → IsHistory site history → (would limit : ℕ) →
+  pub full : (site : Site) (event : Event) (history : List Event) → Comes site event history → (would limit : ℕ) →
       (step_verdict event (state_of site history) ≡ Err (Full would limit))
       ↔ ((would ≡ unfinished_in (outbox_after site (event ∷ history)).posts) × (limit ≡ site.device.outbox) × (limit < would))
 

@@ -1,7 +1,7 @@
 pub mod Values
 pub mod Sites
 pub mod Subjects
-pub mod Sights
+pub mod Evaluations
 pub mod History
 pub mod Classes
 pub mod Known
@@ -14,16 +14,12 @@ pub mod Found
 pub mod Allowed
 pub mod Room
 pub mod Next
-pub mod Moves
+pub mod Views
 pub mod RunStarts
 pub mod Laws
-pub mod Properties
 pub mod EnrollmentProperties
-pub mod LogProperties
-pub mod ClassProperties
 pub mod Contents
 pub mod Reading
 pub mod Information
 pub mod LastLists
 pub mod Verdicts
-pub mod Turns

@@ -1,8 +1,7 @@
 -- The event logs of a site after a history (ANSI/ASHRAE 135-2020, 12.27).
-use Rattle.std.specs.Prelude.{ℕ, zero, ◌==◌, Bool, false, IsTrue, IsSomeAnd, if◌then◌else◌, Option, Some, None, List, [], ◌∷◌, ◌++◌, map, find}
+use Rattle.std.specs.Prelude.{ℕ, zero, ◌==◌, Bool, IsTrue, IsSomeAnd, if◌then◌else◌, Option, Some, None, List, [], ◌∷◌, ◌++◌, map, find}
 use Rattle.std.specs.List.{flat_map, list_any}
-use Rattle.std.specs.Option.{option_map}
-use Rattle.bac_values.specs.EventStates.{transition_to}
+use Rattle.std.specs.Option.{option_map, option_to_list}
 use Rattle.bac_values.specs.Identifier.{Identifier}
 use Rattle.bac_values.specs.Properties.{enable_property, record_count_property}
 use Rattle.bac_values.specs.declared.value.Value.{Value}
@@ -15,18 +14,17 @@ use Rattle.object_table.specs.declared.change.Change.{Change}
 use Rattle.object_table.specs.declared.change.What.{What}
 use Rattle.object_table.specs.declared.change.What.TheVariants.{Property, FieldFault}
 use Rattle.object_table.specs.Rows.{is_object}
+pub use Rattle.property_values.specs.LogProperties.{takes, takes_value}
 use Rattle.alarm_core.specs.declared.event.Act.{Act}
-use Rattle.alarm_core.specs.declared.event.Act.TheVariants.{Tick, Write}
+use Rattle.alarm_core.specs.declared.event.Act.TheVariants.{Write}
 use Rattle.alarm_core.specs.declared.event.Event.{Event}
-use Rattle.alarm_core.specs.declared.site.LogSite.{LogSite}
+use Rattle.event_log.specs.declared.log_site.LogSite.{LogSite}
 use Rattle.alarm_core.specs.declared.site.Site.{Site}
 use Rattle.alarm_core.specs.declared.subject.Subject.{Subject}
 use Rattle.alarm_core.specs.Classes.{classes_after}
-use Rattle.alarm_core.specs.History.{AllLooked, Occurrence, StateTransition, look_transitions, occurrences_of, values_after}
-use Rattle.alarm_core.specs.Notes.{class_for, is_enabled, notification_of}
-use Rattle.alarm_core.specs.Sights.{site_stamp}
-use Rattle.alarm_core.specs.Subjects.{subject_in}
-use Rattle.alarm_core.specs.Values.{Values, written}
+use Rattle.alarm_core.specs.History.{StateTransition, event_looks, joined}
+use Rattle.alarm_core.specs.Notes.{addressed, notification_of}
+use Rattle.alarm_core.specs.Evaluations.{site_stamp}
 
 -- a log of a site, and what it holds
 pub record KeptLog : Type 0 where
@@ -43,21 +41,11 @@ first_log listed = new_log listed.size listed.stop_when_full listed.enable
 abbrev pub records_class : LogSite → Class → Bool
 records_class listed class = list_any (λ instance. instance == class.instance) listed.classes
 
-abbrev pub recorded_in : Site → LogSite → StateTransition → Subject → Option Class → List Call
-recorded_in site listed transition subject None = []
-recorded_in site listed transition subject (Some class) =
-    if records_class listed class
-    then Recorded (record { stamp = site_stamp site transition.moment; body = written_notification (notification_of site transition subject class) }) ∷ []
-    else []
-
-abbrev pub recorded_of : Site → List Class → LogSite → StateTransition → Option Subject → List Call
-recorded_of site classes listed transition None = []
-recorded_of site classes listed transition (Some subject) =
-    if is_enabled (transition_to transition.to) subject then recorded_in site listed transition subject (class_for subject classes) else []
-
--- what a log is given of a transition: where its kind is enabled and the log records its class, the notification with process identifier 0, at the local date and time of its point
+-- the record of a transition, if the log records the class whose recipients are told: the notification with process identifier 0, at the local date and time of its point
 abbrev pub record_of_transition : Site → List Class → LogSite → StateTransition → List Call
-record_of_transition site classes listed transition = recorded_of site classes listed transition (subject_in transition.object transition.values)
+record_of_transition site classes listed transition =
+    flat_map (λ (to : Subject × Class). if records_class listed to.1 then Recorded (record { stamp = site_stamp site transition.moment; body = written_notification (notification_of site transition to.0 to.1) }) ∷ [] else [])
+    (option_to_list (addressed classes transition))
 
 -- those of some transitions, in their order
 abbrev pub records_of : Site → List Class → LogSite → List StateTransition → List Call
@@ -81,14 +69,15 @@ call_of_change listed change = if is_object change.object listed.object then cal
 
 -- ---- over a history
 
--- what an act does to a log, in this order: the records of a look; a write stands between its two looks, so that the first sees the old properties of the log and the second its new ones; acknowledgements aren't recorded
-abbrev pub calls_by : Site → List Class → LogSite → ℕ → Act → Values → List Occurrence → List Call
-calls_by site classes listed moment Tick values older = records_of site classes listed (look_transitions site moment values older)
-calls_by site classes listed moment (Write change) values older =
-    records_of site classes listed (look_transitions site moment values older)
-    ++ (call_of_change listed change
-    ++ records_of site classes listed (look_transitions site moment (written change values) (AllLooked moment values ∷ older)))
-calls_by site classes listed moment act values older = []
+-- what an act writes to a log
+abbrev pub call_of_act : LogSite → Act → List Call
+call_of_act listed (Write change) = call_of_change listed change
+call_of_act listed act = []
+
+-- what an act does to a log, by the transitions of each of its looks, in this order: the records of the first look, what it writes, and the records of the second; so the first sees the old properties of the log and the second its new ones; acknowledgements aren't recorded
+abbrev pub calls_by : Site → List Class → LogSite → Act → List (List StateTransition) → List Call
+calls_by site classes listed act [] = []
+calls_by site classes listed act (first ∷ later) = records_of site classes listed first ++ (call_of_act listed act ++ records_of site classes listed (joined later))
 
 -- some calls in their order, behind older ones, of which the newest is the first
 abbrev pub behind : List Call → List Call → List Call
@@ -99,7 +88,7 @@ behind (call ∷ later) older = behind later (call ∷ older)
 abbrev pub calls_of : Site → LogSite → List Event → List Call
 calls_of site listed [] = []
 calls_of site listed (event ∷ older) =
-    behind (calls_by site (classes_after site older) listed event.moment event.act (values_after site older) (occurrences_of site older)) (calls_of site listed older)
+    behind (calls_by site (classes_after site older) listed event.act (event_looks site event older)) (calls_of site listed older)
 
 abbrev pub kept_log_of : Site → List Event → LogSite → KeptLog
 kept_log_of site history listed = record { site = listed; log = log_after (first_log listed) (calls_of site listed history) }
@@ -119,15 +108,6 @@ log_of kept = kept.log
 
 abbrev pub log_in : Identifier → List KeptLog → Option Log
 log_in object logs = option_map log_of (kept_log object logs)
-
-abbrev pub takes_value : ℕ → Value → Bool
-takes_value number (Truth on) = number == enable_property
-takes_value number (Unsigned zero) = number == record_count_property
-takes_value number _ = false
-
-abbrev pub takes : What → Bool
-takes (Property property value) = takes_value property.0 value
-takes (FieldFault reliability) = false
 
 -- there is the log, and it takes the change
 abbrev pub IsTakenByLog : Change → List KeptLog → Type 0

@@ -1,6 +1,7 @@
 -- What is told of an event-state transition and of an acknowledgement, and to whom (ANSI/ASHRAE 135-2020, 13.2.5 and 13.5).
 use Rattle.std.specs.Prelude.{ℕ, ◌≤◌, length, Bool, false, if◌then◌else◌, Option, Some, None, List, [], slice_index_or}
-use Rattle.std.specs.Option.{option_and_then}
+use Rattle.std.specs.List.{flat_map}
+use Rattle.std.specs.Option.{option_and_then, option_map, option_to_list}
 use Rattle.bac_values.specs.EventStates.{place_of_transition, transition_to}
 use Rattle.bac_values.specs.Identifier.{Identifier}
 use Rattle.bac_values.specs.declared.event_state.EventState.{EventState}
@@ -26,8 +27,8 @@ use Rattle.enrollment.specs.Snapshots.{algorithm_with, value_in}
 use Rattle.alarm_core.specs.declared.site.Site.{Site}
 use Rattle.alarm_core.specs.Classes.{class_in}
 use Rattle.alarm_core.specs.Devices.{device_object}
-use Rattle.alarm_core.specs.History.{ObjectState, StateTransition, state_in, transition_with}
-use Rattle.alarm_core.specs.Sights.{facts_at, reliability_at, site_stamp, site_zone}
+use Rattle.alarm_core.specs.History.{StateTransition, state_in}
+use Rattle.alarm_core.specs.Evaluations.{facts_at, reliability_at, site_stamp, site_zone}
 use Rattle.alarm_core.specs.declared.subject.Subject.{Subject}
 use Rattle.alarm_core.specs.Subjects.{subject_in}
 use Rattle.alarm_core.specs.Values.{Values}
@@ -85,36 +86,30 @@ values_of transition =
 abbrev pub notification_of : Site → StateTransition → Subject → Class → Notification
 notification_of site transition subject class = transition_notification (source_of site subject) class (move_of transition) (site_stamp site transition.moment) (values_of transition)
 
-abbrev pub told_in : Site → StateTransition → Subject → Option Class → List Note
-told_in site transition subject None = []
-told_in site transition subject (Some class) =
-    notes_for (notification_of site transition subject class) class.destinations (transition_to transition.to) transition.moment (site_zone site)
+-- an object with its class
+abbrev pub with_class : List Class → Subject → Option (Subject × Class)
+with_class classes subject = option_map (λ class. (subject, class)) (class_for subject classes)
 
-abbrev pub told_of : Site → List Class → StateTransition → Option Subject → List Note
-told_of site classes transition None = []
-told_of site classes transition (Some subject) =
-    if is_enabled (transition_to transition.to) subject then told_in site transition subject (class_for subject classes) else []
+-- the class whose recipients are told of a transition, with its object: there is one where transitions of its kind are told of
+abbrev pub addressed : List Class → StateTransition → Option (Subject × Class)
+addressed classes transition =
+    option_and_then (λ subject. if is_enabled (transition_to transition.to) subject then with_class classes subject else None) (subject_in transition.object transition.values)
 
--- the notes of a transition: where its kind is enabled, to the recipients of the object's class
+-- the notes of a transition, to the recipients of that class
 abbrev pub notes_of_transition : Site → List Class → StateTransition → List Note
-notes_of_transition site classes transition = told_of site classes transition (subject_in transition.object transition.values)
+notes_of_transition site classes transition =
+    flat_map (λ (to : Subject × Class). notes_for (notification_of site transition to.0 to.1) to.1.destinations (transition_to transition.to) transition.moment (site_zone site))
+    (option_to_list (addressed classes transition))
 
-abbrev pub acknowledged_by : Site → Subject → ℕ → Transition → EventState → Option Class → List Note
-acknowledged_by site subject moment transition named None = []
-acknowledged_by site subject moment transition named (Some class) =
-    notes_for (acknowledgement_notification (source_of site subject) class named (site_stamp site moment)) class.destinations transition moment (site_zone site)
+-- those of some transitions, in their order
+abbrev pub notes_of_transitions : Site → List Class → List StateTransition → List Note
+notes_of_transitions site classes transitions = flat_map (notes_of_transition site classes) transitions
 
-abbrev pub acknowledged_of : Site → List Class → ℕ → Transition → EventState → Option Subject → List Note
-acknowledged_of site classes moment transition named None = []
-acknowledged_of site classes moment transition named (Some subject) = acknowledged_by site subject moment transition named (class_for subject classes)
-
--- the notes of an acknowledgement: to the recipients of the object's class, whatever is enabled
-abbrev pub notes_of_acknowledgement : Site → List Class → Values → ℕ → Identifier → Transition → EventState → List Note
-notes_of_acknowledgement site classes values moment object transition named = acknowledged_of site classes moment transition named (subject_in object values)
-
--- the notes of a move of an object at a point
-abbrev pub told_by : Site → List Class → ℕ → Identifier → Values → List ObjectState → Option ℕ → Move → List Note
-told_by site classes moment object values states cause made = notes_of_transition site classes (transition_with object moment values states cause made)
+-- the notes of an acknowledgement of an object, if it is there: to the recipients of its class, whatever is enabled
+abbrev pub notes_of_acknowledgement : Site → List Class → ℕ → Option Subject → Transition → EventState → List Note
+notes_of_acknowledgement site classes moment subject transition named =
+    flat_map (λ (to : Subject × Class). notes_for (acknowledgement_notification (source_of site to.0) to.1 named (site_stamp site moment)) to.1.destinations transition moment (site_zone site))
+    (option_to_list (option_and_then (with_class classes) subject))
 
 -- as the outbox has notes
 abbrev pub IsShort : Note → Type 0

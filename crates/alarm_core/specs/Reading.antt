@@ -1,10 +1,7 @@
 -- How reads and writes of properties are answered: the first error that applies (ANSI/ASHRAE 135-2020, 15.5, 15.9 and clause 18).
-use Rattle.std.specs.Prelude.{◌≡◌, ◌==◌, ℕ, ◌-◌, ◌⊎◌, if◌then◌else◌, Option, Some, None, Result, Ok, Err, List, length, slice_get, Vec}
-use Rattle.std.specs.declared.alloc.Global.{Global}
-use Rattle.std.specs.List.{flat_map}
+use Rattle.std.specs.Prelude.{◌≡◌, ℕ, ◌⊎◌, Option, Some, None, Result, Ok, Err, List}
 use Rattle.bac_values.specs.Identifier.{Identifier}
 use Rattle.bac_values.specs.declared.value.Value.{Value}
-use Rattle.bac_tags.specs.Writing.{written_unsigned}
 use Rattle.object_table.specs.declared.change.Change.{Change}
 use Rattle.object_table.specs.declared.faults.WriteFault.{WriteFault}
 use Rattle.object_table.specs.declared.faults.WriteFault.TheVariants as write_faults
@@ -14,54 +11,18 @@ use Rattle.object_table.specs.Verdicts.{index_verdict, write_access_denied, writ
 use Rattle.enrollment.specs.declared.enrollment_site.EnrollmentSite.{EnrollmentSite}
 use Rattle.enrollment.specs.Enrollments.{site_of}
 use Rattle.enrollment.specs.Verdicts.{write_by_site}
-use Rattle.alarm_core.specs.declared.content.Content.{Content}
-use Rattle.alarm_core.specs.declared.content.Content.TheVariants.{Whole, Elements}
-use Rattle.alarm_core.specs.declared.content.ReadFault.{ReadFault}
-use Rattle.alarm_core.specs.declared.content.ReadFault.TheVariants.{Error, NoMemory}
+use Rattle.property_values.specs.declared.content.Content.{Content}
+use Rattle.property_values.specs.declared.content.ReadFault.{ReadFault}
+use Rattle.property_values.specs.LogProperties.{log_write}
+use Rattle.property_values.specs.Properties.{as_write_fault}
+use Rattle.property_values.specs.Reading.{part_in, size_of}
 use Rattle.alarm_core.specs.Contents.{content_of, other_content}
-pub use Rattle.alarm_core.specs.Properties.{as_write_fault}
-use Rattle.alarm_core.specs.LogProperties.{log_write}
 use Rattle.alarm_core.specs.Logs.{KeptLog, kept_log}
-use Rattle.alarm_core.specs.Properties.{invalid_array_index, property_is_not_an_array}
 use Rattle.alarm_core.specs.State.{State}
-
--- an element of an array, which are counted from 1
-abbrev pub found_element : Option (List ℕ) → Result (List ℕ) ReadFault
-found_element (Some octets) = Ok octets
-found_element None = Err invalid_array_index
-
--- what is read of a property: the whole, the length of an array at index 0, or one of its elements
-abbrev pub part_of : Content → Option ℕ → Result (List ℕ) ReadFault
-part_of (Whole octets) None = Ok octets
-part_of (Whole octets) (Some index) = Err property_is_not_an_array
-part_of (Elements elements) None = Ok (flat_map (λ octets. octets) elements)
-part_of (Elements elements) (Some index) =
-    if index == 0 then Ok (written_unsigned None (length elements)) else found_element (slice_get elements (index - 1))
-
-abbrev pub part_in : Result Content ReadFault → Option ℕ → Result (List ℕ) ReadFault
-part_in (Ok content) index = part_of content index
-part_in (Err fault) index = Err fault
 
 -- the octets of a property: no such object, no such property, an index where there is no array, and one above its length
 abbrev pub read_of : State → Identifier → ℕ → Option ℕ → Result (List ℕ) ReadFault
 read_of state object number index = part_in (content_of state object number) index
-
--- the answer is that one, unless memory is refused
-abbrev pub AnswersRead : Result (Vec ℕ Global) ReadFault → Result (List ℕ) ReadFault → Type 0
-AnswersRead (Ok octets) read = read ≡ Ok octets.items
-AnswersRead (Err (Error class code)) read = read ≡ Err (Error class code)
-AnswersRead (Err NoMemory) read = Unit {0}
-
--- the same of what a property is
-abbrev pub AnswersContent : Result Content ReadFault → Result Content ReadFault → Type 0
-AnswersContent (Ok content) found = found ≡ Ok content
-AnswersContent (Err (Error class code)) found = found ≡ Err (Error class code)
-AnswersContent (Err NoMemory) found = Unit {0}
-
--- the length of a property that is an array
-abbrev pub size_of : Content → Option ℕ
-size_of (Whole octets) = None
-size_of (Elements elements) = Some (length elements)
 
 -- no property of such an object can be written
 abbrev pub denied_by : Result (Unit {0}) WriteFault → Result Change WriteFault
@@ -75,7 +36,7 @@ denied (Ok content) index = denied_by (index_verdict (size_of content) index)
 abbrev pub write_by : State → Option EnrollmentSite → Option Row → Option KeptLog → Identifier → ℕ → Option ℕ → Value → Result Change WriteFault
 write_by state (Some site) row kept object number index value = write_by_site (Some site) object number index value
 write_by state None (Some row) kept object number index value = write_by_row (Some row) object number index value
-write_by state None None (Some kept) object number index value = log_write kept number index value
+write_by state None None (Some kept) object number index value = log_write kept.site kept.log number index value
 write_by state None None None object number index value = denied (other_content state.site state.classes object number) index
 
 -- the change that a write of a property makes, or the first error that applies to it

@@ -1,6 +1,6 @@
 -- That the notifications of one transition of every object fit an empty outbox.
 use Rattle.std.specs.Prelude.{ℕ, ◌<◌, ◌≤◌, List, [], map, sum_by, AllPairs}
-use Rattle.alarm_core.specs.declared.site.ClassSite.{ClassSite}
+use Rattle.notify_class.specs.declared.class_site.ClassSite.{ClassSite}
 use Rattle.alarm_core.specs.declared.site.Site.{Site}
 use Rattle.alarm_core.specs.Allowed.{share_of}
 use Rattle.alarm_core.specs.Classes.{first_classes}

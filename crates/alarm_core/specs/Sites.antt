@@ -9,13 +9,9 @@ use Rattle.object_table.specs.Rows.{AscendsById, rows_of}
 use Rattle.outbox.specs.Outboxes.{AreSettings}
 use Rattle.enrollment.specs.Enrollments.{AscendById, IsEnrollment}
 use Rattle.enrollment.specs.Snapshots.{Holds}
-use Rattle.alarm_core.specs.declared.site.ClassSite.{ClassSite}
-use Rattle.alarm_core.specs.declared.site.LogSite.{LogSite}
+pub use Rattle.property_values.specs.Devices.{HasInstance}
+use Rattle.event_log.specs.declared.log_site.LogSite.{LogSite}
 use Rattle.alarm_core.specs.declared.site.Site.{Site}
-
--- the instance of a class is one that an object can have
-abbrev pub HasInstance : ClassSite → Type 0
-HasInstance listed = listed.class.instance ≤ 4194302
 
 -- an event log that a site may have: it holds from 1 to 16,384 records
 pub record IsLogSite (listed : LogSite) : Type 0 where

@@ -9,7 +9,7 @@ use Rattle.object_table.specs.Rows.{row_of}
 use Rattle.enrollment.specs.declared.enrollment_site.EnrollmentSite.{EnrollmentSite}
 use Rattle.enrollment.specs.Enrollments.{site_of}
 use Rattle.enrollment.specs.Snapshots.{algorithm_for}
-use Rattle.alarm_core.specs.declared.site.ClassSite.{ClassSite}
+use Rattle.notify_class.specs.declared.class_site.ClassSite.{ClassSite}
 use Rattle.alarm_core.specs.declared.site.Site.{Site}
 use Rattle.alarm_core.specs.declared.subject.Subject.{Subject}
 use Rattle.alarm_core.specs.Values.{Values}

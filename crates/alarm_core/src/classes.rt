@@ -1,6 +1,6 @@
 ghost use Rattle.std.specs.Prelude.{◌≡◌, IfOk, map};
 ghost use Rattle.notify_class.specs.declared.class.Class.{Class as Listed};
-ghost use Rattle.alarm_core.specs.declared.site.ClassSite.{ClassSite as Named};
+ghost use Rattle.notify_class.specs.declared.class_site.ClassSite.{ClassSite as Named};
 ghost use Rattle.alarm_core.specs.Classes.{edited};
 
 use crate::ClassSite;

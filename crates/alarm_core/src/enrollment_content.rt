@@ -1,15 +1,15 @@
 ghost use Rattle.std.specs.Prelude.{◌≡◌, IfOk};
 ghost use Rattle.enrollment.specs.Properties.{property_of};
 ghost use Rattle.alarm_core.specs.EnrollmentProperties.{enrollment_property, enrollment_status, known_enrollment_content};
-ghost use Rattle.alarm_core.specs.Reading.{AnswersContent};
+ghost use Rattle.property_values.specs.Reading.{AnswersContent};
 
-use crate::encoding::{
-    array_of_stamps, boolean, enumerated, four_flags, object, text, three_flags, unsigned,
-};
-use crate::{Content, ReadFault};
+use crate::ReadFault;
 use bac_values::{EventState, NoMemory, PropertyId, Reliability};
 use enrollment::{EnrollmentProperty, EnrollmentSite};
 use event_machine::Alarm;
+use property_values::{
+    Content, array_of_stamps, boolean, enumerated, four_flags, object, text, three_flags, unsigned,
+};
 use std::alloc::Global;
 
 // Status_Flags: in alarm, in fault, overridden, out of service.

@@ -3,11 +3,11 @@ ghost use Rattle.std.specs.List.{list_any};
 ghost use Rattle.std.specs.Option.{option_copied, option_map};
 ghost use Rattle.bac_values.specs.Identifier.{number_of_kind};
 ghost use Rattle.object_table.specs.Rows.{is_object};
-ghost use Rattle.alarm_core.specs.ClassProperties.{listed_class};
-ghost use Rattle.alarm_core.specs.Found.{class_object, device_object, is_other_object, tracked_in};
+ghost use Rattle.alarm_core.specs.Devices.{listed_class};
+ghost use Rattle.alarm_core.specs.Found.{class_object, device_object, is_other_object, detected_object_in};
 ghost use Rattle.alarm_core.specs.Sites.{HasInstance};
 
-use crate::watched::Watched;
+use crate::detection::DetectedObject;
 use crate::{ClassSite, EnrollmentSite, LogSite, Site};
 use bac_values::{ObjectId, ObjectKind};
 
@@ -82,15 +82,18 @@ pub(crate) fn is_other_object(site: &Site, object: ObjectId) -> bool
         || some_log(site.logs.as_slice(), object)
 }
 
-fn is_watched(watched: &Watched, object: ObjectId) -> bool
-    ensures same { result ≡ is_object object watched.now.object }
+fn is_detected(detected: &DetectedObject, object: ObjectId) -> bool
+    ensures same { result ≡ is_object object detected.now.object }
 {
-    watched.object() == object
+    detected.object() == object
 }
 
 /// The object with this identifier.
-pub(crate) fn watched_in(alarms: &[Watched], object: ObjectId) -> Option<&Watched>
-    ensures found { option_map (λ watched. watched.now) result ≡ tracked_in object alarms.now }
+pub(crate) fn detected_object(
+    alarms: &[DetectedObject],
+    object: ObjectId,
+) -> Option<&DetectedObject>
+    ensures found { option_map (λ detected. detected.now) result ≡ detected_object_in object alarms.now }
 {
-    alarms.iter().find(|watched| is_watched(watched, object))
+    alarms.iter().find(|detected| is_detected(detected, object))
 }

@@ -3,8 +3,8 @@ ghost use Rattle.std.specs.Option.{option_and_then, option_copied, option_map};
 ghost use Rattle.alarm_core.specs.Notes.{class_for};
 ghost use Rattle.alarm_core.specs.Information.{enable_of, has_more, is_active, is_behind, is_told, notify_of, priority_of, summaries_of, summary_of};
 
-use crate::telling::class_for;
-use crate::watched::Watched;
+use crate::detection::DetectedObject;
+use crate::notifications::class_for;
 use crate::{Core, Subject};
 use bac_values::{EventState, NoMemory, ObjectId, push};
 use event_services::EventSummary;
@@ -12,10 +12,10 @@ use notify_class::Class;
 use std::alloc::Global;
 
 // Whether an object's event state isn't NORMAL, or a transition of it isn't acknowledged.
-fn is_active(watched: &Watched) -> bool
-    ensures active { result ≡ is_active watched.now }
+fn is_active(detected: &DetectedObject) -> bool
+    ensures active { result ≡ is_active detected.now }
 {
-    let alarm = watched.alarm();
+    let alarm = detected.alarm();
     let [first, second, third] = alarm.acked();
     !matches!(alarm.state(), EventState::Normal) || !first || !second || !third
 }
@@ -30,10 +30,10 @@ fn is_behind(last: Option<&ObjectId>, object: ObjectId) -> bool
     }
 }
 
-fn is_told(last: Option<&ObjectId>, watched: &Watched) -> bool
-    ensures told { result ≡ is_told (option_map (λ last. last.now) last.entry) watched.now }
+fn is_told(last: Option<&ObjectId>, detected: &DetectedObject) -> bool
+    ensures told { result ≡ is_told (option_map (λ last. last.now) last.entry) detected.now }
 {
-    is_behind(last, watched.object()) && is_active(watched)
+    is_behind(last, detected.object()) && is_active(detected)
 }
 
 fn notify_of(subject: Option<&Subject>) -> u8
@@ -74,10 +74,10 @@ fn class_of<'a>(subject: Option<&Subject>, classes: &'a [Class]) -> Option<&'a C
 }
 
 impl Core {
-    fn summary_of(&self, watched: &Watched) -> EventSummary
-        ensures summary { result ≡ summary_of self.now watched.now }
+    fn summary_of(&self, detected: &DetectedObject) -> EventSummary
+        ensures summary { result ≡ summary_of self.now detected.now }
     {
-        let (object, alarm) = (watched.object(), watched.alarm());
+        let (object, alarm) = (detected.object(), detected.alarm());
         let subject = self.objects.subject(object);
         let subject = subject.as_ref();
         EventSummary {
@@ -105,15 +105,15 @@ impl Core {
         let last = last.as_ref();
         let mut summaries = Vec::new(alloc);
         let mut left = room / 61;
-        for watched in &self.alarms {
-            if !is_told(last, watched) {
+        for detected in &self.alarms {
+            if !is_told(last, detected) {
                 continue;
             }
             if left == 0 {
                 return Ok((summaries, true));
             }
             left -= 1;
-            push(&mut summaries, self.summary_of(watched))?;
+            push(&mut summaries, self.summary_of(detected))?;
         }
         Ok((summaries, false))
     }

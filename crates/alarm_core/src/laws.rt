@@ -1,9 +1,9 @@
 ghost use Rattle.alarm_core.specs.LastLists.{ReadsTheLastList};
 ghost use Rattle.alarm_core.specs.Laws.{AllowsWhatChecksAccept, CountsTheLongerHistory, KnowsListedPeers, StandsForItsHistory};
 
-/// Going on from event to event gives the state and the event-state transitions that looking back over the whole history
-/// gives, its notifications and what it sends; the run starts that looking back gives are in that state; and where the
-/// classes leave room, a tick with no unfinished notification is never refused as full.
+/// Going on from event to event, as they come, gives the state and the event-state transitions that looking back over the
+/// whole history gives, its notifications and what it sends; the run starts that looking back gives are in that state; and
+/// where the classes leave room, a tick with no unfinished notification is never refused as full.
 pub fn stands_for_its_history()
     ensures history { StandsForItsHistory }
 {}

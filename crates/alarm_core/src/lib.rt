@@ -5,43 +5,40 @@
 //! next event needs, and stands for the state that its history leaves (`specs/State.antt`).
 #![tactic(auto)]
 
-mod class_content;
 mod classes;
-mod content;
-mod copying;
-mod device_content;
-mod encoding;
+mod detection;
 mod enrollment_content;
+mod evaluation;
+mod evaluation_input;
 mod event;
 mod finding;
+mod identifiers;
 mod informing;
 mod knowing;
 mod laws;
-mod log_content;
 mod logs;
-mod looking;
-mod object_content;
+mod look;
+mod notifications;
 mod objects;
 mod queueing;
 mod reading;
-mod recording;
-mod sight;
 mod site;
 mod starting;
 mod state;
 mod subject;
 mod subjects;
-mod telling;
-mod watched;
+mod transition;
+mod view;
 
-pub(crate) use content::Content;
-pub use content::ReadFault;
 pub use enrollment::EnrollmentSite;
 pub use event::{Act, Event, Outcome, StepFault};
+pub use event_log::LogSite;
 pub use laws::{
     allows_what_checks_accept, counts_the_longer_history, knows_listed_peers, reads_the_last_list,
     stands_for_its_history,
 };
-pub use site::{ClassSite, DeviceSite, LogSite, Site};
+pub use notify_class::ClassSite;
+pub use property_values::{DeviceSite, ReadFault};
+pub use site::Site;
 pub use state::Core;
 pub(crate) use subject::Subject;

@@ -1,7 +1,7 @@
-ghost use Rattle.std.specs.Prelude.{◌≡◌, ◌==◌, ◌∷◌, All, List, IfOk, map, Vec as Records};
+ghost use Rattle.std.specs.Prelude.{◌≡◌, ◌==◌, ◌∷◌, ◌++◌, All, List, IfOk, OnOk, map, Vec as Records};
 ghost use Rattle.std.specs.declared.alloc.Global.{Global};
-ghost use Rattle.std.specs.List.{list_any};
-ghost use Rattle.std.specs.Option.{option_map};
+ghost use Rattle.std.specs.List.{flat_map, list_any};
+ghost use Rattle.std.specs.Option.{option_map, option_to_list};
 ghost use Rattle.bac_values.specs.Identifier.{number_of_kind};
 ghost use Rattle.bac_values.specs.declared.object_kind.ObjectKind.TheVariants.{EventLog as Logging};
 ghost use Rattle.event_log.specs.History.{Call};
@@ -9,11 +9,14 @@ ghost use Rattle.object_table.specs.Rows.{is_object};
 ghost use Rattle.alarm_core.specs.Logs.{KeptLog, call_of_change, call_of_value, call_of_what, kept_log, records_class};
 ghost use Rattle.alarm_core.specs.Next.{after_calls, first_kept};
 ghost use Rattle.alarm_core.specs.Sites.{IsLogSite};
+ghost use Rattle.alarm_core.specs.Views.{record_to};
 
-use crate::copying::copy_of_log;
+use crate::view::Addressed;
 use crate::{LogSite, Site};
 use bac_values::{NoMemory, ObjectId, PropertyId, Stamp, Value, push};
-use event_log::EventLog;
+use civil_stamp::LocalMoment;
+use event_log::{EventLog, copy_of_log};
+use event_services::write_notification;
 use notify_class::Class;
 use object_table::{Change, What};
 use std::alloc::Global;
@@ -96,6 +99,42 @@ impl SiteLog {
         lists_class(self.site.classes.as_slice(), class)
     }
 
+    // The record that a notification gives it at a moment, if it records the class.
+    fn record_of(
+        &self,
+        alloc: Global,
+        addressed: &Addressed<'_>,
+        at: &LocalMoment,
+    ) -> Result<Option<Entry>, NoMemory>
+        ensures record { IfOk result (λ entry. option_to_list entry ≡ record_to at.now self.now.site addressed.now) }
+    {
+        if !self.records_class(addressed.class) {
+            return Ok(None);
+        }
+        let body = write_notification(alloc, &addressed.facts)?;
+        Ok(Some(Entry {
+            stamp: at.stamp(),
+            body,
+        }))
+    }
+
+    // The records that some notifications give it at a moment.
+    fn records_of(
+        &self,
+        alloc: Global,
+        addressed: &[Addressed<'_>],
+        at: &LocalMoment,
+    ) -> Result<Vec<Entry>, NoMemory>
+        ensures records { IfOk result (λ entries. entries.items ≡ flat_map (record_to at.now self.now.site) addressed.now) }
+    {
+        let mut entries = Vec::new(alloc);
+        for told in addressed {
+            let entry = self.record_of(alloc, told, at)?;
+            add_entry(&mut entries, entry)?;
+        }
+        Ok(entries)
+    }
+
     /// Takes these records, one after the other. No memory is taken.
     pub(crate) fn enter(&mut self, entries: Vec<Entry>)
         ensures log { self.new ≡ record self.old { log = after_calls entries.items self.old.log } }
@@ -158,6 +197,32 @@ pub(crate) fn kept_log(logs: &[SiteLog], object: ObjectId) -> Option<&SiteLog>
     ensures found { option_map (λ kept. kept.now) result ≡ kept_log object logs.now }
 {
     logs.iter().find(|kept| is_log(kept, object))
+}
+
+fn add_entry(entries: &mut Vec<Entry>, entry: Option<Entry>) -> Result<(), NoMemory>
+    ensures added { OnOk result (entries.new.items ≡ entries.old.items ++ option_to_list entry) }
+{
+    match entry {
+        Some(entry) => push(entries, entry),
+        None => Ok(()),
+    }
+}
+
+/// The records that some notifications give each log at a moment.
+pub(crate) fn records_of_all(
+    alloc: Global,
+    logs: &[SiteLog],
+    addressed: &[Addressed<'_>],
+    at: &LocalMoment,
+) -> Result<Vec<Vec<Entry>>, NoMemory>
+    ensures records { IfOk result (λ lists. map (λ list. list.items) lists.items ≡ map (λ (kept : KeptLog). flat_map (record_to at.now kept.site) addressed.now) logs.now) }
+{
+    let mut lists = Vec::new(alloc);
+    for kept in logs {
+        let entries = kept.records_of(alloc, addressed, at)?;
+        push(&mut lists, entries)?;
+    }
+    Ok(lists)
 }
 
 // A log takes the next records.

@@ -6,18 +6,17 @@ ghost use Rattle.algorithm_rules.specs.Facts.{facts_of};
 ghost use Rattle.object_table.specs.Rows.{row_of};
 ghost use Rattle.enrollment.specs.Enrollments.{site_of};
 ghost use Rattle.enrollment.specs.Snapshots.{algorithm_with};
-ghost use Rattle.alarm_core.specs.Sights.{facts_at, inhibit_of, is_inhibited, reliability_at};
+ghost use Rattle.alarm_core.specs.Evaluations.{facts_at, inhibit_of, is_inhibited, reliability_at};
 ghost use Rattle.alarm_core.specs.Sites.{IsSite};
 ghost use Rattle.alarm_core.specs.Subjects.{subject_in};
 ghost use Rattle.alarm_core.specs.Values.{IsTaken, first_values, written};
 
-use crate::copying::{copy_of_enrollments, copy_of_objects};
 use crate::subjects::{subject_of_enrollment, subject_of_object};
 use crate::{Site, Subject};
 use algorithm_rules::Snapshot;
 use bac_values::{NoMemory, ObjectId, Reliability};
-use enrollment::Enrollments;
-use object_table::{Change, Table};
+use enrollment::{Enrollments, copy_of_enrollments};
+use object_table::{Change, Table, copy_of_objects};
 use std::alloc::Global;
 use std::marker::Model;
 

@@ -1,16 +1,17 @@
 ghost use Rattle.std.specs.Prelude.{◌≡◌, ◌==◌, ◌++◌, ◌∷◌, [], IfOk, OnOk, filter, find, if◌then◌else◌, map};
 ghost use Rattle.std.specs.Option.{option_copied};
-ghost use Rattle.alarm_core.specs.declared.site.ClassSite.{ClassSite as Listed};
+ghost use Rattle.notify_class.specs.declared.class_site.ClassSite.{ClassSite as Listed};
 ghost use Rattle.alarm_core.specs.Next.{first_with};
 ghost use Rattle.alarm_core.specs.Subjects.{ack_required_of, detecting_subjects, is_before_enrollments, is_behind_enrollments, is_detecting, site_class_of, subject_of_enrollment, subject_of_object, subjects_of};
 
+use crate::detection::DetectedObject;
 use crate::objects::Objects;
 use crate::subjects::{
     is_before_enrollments, is_detecting, subject_of_enrollment, subject_of_object,
 };
-use crate::watched::Watched;
 use crate::{ClassSite, EnrollmentSite, Site, Subject};
-use bac_values::{NoMemory, Stamp, push};
+use bac_values::{NoMemory, push};
+use civil_stamp::LocalMoment;
 use object_table::ObjectSite;
 use std::alloc::Global;
 
@@ -99,23 +100,23 @@ fn subjects_of(alloc: Global, site: &Site) -> Result<Vec<Subject>, NoMemory>
 
 // One more, if its event detection is enabled.
 fn add_first(
-    alloc: Global,
     site: &Site,
     objects: &Objects,
     subject: &Subject,
-    stamp: Stamp,
-    alarms: &mut Vec<Watched>,
+    at: &LocalMoment,
+    alarms: &mut Vec<DetectedObject>,
 ) -> Result<(), NoMemory>
     ensures added { OnOk result (alarms.new.items ≡ alarms.old.items ++
-        (if is_detecting subject.now then first_with site.now.device.start stamp (ack_required_of site.now subject.now) objects.now subject.now ∷ [] else [])) }
+        (if is_detecting subject.now then first_with at.now (ack_required_of site.now subject.now) objects.now subject.now ∷ [] else [])) }
 {
     if !is_detecting(subject) {
         return Ok(());
     }
     let ack_required = ack_required_of(site, subject);
-    let start = site.device.start;
-    let first = Watched::first(alloc, subject, ack_required, objects, start, stamp)?;
-    push(alarms, first)
+    push(
+        alarms,
+        DetectedObject::first(subject, ack_required, objects, at),
+    )
 }
 
 fn alarms_of(
@@ -123,13 +124,13 @@ fn alarms_of(
     site: &Site,
     objects: &Objects,
     subjects: &[Subject],
-    stamp: Stamp,
-) -> Result<Vec<Watched>, NoMemory>
-    ensures alarms { IfOk result (λ alarms. alarms.items ≡ map (λ subject. first_with site.now.device.start stamp (ack_required_of site.now subject) objects.now subject) (filter is_detecting subjects.now)) }
+    at: &LocalMoment,
+) -> Result<Vec<DetectedObject>, NoMemory>
+    ensures alarms { IfOk result (λ alarms. alarms.items ≡ map (λ subject. first_with at.now (ack_required_of site.now subject) objects.now subject) (filter is_detecting subjects.now)) }
 {
     let mut alarms = Vec::new(alloc);
     for subject in subjects {
-        add_first(alloc, site, objects, subject, stamp, &mut alarms)?;
+        add_first(site, objects, subject, at, &mut alarms)?;
     }
     Ok(alarms)
 }
@@ -139,10 +140,10 @@ pub(crate) fn first_alarms(
     alloc: Global,
     site: &Site,
     objects: &Objects,
-    stamp: Stamp,
-) -> Result<Vec<Watched>, NoMemory>
-    ensures alarms { IfOk result (λ alarms. alarms.items ≡ map (λ subject. first_with site.now.device.start stamp (ack_required_of site.now subject) objects.now subject) (detecting_subjects site.now)) }
+    at: &LocalMoment,
+) -> Result<Vec<DetectedObject>, NoMemory>
+    ensures alarms { IfOk result (λ alarms. alarms.items ≡ map (λ subject. first_with at.now (ack_required_of site.now subject) objects.now subject) (detecting_subjects site.now)) }
 {
     let subjects = subjects_of(alloc, site)?;
-    alarms_of(alloc, site, objects, &subjects, stamp)
+    alarms_of(alloc, site, objects, &subjects, at)
 }

@@ -9,47 +9,46 @@ ghost use Rattle.alarm_core.specs.Allowed.{IsAllowed, Represents};
 ghost use Rattle.event_machine.specs.Finding.{as_finding};
 ghost use Rattle.alarm_core.specs.Classes.{edited};
 ghost use Rattle.alarm_core.specs.Deliveries.{notifications_of};
-ghost use Rattle.alarm_core.specs.declared.site.LogSite.{LogSite as LogPlace};
+ghost use Rattle.event_log.specs.declared.log_site.LogSite.{LogSite as LogPlace};
 ghost use Rattle.event_log.specs.History.{Call};
-ghost use Rattle.alarm_core.specs.Found.{device_object, found_in, has_object, is_other_object};
-ghost use Rattle.alarm_core.specs.History.{moved_by, raised, tick_at, transitions_of};
-ghost use Rattle.alarm_core.specs.Moves.{acted, moved_all, moved_with, told_all, told_with};
+ghost use Rattle.alarm_core.specs.Found.{alarm_in, device_object, found_in, has_object, is_other_object};
+ghost use Rattle.alarm_core.specs.History.{event_at, moved_by, raised, tick_at, transitions_of};
 ghost use Rattle.alarm_core.specs.Logs.{KeptLog, call_of_change, kept_log, log_in, records_of};
-ghost use Rattle.alarm_core.specs.Next.{after_calls, first_state, looked_all, next_notes, next_sends, next_state, next_transitions, sends_with, transitions_all};
-ghost use Rattle.alarm_core.specs.Notes.{IsShort};
-ghost use Rattle.alarm_core.specs.Properties.{alarm_in};
+ghost use Rattle.alarm_core.specs.Next.{acted, after_calls, evaluated_all, first_state, next_notes, next_sends, next_state, next_transitions, sends_with, states_of, transitions_all};
+ghost use Rattle.alarm_core.specs.Notes.{IsShort, notes_of_transitions};
 ghost use Rattle.alarm_core.specs.Room.{HasRoom};
-ghost use Rattle.alarm_core.specs.Sights.{site_stamp, site_zone};
+ghost use Rattle.alarm_core.specs.Evaluations.{site_moment, site_zone};
 ghost use Rattle.alarm_core.specs.Sites.{IsSite};
 ghost use Rattle.alarm_core.specs.Values.{IsTaken, written};
 ghost use Rattle.std.specs.Option.{option_copied};
 ghost use Rattle.alarm_core.specs.Verdicts.{Answers, queue_verdict, step_verdict};
 
 use crate::classes::{classes_of, edited_classes};
-use crate::copying::{copy_of_change, copy_of_site};
-use crate::device_content::device_object;
-use crate::finding::{is_other_object, watched_in};
+use crate::detection::DetectedObject;
+use crate::evaluation::{Evaluation, acknowledge_in, are_still, evaluate_all};
+use crate::finding::{detected_object, is_other_object};
+use crate::identifiers::device_object;
 use crate::knowing::{peers_in, peers_of};
 use crate::logs::{SiteLog, change_all, enter_all, first_logs, kept_log};
-use crate::looking::{Looked, acknowledge_in, are_still, look_at_all};
+use crate::look::{Look, add_moves, tell};
+use crate::notifications::{add_notes, notes_of_acknowledgement};
 use crate::objects::Objects;
 use crate::queueing::queue_all;
+use crate::site::copy_of_site;
 use crate::starting::first_alarms;
-use crate::telling::notes_of_acknowledgement;
-use crate::watched::Watched;
+use crate::view::SiteView;
 use crate::{Act, Event, Outcome, Site, StepFault};
-use bac_values::{
-    EventState, Items, Moved, NoMemory, Note, ObjectId, Peer, PeerList, Send, Stamp, Transition,
-};
-use civil_stamp::{LocalMoment, Zone, stamp_of};
+use bac_values::{EventState, Items, Moved, NoMemory, ObjectId, Peer, PeerList, Send, Transition};
+use civil_stamp::{LocalMoment, Zone};
 use enrollment::Enrollments;
 use event_log::EventLog;
-use event_machine::{Alarm, Found};
+use event_machine::{Alarm, Found, Steps};
 use notify_class::{Class, Destination};
-use object_table::{Change, Table};
+use object_table::{Change, Table, copy_of_change};
 use outbox::Outbox;
 use std::alloc::Global;
 use std::marker::Model;
+use std::sync::ledger::Ledger;
 
 /// The core of a site: the properties and the alarms of its objects, its notification classes, and what waits for each
 /// recipient, as its events have left them.
@@ -61,7 +60,7 @@ pub struct Core {
     events: u64,
     last_moment: u64,
     pub(crate) objects: Objects,
-    pub(crate) alarms: Vec<Watched>,
+    pub(crate) alarms: Vec<DetectedObject>,
     pub(crate) classes: Vec<Class>,
     peers: PeerList,
     pub(crate) outbox: Outbox,
@@ -73,7 +72,7 @@ impl Model for Core {
     ghost use Rattle.bac_values.specs.Moments.{IsMoment};
     ghost use Rattle.outbox.specs.Outboxes.{peers_of};
     ghost use Rattle.alarm_core.specs.Known.{KnowsClass};
-    ghost use Rattle.alarm_core.specs.Sights.{site_zone};
+    ghost use Rattle.alarm_core.specs.Evaluations.{site_moment, site_zone};
     ghost use Rattle.alarm_core.specs.Sites.{IsSite};
     ghost use Rattle.alarm_core.specs.State.{State};
 
@@ -141,8 +140,9 @@ impl Core {
     {
         let zone = zone_of(site);
         let start = site.device.start;
+        let at = LocalMoment::new(start, &zone);
         let objects = Objects::first(alloc, site)?;
-        let alarms = first_alarms(alloc, site, &objects, stamp_of(start, &zone))?;
+        let alarms = first_alarms(alloc, site, &objects, &at)?;
         let classes = classes_of(alloc, site.classes.as_slice())?;
         let listed = peers_in(alloc, &classes)?;
         let peers = PeerList::new(alloc).with(alloc, &listed)?;
@@ -183,8 +183,8 @@ impl Core {
     pub(crate) fn alarm_of(&self, object: ObjectId) -> Alarm
         ensures alarm { result ≡ alarm_in self.now object }
     {
-        match watched_in(&self.alarms, object) {
-            Some(watched) => *watched.alarm(),
+        match detected_object(&self.alarms, object) {
+            Some(detected) => *detected.alarm(),
             None => Alarm::new(),
         }
     }
@@ -267,138 +267,151 @@ impl Core {
         self.outbox.has_in_flight(peer, invoke)
     }
 
-    fn stamp_at(&self, moment: u64) -> Stamp
+    // A moment with its local date and time at the site.
+    fn at(&self, moment: u64) -> LocalMoment
         requires moment { IsMoment moment }
-        ensures stamp { result ≡ site_stamp self.now.site moment }
+        ensures moment { result.moment ≡ moment }
+        ensures zone { result.zone ≡ site_zone self.now.site }
     {
-        stamp_of(moment, &self.zone)
+        LocalMoment::new(moment, &self.zone)
     }
 
-    // All objects are looked at once more; their moves and their notes go behind the others.
-    fn look(
-        &self,
-        alarms: &[Watched],
-        moment: u64,
-        stamp: Stamp,
-        moves: &mut Vec<Moved>,
-        notes: &mut Vec<Note>,
-    ) -> Result<Looked, NoMemory>
-        requires moment { IsMoment moment }
-        requires stamp { stamp ≡ site_stamp self.now.site moment }
-        requires short { All IsShort notes.old.items }
-        ensures alarms { IfOk result (λ looked. looked.alarms.items ≡ looked_all moment stamp self.now.values alarms.now) }
-        ensures entries { IfOk result (λ looked. map (λ list. list.items) looked.entries.items
-            ≡ map (λ (kept : KeptLog). records_of self.now.site self.now.classes kept.site (transitions_all moment stamp self.now.values alarms.now)) self.now.logs) }
-        ensures moves { OnOk result (moves.new.items ≡ moves.old.items ++ moved_all moment stamp self.now.values alarms.now) }
-        ensures notes { OnOk result (notes.new.items ≡ notes.old.items ++ told_all self.now.site self.now.classes moment stamp self.now.values alarms.now) }
-        ensures short { OnOk result (All IsShort notes.new.items) }
+    // What the transitions of a look are told with, after which these are the objects.
+    fn view<'a>(&'a self, alarms: &'a [DetectedObject], at: &'a LocalMoment) -> SiteView<'a>
+        requires zone { at.now.zone ≡ site_zone self.now.site }
+        ensures view { result ≡ record { site = self.now.site; moment = at.now.moment; classes = self.now.classes; values = self.now.values; states = states_of alarms.now } }
     {
-        look_at_all(
-            self.alloc,
-            &self.site,
-            &self.zone,
-            &self.classes,
+        SiteView {
+            site: &self.site,
+            classes: self.classes.as_slice(),
+            objects: &self.objects,
             alarms,
-            &self.objects,
-            &self.logs,
-            moment,
-            stamp,
-            moves,
-            notes,
-        )
+            at,
+        }
     }
 
-    fn tick(&mut self, moment: u64, stamp: Stamp) -> Result<Done, StepFault>
-        requires moment { IsMoment moment }
-        requires stamp { stamp ≡ site_stamp self.old.site moment }
-        ensures state { OnOk result (self.new ≡ acted moment stamp Tick self.old) }
-        ensures moves { IfOk result (λ done. done.moves.items ≡ moved_with moment stamp Tick self.old.values self.old.alarms) }
+    // One more look at these objects.
+    fn look<L: Ledger>(
+        &self,
+        alarms: &[DetectedObject],
+        at: &LocalMoment,
+        steps: &mut Steps<L>,
+    ) -> Result<Look, NoMemory>
+        requires zone { at.now.zone ≡ site_zone self.now.site }
+        ensures alarms { IfOk result (λ look. look.alarms.items ≡ evaluated_all (site_moment self.now.site at.now.moment) self.now.values alarms.now) }
+        ensures moves { IfOk result (λ look. look.told.moves.items ≡ map moved_by (transitions_all (site_moment self.now.site at.now.moment) self.now.values alarms.now)) }
+        ensures notes { IfOk result (λ look. look.told.notes.items
+            ≡ notes_of_transitions self.now.site self.now.classes (transitions_all (site_moment self.now.site at.now.moment) self.now.values alarms.now)) }
+        ensures records { IfOk result (λ look. map (λ list. list.items) look.told.records.items
+            ≡ map (λ (kept : KeptLog). records_of self.now.site self.now.classes kept.site (transitions_all (site_moment self.now.site at.now.moment) self.now.values alarms.now)) self.now.logs) }
+        ensures short { IfOk result (λ look. All IsShort look.told.notes.items) }
+    {
+        let Evaluation {
+            alarms,
+            transitions,
+        } = evaluate_all(self.alloc, alarms, &self.objects, at, steps)?;
+        let view = self.view(&alarms, at);
+        let told = tell(self.alloc, &view, &self.logs, &transitions)?;
+        Ok(Look { alarms, told })
+    }
+
+    fn tick<L: Ledger>(&mut self, at: &LocalMoment, steps: &mut Steps<L>) -> Result<Done, StepFault>
+        requires zone { at.now.zone ≡ site_zone self.old.site }
+        ensures state { OnOk result (self.new ≡ acted (tick_at at.now.moment) self.old) }
+        ensures moves { IfOk result (λ done. done.moves.items ≡ map moved_by (next_transitions (tick_at at.now.moment) self.old)) }
         ensures sends { IfOk result (λ done. done.sends.items ≡ []) }
         ensures same { OnErr result (self.new ≡ self.old) }
-        ensures verdict { Answers result (queue_verdict (told_with self.old.site self.old.classes moment stamp Tick self.old.values self.old.alarms) self.old.outbox) }
+        ensures verdict { Answers result (step_verdict (tick_at at.now.moment) self.old) }
     {
-        let (mut moves, mut notes) = (Vec::new(self.alloc), Vec::new(self.alloc));
-        let looked = self.look(&self.alarms, moment, stamp, &mut moves, &mut notes)?;
-        queue_all(self.alloc, &mut self.outbox, notes)?;
-        self.alarms = looked.alarms;
-        enter_all(&mut self.logs, looked.entries);
-        let sends = Vec::new(self.alloc);
-        Ok(Done { moves, sends })
+        let look = self.look(&self.alarms, at, steps)?;
+        let told = look.told;
+        queue_all(self.alloc, &mut self.outbox, told.notes)?;
+        self.alarms = look.alarms;
+        enter_all(&mut self.logs, told.records);
+        Ok(Done {
+            moves: told.moves,
+            sends: Vec::new(self.alloc),
+        })
     }
 
-    // After a change of an object or before one of a log: all objects are looked at once more, the notes of both looks are
-    // queued, and the logs are given what they record of both, with the change between.
-    fn finish_write(
+    // The second look of a write, after a change of an object or before one of a log: the notes of both looks are queued,
+    // and the logs are given what they record of both, with the change between.
+    fn finish_write<L: Ledger>(
         &mut self,
-        before: Looked,
+        before: Look,
         change: &Change,
-        moment: u64,
-        stamp: Stamp,
-        mut moves: Vec<Moved>,
-        mut notes: Vec<Note>,
+        at: &LocalMoment,
+        steps: &mut Steps<L>,
     ) -> Result<Done, StepFault>
-        requires moment { IsMoment moment }
-        requires stamp { stamp ≡ site_stamp self.old.site moment }
-        requires short { All IsShort notes.items }
-        requires known { AreKnown notes.items self.old.outbox.posts }
-        ensures state { OnOk result (self.new ≡ record self.old {
-          alarms = looked_all moment stamp self.old.values before.alarms.items;
-          outbox = queued (notes.items ++ told_all self.old.site self.old.classes moment stamp self.old.values before.alarms.items) self.old.outbox;
+        requires zone { at.now.zone ≡ site_zone self.old.site }
+        requires short { All IsShort before.told.notes.items }
+        requires known { AreKnown before.told.notes.items self.old.outbox.posts }
+        ensures state { let look = site_moment self.old.site at.now.moment in OnOk result (self.new ≡ record self.old {
+          alarms = evaluated_all look self.old.values before.alarms.items;
+          outbox = queued (before.told.notes.items ++ notes_of_transitions self.old.site self.old.classes (transitions_all look self.old.values before.alarms.items)) self.old.outbox;
           logs = self.new.logs;
         }) }
-        ensures logs { (first : LogPlace → List Call) → map (λ list. list.items) before.entries.items ≡ map (λ (kept : KeptLog). first kept.site) self.old.logs →
+        ensures logs { let look = site_moment self.old.site at.now.moment in
+            (first : LogPlace → List Call) → map (λ list. list.items) before.told.records.items ≡ map (λ (kept : KeptLog). first kept.site) self.old.logs →
             OnOk result (self.new.logs ≡ map (λ (kept : KeptLog). record kept {
               log = after_calls (first kept.site ++ (call_of_change kept.site change.now
-                  ++ records_of self.old.site self.old.classes kept.site (transitions_all moment stamp self.old.values before.alarms.items))) kept.log;
+                  ++ records_of self.old.site self.old.classes kept.site (transitions_all look self.old.values before.alarms.items))) kept.log;
             }) self.old.logs) }
-        ensures moves { IfOk result (λ done. done.moves.items ≡ moves.items ++ moved_all moment stamp self.old.values before.alarms.items) }
+        ensures moves { let look = site_moment self.old.site at.now.moment in
+            IfOk result (λ done. done.moves.items ≡ before.told.moves.items ++ map moved_by (transitions_all look self.old.values before.alarms.items)) }
         ensures sends { IfOk result (λ done. done.sends.items ≡ []) }
         ensures same { OnErr result (self.new ≡ self.old) }
-        ensures verdict { Answers result (queue_verdict (notes.items ++ told_all self.old.site self.old.classes moment stamp self.old.values before.alarms.items) self.old.outbox) }
+        ensures verdict { let look = site_moment self.old.site at.now.moment in
+            Answers result (queue_verdict (before.told.notes.items ++ notes_of_transitions self.old.site self.old.classes (transitions_all look self.old.values before.alarms.items)) self.old.outbox) }
     {
-        let after = self.look(&before.alarms, moment, stamp, &mut moves, &mut notes)?;
+        let after = self.look(&before.alarms, at, steps)?;
+        let first = before.told;
+        let second = after.told;
+        let (mut moves, mut notes) = (first.moves, first.notes);
+        add_moves(&mut moves, second.moves)?;
+        add_notes(&mut notes, second.notes)?;
         queue_all(self.alloc, &mut self.outbox, notes)?;
         self.alarms = after.alarms;
-        enter_all(&mut self.logs, before.entries);
+        enter_all(&mut self.logs, first.records);
         change_all(&mut self.logs, change);
-        enter_all(&mut self.logs, after.entries);
+        enter_all(&mut self.logs, second.records);
         let sends = Vec::new(self.alloc);
         Ok(Done { moves, sends })
     }
 
-    // A change of an object that was looked at before it.
-    fn write_object(
+    // A change of an object, before which there was a look.
+    fn write_object<L: Ledger>(
         &mut self,
-        before: Looked,
+        before: Look,
         change: &Change,
-        moment: u64,
-        stamp: Stamp,
-        moves: Vec<Moved>,
-        notes: Vec<Note>,
+        at: &LocalMoment,
+        steps: &mut Steps<L>,
     ) -> Result<Done, StepFault>
-        requires moment { IsMoment moment }
-        requires stamp { stamp ≡ site_stamp self.old.site moment }
+        requires zone { at.now.zone ≡ site_zone self.old.site }
         requires taken { IsTaken change.now self.old.values }
-        requires short { All IsShort notes.items }
-        requires known { AreKnown notes.items self.old.outbox.posts }
-        ensures state { let values = written change.now self.old.values in OnOk result (self.new ≡ record self.old {
+        requires short { All IsShort before.told.notes.items }
+        requires known { AreKnown before.told.notes.items self.old.outbox.posts }
+        ensures state { let look = site_moment self.old.site at.now.moment in let values = written change.now self.old.values in OnOk result (self.new ≡ record self.old {
           values = values;
-          alarms = looked_all moment stamp values before.alarms.items;
-          outbox = queued (notes.items ++ told_all self.old.site self.old.classes moment stamp values before.alarms.items) self.old.outbox;
+          alarms = evaluated_all look values before.alarms.items;
+          outbox = queued (before.told.notes.items ++ notes_of_transitions self.old.site self.old.classes (transitions_all look values before.alarms.items)) self.old.outbox;
           logs = self.new.logs;
         }) }
-        ensures logs { (first : LogPlace → List Call) → map (λ list. list.items) before.entries.items ≡ map (λ (kept : KeptLog). first kept.site) self.old.logs →
+        ensures logs { let look = site_moment self.old.site at.now.moment in
+            (first : LogPlace → List Call) → map (λ list. list.items) before.told.records.items ≡ map (λ (kept : KeptLog). first kept.site) self.old.logs →
             OnOk result (self.new.logs ≡ map (λ (kept : KeptLog). record kept {
               log = after_calls (first kept.site ++ (call_of_change kept.site change.now
-                  ++ records_of self.old.site self.old.classes kept.site (transitions_all moment stamp (written change.now self.old.values) before.alarms.items))) kept.log;
+                  ++ records_of self.old.site self.old.classes kept.site (transitions_all look (written change.now self.old.values) before.alarms.items))) kept.log;
             }) self.old.logs) }
-        ensures moves { IfOk result (λ done. done.moves.items ≡ moves.items ++ moved_all moment stamp (written change.now self.old.values) before.alarms.items) }
+        ensures moves { let look = site_moment self.old.site at.now.moment in
+            IfOk result (λ done. done.moves.items ≡ before.told.moves.items ++ map moved_by (transitions_all look (written change.now self.old.values) before.alarms.items)) }
         ensures sends { IfOk result (λ done. done.sends.items ≡ []) }
         ensures same { OnErr result (self.new ≡ self.old) }
-        ensures verdict { Answers result (queue_verdict (notes.items ++ told_all self.old.site self.old.classes moment stamp (written change.now self.old.values) before.alarms.items) self.old.outbox) }
+        ensures verdict { let look = site_moment self.old.site at.now.moment in
+            Answers result (queue_verdict (before.told.notes.items ++ notes_of_transitions self.old.site self.old.classes (transitions_all look (written change.now self.old.values) before.alarms.items)) self.old.outbox) }
     {
         let undo = self.objects.apply(copy_of_change(change)?);
-        match self.finish_write(before, change, moment, stamp, moves, notes) {
+        match self.finish_write(before, change, at, steps) {
             Ok(done) => Ok(done),
             Err(fault) => {
                 let _redo = self.objects.apply(undo);
@@ -422,54 +435,45 @@ impl Core {
         }
     }
 
-    fn write(&mut self, moment: u64, stamp: Stamp, change: &Change) -> Result<Done, StepFault>
-        requires moment { IsMoment moment }
-        requires stamp { stamp ≡ site_stamp self.old.site moment }
+    fn write<L: Ledger>(
+        &mut self,
+        at: &LocalMoment,
+        change: &Change,
+        steps: &mut Steps<L>,
+    ) -> Result<Done, StepFault>
+        requires zone { at.now.zone ≡ site_zone self.old.site }
         requires allowed { IsAllowed self.old (Write change.now) }
-        ensures state { OnOk result (self.new ≡ acted moment stamp (Write change.now) self.old) }
-        ensures moves { IfOk result (λ done. done.moves.items ≡ moved_with moment stamp (Write change.now) self.old.values self.old.alarms) }
+        ensures state { OnOk result (self.new ≡ acted (event_at at.now.moment (Write change.now)) self.old) }
+        ensures moves { IfOk result (λ done. done.moves.items ≡ map moved_by (next_transitions (event_at at.now.moment (Write change.now)) self.old)) }
         ensures sends { IfOk result (λ done. done.sends.items ≡ []) }
         ensures same { OnErr result (self.new ≡ self.old) }
-        ensures verdict { Answers result (queue_verdict (told_with self.old.site self.old.classes moment stamp (Write change.now) self.old.values self.old.alarms) self.old.outbox) }
+        ensures verdict { Answers result (step_verdict (event_at at.now.moment (Write change.now)) self.old) }
     {
-        let (mut moves, mut notes) = (Vec::new(self.alloc), Vec::new(self.alloc));
-        let before = self.look(&self.alarms, moment, stamp, &mut moves, &mut notes)?;
+        let before = self.look(&self.alarms, at, steps)?;
         if self.is_of_log(change) {
-            return self.finish_write(before, change, moment, stamp, moves, notes);
+            return self.finish_write(before, change, at, steps);
         }
-        self.write_object(before, change, moment, stamp, moves, notes)
+        self.write_object(before, change, at, steps)
     }
 
     fn acknowledge(
         &mut self,
-        moment: u64,
-        stamp: Stamp,
+        at: &LocalMoment,
         object: ObjectId,
         transition: Transition,
         named: EventState,
     ) -> Result<Done, StepFault>
-        requires moment { IsMoment moment }
-        requires stamp { stamp ≡ site_stamp self.old.site moment }
-        ensures state { OnOk result (self.new ≡ acted moment stamp (Ack object transition named) self.old) }
+        requires zone { at.now.zone ≡ site_zone self.old.site }
+        ensures state { OnOk result (self.new ≡ acted (event_at at.now.moment (Ack object transition named)) self.old) }
         ensures moves { IfOk result (λ done. done.moves.items ≡ []) }
         ensures sends { IfOk result (λ done. done.sends.items ≡ []) }
         ensures same { OnErr result (self.new ≡ self.old) }
-        ensures verdict { Answers result (queue_verdict (told_with self.old.site self.old.classes moment stamp (Ack object transition named) self.old.values self.old.alarms) self.old.outbox) }
+        ensures verdict { Answers result (step_verdict (event_at at.now.moment (Ack object transition named)) self.old) }
     {
-        let at = LocalMoment::new(moment, &self.zone);
-        let told = notes_of_acknowledgement(
-            self.alloc,
-            &self.site,
-            &self.classes,
-            &self.objects,
-            object,
-            transition,
-            named,
-            &at,
-        )?;
-        let alarms = acknowledge_in(self.alloc, &self.alarms, object, transition)?;
+        let view = self.view(&self.alarms, at);
+        let told = notes_of_acknowledgement(self.alloc, &view, object, transition, named)?;
         queue_all(self.alloc, &mut self.outbox, told)?;
-        self.alarms = alarms;
+        acknowledge_in(&mut self.alarms, object, transition);
         Ok(Done {
             moves: Vec::new(self.alloc),
             sends: Vec::new(self.alloc),
@@ -525,25 +529,29 @@ impl Core {
         })
     }
 
-    fn act(&mut self, moment: u64, stamp: Stamp, act: &Act) -> Result<Done, StepFault>
-        requires moment { IsMoment moment }
-        requires stamp { stamp ≡ site_stamp self.old.site moment }
+    fn act<L: Ledger>(
+        &mut self,
+        at: &LocalMoment,
+        act: &Act,
+        steps: &mut Steps<L>,
+    ) -> Result<Done, StepFault>
+        requires zone { at.now.zone ≡ site_zone self.old.site }
         requires allowed { IsAllowed self.old act.now }
-        ensures state { OnOk result (self.new ≡ acted moment stamp act.now self.old) }
-        ensures moves { IfOk result (λ done. done.moves.items ≡ moved_with moment stamp act.now self.old.values self.old.alarms) }
-        ensures sends { IfOk result (λ done. done.sends.items ≡ sends_with moment act.now self.old.outbox) }
+        ensures state { OnOk result (self.new ≡ acted (event_at at.now.moment act.now) self.old) }
+        ensures moves { IfOk result (λ done. done.moves.items ≡ map moved_by (next_transitions (event_at at.now.moment act.now) self.old)) }
+        ensures sends { IfOk result (λ done. done.sends.items ≡ sends_with at.now.moment act.now self.old.outbox) }
         ensures same { OnErr result (self.new ≡ self.old) }
-        ensures verdict { Answers result (queue_verdict (told_with self.old.site self.old.classes moment stamp act.now self.old.values self.old.alarms) self.old.outbox) }
+        ensures verdict { Answers result (step_verdict (event_at at.now.moment act.now) self.old) }
     {
         match act {
-            Act::Tick => self.tick(moment, stamp),
-            Act::Write { change } => self.write(moment, stamp, change),
+            Act::Tick => self.tick(at, steps),
+            Act::Write { change } => self.write(at, change, steps),
             Act::Ack {
                 object,
                 transition,
                 state,
-            } => self.acknowledge(moment, stamp, *object, *transition, *state),
-            Act::Pump => self.pump(moment),
+            } => self.acknowledge(at, *object, *transition, *state),
+            Act::Pump => self.pump(at.moment()),
             Act::Answer { peer, invoke, .. } => Ok(self.answer(peer, *invoke)),
             Act::Edit {
                 class,
@@ -554,8 +562,12 @@ impl Core {
 
     /// Takes an event, whose moment is raised to the last one. A fault changes nothing: notifications that don't fit the
     /// outbox are `Full`, with the number that would then wait and the one that may. A tick is never `Full` where nothing
-    /// waits and the site's classes leave room for one transition of each of their objects.
-    pub fn step(&mut self, event: &Event) -> Result<Outcome, StepFault>
+    /// waits and the site's classes leave room for one transition of each of their objects. Each look at an object is a step.
+    pub fn step<L: Ledger>(
+        &mut self,
+        event: &Event,
+        steps: &mut Steps<L>,
+    ) -> Result<Outcome, StepFault>
         requires moment { IsMoment event.now.moment }
         requires allowed { IsAllowed self.old event.now.act }
         requires few { self.old.events < 2 ^ 63 }
@@ -577,8 +589,8 @@ impl Core {
             event.now.act ≡ Tick → step_verdict (raised self.old.last_moment event.now) self.old ≡ Ok tt }
     {
         let moment = event.moment.max(self.last_moment);
-        let stamp = self.stamp_at(moment);
-        let done = self.act(moment, stamp, &event.act)?;
+        let at = self.at(moment);
+        let done = self.act(&at, &event.act, steps)?;
         // The outbox is within its limit, as ever.
         let _room = self.outbox.room();
         self.events += 1;
@@ -598,15 +610,15 @@ impl Core {
             (IsTrue result ↔ (transitions_of self.now.site (raised self.now.last_moment (tick_at moment) ∷ history) ≡ transitions_of self.now.site history)) }
     {
         let moment = moment.max(self.last_moment);
-        are_still(&self.alarms, &self.objects, moment, self.stamp_at(moment))
+        are_still(&self.alarms, &self.objects, &self.at(moment))
     }
 
     /// What there is under an identifier.
     pub fn found(&self, object: ObjectId) -> Found<'_>
         ensures found { as_finding result ≡ found_in self.now object }
     {
-        if let Some(watched) = watched_in(&self.alarms, object) {
-            return Found::Has(watched.alarm());
+        if let Some(detected) = detected_object(&self.alarms, object) {
+            return Found::Has(detected.alarm());
         }
         if self.has_object(object) {
             Found::NoAlarm

@@ -4,8 +4,11 @@ pub mod Fronts
 pub mod Course
 pub mod Progress
 pub mod PieceLines
+pub mod Comings
 pub mod Played
+pub mod Tallied
 pub mod SessionProgress
-pub mod Outcomes
+pub mod ByHistory
+pub mod OnFile
+pub mod Texts
 mod OfUnsent
-mod SixKinds

@@ -4,7 +4,7 @@ use Rattle.ground_io.specs.Counts.{HasCause, Rose}
 use Rattle.alarm_server.specs.declared.emission.Unsent.{Unsent}
 use Rattle.alarm_server.specs.declared.emission.Unsent.TheVariants.{Lost, NoMemory}
 use Rattle.alarm_server.specs.declared.status.Status.TheVariants.{EmitFault, ReadFault, ScriptRefused}
-use Rattle.alarm_server.specs.Status.{IsFault, of_unsent}
+use Rattle.alarm_server.specs.Status.{IsPlayFault, of_unsent}
 
 -- it is no refusal of a line, and no failed read
 pub refuses_no_line : {P : Type 0} (unsent : Unsent) (line : ℕ) → of_unsent unsent ≡ ScriptRefused line → P
@@ -15,7 +15,7 @@ pub is_no_read_fault : {P : Type 0} (unsent : Unsent) → of_unsent unsent ≡ R
 is_no_read_fault Lost same = absurd cc
 is_no_read_fault NoMemory same = absurd cc
 
-pub is_fault : (unsent : Unsent) → IsFault (of_unsent unsent)
+pub is_fault : (unsent : Unsent) → IsPlayFault (of_unsent unsent)
 is_fault Lost = tt
 is_fault NoMemory = tt
 

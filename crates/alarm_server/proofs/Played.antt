@@ -1,15 +1,18 @@
 -- The pieces and the states of lines, one after the other; and the report by the history.
-use Rattle.std.proofs.Common.{◌≡◌, ℕ, ◌+◌, ◌≤◌, Option, Some, None, List, [], ◌∷◌, ◌++◌, length, refl, ap, ◌∙◌, sym, arith}
+use Rattle.std.proofs.Common.{◌≡◌, ℕ, IfSome, Option, Some, None, List, [], ◌∷◌, ◌++◌, length, refl, ap, ◌∙◌, sym}
 use Rattle.script_lines.specs.declared.line.Grammar.TheVariants.{Session}
 use Rattle.script_lines.specs.declared.line.Line.{Line}
 use Rattle.script_lines.specs.Script.{lines_of}
 use Rattle.alarm_core.specs.declared.event.Event.{Event}
 use Rattle.alarm_core.specs.declared.site.Site.{Site}
+use Rattle.alarm_core.specs.Allowed.{Comes, IsHistory}
+use Rattle.alarm_core.specs.Sites.{IsSite}
 use Rattle.alarm_core.specs.State.{State, state_of}
 use Rattle.alarm_core.proofs.Standing.{stands}
 use Rattle.alarm_server.specs.Script.{spelled_in, refused_in}
 use Rattle.alarm_server.specs.Session.{decision_for, event_in, open_piece, piece_of, pieces_over, session_end, session_over, state_by, state_over, state_with}
 use Rattle.alarm_server.specs.Report.{front_pieces, history_by, history_over, history_with, pieces_of, report_of}
+use Rattle.alarm_server.proofs.Comings.{InRange, line_goes, spelled_in_range}
 
 pub states-none : (state : State) → state_over state [] ≡ state
 unfolding state_over
@@ -53,45 +56,42 @@ pieces-next lines line state =
     pieces-append lines (line ∷ []) state
     ∙ ap (λ ps. pieces_over state lines ++ ps) (pieces-first (state_over state lines) line [] ∙ ap (λ ps. piece_of (state_over state lines) line ∷ ps) (pieces-none (state_with (state_over state lines) line)))
 
--- a line adds at most one event
-event_adds : (state : State) (event : Option Event) → (state_by state event).events ≤ state.events + 1
-event_adds state None = omega arith
-event_adds state (Some event) = omega arith
-
-pub line_adds : (state : State) (line : Line) → (state_with state line).events ≤ state.events + 1
-line_adds state line = event_adds state (event_in state (decision_for state line))
-
 -- the state of the history with an event
-history_state : (site : Site) (history : List Event) (event : Option Event) → state_by (state_of site history) event ≡ state_of site (history_by history event)
-history_state site history None = refl
-history_state site history (Some event) = stands.state site event history
+history_state : (site : Site) (history : List Event) (event : Option Event) → IfSome event (λ e. Comes site e history) → state_by (state_of site history) event ≡ state_of site (history_by history event)
+history_state site history None comes = refl
+history_state site history (Some event) comes = stands.state site event history comes
 
-states_are : (site : Site) (lines : List Line) (history : List Event) → state_over (state_of site history) lines ≡ state_of site (history_over site history lines)
+states_are : (site : Site) → IsSite site → (lines : List Line) → InRange lines → (history : List Event) → IsHistory site history → state_over (state_of site history) lines ≡ state_of site (history_over site history lines)
 unfolding history_over
-states_are site [] history = states-none (state_of site history)
-states_are site (line ∷ lines) history =
+states_are site is [] range history is_history = states-none (state_of site history)
+states_are site is (line ∷ lines) (here, others) history is_history =
     let state = state_of site history in
+    let goes = line_goes site is history is_history line here in
     states-first state line lines
-    ∙ (ap (λ s. state_over s lines) (history_state site history (event_in state (decision_for state line)))
-    ∙ states_are site lines (history_with site history line))
+    ∙ (ap (λ s. state_over s lines) (history_state site history (event_in state (decision_for state line)) goes.comes)
+    ∙ states_are site is lines others (history_with site history line) goes.longer)
 
-pieces_are : (site : Site) (lines : List Line) (history : List Event) → pieces_over (state_of site history) lines ≡ pieces_of site history lines
+pieces_are : (site : Site) → IsSite site → (lines : List Line) → InRange lines → (history : List Event) → IsHistory site history → pieces_over (state_of site history) lines ≡ pieces_of site history lines
 unfolding pieces_of
-pieces_are site [] history = pieces-none (state_of site history)
-pieces_are site (line ∷ lines) history =
+pieces_are site is [] range history is_history = pieces-none (state_of site history)
+pieces_are site is (line ∷ lines) (here, others) history is_history =
     let state = state_of site history in
+    let goes = line_goes site is history is_history line here in
     pieces-first state line lines
-    ∙ (ap (λ s. piece_of state line ∷ pieces_over s lines) (history_state site history (event_in state (decision_for state line)))
-    ∙ ap (λ ps. piece_of state line ∷ ps) (pieces_are site lines (history_with site history line)))
+    ∙ (ap (λ s. piece_of state line ∷ pieces_over s lines) (history_state site history (event_in state (decision_for state line)) goes.comes)
+    ∙ ap (λ ps. piece_of state line ∷ ps) (pieces_are site is lines others (history_with site history line) goes.longer))
 
 -- the report by the history is the one by the state
-pub report_is : (site : Site) (history : List Event) (script : List ℕ) → session_over (state_of site history) (lines_of script) ≡ report_of site history script
-report_is site history script =
+pub report_is : (site : Site) → IsSite site → (history : List Event) → IsHistory site history → (script : List ℕ) → session_over (state_of site history) (lines_of script) ≡ report_of site history script
+report_is site is history is_history script =
     let lines = spelled_in Session 0 (lines_of script) in
+    let range = spelled_in_range (lines_of script) 0 in
     let state = state_of site history in
     let end = session_end (refused_in Session 0 (lines_of script)) (length (lines_of script)) in
-    ap (λ ps. (open_piece state ∷ ps) ++ end (state_over state lines)) (pieces_are site lines history)
-    ∙ ap (λ s. (open_piece state ∷ pieces_of site history lines) ++ end s) (states_are site lines history)
+    ap (λ ps. (open_piece state ∷ ps) ++ end (state_over state lines)) (pieces_are site is lines range history is_history)
+    ∙ ap (λ s. (open_piece state ∷ pieces_of site history lines) ++ end s) (states_are site is lines range history is_history)
 
-pub front_is : (site : Site) (history : List Event) (front : List ℕ) → open_piece (state_of site history) ∷ pieces_over (state_of site history) (spelled_in Session 0 (lines_of front)) ≡ front_pieces site history front
-front_is site history front = ap (λ ps. open_piece (state_of site history) ∷ ps) (pieces_are site (spelled_in Session 0 (lines_of front)) history)
+pub front_is : (site : Site) → IsSite site → (history : List Event) → IsHistory site history → (front : List ℕ) →
+    open_piece (state_of site history) ∷ pieces_over (state_of site history) (spelled_in Session 0 (lines_of front)) ≡ front_pieces site history front
+front_is site is history is_history front =
+    ap (λ ps. open_piece (state_of site history) ∷ ps) (pieces_are site is (spelled_in Session 0 (lines_of front)) (spelled_in_range (lines_of front) 0) history is_history)

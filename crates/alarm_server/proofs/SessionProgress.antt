@@ -10,10 +10,7 @@ use Rattle.script_lines.specs.declared.line.Line.{Line}
 use Rattle.script_lines.specs.declared.lines.LineFault.{LineFault}
 use Rattle.script_lines.specs.declared.lines.LineFault.TheVariants.{Grammar, Read, NoMemory}
 use Rattle.script_lines.specs.Script.{AtEnd, is_line_feed, next_in, lines_of, ReadsLine, TakesLines}
-use Rattle.alarm_core.specs.declared.site.Site.{Site}
-use Rattle.alarm_core.specs.Next.{first_state}
 use Rattle.alarm_core.specs.State.{State}
-use Rattle.alarm_core.proofs.Standing.{stands}
 use Rattle.alarm_server.specs.declared.emission.Unsent.{Unsent}
 use Rattle.alarm_server.specs.declared.emission.Unsent.TheVariants as unsent
 use Rattle.alarm_server.specs.declared.status.Status.{Status}
@@ -21,13 +18,15 @@ use Rattle.alarm_server.specs.declared.status.Status.TheVariants as status
 use Rattle.alarm_server.specs.Emission.{sent, SendsUpTo, Ends}
 use Rattle.alarm_server.specs.Status.{of_line_fault, of_unsent}
 use Rattle.alarm_server.specs.Stopping.{StopsReading}
+use Rattle.alarm_server.specs.declared.tally.Tally.{Tally}
+use Rattle.alarm_server.specs.Tallies.{no_tally, tally_of, tally_with}
 use Rattle.alarm_server.specs.Script.{spelled_in, refused_in, refused_line}
-use Rattle.alarm_server.specs.Report.{front_pieces, report_of}
-use Rattle.alarm_server.specs.Session.{end_piece, open_piece, piece_of, piece_text, pieces_over, session_end, session_over, state_over, state_with}
+use Rattle.alarm_server.specs.Session.{end_piece, open_piece, piece_of, piece_text, pieces_over, session_end, session_over, state_front, state_over, state_with}
 use Rattle.alarm_server.proofs.Sending.{adds_nothing, sent_then, front_then, front_more}
 use Rattle.alarm_server.proofs.Spelled.{spelled_gives, spells_none, spells_refused, spells_same}
 use Rattle.alarm_server.proofs.Fronts.{front_accepted, front_lines, lines_of-whole, takes_then}
-use Rattle.alarm_server.proofs.Played.{front_is, pieces-append, pieces-next, pieces-none, report_is, states-append, states-next, states-none}
+use Rattle.alarm_server.proofs.Played.{pieces-append, pieces-next, pieces-none, states-append, states-next, states-none}
+use Rattle.alarm_server.proofs.Tallied.{tally-end, tally-next, tally-open}
 
 -- these lines and those of the octets to come are those of the script
 pub record Remains (lines : List Line) (number : ℕ) (script octets : List ℕ) : Type 0 where
@@ -39,13 +38,14 @@ pub record Remains (lines : List Line) (number : ℕ) (script octets : List ℕ)
 abbrev pub front : State → List Line → List (List ReportLine)
 front start lines = open_piece start ∷ pieces_over start lines
 
--- these lines were taken, the core is in their state, and their pieces went out
-pub record Progress (start : State) (text come : Option (List ℕ)) (old new : Option Told) (number : ℕ) (ended : Bool) (state : State) : Type 0 where
+-- these lines were taken, the core is in their state, and their pieces went out and were counted
+pub record Progress (start : State) (text come : Option (List ℕ)) (old new : Option Told) (number : ℕ) (ended : Bool) (state : State) (tally : Tally) : Type 0 where
   pub lines : List Line
   pub reached : state ≡ state_over start lines
   pub out : Adds old new (sent piece_text (front start lines))
   pub remains : WhereTold text come (Remains lines number)
   pub whole : ended ≡ false → WhereTold text come (TakesLines 0 number)
+  pub counted : tally ≡ tally_of (front start lines)
 
 -- what is told at two steps is told over both
 where_then : {A : Type 0} (a b c : Option A) (P Q R : A → A → Type 0) → ((x y z : A) → P x y → Q y z → R x z) → WhereTold a b P → WhereTold b c Q → WhereTold a c R
@@ -63,13 +63,14 @@ takes_none None = tt
 takes_none (Some script) = record { taken = []; whole = inl refl; front = refl; count = omega arith }
 
 -- behind the first piece
-pub begins : (start state : State) (text : Option (List ℕ)) (old new : Option Told) → state ≡ start → Adds old new (sent piece_text (open_piece start ∷ [])) → Progress start text (prepend_known [] text) old new 0 false state
-begins start state text old new same opened = record {
+pub begins : (start : State) (text : Option (List ℕ)) (old new : Option Told) (tally : Tally) → tally ≡ no_tally → Adds old new (sent piece_text (open_piece start ∷ [])) → Progress start text (prepend_known [] text) old new 0 false start tally
+begins start text old new tally none opened = record {
   lines = [];
-  reached = same ∙ sym (states-none start);
+  reached = sym (states-none start);
   out = subst (λ ps. Adds old new (sent piece_text (open_piece start ∷ ps))) (sym (pieces-none start)) opened;
   remains = remains_all text;
   whole = λ h. takes_none text;
+  counted = none ∙ (sym (tally-open start) ∙ ap (λ ps. tally_of (open_piece start ∷ ps)) (sym (pieces-none start)));
 }
 
 -- what is left to report behind these lines
@@ -121,36 +122,36 @@ ends_at_first start (Some t) old new fault sends =
     (front_more piece_text fault old new (open_piece start ∷ []) (pieces_over start lines ++ session_end (refused_in Session 0 texts) (length texts) (state_over start lines)) sends)
 
 -- a fault while a line is read
-pub ends_at_line : (start : State) (text come come' : Option (List ℕ)) (old new : Option Told) (number number' : ℕ) (ended : Bool) (state : State) (fault : LineFault) → Progress start text come old new number ended state → WhereTold come come' (ReadsLine Session number number' (Err fault)) →
+pub ends_at_line : (start : State) (text come come' : Option (List ℕ)) (old new : Option Told) (number number' : ℕ) (ended : Bool) (state : State) (tally : Tally) (fault : LineFault) → Progress start text come old new number ended state tally → WhereTold come come' (ReadsLine Session number number' (Err fault)) →
     IfSome text (λ t. Ends piece_text (of_line_fault fault) (session_over start (lines_of t)) old new)
-ends_at_line start None come come' old new number number' ended state fault p read = tt
-ends_at_line start (Some t) None come' old new number number' ended state fault p read = absurd p.remains
-ends_at_line start (Some t) (Some octets) None old new number number' ended state fault p read = absurd read
-ends_at_line start (Some t) (Some octets) (Some rest) old new number number' ended state (Grammar line) p read =
+ends_at_line start None come come' old new number number' ended state tally fault p read = tt
+ends_at_line start (Some t) None come' old new number number' ended state tally fault p read = absurd p.remains
+ends_at_line start (Some t) (Some octets) None old new number number' ended state tally fault p read = absurd read
+ends_at_line start (Some t) (Some octets) (Some rest) old new number number' ended state tally (Grammar line) p read =
     let h = spells_refused Session (lines_of octets) number line read.0 in
     let all = report_all start p.lines number t octets p.remains h.spelled
     ∙ (ap (λ o. front start p.lines ++ session_end o (number + length (lines_of octets)) (state_over start p.lines)) h.refused ∙ append-nil (front start p.lines)) in
     subst (λ pieces. Adds old new (sent piece_text pieces)) (sym all) p.out
-ends_at_line start (Some t) (Some octets) (Some rest) old new number number' ended state Read p read =
+ends_at_line start (Some t) (Some octets) (Some rest) old new number number' ended state tally Read p read =
     (front start p.lines, rest_of start p.lines number octets, after start p.lines number t octets p.remains, p.out)
-ends_at_line start (Some t) (Some octets) (Some rest) old new number number' ended state NoMemory p read =
+ends_at_line start (Some t) (Some octets) (Some rest) old new number number' ended state tally NoMemory p read =
     (front start p.lines, rest_of start p.lines number octets, after start p.lines number t octets p.remains, p.out)
 
 -- want of memory behind these lines
-pub ends_between : (start : State) (text come : Option (List ℕ)) (old new : Option Told) (number : ℕ) (ended : Bool) (state : State) → Progress start text come old new number ended state →
+pub ends_between : (start : State) (text come : Option (List ℕ)) (old new : Option Told) (number : ℕ) (ended : Bool) (state : State) (tally : Tally) → Progress start text come old new number ended state tally →
     IfSome text (λ t. Ends piece_text status.NoMemory (session_over start (lines_of t)) old new)
-ends_between start None come old new number ended state p = tt
-ends_between start (Some t) None old new number ended state p = absurd p.remains
-ends_between start (Some t) (Some octets) old new number ended state p =
+ends_between start None come old new number ended state tally p = tt
+ends_between start (Some t) None old new number ended state tally p = absurd p.remains
+ends_between start (Some t) (Some octets) old new number ended state tally p =
     (front start p.lines, rest_of start p.lines number octets, after start p.lines number t octets p.remains, p.out)
 
 -- the line that is refused is the first outside the grammar
-pub refused_first : (start : State) (text come come' : Option (List ℕ)) (old new : Option Told) (number number' : ℕ) (ended : Bool) (state : State) (line : ℕ) → Progress start text come old new number ended state → WhereTold come come' (ReadsLine Session number number' (Err (Grammar line))) →
+pub refused_first : (start : State) (text come come' : Option (List ℕ)) (old new : Option Told) (number number' : ℕ) (ended : Bool) (state : State) (tally : Tally) (line : ℕ) → Progress start text come old new number ended state tally → WhereTold come come' (ReadsLine Session number number' (Err (Grammar line))) →
     IfSome text (λ t. refused_line Session t ≡ Some line)
-refused_first start None come come' old new number number' ended state line p read = tt
-refused_first start (Some t) None come' old new number number' ended state line p read = absurd p.remains
-refused_first start (Some t) (Some octets) None old new number number' ended state line p read = absurd read
-refused_first start (Some t) (Some octets) (Some rest) old new number number' ended state line p read =
+refused_first start None come come' old new number number' ended state tally line p read = tt
+refused_first start (Some t) None come' old new number number' ended state tally line p read = absurd p.remains
+refused_first start (Some t) (Some octets) None old new number number' ended state tally line p read = absurd read
+refused_first start (Some t) (Some octets) (Some rest) old new number number' ended state tally line p read =
     p.remains.refused ∙ (spells_refused Session (lines_of octets) number line read.0).refused
 
 -- one more line was taken
@@ -170,12 +171,12 @@ front-next start lines line state reached =
     ap (λ ps. open_piece start ∷ ps) (pieces-next lines line start) ∙ ap (λ s. front start lines ++ piece_of s line ∷ []) (sym reached)
 
 -- a fault while the piece of a line goes out
-pub ends_at_piece : (start : State) (text come come' : Option (List ℕ)) (old new new' : Option Told) (number number' : ℕ) (ended : Bool) (state : State) (line : Line) (piece : List ReportLine) (fault : Unsent) → Progress start text come old new number ended state → WhereTold come come' (ReadsLine Session number number' (Ok (Some line))) →
+pub ends_at_piece : (start : State) (text come come' : Option (List ℕ)) (old new new' : Option Told) (number number' : ℕ) (ended : Bool) (state : State) (tally : Tally) (line : Line) (piece : List ReportLine) (fault : Unsent) → Progress start text come old new number ended state tally → WhereTold come come' (ReadsLine Session number number' (Ok (Some line))) →
     piece ≡ piece_of state line → SendsUpTo piece_text fault (piece ∷ []) new new' → IfSome text (λ t. Ends piece_text (of_unsent fault) (session_over start (lines_of t)) old new')
-ends_at_piece start None come come' old new new' number number' ended state line piece fault p read same sends = tt
-ends_at_piece start (Some t) None come' old new new' number number' ended state line piece fault p read same sends = absurd p.remains
-ends_at_piece start (Some t) (Some octets) None old new new' number number' ended state line piece fault p read same sends = absurd read
-ends_at_piece start (Some t) (Some octets) (Some rest) old new new' number number' ended state line piece fault p read same sends =
+ends_at_piece start None come come' old new new' number number' ended state tally line piece fault p read same sends = tt
+ends_at_piece start (Some t) None come' old new new' number number' ended state tally line piece fault p read same sends = absurd p.remains
+ends_at_piece start (Some t) (Some octets) None old new new' number number' ended state tally line piece fault p read same sends = absurd read
+ends_at_piece start (Some t) (Some octets) (Some rest) old new new' number number' ended state tally line piece fault p read same sends =
     let next = remains_next p.lines number number' line t octets rest p.remains read in
     let more = rest_of start (p.lines ++ line ∷ []) number' rest in
     let pieces = front-next start p.lines line state p.reached ∙ ap (λ x. front start p.lines ++ x ∷ []) (sym same) in
@@ -185,9 +186,9 @@ ends_at_piece start (Some t) (Some octets) (Some rest) old new new' number numbe
     (front_more piece_text fault old new' (front start p.lines ++ piece ∷ []) more (front_then piece_text fault old new new' (front start p.lines) (piece ∷ []) p.out sends)))
 
 -- one more line
-pub goes_on : (start : State) (text come come' : Option (List ℕ)) (old new new' : Option Told) (number number' : ℕ) (ended ended' : Bool) (state state' : State) (line : Line) (piece : List ReportLine) → Progress start text come old new number ended state → WhereTold come come' (ReadsLine Session number number' (Ok (Some line))) →
-    (ended' ≡ false → ended ≡ false) → (ended' ≡ false → WhereTold come come' (TakesLines number number')) → state' ≡ state_with state line → piece ≡ piece_of state line → Adds new new' (sent piece_text (piece ∷ [])) → Progress start text come' old new' number' ended' state'
-goes_on start text come come' old new new' number number' ended ended' state state' line piece p read stays taken moved same sends =
+pub goes_on : (start : State) (text come come' : Option (List ℕ)) (old new new' : Option Told) (number number' : ℕ) (ended ended' : Bool) (state state' : State) (tally tally' : Tally) (line : Line) (piece : List ReportLine) → Progress start text come old new number ended state tally → WhereTold come come' (ReadsLine Session number number' (Ok (Some line))) →
+    (ended' ≡ false → ended ≡ false) → (ended' ≡ false → WhereTold come come' (TakesLines number number')) → state' ≡ state_with state line → piece ≡ piece_of state line → tally' ≡ tally_with piece tally → Adds new new' (sent piece_text (piece ∷ [])) → Progress start text come' old new' number' ended' state' tally'
+goes_on start text come come' old new new' number number' ended ended' state state' tally tally' line piece p read stays taken moved same counts sends =
     let pieces = front-next start p.lines line state p.reached ∙ ap (λ x. front start p.lines ++ x ∷ []) (sym same) in
     record {
       lines = p.lines ++ line ∷ [];
@@ -197,6 +198,7 @@ goes_on start text come come' old new new' number number' ended ended' state sta
           (λ script octets rest r q. remains_next p.lines number number' line script octets rest r q) p.remains read;
       whole = λ e. where_then text come come' (TakesLines 0 number) (TakesLines number number') (TakesLines 0 number')
           (λ script octets rest first_lines more. takes_then 0 number number' script octets rest first_lines more) (p.whole (stays e)) (taken e);
+      counted = counts ∙ (ap (tally_with piece) p.counted ∙ (sym (tally-next (front start p.lines) piece) ∙ ap tally_of (sym pieces)));
     }
 
 -- behind the last line, the end is all that is left to report
@@ -210,37 +212,57 @@ report_end start octets script number number' lines state reached r next =
     ∙ ap (λ s. front start lines ++ end_piece number' s ∷ []) (sym reached)))
 
 -- the script's end
-pub ends : (start : State) (text come come' : Option (List ℕ)) (old new new' : Option Told) (number number' : ℕ) (ended : Bool) (state : State) (piece : List ReportLine) → Progress start text come old new number ended state → WhereTold come come' (ReadsLine Session number number' (Ok None)) →
+pub ends : (start : State) (text come come' : Option (List ℕ)) (old new new' : Option Told) (number number' : ℕ) (ended : Bool) (state : State) (tally : Tally) (piece : List ReportLine) → Progress start text come old new number ended state tally → WhereTold come come' (ReadsLine Session number number' (Ok None)) →
     piece ≡ end_piece number' state → Adds new new' (sent piece_text (piece ∷ [])) → IfSome text (λ t. Ends piece_text status.Done (session_over start (lines_of t)) old new')
-ends start None come come' old new new' number number' ended state piece p read same last = tt
-ends start (Some t) None come' old new new' number number' ended state piece p read same last = absurd p.remains
-ends start (Some t) (Some octets) None old new new' number number' ended state piece p read same last = absurd read
-ends start (Some t) (Some octets) (Some rest) old new new' number number' ended state piece p read same last =
+ends start None come come' old new new' number number' ended state tally piece p read same last = tt
+ends start (Some t) None come' old new new' number number' ended state tally piece p read same last = absurd p.remains
+ends start (Some t) (Some octets) None old new new' number number' ended state tally piece p read same last = absurd read
+ends start (Some t) (Some octets) (Some rest) old new new' number number' ended state tally piece p read same last =
     let all = report_end start octets t number number' p.lines state p.reached p.remains read.0 ∙ ap (λ x. front start p.lines ++ x ∷ []) (sym same) in
     subst (λ ps. Adds old new' (sent piece_text ps)) (sym all) (sent_then piece_text old new new' (front start p.lines) (piece ∷ []) p.out last)
 
+-- at the script's end, the tally is that of the whole report
+pub tallies : (start : State) (text come come' : Option (List ℕ)) (old new : Option Told) (number number' : ℕ) (ended : Bool) (state : State) (tally : Tally) → Progress start text come old new number ended state tally → WhereTold come come' (ReadsLine Session number number' (Ok None)) →
+    IfSome text (λ t. tally ≡ tally_of (session_over start (lines_of t)))
+tallies start None come come' old new number number' ended state tally p read = tt
+tallies start (Some t) None come' old new number number' ended state tally p read = absurd p.remains
+tallies start (Some t) (Some octets) None old new number number' ended state tally p read = absurd read
+tallies start (Some t) (Some octets) (Some rest) old new number number' ended state tally p read =
+    p.counted
+    ∙ (sym (tally-end (front start p.lines) number' state) ∙ ap tally_of (sym (report_end start octets t number number' p.lines state p.reached p.remains read.0)))
+
+-- and the state is that of all its lines
+pub reaches : (start : State) (text come come' : Option (List ℕ)) (old new : Option Told) (number number' : ℕ) (ended : Bool) (state : State) (tally : Tally) → Progress start text come old new number ended state tally → WhereTold come come' (ReadsLine Session number number' (Ok None)) →
+    IfSome text (λ t. state ≡ state_over start (spelled_in Session 0 (lines_of t)))
+reaches start None come come' old new number number' ended state tally p read = tt
+reaches start (Some t) None come' old new number number' ended state tally p read = absurd p.remains
+reaches start (Some t) (Some octets) None old new number number' ended state tally p read = absurd read
+reaches start (Some t) (Some octets) (Some rest) old new number number' ended state tally p read =
+    let none = (spells_none Session (lines_of octets) number number' read.0).spelled in
+    p.reached ∙ ap (state_over start) (sym (p.remains.spelled ∙ (ap (λ l. p.lines ++ l) none ∙ append-nil p.lines)))
+
 -- at its end, every line of the script is in the grammar
-pub accepts : (start : State) (text come come' : Option (List ℕ)) (old new : Option Told) (number number' : ℕ) (ended : Bool) (state : State) → Progress start text come old new number ended state → WhereTold come come' (ReadsLine Session number number' (Ok None)) → IfSome text (λ t. refused_line Session t ≡ None)
-accepts start None come come' old new number number' ended state p read = tt
-accepts start (Some t) None come' old new number number' ended state p read = absurd p.remains
-accepts start (Some t) (Some octets) None old new number number' ended state p read = absurd read
-accepts start (Some t) (Some octets) (Some rest) old new number number' ended state p read =
+pub accepts : (start : State) (text come come' : Option (List ℕ)) (old new : Option Told) (number number' : ℕ) (ended : Bool) (state : State) (tally : Tally) → Progress start text come old new number ended state tally → WhereTold come come' (ReadsLine Session number number' (Ok None)) → IfSome text (λ t. refused_line Session t ≡ None)
+accepts start None come come' old new number number' ended state tally p read = tt
+accepts start (Some t) None come' old new number number' ended state tally p read = absurd p.remains
+accepts start (Some t) (Some octets) None old new number number' ended state tally p read = absurd read
+accepts start (Some t) (Some octets) (Some rest) old new number number' ended state tally p read =
     p.remains.refused ∙ (spells_none Session (lines_of octets) number number' read.0).refused
 
 -- a fault while the last piece goes out
-pub ends_at_end : (start : State) (text come come' : Option (List ℕ)) (old new new' : Option Told) (number number' : ℕ) (ended : Bool) (state : State) (piece : List ReportLine) (fault : Unsent) → Progress start text come old new number ended state → WhereTold come come' (ReadsLine Session number number' (Ok None)) →
+pub ends_at_end : (start : State) (text come come' : Option (List ℕ)) (old new new' : Option Told) (number number' : ℕ) (ended : Bool) (state : State) (tally : Tally) (piece : List ReportLine) (fault : Unsent) → Progress start text come old new number ended state tally → WhereTold come come' (ReadsLine Session number number' (Ok None)) →
     piece ≡ end_piece number' state → SendsUpTo piece_text fault (piece ∷ []) new new' → IfSome text (λ t. Ends piece_text (of_unsent fault) (session_over start (lines_of t)) old new')
-ends_at_end start None come come' old new new' number number' ended state piece fault p read same last = tt
-ends_at_end start (Some t) None come' old new new' number number' ended state piece fault p read same last = absurd p.remains
-ends_at_end start (Some t) (Some octets) None old new new' number number' ended state piece fault p read same last = absurd read
-ends_at_end start (Some t) (Some octets) (Some rest) old new new' number number' ended state piece fault p read same last =
+ends_at_end start None come come' old new new' number number' ended state tally piece fault p read same last = tt
+ends_at_end start (Some t) None come' old new new' number number' ended state tally piece fault p read same last = absurd p.remains
+ends_at_end start (Some t) (Some octets) None old new new' number number' ended state tally piece fault p read same last = absurd read
+ends_at_end start (Some t) (Some octets) (Some rest) old new new' number number' ended state tally piece fault p read same last =
     let all = report_end start octets t number number' p.lines state p.reached p.remains read.0 ∙ ap (λ x. front start p.lines ++ x ∷ []) (sym same) in
     ends_front fault (session_over start (lines_of t)) old new'
     (subst (λ ps. SendsUpTo piece_text fault ps old new') (sym all) (front_then piece_text fault old new new' (front start p.lines) (piece ∷ []) p.out last))
 
 -- the source failed: the lines that were taken are those of the whole lines that were read
 stops_where : (start : State) (t octets rest pending : List ℕ) (old new : Option Told) (number number' : ℕ) (lines : List Line) → Adds old new (sent piece_text (front start lines)) → Remains lines number t octets → next_in Session number' (lines_of (pending ++ rest)) ≡ next_in Session number (lines_of octets) → TakesLines 0 number' t (pending ++ rest) → position is_line_feed pending ≡ None →
-    StopsReading piece_text (λ whole. front start (spelled_in Session 0 (lines_of whole))) Session t rest old new
+    StopsReading piece_text (state_front start) Session t rest old new
 stops_where start t octets rest pending old new number number' lines out r next taken no_feed =
     let h = spells_same Session number' number (lines_of (pending ++ rest)) (lines_of octets) next in
     let parts : lines_of t ≡ lines_of taken.taken ++ lines_of (pending ++ rest) = ap lines_of taken.front ∙ lines_of-whole taken.taken (pending ++ rest) taken.whole in
@@ -259,37 +281,12 @@ stops_where start t octets rest pending old new number number' lines out r next 
       emitted = subst (λ ls. Adds old new (sent piece_text (front start ls))) same out;
     }
 
-pub stops_reading : (start : State) (text come left : Option (List ℕ)) (pending : List ℕ) (old new : Option Told) (number number' : ℕ) (ended ended' : Bool) (state : State) → Progress start text come old new number ended state → WhereTold come (prepend_known pending left) (ReadsLine Session number number' (Err Read)) →
+pub stops_reading : (start : State) (text come left : Option (List ℕ)) (pending : List ℕ) (old new : Option Told) (number number' : ℕ) (ended ended' : Bool) (state : State) (tally : Tally) → Progress start text come old new number ended state tally → WhereTold come (prepend_known pending left) (ReadsLine Session number number' (Err Read)) →
     (ended' ≡ false → ended ≡ false) → (ended' ≡ false → WhereTold come (prepend_known pending left) (TakesLines number number')) → (ended' ≡ false) × (position is_line_feed pending ≡ None) →
-    WhereTold text left (λ t rest. StopsReading piece_text (λ whole. front start (spelled_in Session 0 (lines_of whole))) Session t rest old new)
-stops_reading start None come left pending old new number number' ended ended' state p read stays taken waits = tt
-stops_reading start (Some t) None left pending old new number number' ended ended' state p read stays taken waits = absurd p.remains
-stops_reading start (Some t) (Some octets) None pending old new number number' ended ended' state p read stays taken waits = absurd read
-stops_reading start (Some t) (Some octets) (Some rest) pending old new number number' ended ended' state p read stays taken waits =
+    WhereTold text left (λ t rest. StopsReading piece_text (state_front start) Session t rest old new)
+stops_reading start None come left pending old new number number' ended ended' state tally p read stays taken waits = tt
+stops_reading start (Some t) None left pending old new number number' ended ended' state tally p read stays taken waits = absurd p.remains
+stops_reading start (Some t) (Some octets) None pending old new number number' ended ended' state tally p read stays taken waits = absurd read
+stops_reading start (Some t) (Some octets) (Some rest) pending old new number number' ended ended' state tally p read stays taken waits =
     stops_where start t octets rest pending old new number number' p.lines p.out p.remains read
     (takes_then 0 number number' t octets (pending ++ rest) (p.whole (stays waits.0)) (taken waits.0)) waits.1
-
--- the report by the history, in the place of the one by the state
-pub by_history : (site : Site) (text : Option (List ℕ)) (status : Status) (old new : Option Told) → IfSome text (λ t. Ends piece_text status (session_over (first_state site) (lines_of t)) old new) →
-    IfSome text (λ t. Ends piece_text status (report_of site [] t) old new)
-by_history site None status old new h = tt
-by_history site (Some t) status old new h =
-    subst (λ ps. Ends piece_text status ps old new) (ap (λ s. session_over s (lines_of t)) (stands.starts site) ∙ report_is site [] t) h
-
-fronts : (site : Site) (whole : List ℕ) → front (first_state site) (spelled_in Session 0 (lines_of whole)) ≡ front_pieces site [] whole
-fronts site whole = ap (λ s. front s (spelled_in Session 0 (lines_of whole))) (stands.starts site) ∙ front_is site [] whole
-
-pub stops_by_history : (site : Site) (text left : Option (List ℕ)) (old new : Option Told) →
-    WhereTold text left (λ t rest. StopsReading piece_text (λ whole. front (first_state site) (spelled_in Session 0 (lines_of whole))) Session t rest old new) →
-    WhereTold text left (λ t rest. StopsReading piece_text (front_pieces site []) Session t rest old new)
-stops_by_history site None left old new h = tt
-stops_by_history site (Some t) None old new h = absurd h
-stops_by_history site (Some t) (Some rest) old new h = record {
-  whole = h.whole;
-  begun = h.begun;
-  read = h.read;
-  whole_lines = h.whole_lines;
-  accepted = h.accepted;
-  no_line_feed = h.no_line_feed;
-  emitted = subst (λ ps. Adds old new (sent piece_text ps)) (fronts site h.whole) h.emitted;
-}

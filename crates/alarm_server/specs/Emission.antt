@@ -40,6 +40,7 @@ Sends text (Err fault) pieces old new = SendsUpTo text fault pieces old new
 abbrev pub Ends : {X : Type 0} → (X → List ℕ) → Status → List X → Option Told → Option Told → Type 0
 Ends text status.Done pieces old new = Adds old new (sent text pieces)
 Ends text status.Usage pieces old new = Adds old new []
+Ends text (status.SiteRefused fault) pieces old new = Adds old new []
 Ends text (status.ScriptRefused line) pieces old new = Adds old new (sent text pieces)
 Ends text status.ReadFault pieces old new = SendsFront text pieces old new
 Ends text status.EmitFault pieces old new = LosesNext text pieces old new

@@ -7,6 +7,7 @@ use Rattle.bac_values.specs.declared.report.ReportLine.TheVariants as say
 use Rattle.script_lines.specs.declared.line.Grammar.TheVariants.{Session}
 use Rattle.script_lines.specs.declared.line.Line.{Line}
 use Rattle.script_lines.specs.Report.{report_text}
+use Rattle.script_lines.specs.Script.{lines_of}
 use Rattle.alarm_core.specs.declared.event.Event.{Event}
 use Rattle.alarm_core.specs.declared.event.StepFault.{StepFault}
 use Rattle.alarm_core.specs.declared.event.StepFault.TheVariants.{Full, NoMemory}
@@ -105,3 +106,7 @@ abbrev pub session_over : State → List (List ℕ) → List (List ReportLine)
 session_over state texts =
     (open_piece state ∷ pieces_over state (spelled_in Session 0 texts))
     ++ session_end (refused_in Session 0 texts) (length texts) (state_over state (spelled_in Session 0 texts))
+
+-- the pieces of a session that begins in a state, over a front of its script, without an end
+abbrev pub state_front : State → List ℕ → List (List ReportLine)
+state_front state front = open_piece state ∷ pieces_over state (spelled_in Session 0 (lines_of front))

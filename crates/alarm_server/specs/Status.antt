@@ -4,16 +4,20 @@ use Rattle.std.specs.Fmt.{decimal}
 use Rattle.script_lines.specs.declared.lines.LineFault.{LineFault}
 use Rattle.script_lines.specs.declared.lines.LineFault.TheVariants.{Grammar, Read}
 use Rattle.script_lines.specs.declared.lines.LineFault.TheVariants as line_fault
+use Rattle.site_config.specs.declared.fault.SiteFault.{SiteFault}
+use Rattle.site_config.specs.declared.fault.SiteFault.TheVariants as site_fault
+use Rattle.site_config.specs.FaultTexts.{fault_text}
 use Rattle.alarm_server.specs.declared.emission.Unsent.{Unsent}
 use Rattle.alarm_server.specs.declared.emission.Unsent.TheVariants.{Lost}
 use Rattle.alarm_server.specs.declared.emission.Unsent.TheVariants as unsent
 use Rattle.alarm_server.specs.declared.status.Status.{Status}
-use Rattle.alarm_server.specs.declared.status.Status.TheVariants.{Done, Usage, ScriptRefused, ReadFault, EmitFault, NoMemory}
+use Rattle.alarm_server.specs.declared.status.Status.TheVariants.{Done, Usage, SiteRefused, ScriptRefused, ReadFault, EmitFault, NoMemory}
 
 -- the exit status of a program
 abbrev pub code_of : Status → ℕ
 code_of Done = 0
 code_of Usage = 2
+code_of (SiteRefused fault) = 3
 code_of (ScriptRefused line) = 4
 code_of ReadFault = 5
 code_of EmitFault = 6
@@ -22,7 +26,8 @@ code_of NoMemory = 9
 -- the text of a status
 abbrev pub status_text : Status → List ℕ
 status_text Done = codes "done"
-status_text Usage = codes "usage: trial LOW HIGH DEADBAND DELAY NORMAL"
+status_text Usage = codes "usage: trial LOW HIGH DEADBAND DELAY NORMAL | session SITE JOURNAL | workload SEED COUNT"
+status_text (SiteRefused fault) = fault_text fault
 status_text (ScriptRefused line) = codes "script refused: line " ++ decimal line
 status_text ReadFault = codes "read fault"
 status_text EmitFault = codes "emit fault"
@@ -32,6 +37,11 @@ status_text NoMemory = codes "no memory"
 abbrev pub of_unsent : Unsent → Status
 of_unsent Lost = EmitFault
 of_unsent unsent.NoMemory = NoMemory
+
+-- a program ends where the text of its site is none
+abbrev pub of_site_fault : SiteFault → Status
+of_site_fault site_fault.NoMemory = NoMemory
+of_site_fault fault = SiteRefused fault
 
 -- a program ends where its script gives no line
 abbrev pub of_line_fault : LineFault → Status
@@ -48,7 +58,54 @@ status_of (Err fault) = fault
 abbrev pub IsFault : Status → Type 0
 IsFault Done = ⊥
 IsFault Usage = ⊥
+IsFault (SiteRefused fault) = Unit {0}
 IsFault (ScriptRefused line) = Unit {0}
 IsFault ReadFault = Unit {0}
 IsFault EmitFault = Unit {0}
 IsFault NoMemory = Unit {0}
+
+-- an end of a play, which has its site already
+abbrev pub IsPlayFault : Status → Type 0
+IsPlayFault Done = ⊥
+IsPlayFault Usage = ⊥
+IsPlayFault (SiteRefused fault) = ⊥
+IsPlayFault (ScriptRefused line) = Unit {0}
+IsPlayFault ReadFault = Unit {0}
+IsPlayFault EmitFault = Unit {0}
+IsPlayFault NoMemory = Unit {0}
+
+-- an end while a text is read
+abbrev pub IsTextFault : Status → Type 0
+IsTextFault Done = ⊥
+IsTextFault Usage = ⊥
+IsTextFault (SiteRefused fault) = ⊥
+IsTextFault (ScriptRefused line) = ⊥
+IsTextFault ReadFault = Unit {0}
+IsTextFault EmitFault = ⊥
+IsTextFault NoMemory = Unit {0}
+
+-- an end before a site is found
+abbrev pub IsSiteFault : Status → Type 0
+IsSiteFault Done = ⊥
+IsSiteFault Usage = ⊥
+IsSiteFault (SiteRefused fault) = Unit {0}
+IsSiteFault (ScriptRefused line) = ⊥
+IsSiteFault ReadFault = Unit {0}
+IsSiteFault EmitFault = ⊥
+IsSiteFault NoMemory = Unit {0}
+
+-- a source and a ground in memory, none of whose calls is to fail, fail for want of memory alone
+abbrev pub of_memory : Status → Status
+of_memory ReadFault = NoMemory
+of_memory EmitFault = NoMemory
+of_memory status = status
+
+-- an end where nothing comes from outside
+abbrev pub IsInnerFault : Status → Type 0
+IsInnerFault Done = ⊥
+IsInnerFault Usage = ⊥
+IsInnerFault (SiteRefused fault) = Unit {0}
+IsInnerFault (ScriptRefused line) = Unit {0}
+IsInnerFault ReadFault = ⊥
+IsInnerFault EmitFault = ⊥
+IsInnerFault NoMemory = Unit {0}

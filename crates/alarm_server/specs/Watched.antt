@@ -2,21 +2,20 @@
 use Rattle.std.specs.Prelude.{◌≡◌, ℕ, ℤ, List}
 use Rattle.bac_values.specs.declared.value.Value.TheVariants.{Signed}
 use Rattle.algorithm_rules.specs.declared.table.Algorithm.TheVariants.{SignedOutOfRange}
-use Rattle.event_machine.specs.declared.seen.Seen.{Seen}
-use Rattle.event_machine.specs.Points.{Point, Incident, newest_of}
+use Rattle.event_machine.specs.Points.{Point, Incident, IsCourse, newest_of}
 use Rattle.event_machine.specs.Summary.{AlarmState, IsAfter}
 use Rattle.alarm_server.specs.declared.settings.Settings.{Settings}
 use Rattle.alarm_server.specs.Looks.{point_at}
 
--- its settings, the moment and the value of the last look, its alarm, and what is kept of the points since it entered its state
+-- its settings, the moment and the value of the last look, and its alarm
 pub record Watched : Type 0 where
   pub settings : Settings
   pub moment : ℕ
   pub value : ℤ
   pub alarm : AlarmState
-  pub points : List Seen
 
--- This is known after a course: the last look was at its newest point, and the alarm and the kept points are those that looking back over it gives.
+-- This is known after a course, in which each point follows the one before it: the last look was at its newest point, and the alarm is the one that looking back over it gives.
 pub record HasSeen (first : Point) (later : List Incident) (watched : Watched) : Type 0 where
   pub newest : newest_of first later ≡ point_at watched.settings watched.moment (Signed watched.value)
-  pub after : IsAfter SignedOutOfRange first later watched.alarm watched.points
+  pub course : IsCourse first later
+  pub after : IsAfter SignedOutOfRange first later watched.alarm

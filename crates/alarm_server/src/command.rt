@@ -1,69 +1,66 @@
-ghost use Rattle.std.specs.Prelude.{◌≡◌, IfOk, IfSome, IsSome, OnErr, is_some, map, string_bytes};
-ghost use Rattle.std.specs.Prelude.{option_map};
-ghost use Rattle.alarm_server.specs.Commands.{KeepsSite, bench_name_of, command_of};
+ghost use Rattle.std.specs.Prelude.{◌≡◌, ◌-◌, ◌^◌, map, string_bytes};
+ghost use Rattle.alarm_server.specs.Commands.{command_of, is_session, workload_of};
 
-use crate::bench_site::{bench_site, is_bench_site};
 use crate::settings::Settings;
-use alarm_core::Site;
-use bac_values::NoMemory;
-use std::alloc::Global;
+use script_lines::unsigned;
+
+/// The most lines that a workload's script may have.
+const MOST_LINES: u64 = 20_000;
 
 /// What the words of a program ask for.
-#[derive(Debug, Drop)]
+#[derive(Clone, Copy, Debug)]
 pub enum Command {
     /// One object on trial.
     Trial {
         /// The settings of the object.
         settings: Settings,
     },
-    /// A session of a site, without a journal.
-    Bench {
-        /// The site.
-        site: Site,
+    /// A session of the site of a file.
+    Session,
+    /// A session of a generated site, by a generated script.
+    Workload {
+        /// The seed from which the script is drawn.
+        seed: u64,
+        /// How many lines it has, at most 20,000.
+        count: u32,
     },
 }
 
-// The name of a bench's site.
-fn bench_name(words: &[String]) -> Option<&str>
-    ensures name { option_map (λ name. name.now) result ≡ bench_name_of (map string_bytes words.now) }
+// Whether the words are `session SITE JOURNAL`.
+fn is_session(words: &[String]) -> bool
+    ensures session { result ≡ is_session (map string_bytes words.now) }
 {
-    let [bench, name] = words else {
-        return None;
-    };
-    if bench.as_str() == "bench" {
-        Some(name.as_str())
-    } else {
-        None
+    match words {
+        [session, _site, _journal] => session.as_str() == "session",
+        _ => false,
     }
 }
 
-/// Whether the words are of a form.
-pub fn is_command(words: &[String]) -> bool
-    ensures command { result ≡ is_some (command_of (map string_bytes words.now)) }
+// What the words `workload SEED COUNT` ask for.
+fn read_workload(words: &[String]) -> Option<Command>
+    ensures workload { result ≡ workload_of (map string_bytes words.now) }
 {
-    if Settings::read(words).is_some() {
-        return true;
+    let [workload, seed, count] = words else {
+        return None;
+    };
+    if workload.as_str() != "workload" {
+        return None;
     }
-    match bench_name(words) {
-        Some(name) => is_bench_site(name),
-        None => false,
-    }
+    Some(Command::Workload {
+        seed: unsigned(seed.as_bytes(), u64::MAX)?,
+        count: unsigned(count.as_bytes(), MOST_LINES)? as u32,
+    })
 }
 
 /// What the words ask for, and none exactly where they are of no form.
-pub fn read_command(alloc: Global, words: &[String]) -> Result<Option<Command>, NoMemory>
-    ensures command { IfOk result (λ command. command ≡ command_of (map string_bytes words.now)) }
-    ensures keeps { IfOk result (λ command. IfSome command KeepsSite) }
-    ensures wants { OnErr result (IsSome (command_of (map string_bytes words.now))) }
+pub fn read_command(words: &[String]) -> Option<Command>
+    ensures command { result ≡ command_of (map string_bytes words.now) }
 {
     if let Some(settings) = Settings::read(words) {
-        return Ok(Some(Command::Trial { settings }));
+        return Some(Command::Trial { settings });
     }
-    let Some(name) = bench_name(words) else {
-        return Ok(None);
-    };
-    match bench_site(alloc, name)? {
-        Some(site) => Ok(Some(Command::Bench { site })),
-        None => Ok(None),
+    if is_session(words) {
+        return Some(Command::Session);
     }
+    read_workload(words)
 }

@@ -1,25 +1,32 @@
-//! The alarm server: an integer value on trial, or a session of a named site, by a script.
+//! The alarm server: an integer value on trial, a session on a site's file, or a generated one.
 //!
 //! `run` is the top call. It stands over any source of octets and any ground, so that its contract says all that the
 //! program does; `main` hands it the real ones.
 #![tactic(auto)]
 
-mod bench_site;
 mod command;
 mod emission;
+mod on_file;
 mod paths;
 mod pieces;
 mod run;
 mod session;
 mod settings;
 mod status;
+mod tally;
+#[cfg(test)]
+mod tests;
+mod text;
 mod trial;
 mod watch;
+mod workload;
 
 use crate::paths::paths_of;
 use crate::run::run;
 use crate::status::Status;
 use ground_io::{FileGround, StdSource};
+use std::fs::File;
+use std::io::Read;
 use std::process::ExitCode;
 use std::{env, io};
 
@@ -33,15 +40,26 @@ delays DELAY and NORMAL (in seconds) on trial. SCRIPT has the lines `set M V`
 milliseconds since 1970. Each move of the event state gives the line
 `MOMENT FROM TO`, and the script's end the line `end LINES`.
 
-alarm-server bench NAME < SCRIPT
+alarm-server session SITE JOURNAL < SCRIPT
 
-bench plays a session to a site that stands in the program, from no event on:
-NAME is S, S0, W, G, M, K, F, E or L. Each line of SCRIPT gives a piece of the
-report: what it came to, the changes of event states, and the datagrams that go
-out.
+session plays a script to the site that the file SITE describes, from no event
+on. Each line of SCRIPT gives a piece of the report: what it came to, the
+changes of event states, and the datagrams that go out. JOURNAL isn't opened
+yet.
+
+alarm-server workload SEED COUNT
+
+workload plays a script of COUNT lines (at most 20000), drawn from SEED, to a
+site of its own, and prints one line: how many events, changes, datagrams and
+lines with a full outbox the report would have.
 
 alarm-server --help      prints this text
-alarm-server --version   prints the version";
+alarm-server --version   prints the version
+
+It ends with 0, or says why not and ends with 1 (a file can't be opened), 2 (the
+words are of no form), 3 (the site's text is refused), 4 (a line of the script
+is refused), 5 (a file can't be read), 6 (the report can't be written) or 9 (no
+memory). docs/SITE.md and docs/SCRIPT.md describe SITE and SCRIPT.";
 
 fn words_given(rt: &HostRuntime) -> io::Result<Vec<String>> {
     let mut words = Vec::new(rt.alloc());
@@ -70,19 +88,38 @@ fn ends_with(rt: &HostRuntime, status: Status) -> io::Result<ExitCode> {
     Ok(ExitCode::from(status.code()))
 }
 
+// Runs what the words ask for, with a site's text from a reader.
+fn run_with<R: Read + Drop>(rt: &HostRuntime, words: &[String], site: R) -> io::Result<ExitCode> {
+    let mut site = StdSource::new(site);
+    let mut script = StdSource::new(rt.reader());
+    let console = FileGround::new(None, io::writer(rt), None)?;
+    let (console, status) = run(rt.alloc(), words, &mut site, &mut script, console);
+    drop(console);
+    ends_with(rt, status)
+}
+
+// Runs what the words ask for, with the site's text from the file of that path.
+fn run_on_file(rt: &HostRuntime, words: &[String], path: &str) -> io::Result<ExitCode> {
+    match File::open(rt, path) {
+        Ok(file) => run_with(rt, words, file),
+        Err(_refused) => {
+            eprintln!(rt; "cannot open")?;
+            Ok(ExitCode::from(1))
+        }
+    }
+}
+
 fn main(rt: HostRuntime) -> io::Result<ExitCode> {
     let words = words_given(&rt)?;
     if let Some(notice) = notice_for(&words) {
         println!(rt; "{notice}")?;
         return Ok(ExitCode::SUCCESS);
     }
-    let Some(_no_files) = paths_of(&words) else {
+    let Some(paths) = paths_of(&words) else {
         return ends_with(&rt, Status::Usage);
     };
-    let mut site = StdSource::new(io::empty());
-    let mut script = StdSource::new(rt.reader());
-    let console = FileGround::new(None, io::writer(&rt), None)?;
-    let (console, status) = run(rt.alloc(), &words, &mut site, &mut script, console);
-    drop(console);
-    ends_with(&rt, status)
+    match paths.site.and_then(|place| words.get(place)) {
+        Some(path) => run_on_file(&rt, &words, path.as_str()),
+        None => run_with(&rt, &words, io::empty()),
+    }
 }

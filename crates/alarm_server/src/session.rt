@@ -1,28 +1,37 @@
-ghost use Rattle.std.specs.Prelude.{◌≡◌, ℕ, ◌<◌, ◌^◌, ◌∷◌, ◌++◌, [], List, None, IfErr, IfOk, IfSome, IsErrOf, OnOk, map};
+ghost use Rattle.std.specs.Prelude.{◌≡◌, ℕ, ◌<◌, ◌^◌, ◌∷◌, ◌++◌, [], List, None, max, IfErr, IfOk, IfSome, IsErrOf, OnErr, OnOk, map};
 ghost use Rattle.std.specs.Io.KnownBytes.{IsAtEnd};
 ghost use Rattle.bac_values.specs.Moments.{IsMoment};
 ghost use Rattle.ground_io.specs.Counts.{HasCause};
 ghost use Rattle.ground_io.specs.Trace.{WhereTold};
 ghost use Rattle.script_lines.specs.declared.line.Grammar.TheVariants.{Session};
+ghost use Rattle.script_lines.specs.Script.{lines_of};
 ghost use Rattle.alarm_core.specs.Allowed.{IsAllowed};
-ghost use Rattle.alarm_core.specs.Next.{first_state};
-ghost use Rattle.alarm_core.specs.Sites.{IsSite};
+ghost use Rattle.alarm_core.specs.History.{moved_by, raised};
+ghost use Rattle.alarm_core.specs.Next.{next_sends, next_state, next_transitions};
+ghost use Rattle.alarm_core.specs.Verdicts.{Answers, step_verdict};
 ghost use Rattle.alarm_server.specs.Emission.{Ends, Sends};
-ghost use Rattle.alarm_server.specs.Report.{front_pieces, report_of};
-ghost use Rattle.alarm_server.specs.Script.{refused_line};
-ghost use Rattle.alarm_server.specs.Session.{end_piece, event_in, open_piece, piece_by, piece_of, piece_text, reply_lines, send_line, state_by, state_with};
-ghost use Rattle.alarm_server.specs.Status.{IsFault, status_of};
+ghost use Rattle.alarm_server.specs.Script.{refused_line, spelled_in};
+ghost use Rattle.alarm_server.specs.Session.{end_piece, event_in, open_piece, piece_by, piece_of, piece_text, reply_lines, send_line, session_over, state_by, state_front, state_over, state_with};
+ghost use Rattle.alarm_server.specs.Status.{IsPlayFault, status_of};
 ghost use Rattle.alarm_server.specs.Stopping.{StopsReading};
+ghost use Rattle.alarm_server.specs.Tallies.{tally_of, tally_with};
 
 use crate::emission::Unsent;
 use crate::pieces::emit_piece;
 use crate::status::Status;
-use alarm_core::{Core, Event, Site, StepFault};
+use crate::tally::Tally;
+use alarm_core::{Core, Event, Outcome, StepFault};
 use bac_values::{Moved, NoMemory, ReportLine, Send, push, single};
+use event_machine::Steps;
 use ground_io::{Ground, Source};
 use script_lines::{Line, Lines};
 use service_desk::{Decision, decide};
 use std::alloc::Global;
+use std::marker::Brand;
+use std::sync::ledger::{Blank, Ledger};
+
+// How many events a history may have. One more is as good as no memory for it.
+const MOST_EVENTS: u64 = 1 << 63;
 
 // The lines of a piece that tell of changes of event states.
 fn add_changes(piece: &mut Vec<ReportLine>, number: u64, moves: &[Moved]) -> Result<(), NoMemory>
@@ -77,6 +86,25 @@ fn full_piece(
     Ok(piece)
 }
 
+// The core takes an event. Its steps are counted in a ledger of their own, that nobody reads.
+fn counted<L: Ledger>(core: &mut Core, event: &Event, blank: Blank) -> Result<Outcome, StepFault>
+    requires name { blank.name ≡ L.name }
+    requires parts { blank.parts ≡ L.parts }
+    requires some { 0 < blank.parts }
+    requires moment { IsMoment event.now.moment }
+    requires allowed { IsAllowed core.old event.now.act }
+    requires few { core.old.events < 2 ^ 63 }
+    ensures state { OnOk result (core.new ≡ next_state (raised core.old.last_moment event.now) core.old) }
+    ensures moment { IfOk result (λ outcome. outcome.moment ≡ max event.now.moment core.old.last_moment) }
+    ensures moves { IfOk result (λ outcome. outcome.moves ≡ map moved_by (next_transitions (raised core.old.last_moment event.now) core.old)) }
+    ensures sends { IfOk result (λ outcome. outcome.sends ≡ next_sends (raised core.old.last_moment event.now) core.old) }
+    ensures same { OnErr result (core.new ≡ core.old) }
+    ensures verdict { Answers result (step_verdict (raised core.old.last_moment event.now) core.old) }
+{
+    let mut steps = Steps::<L>::new(blank);
+    core.step(event, &mut steps)
+}
+
 // Enters an event, and gives the piece of its line.
 fn enter(
     alloc: Global,
@@ -88,11 +116,13 @@ fn enter(
 ) -> Result<Vec<ReportLine>, NoMemory>
     requires moment { IsMoment event.now.moment }
     requires allowed { IsAllowed core.old event.now.act }
-    requires few { core.old.events < 2 ^ 63 }
     ensures state { OnOk result (core.new ≡ state_by core.old (event_in core.old (Decision.Enter event.now reply full))) }
     ensures piece { IfOk result (λ piece. piece.items ≡ piece_by number core.old (Decision.Enter event.now reply full)) }
 {
-    let outcome = match core.step(event) {
+    if core.events() >= MOST_EVENTS {
+        return Err(NoMemory);
+    }
+    let outcome = match counted::<Brand>(core, event, Blank::new(1)) {
         Ok(outcome) => outcome,
         Err(StepFault::Full { would, limit }) => {
             return full_piece(alloc, number, would, limit, full);
@@ -123,7 +153,6 @@ fn replied(alloc: Global, number: u64, send: Send) -> Result<Vec<ReportLine>, No
 // Takes a line, and gives its piece.
 fn take(alloc: Global, core: &mut Core, line: &Line) -> Result<Vec<ReportLine>, NoMemory>
     requires moment { IsMoment line.now.moment }
-    requires few { core.old.events < 2 ^ 63 }
     ensures state { OnOk result (core.new ≡ state_with core.old line.now) }
     ensures piece { IfOk result (λ piece. piece.items ≡ piece_of core.old line.now) }
 {
@@ -137,39 +166,37 @@ fn take(alloc: Global, core: &mut Core, line: &Line) -> Result<Vec<ReportLine>, 
     }
 }
 
-// Takes a line, and emits its piece.
+// Takes a line, emits its piece, and counts it.
 fn play_line<G: Ground>(
     alloc: Global,
     device: &mut G,
     core: &mut Core,
+    tally: &mut Tally,
     line: &Line,
 ) -> Result<(), Unsent>
     requires moment { IsMoment line.now.moment }
-    requires few { core.old.events < 2 ^ 63 }
     ensures state { OnOk result (core.new ≡ state_with core.old line.now) }
+    ensures tally { OnOk result (tally.new ≡ tally_with (piece_of core.old line.now) tally.old) }
     ensures sends { Sends piece_text result (piece_of core.old line.now ∷ []) (G.told device.old) (G.told device.new) }
     ensures size { G.size device.new ≡ G.size device.old }
     ensures disk { G.disk_faults device.new ≡ G.disk_faults device.old }
     ensures cause { HasCause (G.emit_faults device.old) (G.emit_faults device.new) (IsErrOf result Unsent.Lost) }
 {
     let piece = take(alloc, core, line)?;
+    tally.add(&piece)?;
     emit_piece(alloc, device, piece.as_slice())
 }
 
-// Starts the core of a site, and emits the first piece.
-fn begin<G: Ground>(alloc: Global, site: &Site, device: &mut G) -> Result<Core, Unsent>
-    requires site { IsSite site.now }
-    ensures starts { IfOk result (λ core. core ≡ first_state site.now) }
-    ensures sends { Sends piece_text result (open_piece (first_state site.now) ∷ []) (G.told device.old) (G.told device.new) }
+// Emits the first piece.
+fn begin<G: Ground>(alloc: Global, core: &Core, device: &mut G) -> Result<(), Unsent>
+    ensures sends { Sends piece_text result (open_piece core.now ∷ []) (G.told device.old) (G.told device.new) }
     ensures size { G.size device.new ≡ G.size device.old }
     ensures disk { G.disk_faults device.new ≡ G.disk_faults device.old }
     ensures cause { HasCause (G.emit_faults device.old) (G.emit_faults device.new) (IsErrOf result Unsent.Lost) }
 {
-    let core = Core::start(alloc, site)?;
     let events = core.events();
     let piece = single(alloc, ReportLine::Open { events })?;
-    emit_piece(alloc, device, piece.as_slice())?;
-    Ok(core)
+    emit_piece(alloc, device, piece.as_slice())
 }
 
 // Emits the last piece.
@@ -184,33 +211,36 @@ fn end<G: Ground>(alloc: Global, device: &mut G, lines: u64, core: &Core) -> Res
     emit_piece(alloc, device, piece.as_slice())
 }
 
-/// Plays a script to a site that no event has reached yet: each line that isn't skipped gives one piece of the report.
+/// Plays a script to a core, from the state that it is in: each line that isn't skipped gives one piece of the report. The
+/// answer is how many lines of each kind the pieces have.
 pub fn play_session<T: Source, G: Ground>(
     alloc: Global,
-    site: &Site,
+    core: &mut Core,
     script: &mut T,
     device: &mut G,
-) -> Result<(), Status>
-    requires site { IsSite site.now }
+) -> Result<Tally, Status>
     ensures ends { IfSome (T.left script.old) (λ text.
-        Ends piece_text (status_of result) (report_of site.now [] text) (G.told device.old) (G.told device.new)) }
+        Ends piece_text (status_of result) (session_over core.old (lines_of text)) (G.told device.old) (G.told device.new)) }
+    ensures tally { IfOk result (λ tally. IfSome (T.left script.old) (λ text. tally ≡ tally_of (session_over core.old (lines_of text)))) }
+    ensures state { OnOk result (IfSome (T.left script.old) (λ text. core.new ≡ state_over core.old (spelled_in Session 0 (lines_of text)))) }
     ensures to_end { OnOk result (IsAtEnd (T.left script.new)) }
     ensures accepted { OnOk result (IfSome (T.left script.old) (λ text. refused_line Session text ≡ None)) }
     ensures refused { (line : ℕ) → result ≡ Err (Status.ScriptRefused line) →
         IfSome (T.left script.old) (λ text. refused_line Session text ≡ Some line) }
     ensures stops { result ≡ Err Status.ReadFault → WhereTold (T.left script.old) (T.left script.new)
-        (λ text rest. StopsReading piece_text (front_pieces site.now []) Session text rest (G.told device.old) (G.told device.new)) }
-    ensures fault { IfErr result IsFault }
+        (λ text rest. StopsReading piece_text (state_front core.old) Session text rest (G.told device.old) (G.told device.new)) }
+    ensures fault { IfErr result IsPlayFault }
     ensures size { G.size device.new ≡ G.size device.old }
     ensures disk { G.disk_faults device.new ≡ G.disk_faults device.old }
     ensures read_cause { HasCause (T.faults script.old) (T.faults script.new) (IsErrOf result Status.ReadFault) }
     ensures emit_cause { HasCause (G.emit_faults device.old) (G.emit_faults device.new) (IsErrOf result Status.EmitFault) }
 {
     let mut lines = Lines::new(alloc)?;
-    let mut core = begin(alloc, site, device)?;
+    let mut tally = Tally::new();
+    begin(alloc, core, device)?;
     while let Some(line) = lines.next_line(script)? {
-        play_line(alloc, device, &mut core, &line)?;
+        play_line(alloc, device, core, &mut tally, &line)?;
     }
-    end(alloc, device, lines.count(), &core)?;
-    Ok(())
+    end(alloc, device, lines.count(), core)?;
+    Ok(tally)
 }

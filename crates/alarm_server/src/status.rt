@@ -1,18 +1,30 @@
 ghost use Rattle.std.specs.Prelude.{◌≡◌};
-ghost use Rattle.alarm_server.specs.Status.{code_of, of_line_fault, of_unsent, status_text};
+ghost use Rattle.alarm_server.specs.Status.{code_of, of_line_fault, of_site_fault, of_unsent, status_text};
 
 use crate::emission::Unsent;
 use bac_values::NoMemory;
+use ground_io::Failed;
 use script_lines::LineFault;
+use site_config::SiteFault;
+use std::alloc::AllocError;
 use std::fmt;
 
+/// The forms of the words.
+const USAGE: &str =
+    "usage: trial LOW HIGH DEADBAND DELAY NORMAL | session SITE JOURNAL | workload SEED COUNT";
+
 /// How a program ends.
-#[derive(Clone, Copy, Debug, PartialEq, Eq)]
+#[derive(Debug, Drop, PartialEq)]
 pub enum Status {
     /// The script was read to its end.
     Done,
     /// The words are none of the forms.
     Usage,
+    /// The text of the site is none.
+    SiteRefused {
+        /// Why, by its first fault.
+        fault: SiteFault,
+    },
     /// A line of the script isn't in the grammar.
     ScriptRefused {
         /// The line's number, from 1.
@@ -34,6 +46,7 @@ impl Status {
         match self {
             Status::Done => 0,
             Status::Usage => 2,
+            Status::SiteRefused { .. } => 3,
             Status::ScriptRefused { .. } => 4,
             Status::ReadFault => 5,
             Status::EmitFault => 6,
@@ -50,7 +63,8 @@ impl fmt::Display for Status {
     fn fmt<W: fmt::Write>(&self, f: &mut fmt::Formatter<W>) -> fmt::Result {
         match self {
             Status::Done => write!(f, "done"),
-            Status::Usage => write!(f, "usage: trial LOW HIGH DEADBAND DELAY NORMAL"),
+            Status::Usage => write!(f, "{USAGE}"),
+            Status::SiteRefused { fault } => write!(f, "{fault}"),
             Status::ScriptRefused { line } => write!(f, "script refused: line {line}"),
             Status::ReadFault => write!(f, "read fault"),
             Status::EmitFault => write!(f, "emit fault"),
@@ -67,6 +81,39 @@ impl From<NoMemory> for Status {
 
     fn from(_refused: NoMemory) -> Status {
         Status::NoMemory
+    }
+}
+
+impl From<AllocError> for Status {
+    ghost use Rattle.std.specs.Prelude.{◌≡◌};
+    ghost use Rattle.alarm_server.specs.declared.status.Status.TheVariants as status;
+
+    ghost from_gives = { λ _ fault. fault ≡ status.NoMemory };
+
+    fn from(_refused: AllocError) -> Status {
+        Status::NoMemory
+    }
+}
+
+impl From<Failed> for Status {
+    ghost use Rattle.std.specs.Prelude.{◌≡◌};
+    ghost use Rattle.alarm_server.specs.declared.status.Status.TheVariants as status;
+
+    ghost from_gives = { λ _ fault. fault ≡ status.ReadFault };
+
+    fn from(_failed: Failed) -> Status {
+        Status::ReadFault
+    }
+}
+
+impl From<SiteFault> for Status {
+    ghost from_gives = { λ fault status. status ≡ of_site_fault fault };
+
+    fn from(fault: SiteFault) -> Status {
+        match fault {
+            SiteFault::NoMemory => Status::NoMemory,
+            fault => Status::SiteRefused { fault },
+        }
     }
 }
 

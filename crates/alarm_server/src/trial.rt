@@ -1,4 +1,4 @@
-ghost use Rattle.std.specs.Prelude.{◌≡◌, ℕ, List, ◌∷◌, map, None, OnOk, IfErr, IfSome, IsErrOf};
+ghost use Rattle.std.specs.Prelude.{◌≡◌, ◌≤◌, ℕ, List, ◌∷◌, map, None, OnOk, IfErr, IfSome, IsErrOf};
 ghost use Rattle.std.specs.Option.{option_to_list};
 ghost use Rattle.event_machine.specs.Given.{moves_in};
 ghost use Rattle.script_lines.specs.declared.line.Grammar.TheVariants.{Trial};
@@ -9,11 +9,12 @@ ghost use Rattle.ground_io.specs.Counts.{HasCause};
 ghost use Rattle.ground_io.specs.Trace.{WhereTold};
 ghost use Rattle.script_lines.specs.Line.{IsTrialLine};
 ghost use Rattle.script_lines.specs.Script.{lines_of};
+ghost use Rattle.bac_values.specs.Moments.{IsMoment};
 ghost use Rattle.bac_values.specs.declared.value.Value.TheVariants.{Signed};
 ghost use Rattle.event_machine.specs.Points.{Incident, Looked, Point};
 ghost use Rattle.alarm_server.specs.Looks.{looks_after, point_at};
 ghost use Rattle.alarm_server.specs.Emission.{Sends, Ends};
-ghost use Rattle.alarm_server.specs.Status.{status_of, IsFault};
+ghost use Rattle.alarm_server.specs.Status.{status_of, IsPlayFault};
 ghost use Rattle.alarm_server.specs.Script.{refused_line};
 ghost use Rattle.alarm_server.specs.Trial.{SendsTransitions, front_transitions, move_line, newest_moves, report_over};
 ghost use Rattle.alarm_server.specs.Watched.{HasSeen};
@@ -67,7 +68,7 @@ fn emit_moves<G: Ground>(
     emit_move(alloc, device, moment, changed.second)
 }
 
-// Looks at the object once more, and emits the lines of its moves.
+// Looks at the object once more, at a moment that isn't before its last one, and emits the lines of its moves.
 fn look_at<G: Ground>(
     alloc: Global,
     device: &mut G,
@@ -75,16 +76,19 @@ fn look_at<G: Ground>(
     moment: u64,
     value: i32,
 ) -> Result<(), Unsent>
+    requires range { IsMoment moment }
+    requires not_before { watch.old.moment ≤ moment }
     ensures settings { watch.new.settings ≡ watch.old.settings }
+    ensures moment { watch.new.moment ≡ moment }
     ensures seen { (first : Point) (later : List Incident) → HasSeen first later watch.old →
-        OnOk result (HasSeen first (Looked (point_at watch.old.settings moment (Signed value)) ∷ later) watch.new) }
+        HasSeen first (Looked (point_at watch.old.settings moment (Signed value)) ∷ later) watch.new }
     ensures sends { (first : Point) (later : List Incident) → HasSeen first later watch.old →
         Sends report_text result (newest_moves first (Looked (point_at watch.old.settings moment (Signed value)) ∷ later)) (G.told device.old) (G.told device.new) }
     ensures size { G.size device.new ≡ G.size device.old }
     ensures disk { G.disk_faults device.new ≡ G.disk_faults device.old }
     ensures cause { HasCause (G.emit_faults device.old) (G.emit_faults device.new) (IsErrOf result Unsent.Lost) }
 {
-    let changed = watch.look(moment, value)?;
+    let changed = watch.look(moment, value);
     emit_moves(alloc, device, moment, changed)
 }
 
@@ -131,14 +135,14 @@ pub fn play<T: Source, G: Ground>(
         IfSome (T.left script.old) (λ text. refused_line Trial text ≡ Some line) }
     ensures stops { result ≡ Err Status.ReadFault → WhereTold (T.left script.old) (T.left script.new)
         (λ text rest. StopsReading report_text (front_transitions settings) Trial text rest (G.told device.old) (G.told device.new)) }
-    ensures fault { IfErr result IsFault }
+    ensures fault { IfErr result IsPlayFault }
     ensures size { G.size device.new ≡ G.size device.old }
     ensures disk { G.disk_faults device.new ≡ G.disk_faults device.old }
     ensures read_cause { HasCause (T.faults script.old) (T.faults script.new) (IsErrOf result Status.ReadFault) }
     ensures emit_cause { HasCause (G.emit_faults device.old) (G.emit_faults device.new) (IsErrOf result Status.EmitFault) }
 {
     let mut lines = Lines::trial(alloc)?;
-    let mut watch = Watch::start(alloc, settings)?;
+    let mut watch = Watch::start(settings);
     while let Some(line) = lines.next_line(script)? {
         take(alloc, device, &mut watch, line)?;
     }

@@ -1,8 +1,10 @@
-ghost use Rattle.std.specs.Prelude.{◌≡◌, ◌∷◌, [], List, OnOk, OnErr, IfOk, false, replicate};
+ghost use Rattle.std.specs.Prelude.{◌≡◌, ◌≤◌, ◌<◌, ◌∷◌, [], List, length, false, replicate};
+ghost use Rattle.bac_values.specs.Moments.{IsMoment};
 ghost use Rattle.event_machine.specs.AlarmRecord.{never};
 ghost use Rattle.event_machine.specs.Detection.{moves_at};
 ghost use Rattle.event_machine.specs.Given.{moves_in, point_of};
-ghost use Rattle.event_machine.specs.Points.{Incident, Looked, Point};
+ghost use Rattle.event_machine.specs.Points.{Incident, IsCourse, Looked, Point};
+ghost use Rattle.event_machine.specs.Summary.{IsAfter};
 ghost use Rattle.algorithm_rules.specs.declared.table.Algorithm.TheVariants.{SignedOutOfRange};
 ghost use Rattle.bac_values.specs.declared.value.Value.TheVariants.{Signed};
 ghost use Rattle.alarm_server.specs.Looks.{point_at};
@@ -10,22 +12,23 @@ ghost use Rattle.alarm_server.specs.Trial.{first_point};
 ghost use Rattle.alarm_server.specs.Watched.{HasSeen};
 
 use crate::settings::Settings;
-use bac_values::{FIRST_MOMENT, NoMemory, Reliability, Stamp, Value};
-use event_machine::{Alarm, Changed, Past, PointFacts, begin, look};
-use std::alloc::Global;
-use std::marker::Model;
+use algorithm_rules::Snapshot;
+use bac_values::{FIRST_MOMENT, Reliability, Stamp, Value};
+use event_machine::{Alarm, Changed, PointFacts, Steps, begin, evaluate};
+use std::marker::{Brand, Model};
+use std::sync::ledger::{Blank, Ledger};
 
-/// The object on trial: its last look, its alarm, and what is kept of the points since it entered its event state.
-#[derive(Drop)]
+/// The object on trial: its last look, which is at a moment in range, and its alarm.
+#[derive(Clone, Copy, Debug)]
 pub struct Watch {
     settings: Settings,
     moment: u64,
     value: i32,
     alarm: Alarm,
-    past: Past,
 }
 
 impl Model for Watch {
+    ghost use Rattle.bac_values.specs.Moments.{IsMoment};
     ghost use Rattle.alarm_server.specs.Watched.{Watched};
 
     ghost Value = { Watched };
@@ -35,7 +38,15 @@ impl Model for Watch {
       moment = watch.moment;
       value = watch.value;
       alarm = watch.alarm;
-      points = watch.past.points;
+    } };
+
+    ghost invariant = { λ watch. IsMoment watch.moment };
+
+    ghost inverse = { λ watch. record {
+      settings = watch.settings;
+      moment = watch.moment;
+      value = watch.value;
+      alarm = watch.alarm;
     } };
 }
 
@@ -58,30 +69,49 @@ fn point_facts(moment: u64) -> PointFacts
     }
 }
 
+// One more point of the object, counted in a ledger of its own.
+fn counted<L: Ledger>(
+    alarm: &mut Alarm,
+    snapshot: &Snapshot<'_>,
+    point: &PointFacts,
+    blank: Blank,
+) -> Changed
+    requires name { blank.name ≡ L.name }
+    requires parts { blank.parts ≡ L.parts }
+    requires some { 0 < blank.parts }
+    requires few { length snapshot.now.alarm_values.now ≤ 32 }
+    requires moment { IsMoment point.now.moment }
+    ensures course { (first : Point) (later : List Incident) → IsCourse first (Looked (point_of snapshot.now point.now) ∷ later) → IsAfter snapshot.now.algorithm first later alarm.old →
+        IsAfter snapshot.now.algorithm first (Looked (point_of snapshot.now point.now) ∷ later) alarm.new }
+    ensures course_moves { (first : Point) (later : List Incident) → IsCourse first (Looked (point_of snapshot.now point.now) ∷ later) → IsAfter snapshot.now.algorithm first later alarm.old →
+        moves_in result ≡ moves_at snapshot.now.algorithm first (Looked (point_of snapshot.now point.now) ∷ later) }
+{
+    let mut steps = Steps::<L>::new(blank);
+    evaluate(alarm, snapshot, point, &mut steps)
+}
+
 impl Watch {
     /// The object at its first point, with its first value.
-    pub fn start(alloc: Global, settings: Settings) -> Result<Watch, NoMemory>
-        ensures settings { IfOk result (λ watch. watch.settings ≡ settings) }
-        ensures first { IfOk result (λ watch. HasSeen (first_point settings) [] watch) }
+    pub fn start(settings: Settings) -> Watch
+        ensures settings { result.settings ≡ settings }
+        ensures first { HasSeen (first_point settings) [] result }
     {
-        let alarm = Alarm::new();
-        let mut past = Past::new(alloc);
-        past.reserve()?;
+        let mut alarm = Alarm::new();
         let value = Value::Signed(settings.low);
         let point = point_facts(FIRST_MOMENT);
-        begin(&alarm, &mut past, &settings.snapshot(&value), &point);
-        Ok(Watch {
+        begin(&mut alarm, &settings.snapshot(&value), &point);
+        Watch {
             settings,
             moment: FIRST_MOMENT,
             value: settings.low,
             alarm,
-            past,
-        })
+        }
     }
 
     /// When the object was last looked at, in milliseconds since 1970.
     pub fn moment(&self) -> u64
         ensures moment { result ≡ self.now.moment }
+        ensures range { IsMoment result }
     {
         self.moment
     }
@@ -93,22 +123,23 @@ impl Watch {
         self.value
     }
 
-    /// Looks once more, at a moment and with a value, and gives the moves of the object. Want of memory leaves all as it
-    /// was.
-    pub fn look(&mut self, moment: u64, value: i32) -> Result<Changed, NoMemory>
+    /// Looks once more, with a value, at a moment that isn't before the last one, and gives the moves of the object. Memory
+    /// is not asked for.
+    pub fn look(&mut self, moment: u64, value: i32) -> Changed
+        requires range { IsMoment moment }
+        requires not_before { self.old.moment ≤ moment }
         ensures settings { self.new.settings ≡ self.old.settings }
+        ensures moment { self.new.moment ≡ moment }
         ensures seen { (first : Point) (later : List Incident) → HasSeen first later self.old →
-            OnOk result (HasSeen first (Looked (point_at self.old.settings moment (Signed value)) ∷ later) self.new) }
+            HasSeen first (Looked (point_at self.old.settings moment (Signed value)) ∷ later) self.new }
         ensures moves { (first : Point) (later : List Incident) → HasSeen first later self.old →
-            IfOk result (λ changed. moves_in changed ≡ moves_at SignedOutOfRange first (Looked (point_at self.old.settings moment (Signed value)) ∷ later)) }
-        ensures err { OnErr result (self.new ≡ self.old) }
+            moves_in result ≡ moves_at SignedOutOfRange first (Looked (point_at self.old.settings moment (Signed value)) ∷ later) }
     {
-        self.past.reserve()?;
         self.moment = moment;
         self.value = value;
         let seen = Value::Signed(value);
         let snapshot = self.settings.snapshot(&seen);
         let point = point_facts(moment);
-        Ok(look(&mut self.alarm, &mut self.past, &snapshot, &point))
+        counted::<Brand>(&mut self.alarm, &snapshot, &point, Blank::new(1))
     }
 }

@@ -41,7 +41,7 @@ unconfirmed_event_notification_service = 3
 abbrev pub who_is_service : ℕ
 who_is_service = 8
 
--- ---- what a device on BACnet/IP takes: the longest APDU, in octets, and no segments (BACnetSegmentation)
+-- ---- what a device on BACnet/IP takes: the longest APDU, in octets, which fits a frame of Ethernet with its headers (20.1.2.5), and no segments (BACnetSegmentation)
 
 abbrev pub longest_apdu : ℕ
 longest_apdu = 1476

@@ -21,6 +21,7 @@ mod note;
 mod numbers;
 mod object_id;
 mod object_kind;
+mod parts;
 mod pdu_type;
 mod peer;
 mod peer_list;
@@ -56,6 +57,7 @@ pub use numbers::{
 };
 pub use object_id::{InstanceRange, ObjectId};
 pub use object_kind::ObjectKind;
+pub use parts::part_count;
 pub use pdu_type::PduType;
 pub use peer::Peer;
 pub use peer_list::{PeerList, is_among};

@@ -3,10 +3,6 @@ use Rattle.std.specs.Prelude.{ℕ, ◌+◌, Bool, List, [], ◌∷◌, ◌++◌,
 use Rattle.std.specs.Int.{bytes_high_first}
 use Rattle.bac_values.specs.Address.{Address}
 
--- 20.1.2.5: the longest APDU, which fits a frame of Ethernet with the headers of BACnet/IP
-abbrev pub most_octets_of_apdu : ℕ
-most_octets_of_apdu = 1476
-
 -- 6.2.2: bit 5 where a destination is named, bit 2 where a reply is expected
 abbrev pub written_control : Address → Bool → ℕ
 written_control peer expects_reply = (if peer.net == 0 then 0x00 else 0x20) + (if expects_reply then 0x04 else 0x00)

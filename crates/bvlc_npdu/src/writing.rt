@@ -1,7 +1,8 @@
 ghost use Rattle.std.specs.Prelude.{◌≡◌, ◌+◌, ◌≤◌, ◌<◌, ◌++◌, length, IfOk, OnOk};
 ghost use Rattle.bac_values.specs.Address.{Address};
+ghost use Rattle.bac_values.specs.Services.{longest_apdu};
 ghost use Rattle.bvlc_npdu.specs.Frame.{IsFrame};
-ghost use Rattle.bvlc_npdu.specs.Writing.{most_octets_of_apdu, written_control, written_destination, written_frame};
+ghost use Rattle.bvlc_npdu.specs.Writing.{written_control, written_destination, written_frame};
 
 use crate::layout::{
     BVLL_OF_IP, EXPECTS_REPLY, HAS_DESTINATION, HOP_COUNT, ORIGINAL_UNICAST, VERSION,
@@ -47,7 +48,7 @@ fn destination_len(peer: &Peer) -> usize
 
 /// How many octets the frame takes that carries an APDU to a peer.
 fn frame_len(peer: &Peer, apdu: &[u8]) -> u16
-    requires short { length apdu.now ≤ most_octets_of_apdu }
+    requires short { length apdu.now ≤ longest_apdu }
     ensures { result ≡ 6 + length (written_destination peer.now) + length apdu.now }
 {
     (6 + destination_len(peer) + apdu.len()) as u16
@@ -60,7 +61,7 @@ pub fn wrap(
     expects_reply: bool,
     apdu: &[u8],
 ) -> Result<Vec<u8>, NoMemory>
-    requires { length apdu.now ≤ most_octets_of_apdu }
+    requires { length apdu.now ≤ longest_apdu }
     ensures text { IfOk result (λ octets. octets.items ≡ written_frame peer.now expects_reply apdu.now) }
 
     // To a peer of the local network it is a frame with this APDU, from whoever sends it.

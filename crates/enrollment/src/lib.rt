@@ -5,6 +5,7 @@
 //! the enrollments that refer to an object are found in an index.
 #![tactic(auto)]
 
+mod copying;
 mod enrollment_property;
 mod enrollment_site;
 mod enrollments;
@@ -15,6 +16,7 @@ mod settings;
 mod snapshots;
 mod verdicts;
 
+pub use copying::copy_of_enrollments;
 pub use enrollment_property::EnrollmentProperty;
 pub use enrollment_site::EnrollmentSite;
 pub use enrollments::Enrollments;

@@ -6,10 +6,12 @@
 mod event_log;
 mod log_range;
 mod log_record;
+mod log_site;
 mod numbers;
 mod order;
 
 pub use event_log::EventLog;
 pub use log_range::LogRange;
 pub use log_record::LogRecord;
+pub use log_site::{LogSite, copy_of_log, copy_of_logs};
 pub use numbers::number_back;

@@ -1,6 +1,10 @@
-pub mod Lasting
-pub mod Keeping
 pub mod HeldTest
 pub mod Since
 pub mod RunStarts
+pub mod Ranges
+pub mod Courses
+pub mod GoingOn
+pub mod Lasting
+pub mod Keeping
 pub mod Resting
+pub mod Dues

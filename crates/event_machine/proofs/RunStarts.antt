@@ -8,8 +8,8 @@ use Rattle.event_machine.specs.Points.{Point}
 use Rattle.event_machine.specs.Held.{key_in_detection, is_key, run_of, reaches_back, is_held_by, is_held}
 use Rattle.event_machine.specs.Detection.{Detection}
 use Rattle.event_machine.specs.Since.{entry_of, detection_tried}
-use Rattle.event_machine.specs.Runs.{earliest, run_with, run_start_of}
-use Rattle.event_machine.specs.Laws.{has_gone_on, RunStartTellsHeld}
+use Rattle.event_machine.specs.Runs.{earliest, run_with, run_start_of, has_gone_on}
+use Rattle.event_machine.specs.Laws.{RunStartTellsHeld}
 use Rattle.event_machine.proofs.Since.{DescendsFrom, IsTried, tried}
 
 start_le : (m : ℕ) (ps : List Point) → DescendsFrom m ps → earliest m ps ≤ m
@@ -49,7 +49,8 @@ held_by rule d (Some key) has down =
     ap (reaches_back wait d.newest.moment) (run_newest rule d.cause key d.newest d.older has)
     ∙ reaches_back-start wait d.newest.moment d.newest (run_of rule d.cause key d.older) (descends_run rule d.cause key d.newest.moment d.older down)
 
-tells : (rule : Rule) (entry point : Point) (d : Detection) → IsTried entry point d → point.inhibited ≡ false → is_held rule d.cause d.newest d.older ≡ has_gone_on rule d.newest (run_start_of rule d)
+-- a rule is held at a point, at which the object isn't inhibited, where its run has gone on for its delay
+pub tells : (rule : Rule) (entry point : Point) (d : Detection) → IsTried entry point d → point.inhibited ≡ false → is_held rule d.cause d.newest d.older ≡ has_gone_on rule d.newest (run_start_of rule d)
 tells rule entry point d t free =
     let key = key_in_detection rule d.newest.facts d.cause in
     let not_inhibited = ap (λ (p : Point). p.inhibited) t.newest ∙ free in

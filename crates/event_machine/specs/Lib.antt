@@ -2,11 +2,12 @@ pub mod Points
 pub mod Held
 pub mod Detection
 pub mod AlarmRecord
-pub mod Summary
 pub mod Since
 pub mod Runs
+pub mod Summary
 pub mod Next
 pub mod Laws
 pub mod Given
 pub mod Rest
+pub mod Due
 pub mod Finding

@@ -1,6 +1,6 @@
--- What one look, or one acknowledgement, makes of what is kept of an object, without looking back over its course.
-use Rattle.std.specs.Prelude.{ℕ, ◌+◌, ◌*◌, nat_le, Bool, true, false, not, if◌then◌else◌, Option, Some, None, List, [], ◌∷◌, ◌++◌, slice_get, slice_index_or, slice_set, replicate}
-use Rattle.std.specs.List.{list_any, take_while}
+-- What one look, or one acknowledgement, makes of the alarm of an object, without looking back over its course.
+use Rattle.std.specs.Prelude.{ℕ, ◌==◌, Bool, true, false, not, if◌then◌else◌, Option, Some, None, List, [], ◌∷◌, ◌++◌, map, slice_get, slice_index_or, slice_set, replicate}
+use Rattle.std.specs.Option.{option_and_then}
 use Rattle.bac_values.specs.declared.event_state.EventState.{EventState}
 use Rattle.bac_values.specs.declared.event_state.EventState.TheVariants.{Normal}
 use Rattle.bac_values.specs.declared.reliability.Reliability.TheVariants.{NoFaultDetected}
@@ -10,32 +10,27 @@ use Rattle.algorithm_rules.specs.declared.table.Algorithm.{Algorithm}
 use Rattle.algorithm_rules.specs.declared.table.Rule.{Rule}
 use Rattle.algorithm_rules.specs.Facts.{Facts}
 use Rattle.algorithm_rules.specs.Rules.{rules_of}
-use Rattle.algorithm_rules.specs.Conditions.{delay_of}
 use Rattle.event_machine.specs.declared.moves.Move.{Move}
-use Rattle.event_machine.specs.declared.seen.Seen.{Seen}
+use Rattle.event_machine.specs.declared.run.Run.{Run}
 use Rattle.event_machine.specs.Points.{Point}
-use Rattle.event_machine.specs.Held.{is_key}
+use Rattle.event_machine.specs.Held.{key_in_detection}
 use Rattle.event_machine.specs.Detection.{is_fault, is_normal, cause_on, fault_target}
 use Rattle.event_machine.specs.AlarmRecord.{never, wants_ack}
-use Rattle.event_machine.specs.Summary.{AlarmState, seen_at}
+use Rattle.event_machine.specs.Runs.{places, has_gone_on}
+use Rattle.event_machine.specs.Summary.{AlarmState}
 
--- an alarm, and the points since its state was entered, the newest first
-pub record Kept : Type 0 where
-  pub alarm : AlarmState
-  pub points : List Seen
-
--- what is kept, and the moves that led to it, the earliest first
+-- an alarm, and the moves that led to it, the earliest first
 pub record Change : Type 0 where
-  pub kept : Kept
+  pub alarm : AlarmState
   pub moves : List Move
-
-abbrev pub kept_as : AlarmState → List Seen → Kept
-kept_as alarm points = record { alarm = alarm; points = points }
 
 abbrev pub set_at : {X : Type 0} → Transition → X → List X → List X
 set_at transition x xs = slice_set xs (place_of_transition transition) x
 
--- the alarm of an object that never moved
+abbrev pub no_runs : List (Option Run)
+no_runs = replicate 3 None
+
+-- the alarm of an object that was never looked at
 abbrev pub new_alarm : AlarmState
 new_alarm = record {
   state = Normal;
@@ -44,97 +39,111 @@ new_alarm = record {
   last_states = replicate 3 None;
   cause = None;
   last_reliability = NoFaultDetected;
+  runs = no_runs;
 }
 
 abbrev pub acknowledged : Transition → AlarmState → AlarmState
 acknowledged transition alarm = record alarm { acked = set_at transition true alarm.acked }
 
+-- the key of the rule at a place among those of a state, if there is one
+abbrev pub key_at : Algorithm → EventState → Option ℕ → Facts → ℕ → Option ℕ
+key_at algorithm state cause facts place = option_and_then (λ rule. key_in_detection rule facts cause) (slice_get (rules_of algorithm state) place)
+
+-- where the run of a key starts: where the one before does if it has this key, else at this moment
+abbrev pub start_with : ℕ → ℕ → Option Run → ℕ
+start_with moment key None = moment
+start_with moment key (Some run) = if run.key == key then run.start else moment
+
+abbrev pub run_onward : ℕ → Option ℕ → Option Run → Option Run
+run_onward moment None run = None
+run_onward moment (Some key) run = Some (record { start = start_with moment key run; key = key })
+
+-- The run of a rule at one more point: none where the object is inhibited or the rule has no key, the one before where it has the same key, else one that starts at the point.
+abbrev pub next_run : Point → Option ℕ → Option Run → Option Run
+next_run point key run = if point.inhibited then None else run_onward point.moment key run
+
+-- the runs of a state's rules at one more point, from those before it
+abbrev pub next_runs : Algorithm → Point → EventState → Option ℕ → List (Option Run) → List (Option Run)
+next_runs algorithm point state cause runs = map (λ place. next_run point (key_at algorithm state cause point.facts place) (slice_index_or runs place None)) places
+
+-- an alarm whose runs go on to a point
+abbrev pub goes_on : Algorithm → Point → AlarmState → AlarmState
+goes_on algorithm point alarm = record alarm { runs = next_runs algorithm point alarm.state alarm.cause alarm.runs }
+
+-- an alarm whose runs begin at a point
+abbrev pub begins : Algorithm → Point → AlarmState → AlarmState
+begins algorithm point alarm = record alarm { runs = next_runs algorithm point alarm.state alarm.cause no_runs }
+
+-- the alarm of an object after its first point, at which nothing moves
+abbrev pub begun : Algorithm → Point → AlarmState
+begun algorithm first = begins algorithm first new_alarm
+
 -- the alarm as its state is entered at a point
-abbrev pub entered : Point → EventState → AlarmState → AlarmState
-entered point to alarm = record alarm {
+abbrev pub entered : Algorithm → Point → EventState → AlarmState → AlarmState
+entered algorithm point to alarm = begins algorithm point (record alarm {
   state = to;
   acked = set_at (transition_to to) (not (wants_ack (transition_to to) point)) alarm.acked;
   stamps = set_at (transition_to to) point.stamp alarm.stamps;
   last_states = set_at (transition_to to) (Some to) alarm.last_states;
   cause = cause_on to point.facts alarm.cause;
+})
+
+abbrev pub stays : AlarmState → Change
+stays alarm = record { alarm = alarm; moves = [] }
+
+abbrev pub enters : Algorithm → Point → EventState → Bool → AlarmState → Change
+enters algorithm point to by_fault alarm = record {
+  alarm = entered algorithm point to alarm;
+  moves = record { from = alarm.state; to = to; by_fault = by_fault } ∷ [];
 }
 
--- a point as it is kept for an alarm
-abbrev pub seen_by : Algorithm → Point → AlarmState → Seen
-seen_by algorithm point alarm = seen_at algorithm alarm.state alarm.cause point
+abbrev pub fault_by : Option EventState → Algorithm → Point → AlarmState → Change
+fault_by None algorithm point alarm = stays (goes_on algorithm point alarm)
+fault_by (Some to) algorithm point alarm = enters algorithm point to true alarm
 
-abbrev pub stays : Kept → Change
-stays kept = record { kept = kept; moves = [] }
+abbrev pub relied_on : Point → AlarmState → AlarmState
+relied_on point alarm = record alarm { last_reliability = point.reliability }
 
-abbrev pub enters : Algorithm → Point → EventState → Bool → Kept → Change
-enters algorithm point to by_fault kept = record {
-  kept = kept_as (entered point to kept.alarm) (seen_by algorithm point (entered point to kept.alarm) ∷ []);
-  moves = record { from = kept.alarm.state; to = to; by_fault = by_fault } ∷ [];
-}
+-- first: a fault comes, changes or ends, or the runs go on
+abbrev pub fault_change : Algorithm → Point → AlarmState → Change
+fault_change algorithm point alarm =
+    fault_by (fault_target point.reliability alarm.last_reliability alarm.state) algorithm point (relied_on point alarm)
 
-abbrev pub fault_by : Option EventState → Algorithm → Point → Kept → Change
-fault_by None algorithm point kept = stays (record kept { points = seen_by algorithm point kept.alarm ∷ kept.points })
-fault_by (Some to) algorithm point kept = enters algorithm point to true kept
+-- second: an inhibited object, whose rules have no runs, returns to NORMAL
+abbrev pub inhibited_change : Algorithm → Point → AlarmState → Change
+inhibited_change algorithm point alarm = if is_normal alarm.state then stays alarm else enters algorithm point Normal false alarm
 
-abbrev pub relied_on : Point → Kept → Kept
-relied_on point kept = record kept { alarm = record kept.alarm { last_reliability = point.reliability } }
+abbrev pub lasting : Point → Option Rule → Option Run → Option Rule
+lasting point None run = None
+lasting point (Some rule) run = if has_gone_on rule point run then Some rule else None
 
-abbrev pub fault_change : Algorithm → Point → Kept → Change
-fault_change algorithm point kept =
-    fault_by (fault_target point.reliability kept.alarm.last_reliability kept.alarm.state) algorithm point (relied_on point kept)
-
-abbrev pub inhibited_change : Algorithm → Point → Kept → Change
-inhibited_change algorithm point kept =
-    if is_normal kept.alarm.state then stays (record kept { points = seen_by algorithm point kept.alarm ∷ [] })
-    else enters algorithm point Normal false kept
-
--- the key of the rule at a place, at a kept point
-abbrev pub key_seen : ℕ → Seen → Option ℕ
-key_seen place seen = slice_index_or seen.keys place None
-
--- the points, from the newest back, at which the rule at a place has a key without a break
-abbrev pub run_seen : ℕ → ℕ → List Seen → List Seen
-run_seen place key points = take_while (λ seen. is_key key (key_seen place seen)) points
-
-abbrev pub lasted_by : ℕ → ℕ → ℕ → List Seen → Option ℕ → Bool
-lasted_by wait place moment points None = false
-lasted_by wait place moment points (Some key) = list_any (λ seen. nat_le (seen.moment + wait) moment) (run_seen place key points)
-
--- whether the rule at a place has had the key of the newest point for so many milliseconds
-abbrev pub has_lasted : ℕ → ℕ → List Seen → Bool
-has_lasted wait place [] = false
-has_lasted wait place (newest ∷ older) = lasted_by wait place newest.moment (newest ∷ older) (key_seen place newest)
-
-abbrev pub lasting : Option Rule → Facts → ℕ → List Seen → Option Rule
-lasting None facts place points = None
-lasting (Some rule) facts place points = if has_lasted (1000 * delay_of rule facts) place points then Some rule else None
-
--- the rule at a place of an algorithm, where it is held
-abbrev pub lasting_at : Algorithm → Facts → EventState → List Seen → ℕ → Option Rule
-lasting_at algorithm facts state points place = lasting (slice_get (rules_of algorithm state) place) facts place points
+-- the rule at a place of a state, where its run has gone on for its delay
+abbrev pub lasting_at : Algorithm → Point → EventState → List (Option Run) → ℕ → Option Rule
+lasting_at algorithm point state runs place = lasting point (slice_get (rules_of algorithm state) place) (slice_index_or runs place None)
 
 abbrev pub or_else : Option Rule → Option Rule → Option Rule
 or_else None other = other
 or_else (Some rule) other = Some rule
 
--- the first rule that is held
-abbrev pub rule_lasting : Algorithm → Facts → EventState → List Seen → Option Rule
-rule_lasting algorithm facts state points =
-    or_else (lasting_at algorithm facts state points 0) (or_else (lasting_at algorithm facts state points 1) (lasting_at algorithm facts state points 2))
+-- the first rule whose run has gone on for its delay
+abbrev pub rule_lasting : Algorithm → Point → EventState → List (Option Run) → Option Rule
+rule_lasting algorithm point state runs =
+    or_else (lasting_at algorithm point state runs 0) (or_else (lasting_at algorithm point state runs 1) (lasting_at algorithm point state runs 2))
 
-abbrev pub rule_by : Option Rule → Algorithm → Point → Kept → Change
-rule_by None algorithm point kept = stays kept
-rule_by (Some rule) algorithm point kept = enters algorithm point rule.target false kept
+abbrev pub rule_by : Option Rule → Algorithm → Point → AlarmState → Change
+rule_by None algorithm point alarm = stays alarm
+rule_by (Some rule) algorithm point alarm = enters algorithm point rule.target false alarm
 
-abbrev pub later_change : Algorithm → Point → Kept → Change
-later_change algorithm point kept =
-    if is_fault kept.alarm.state then stays kept
-    else (if point.inhibited then inhibited_change algorithm point kept
-    else rule_by (rule_lasting algorithm point.facts kept.alarm.state kept.points) algorithm point kept)
+-- behind the fault step: nothing in FAULT, else the inhibition, else the rules
+abbrev pub later_change : Algorithm → Point → AlarmState → Change
+later_change algorithm point alarm =
+    if is_fault alarm.state then stays alarm
+    else (if point.inhibited then inhibited_change algorithm point alarm
+    else rule_by (rule_lasting algorithm point alarm.state alarm.runs) algorithm point alarm)
 
-abbrev pub and_then : Change → (Kept → Change) → Change
-and_then first next = record { kept = (next first.kept).kept; moves = first.moves ++ (next first.kept).moves }
+abbrev pub and_then : Change → (AlarmState → Change) → Change
+and_then first next = record { alarm = (next first.alarm).alarm; moves = first.moves ++ (next first.alarm).moves }
 
 -- one more look
-abbrev pub next_look : Algorithm → Point → Kept → Change
-next_look algorithm point kept = and_then (fault_change algorithm point kept) (later_change algorithm point)
+abbrev pub next_look : Algorithm → Point → AlarmState → Change
+next_look algorithm point alarm = and_then (fault_change algorithm point alarm) (later_change algorithm point)

@@ -1,5 +1,5 @@
 -- The points at which an object is looked at, and what happens to it over time (ANSI/ASHRAE 135-2020, 13.2.2).
-use Rattle.std.specs.Prelude.{ℕ, ◌≤◌, Bool, List, [], ◌∷◌}
+use Rattle.std.specs.Prelude.{◌≡◌, ℕ, ◌≤◌, Bool, true, false, List, [], ◌∷◌}
 use Rattle.bac_values.specs.declared.stamp.Stamp.{Stamp}
 use Rattle.bac_values.specs.declared.reliability.Reliability.{Reliability}
 use Rattle.bac_values.specs.declared.transition.Transition.{Transition}
@@ -32,3 +32,14 @@ abbrev pub NeverFalls : Point → List Incident → Type 0
 NeverFalls first [] = Unit {0}
 NeverFalls first (Looked point ∷ older) = ((newest_of first older).moment ≤ point.moment) × NeverFalls first older
 NeverFalls first (Acknowledged transition ∷ older) = NeverFalls first older
+
+-- A point follows the newest one of a course: it isn't before it, and where the object is inhibited at the newest one and not at this, both have one moment.
+pub record Follows (newest point : Point) : Type 0 where
+  pub not_before : newest.moment ≤ point.moment
+  pub at_once : newest.inhibited ≡ true → point.inhibited ≡ false → newest.moment ≡ point.moment
+
+-- each point of a course follows the newest of those before it
+abbrev pub IsCourse : Point → List Incident → Type 0
+IsCourse first [] = Unit {0}
+IsCourse first (Looked point ∷ older) = Follows (newest_of first older) point × IsCourse first older
+IsCourse first (Acknowledged transition ∷ older) = IsCourse first older

@@ -1,11 +1,8 @@
-ghost use Rattle.std.specs.Prelude.{◌≡◌, ◌≤◌, ◌<◌, length, slice_get};
+ghost use Rattle.std.specs.Prelude.{◌≡◌, ◌≤◌, length};
 ghost use Rattle.algorithm_rules.specs.Facts.{facts_of};
-ghost use Rattle.event_machine.specs.Given.{point_of};
 ghost use Rattle.event_machine.specs.Held.{key_in_detection, other_than};
-ghost use Rattle.event_machine.specs.Next.{seen_by};
-ghost use Rattle.event_machine.specs.Summary.{key_at};
+ghost use Rattle.event_machine.specs.Next.{key_at};
 
-use crate::{Alarm, PointFacts, Seen};
 use algorithm_rules::{Rule, Snapshot, Test, key, rule};
 use bac_values::EventState;
 
@@ -30,27 +27,16 @@ fn key_in_detection(rule: &Rule, snapshot: &Snapshot<'_>, cause: Option<u32>) ->
     }
 }
 
-fn key_at(snapshot: &Snapshot<'_>, state: EventState, cause: Option<u32>, place: u8) -> Option<u32>
+/// The key of the rule at a place of a state, in which the object is by a cause.
+pub(crate) fn key_at(
+    snapshot: &Snapshot<'_>,
+    state: EventState,
+    cause: Option<u32>,
+    place: u8,
+) -> Option<u32>
     requires few { length snapshot.now.alarm_values.now ≤ 32 }
     ensures key { result ≡ key_at snapshot.now.algorithm state cause (facts_of snapshot.now) place }
 {
     let rule = rule(snapshot.algorithm, state, place)?;
     key_in_detection(&rule, snapshot, cause)
-}
-
-/// The point as it is kept for an alarm.
-pub(crate) fn seen_by(snapshot: &Snapshot<'_>, point: &PointFacts, alarm: &Alarm) -> Seen
-    requires few { length snapshot.now.alarm_values.now ≤ 32 }
-    ensures seen { result ≡ seen_by snapshot.now.algorithm (point_of snapshot.now point.now) alarm.now }
-{
-    let state = alarm.state();
-    let cause = alarm.cause();
-    Seen {
-        moment: point.moment,
-        keys: [
-            key_at(snapshot, state, cause, 0),
-            key_at(snapshot, state, cause, 1),
-            key_at(snapshot, state, cause, 2),
-        ],
-    }
 }

@@ -1,9 +1,10 @@
-ghost use Rattle.event_machine.specs.Laws.{KeepsCourse, RunStartTellsHeld, TellsHeld};
+ghost use Rattle.event_machine.specs.Laws.{KeepsCourse, RunStartTellsHeld, RunsGoOn, TellsHeld};
 ghost use Rattle.event_machine.specs.Since.{HoldsSinceEntry, KeepsPointsSince};
 
-/// What is kept of an object is what looking back over its course gives.
+/// The alarm that goes on from look to look is what looking back over the course gives, and so are the runs in it.
 pub fn keeps_course()
     ensures course { KeepsCourse }
+    ensures runs { RunsGoOn }
 {}
 
 /// The test of a rule says whether it is held. No point before the object entered its state, or before it was last seen

@@ -2,27 +2,32 @@
 //! point, and what is kept of the points before.
 //!
 //! What is meant is said by looking back over the whole course of the object, its points and acknowledgements. What the
-//! program keeps of it is its alarm and, of the points since it entered its state, the keys of the state's rules.
+//! program keeps of it is its alarm. In it stands, of each rule of the object's state, since when its condition has held.
 #![tactic(auto)]
 
 mod alarm;
+mod due;
 mod found;
 mod held;
 mod keys;
 mod laws;
 mod machine;
 mod moves;
-mod past;
+mod parts;
 mod point;
 mod rest;
-mod seen;
+mod run;
+mod running;
+mod steps;
 
 pub use alarm::Alarm;
+pub use due::next_due;
 pub use found::Found;
 pub use laws::{holds_since_entry, keeps_course};
-pub use machine::{begin, look};
+pub use machine::{begin, evaluate};
 pub use moves::{Changed, Move};
-pub use past::Past;
+pub use parts::AlarmParts;
 pub use point::PointFacts;
 pub use rest::is_still;
-pub use seen::Seen;
+pub use run::Run;
+pub use steps::Steps;

@@ -1,48 +1,42 @@
-ghost use Rattle.std.specs.Prelude.{◌≡◌, ◌≤◌, ◌+◌, ◌∷◌, [], List, length};
+ghost use Rattle.std.specs.Prelude.{◌≡◌, ◌≤◌, ◌∷◌, [], List, length, suc};
 ghost use Rattle.std.specs.Option.{option_to_list};
-ghost use Rattle.algorithm_rules.specs.Facts.{facts_of};
+ghost use Rattle.bac_values.specs.Moments.{IsMoment};
 ghost use Rattle.event_machine.specs.Detection.{fault_target, moves_at};
 ghost use Rattle.event_machine.specs.Given.{moves_in, point_of};
-ghost use Rattle.event_machine.specs.Next.{enters, fault_change, inhibited_change, kept_as, later_change, new_alarm, next_look, seen_by};
-ghost use Rattle.event_machine.specs.Points.{Incident, Looked, Point};
-ghost use Rattle.event_machine.specs.Summary.{IsAfter, room_in};
+ghost use Rattle.event_machine.specs.Next.{begins, enters, fault_change, inhibited_change, later_change, new_alarm, next_look};
+ghost use Rattle.event_machine.specs.Points.{Incident, IsCourse, Looked, Point};
+ghost use Rattle.event_machine.specs.Summary.{IsAfter};
 
 use crate::held::rule_lasting;
-use crate::keys::seen_by;
-use crate::{Alarm, Changed, Move, Past, PointFacts};
+use crate::{Alarm, Changed, Move, PointFacts, Steps};
 use algorithm_rules::Snapshot;
 use bac_values::{EventState, Reliability};
+use std::sync::ledger::Ledger;
 
-/// The first point of an object, at which nothing moves. Memory is not asked for.
-pub fn begin(alarm: &Alarm, past: &mut Past, snapshot: &Snapshot<'_>, point: &PointFacts)
+/// The first point of an object, at which nothing moves: the runs of its rules begin. Memory is not asked for.
+pub fn begin(alarm: &mut Alarm, snapshot: &Snapshot<'_>, point: &PointFacts)
     requires few { length snapshot.now.alarm_values.now ≤ 32 }
-    requires nothing { past.old.points ≡ [] }
-    requires room { 1 ≤ past.old.spare }
-    ensures point { past.new.points ≡ seen_by snapshot.now.algorithm (point_of snapshot.now point.now) alarm.now ∷ [] }
-    ensures room { past.old.spare ≤ past.new.spare + 1 }
-    ensures course { alarm.now ≡ new_alarm → IsAfter snapshot.now.algorithm (point_of snapshot.now point.now) [] alarm.now past.new.points }
+    requires moment { IsMoment point.now.moment }
+    ensures begun { alarm.new ≡ begins snapshot.now.algorithm (point_of snapshot.now point.now) alarm.old }
+    ensures course { alarm.old ≡ new_alarm → IsAfter snapshot.now.algorithm (point_of snapshot.now point.now) [] alarm.new }
 {
-    past.add(seen_by(snapshot, point, alarm));
+    alarm.begin_runs(snapshot, point);
 }
 
 fn enter(
     alarm: &mut Alarm,
-    past: &mut Past,
     snapshot: &Snapshot<'_>,
     point: &PointFacts,
     to: EventState,
     by_fault: bool,
 ) -> Move
     requires few { length snapshot.now.alarm_values.now ≤ 32 }
-    requires room { 1 ≤ room_in past.old }
-    ensures kept { kept_as alarm.new past.new.points ≡ (enters snapshot.now.algorithm (point_of snapshot.now point.now) to by_fault (kept_as alarm.old past.old.points)).kept }
-    ensures moves { result ∷ [] ≡ (enters snapshot.now.algorithm (point_of snapshot.now point.now) to by_fault (kept_as alarm.old past.old.points)).moves }
-    ensures room { room_in past.old ≤ past.new.spare + 1 }
+    requires moment { IsMoment point.now.moment }
+    ensures alarm { alarm.new ≡ (enters snapshot.now.algorithm (point_of snapshot.now point.now) to by_fault alarm.old).alarm }
+    ensures moves { result ∷ [] ≡ (enters snapshot.now.algorithm (point_of snapshot.now point.now) to by_fault alarm.old).moves }
 {
     let from = alarm.state();
     alarm.enter(to, snapshot, point);
-    let seen = seen_by(snapshot, point, alarm);
-    past.restart(seen);
     Move { from, to, by_fault }
 }
 
@@ -68,92 +62,73 @@ pub(crate) fn fault_target(
     }
 }
 
-// The object is seen at the point, and a fault comes, changes or ends.
-fn fault_change(
-    alarm: &mut Alarm,
-    past: &mut Past,
-    snapshot: &Snapshot<'_>,
-    point: &PointFacts,
-) -> Option<Move>
+// The object is seen at the point, and a fault comes, changes or ends, or the runs go on.
+fn fault_change(alarm: &mut Alarm, snapshot: &Snapshot<'_>, point: &PointFacts) -> Option<Move>
     requires few { length snapshot.now.alarm_values.now ≤ 32 }
-    requires room { 1 ≤ past.old.spare }
-    ensures kept { kept_as alarm.new past.new.points ≡ (fault_change snapshot.now.algorithm (point_of snapshot.now point.now) (kept_as alarm.old past.old.points)).kept }
-    ensures moves { option_to_list result ≡ (fault_change snapshot.now.algorithm (point_of snapshot.now point.now) (kept_as alarm.old past.old.points)).moves }
-    ensures some { 1 ≤ length past.new.points }
-    ensures room { past.old.spare ≤ past.new.spare + 1 }
+    requires moment { IsMoment point.now.moment }
+    ensures alarm { alarm.new ≡ (fault_change snapshot.now.algorithm (point_of snapshot.now point.now) alarm.old).alarm }
+    ensures moves { option_to_list result ≡ (fault_change snapshot.now.algorithm (point_of snapshot.now point.now) alarm.old).moves }
 {
     let target = fault_target(point.reliability, alarm.last_reliability(), alarm.state());
     alarm.rely_on(point.reliability);
     let Some(to) = target else {
-        past.add(seen_by(snapshot, point, alarm));
+        alarm.go_on(snapshot, point);
         return None;
     };
-    Some(enter(alarm, past, snapshot, point, to, true))
+    Some(enter(alarm, snapshot, point, to, true))
 }
 
-// An inhibited object returns to NORMAL, and no point before this one counts any more.
-fn inhibited_change(
-    alarm: &mut Alarm,
-    past: &mut Past,
-    snapshot: &Snapshot<'_>,
-    point: &PointFacts,
-) -> Option<Move>
+// An inhibited object returns to NORMAL. Its rules have no runs there.
+fn inhibited_change(alarm: &mut Alarm, snapshot: &Snapshot<'_>, point: &PointFacts) -> Option<Move>
     requires few { length snapshot.now.alarm_values.now ≤ 32 }
-    requires room { 1 ≤ room_in past.old }
-    ensures kept { kept_as alarm.new past.new.points ≡ (inhibited_change snapshot.now.algorithm (point_of snapshot.now point.now) (kept_as alarm.old past.old.points)).kept }
-    ensures moves { option_to_list result ≡ (inhibited_change snapshot.now.algorithm (point_of snapshot.now point.now) (kept_as alarm.old past.old.points)).moves }
-    ensures room { room_in past.old ≤ past.new.spare + 1 }
+    requires moment { IsMoment point.now.moment }
+    ensures alarm { alarm.new ≡ (inhibited_change snapshot.now.algorithm (point_of snapshot.now point.now) alarm.old).alarm }
+    ensures moves { option_to_list result ≡ (inhibited_change snapshot.now.algorithm (point_of snapshot.now point.now) alarm.old).moves }
 {
     if alarm.state() == EventState::Normal {
-        past.restart(seen_by(snapshot, point, alarm));
         return None;
     }
-    Some(enter(alarm, past, snapshot, point, EventState::Normal, false))
+    Some(enter(alarm, snapshot, point, EventState::Normal, false))
 }
 
 // What comes behind the fault step: nothing in FAULT, else the inhibition, else the first rule that is held.
-fn later_change(
-    alarm: &mut Alarm,
-    past: &mut Past,
-    snapshot: &Snapshot<'_>,
-    point: &PointFacts,
-) -> Option<Move>
+fn later_change(alarm: &mut Alarm, snapshot: &Snapshot<'_>, point: &PointFacts) -> Option<Move>
     requires few { length snapshot.now.alarm_values.now ≤ 32 }
-    requires some { 1 ≤ length past.old.points }
-    ensures kept { kept_as alarm.new past.new.points ≡ (later_change snapshot.now.algorithm (point_of snapshot.now point.now) (kept_as alarm.old past.old.points)).kept }
-    ensures moves { option_to_list result ≡ (later_change snapshot.now.algorithm (point_of snapshot.now point.now) (kept_as alarm.old past.old.points)).moves }
-    ensures room { past.old.spare ≤ past.new.spare }
+    requires moment { IsMoment point.now.moment }
+    ensures alarm { alarm.new ≡ (later_change snapshot.now.algorithm (point_of snapshot.now point.now) alarm.old).alarm }
+    ensures moves { option_to_list result ≡ (later_change snapshot.now.algorithm (point_of snapshot.now point.now) alarm.old).moves }
 {
     if alarm.state() == EventState::Fault {
         return None;
     }
     if point.inhibited {
-        return inhibited_change(alarm, past, snapshot, point);
+        return inhibited_change(alarm, snapshot, point);
     }
-    let rule = rule_lasting(alarm.state(), past, snapshot)?;
-    Some(enter(alarm, past, snapshot, point, rule.target, false))
+    let rule = rule_lasting(snapshot, point, alarm.state(), &alarm.runs())?;
+    Some(enter(alarm, snapshot, point, rule.target, false))
 }
 
-/// One more point of an object: the moves of its event state there, and what is kept of it from then on. Memory is not
-/// asked for.
-pub fn look(
+/// One more point of an object: the moves of its event state there, and its alarm from then on. It is one step. Memory is
+/// not asked for.
+pub fn evaluate<L: Ledger>(
     alarm: &mut Alarm,
-    past: &mut Past,
     snapshot: &Snapshot<'_>,
     point: &PointFacts,
+    steps: &mut Steps<L>,
 ) -> Changed
     requires few { length snapshot.now.alarm_values.now ≤ 32 }
-    requires room { 1 ≤ past.old.spare }
-    ensures kept { kept_as alarm.new past.new.points ≡ (next_look snapshot.now.algorithm (point_of snapshot.now point.now) (kept_as alarm.old past.old.points)).kept }
-    ensures moves { moves_in result ≡ (next_look snapshot.now.algorithm (point_of snapshot.now point.now) (kept_as alarm.old past.old.points)).moves }
-    ensures first { option_to_list result.first ≡ (fault_change snapshot.now.algorithm (point_of snapshot.now point.now) (kept_as alarm.old past.old.points)).moves }
-    ensures room { past.old.spare ≤ past.new.spare + 1 }
-    ensures course { (first : Point) (later : List Incident) → IsAfter snapshot.now.algorithm first later alarm.old past.old.points →
-        IsAfter snapshot.now.algorithm first (Looked (point_of snapshot.now point.now) ∷ later) alarm.new past.new.points }
-    ensures course_moves { (first : Point) (later : List Incident) → IsAfter snapshot.now.algorithm first later alarm.old past.old.points →
+    requires moment { IsMoment point.now.moment }
+    ensures alarm { alarm.new ≡ (next_look snapshot.now.algorithm (point_of snapshot.now point.now) alarm.old).alarm }
+    ensures moves { moves_in result ≡ (next_look snapshot.now.algorithm (point_of snapshot.now point.now) alarm.old).moves }
+    ensures first { option_to_list result.first ≡ (fault_change snapshot.now.algorithm (point_of snapshot.now point.now) alarm.old).moves }
+    ensures course { (first : Point) (later : List Incident) → IsCourse first (Looked (point_of snapshot.now point.now) ∷ later) → IsAfter snapshot.now.algorithm first later alarm.old →
+        IsAfter snapshot.now.algorithm first (Looked (point_of snapshot.now point.now) ∷ later) alarm.new }
+    ensures course_moves { (first : Point) (later : List Incident) → IsCourse first (Looked (point_of snapshot.now point.now) ∷ later) → IsAfter snapshot.now.algorithm first later alarm.old →
         moves_in result ≡ moves_at snapshot.now.algorithm first (Looked (point_of snapshot.now point.now) ∷ later) }
+    ensures step { steps.new ≡ suc steps.old }
 {
-    let first = fault_change(alarm, past, snapshot, point);
-    let second = later_change(alarm, past, snapshot, point);
+    steps.tick();
+    let first = fault_change(alarm, snapshot, point);
+    let second = later_change(alarm, snapshot, point);
     Changed { first, second }
 }

@@ -1,22 +1,21 @@
-ghost use Rattle.std.specs.Prelude.{◌≡◌, ◌≤◌, ◌↔◌, [], List, IsTrue, length};
-ghost use Rattle.event_machine.specs.Given.{point_of};
-ghost use Rattle.event_machine.specs.Next.{kept_as, next_look};
+ghost use Rattle.std.specs.Prelude.{◌≡◌, ◌≤◌, ◌↔◌, ◌∷◌, [], List, IsTrue, length};
 ghost use Rattle.event_machine.specs.Detection.{moves_at};
-ghost use Rattle.event_machine.specs.Points.{Incident, Looked, Point};
+ghost use Rattle.event_machine.specs.Given.{point_of};
+ghost use Rattle.event_machine.specs.Next.{next_look};
+ghost use Rattle.event_machine.specs.Points.{Incident, IsCourse, Looked, Point};
 ghost use Rattle.event_machine.specs.Rest.{rests};
 ghost use Rattle.event_machine.specs.Summary.{IsAfter};
-ghost use Rattle.std.specs.Prelude.{◌∷◌};
 
-use crate::held::some_lasting_to;
-use crate::keys::seen_by;
+use crate::held::rule_lasting;
 use crate::machine::fault_target;
-use crate::{Alarm, Past, PointFacts};
+use crate::running::next_runs;
+use crate::{Alarm, PointFacts};
 use algorithm_rules::Snapshot;
 use bac_values::EventState;
 
-fn would_rest(alarm: &Alarm, past: &Past, snapshot: &Snapshot<'_>, point: &PointFacts) -> bool
+fn would_rest(alarm: &Alarm, snapshot: &Snapshot<'_>, point: &PointFacts) -> bool
     requires few { length snapshot.now.alarm_values.now ≤ 32 }
-    ensures rests { result ≡ rests snapshot.now.algorithm (point_of snapshot.now point.now) (kept_as alarm.now past.now.points) }
+    ensures rests { result ≡ rests snapshot.now.algorithm (point_of snapshot.now point.now) alarm.now }
 {
     let state = alarm.state();
     if fault_target(point.reliability, alarm.last_reliability(), state).is_some() {
@@ -28,15 +27,16 @@ fn would_rest(alarm: &Alarm, past: &Past, snapshot: &Snapshot<'_>, point: &Point
     if point.inhibited {
         return state == EventState::Normal;
     }
-    !some_lasting_to(&seen_by(snapshot, point, alarm), past, state, snapshot)
+    let runs = next_runs(snapshot, point, state, alarm.cause(), &alarm.runs());
+    rule_lasting(snapshot, point, state, &runs).is_none()
 }
 
 /// Whether nothing would move at one more point. Memory is not asked for.
-pub fn is_still(alarm: &Alarm, past: &Past, snapshot: &Snapshot<'_>, point: &PointFacts) -> bool
+pub fn is_still(alarm: &Alarm, snapshot: &Snapshot<'_>, point: &PointFacts) -> bool
     requires few { length snapshot.now.alarm_values.now ≤ 32 }
-    ensures still { IsTrue result ↔ ((next_look snapshot.now.algorithm (point_of snapshot.now point.now) (kept_as alarm.now past.now.points)).moves ≡ []) }
-    ensures course { (first : Point) (later : List Incident) → IsAfter snapshot.now.algorithm first later alarm.now past.now.points →
+    ensures still { IsTrue result ↔ ((next_look snapshot.now.algorithm (point_of snapshot.now point.now) alarm.now).moves ≡ []) }
+    ensures course { (first : Point) (later : List Incident) → IsCourse first (Looked (point_of snapshot.now point.now) ∷ later) → IsAfter snapshot.now.algorithm first later alarm.now →
         (IsTrue result ↔ (moves_at snapshot.now.algorithm first (Looked (point_of snapshot.now point.now) ∷ later) ≡ [])) }
 {
-    would_rest(alarm, past, snapshot, point)
+    would_rest(alarm, snapshot, point)
 }

@@ -3,10 +3,12 @@
 
 mod choice;
 mod class;
+mod class_site;
 mod destination;
 mod edit;
 
 pub use choice::{chosen, uses, uses_at};
 pub use class::Class;
+pub use class_site::{ClassSite, copy_of_classes};
 pub use destination::Destination;
 pub use edit::{EditFault, check_edit};

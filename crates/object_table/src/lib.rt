@@ -5,6 +5,7 @@
 #![tactic(auto)]
 
 mod change;
+mod copying;
 mod faults;
 mod laws;
 mod object_property;
@@ -17,6 +18,7 @@ mod values;
 mod verdicts;
 
 pub use change::{Change, What};
+pub use copying::{copy_of_change, copy_of_objects};
 pub use faults::WriteFault;
 pub use laws::takes_what_writes_make;
 pub use object_property::ObjectProperty;

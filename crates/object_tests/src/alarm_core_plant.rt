@@ -7,10 +7,13 @@ ghost use Rattle.alarm_core.specs.Sites.{IsSite};
 use crate::comparing::holds;
 use alarm_core::*;
 use bac_values::{Items, ObjectId, ObjectKind, Peer, Send, Text, Value};
+use event_machine::Steps;
 use notify_class::{Class, Destination};
 use object_table::ObjectSite;
 use std::alloc::Global;
+use std::marker::Brand;
 use std::process::Abort;
+use std::sync::ledger::{Blank, Ledger};
 use std::test::Fail;
 
 /// When the site starts.
@@ -102,7 +105,19 @@ pub(crate) fn play_on(
     play.play(rt, alloc, &mut core)
 }
 
-/// An event at a moment, while there are few.
+fn counted<L: Ledger>(core: &mut Core, event: &Event, blank: Blank) -> Result<Outcome, StepFault>
+    requires name { blank.name ≡ L.name }
+    requires parts { blank.parts ≡ L.parts }
+    requires some { 0 < blank.parts }
+    requires moment { IsMoment event.now.moment }
+    requires allowed { IsAllowed core.old event.now.act }
+    requires few { core.old.events < 2 ^ 63 }
+{
+    let mut steps = Steps::<L>::new(blank);
+    core.step(event, &mut steps)
+}
+
+/// An event at a moment, while there are few. Its steps are counted in a ledger that nobody reads.
 pub(crate) fn take(
     core: &mut Core,
     moment: u64,
@@ -112,7 +127,8 @@ pub(crate) fn take(
     requires allowed { IsAllowed core.old act }
 {
     let _few = u8::try_from(core.events())?;
-    Ok(core.step(&Event { moment, act }))
+    let event = Event { moment, act };
+    Ok(counted::<Brand>(core, &event, Blank::new(1)))
 }
 
 /// The value of object 1 of a kind comes from the field, at the start.

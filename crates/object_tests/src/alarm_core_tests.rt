@@ -1,11 +1,12 @@
 ghost use Rattle.std.specs.Prelude.{◌≡◌, IfOk, pos};
 ghost use Rattle.alarm_core.specs.Sites.{IsLogSite, IsSite};
 
+use crate::alarm_core_plant::{Play, play_on};
 use crate::comparing::holds;
 use alarm_core::*;
 use bac_values::{Items, Mac, ObjectId, ObjectKind, Peer, PropertyId, Text, Value};
 use notify_class::{Class, Destination};
-use object_table::{Change, WriteFault};
+use object_table::WriteFault;
 use std::alloc::Global;
 use std::process::Abort;
 use std::test::Fail;
@@ -104,10 +105,10 @@ fn plant(alloc: Global) -> Result<Site, Fail>
     })
 }
 
-fn started(alloc: Global) -> Result<Core, Fail>
-    ensures events { IfOk result (λ core. core.events ≡ 0) }
-{
-    Ok(Core::start(alloc, &plant(alloc)?)?)
+/// Plays to the core of the plant.
+fn play_at_plant(rt: &impl Abort, alloc: Global, play: &impl Play) -> Result<(), Fail> {
+    let site = plant(alloc)?;
+    play_on(rt, alloc, &site, play)
 }
 
 /// Whether a read of a property, or of one element of it, gives these octets.
@@ -148,69 +149,78 @@ fn is_error(
     }
 }
 
-// That these properties of an object are read as these octets.
-fn expect_reads(
+/// That these properties of an object are read as these octets.
+fn reads_give(
     rt: &impl Abort,
     alloc: Global,
-    object: (ObjectKind, u32),
+    core: &Core,
+    object: ObjectId,
     reads: &[(u32, &[u8])],
-) -> Result<(), Fail> {
-    let core = started(alloc)?;
-    let (kind, instance) = object;
-    let object = ObjectId::of_kind(kind, instance)?;
+) {
     for (property, octets) in reads {
-        holds(rt, is(alloc, &core, object, *property, octets));
+        holds(rt, is(alloc, core, object, *property, octets));
     }
-    Ok(())
 }
 
-// That these elements of arrays of an object are read as these octets.
-fn expect_elements(
+/// That these elements of arrays of an object are read as these octets.
+fn elements_give(
     rt: &impl Abort,
     alloc: Global,
-    object: (ObjectKind, u32),
+    core: &Core,
+    object: ObjectId,
     reads: &[(u32, u32, &[u8])],
-) -> Result<(), Fail> {
-    let core = started(alloc)?;
-    let (kind, instance) = object;
-    let object = ObjectId::of_kind(kind, instance)?;
+) {
     for (property, index, octets) in reads {
         holds(
             rt,
-            gives(alloc, &core, object, *property, Some(*index), octets),
+            gives(alloc, core, object, *property, Some(*index), octets),
         );
     }
-    Ok(())
 }
 
-// That reads of an object, with an index or without, are answered by these errors.
-fn expect_errors(
+/// That reads of an object, with an index or without, are answered by these errors.
+fn errors_come(
     rt: &impl Abort,
     alloc: Global,
-    object: (ObjectKind, u32),
+    core: &Core,
+    object: ObjectId,
     reads: &[(u32, Option<u32>, u8, u8)],
-) -> Result<(), Fail> {
-    let core = started(alloc)?;
-    let (kind, instance) = object;
-    let object = ObjectId::of_kind(kind, instance)?;
+) {
     for (property, index, class, code) in reads {
         holds(
             rt,
-            is_error(alloc, &core, object, *property, *index, *class, *code),
+            is_error(alloc, core, object, *property, *index, *class, *code),
         );
     }
-    Ok(())
+}
+
+/// An object of the plant, and what its properties, the elements of its arrays, and reads that fail are answered by.
+#[derive(Clone, Copy)]
+struct Looks<'a> {
+    object: (ObjectKind, u32),
+    reads: &'a [(u32, &'a [u8])],
+    elements: &'a [(u32, u32, &'a [u8])],
+    errors: &'a [(u32, Option<u32>, u8, u8)],
+}
+
+impl<'a> Play for Looks<'a> {
+    fn play(&self, rt: &impl Abort, alloc: Global, core: &mut Core) -> Result<(), Fail> {
+        let (kind, instance) = self.object;
+        let object = ObjectId::of_kind(kind, instance)?;
+        reads_give(rt, alloc, core, object, self.reads);
+        elements_give(rt, alloc, core, object, self.elements);
+        errors_come(rt, alloc, core, object, self.errors);
+        Ok(())
+    }
 }
 
 const DEVICE: (ObjectKind, u32) = (ObjectKind::Device, 1001);
 
 #[test]
 fn the_device_is_read(rt: HostRuntime) -> Result<(), Fail> {
-    expect_reads(
-        &rt,
-        rt.alloc(),
-        DEVICE,
-        &[
+    let looks = Looks {
+        object: DEVICE,
+        reads: &[
             (75, &[0xc4, 0x02, 0x00, 0x03, 0xe9]),
             (77, &[0x75, 0x06, 0x00, 0x50, 0x6c, 0x61, 0x6e, 0x74]),
             (79, &[0x91, 0x08]),
@@ -218,9 +228,10 @@ fn the_device_is_read(rt: HostRuntime) -> Result<(), Fail> {
             (107, &[0x91, 0x03]),
             (120, &[0x22, 0x03, 0xe7]),
         ],
-    )?;
-    let errors = [(36, None, 2, 32), (62, Some(1), 2, 50)];
-    expect_errors(&rt, rt.alloc(), DEVICE, &errors)
+        elements: &[],
+        errors: &[(36, None, 2, 32), (62, Some(1), 2, 50)],
+    };
+    play_at_plant(&rt, rt.alloc(), &looks)
 }
 
 /// Object_List of the plant: its device, its class and its log.
@@ -230,15 +241,17 @@ const OBJECT_LIST: [u8; 15] = [
 
 #[test]
 fn the_object_list_ascends(rt: HostRuntime) -> Result<(), Fail> {
-    let whole: &[(u32, &[u8])] = &[(76, &OBJECT_LIST)];
-    expect_reads(&rt, rt.alloc(), DEVICE, whole)?;
-    let elements: &[(u32, u32, &[u8])] = &[
-        (76, 0, &[0x21, 0x03]),
-        (76, 2, &[0xc4, 0x03, 0xc0, 0x00, 0x07]),
-        (76, 3, &[0xc4, 0x06, 0x40, 0x00, 0x01]),
-    ];
-    expect_elements(&rt, rt.alloc(), DEVICE, elements)?;
-    expect_errors(&rt, rt.alloc(), DEVICE, &[(76, Some(4), 2, 42)])
+    let looks = Looks {
+        object: DEVICE,
+        reads: &[(76, &OBJECT_LIST)],
+        elements: &[
+            (76, 0, &[0x21, 0x03]),
+            (76, 2, &[0xc4, 0x03, 0xc0, 0x00, 0x07]),
+            (76, 3, &[0xc4, 0x06, 0x40, 0x00, 0x01]),
+        ],
+        errors: &[(76, Some(4), 2, 42)],
+    };
+    play_at_plant(&rt, rt.alloc(), &looks)
 }
 
 const CLASS: (ObjectKind, u32) = (ObjectKind::NotificationClass, 7);
@@ -259,11 +272,9 @@ const RECIPIENT_LIST: [u8; 61] = [
 
 #[test]
 fn a_class_is_read(rt: HostRuntime) -> Result<(), Fail> {
-    expect_reads(
-        &rt,
-        rt.alloc(),
-        CLASS,
-        &[
+    let looks = Looks {
+        object: CLASS,
+        reads: &[
             (75, &[0xc4, 0x03, 0xc0, 0x00, 0x07]),
             (
                 77,
@@ -277,30 +288,33 @@ fn a_class_is_read(rt: HostRuntime) -> Result<(), Fail> {
             (1, &[0x82, 0x05, 0xc0]),
             (102, &RECIPIENT_LIST),
         ],
-    )
+        elements: &[],
+        errors: &[],
+    };
+    play_at_plant(&rt, rt.alloc(), &looks)
 }
 
 #[test]
 fn the_priority_alone_of_a_class_is_an_array(rt: HostRuntime) -> Result<(), Fail> {
-    let elements: &[(u32, u32, &[u8])] = &[(86, 0, &[0x21, 0x03]), (86, 3, &[0x21, 0xc8])];
-    expect_elements(&rt, rt.alloc(), CLASS, elements)?;
-    let errors = [
-        (86, Some(4), 2, 42),
-        (102, Some(1), 2, 50),
-        (1, Some(0), 2, 50),
-        (36, None, 2, 32),
-    ];
-    expect_errors(&rt, rt.alloc(), CLASS, &errors)
+    let looks = Looks {
+        object: CLASS,
+        reads: &[],
+        elements: &[(86, 0, &[0x21, 0x03]), (86, 3, &[0x21, 0xc8])],
+        errors: &[
+            (86, Some(4), 2, 42),
+            (102, Some(1), 2, 50),
+            (1, Some(0), 2, 50),
+            (36, None, 2, 32),
+        ],
+    };
+    play_at_plant(&rt, rt.alloc(), &looks)
 }
 
 #[test]
 fn a_log_is_read(rt: HostRuntime) -> Result<(), Fail> {
-    let log = (ObjectKind::EventLog, 1);
-    expect_reads(
-        &rt,
-        rt.alloc(),
-        log,
-        &[
+    let looks = Looks {
+        object: (ObjectKind::EventLog, 1),
+        reads: &[
             (75, &[0xc4, 0x06, 0x40, 0x00, 0x01]),
             (77, &[0x74, 0x00, 0x4c, 0x6f, 0x67]),
             (79, &[0x91, 0x19]),
@@ -310,41 +324,96 @@ fn a_log_is_read(rt: HostRuntime) -> Result<(), Fail> {
             (144, &[0x10]),
             (145, &[0x21, 0x00]),
         ],
-    )?;
-    let errors = [(36, None, 2, 32), (77, Some(9), 2, 50)];
-    expect_errors(&rt, rt.alloc(), log, &errors)?;
-    let other = (ObjectKind::NotificationClass, 8);
-    expect_errors(&rt, rt.alloc(), other, &[(77, None, 1, 31)])
+        elements: &[],
+        errors: &[(36, None, 2, 32), (77, Some(9), 2, 50)],
+    };
+    play_at_plant(&rt, rt.alloc(), &looks)
 }
 
-/// Whether a write is answered with an error.
-fn is_write_error(answer: Result<Change, WriteFault>, class: u8, code: u8) -> bool {
-    match answer {
+#[test]
+fn an_object_that_is_not_there_is_not_read(rt: HostRuntime) -> Result<(), Fail> {
+    let looks = Looks {
+        object: (ObjectKind::NotificationClass, 8),
+        reads: &[],
+        elements: &[],
+        errors: &[(77, None, 1, 31)],
+    };
+    play_at_plant(&rt, rt.alloc(), &looks)
+}
+
+/// Whether a write of no value is answered with an error.
+fn is_refused(
+    alloc: Global,
+    core: &Core,
+    object: ObjectId,
+    property: u32,
+    index: Option<u32>,
+    error: (u8, u8),
+) -> bool {
+    let answer = core.check_write(alloc, object, PropertyId(property), index, &Value::Null);
+    let (class, code) = error;
+    match &answer {
         Ok(_) => false,
-        Err(fault) => fault == WriteFault::Error { class, code },
+        Err(fault) => *fault == WriteFault::Error { class, code },
+    }
+}
+
+/// Writes of no value, each with the error that answers it.
+#[derive(Clone, Copy)]
+struct Refusals<'a> {
+    object: (ObjectKind, u32),
+    writes: &'a [(u32, Option<u32>, (u8, u8))],
+}
+
+impl<'a> Play for Refusals<'a> {
+    fn play(&self, rt: &impl Abort, alloc: Global, core: &mut Core) -> Result<(), Fail> {
+        let (kind, instance) = self.object;
+        let object = ObjectId::of_kind(kind, instance)?;
+        for (property, index, error) in self.writes {
+            holds(
+                rt,
+                is_refused(alloc, core, object, *property, *index, *error),
+            );
+        }
+        Ok(())
     }
 }
 
 #[test]
-fn what_is_no_value_object_is_not_written(rt: HostRuntime) -> Result<(), Fail> {
-    let core = started(rt.alloc())?;
-    for (kind, instance, property, index, class, code) in [
-        (ObjectKind::Device, 1001, 76, None, 2, 40),
-        (ObjectKind::Device, 1001, 76, Some(3), 2, 40),
-        (ObjectKind::Device, 1001, 76, Some(4), 2, 42),
-        (ObjectKind::Device, 1001, 77, Some(0), 2, 50),
-        (ObjectKind::Device, 1001, 85, Some(0), 2, 32),
-        (ObjectKind::NotificationClass, 7, 86, None, 2, 40),
-        (ObjectKind::NotificationClass, 7, 86, Some(4), 2, 42),
-        (ObjectKind::NotificationClass, 7, 102, None, 2, 40),
-        (ObjectKind::NotificationClass, 7, 102, Some(1), 2, 50),
-        (ObjectKind::NotificationClass, 7, 36, None, 2, 32),
-        (ObjectKind::NotificationClass, 8, 86, None, 1, 31),
-    ] {
-        let object = ObjectId::of_kind(kind, instance)?;
-        let property = PropertyId(property);
-        let answer = core.check_write(rt.alloc(), object, property, index, &Value::Null);
-        holds(&rt, is_write_error(answer, class, code));
-    }
-    Ok(())
+fn a_device_is_not_written(rt: HostRuntime) -> Result<(), Fail> {
+    let refusals = Refusals {
+        object: DEVICE,
+        writes: &[
+            (76, None, (2, 40)),
+            (76, Some(3), (2, 40)),
+            (76, Some(4), (2, 42)),
+            (77, Some(0), (2, 50)),
+            (85, Some(0), (2, 32)),
+        ],
+    };
+    play_at_plant(&rt, rt.alloc(), &refusals)
+}
+
+#[test]
+fn a_class_is_not_written(rt: HostRuntime) -> Result<(), Fail> {
+    let refusals = Refusals {
+        object: CLASS,
+        writes: &[
+            (86, None, (2, 40)),
+            (86, Some(4), (2, 42)),
+            (102, None, (2, 40)),
+            (102, Some(1), (2, 50)),
+            (36, None, (2, 32)),
+        ],
+    };
+    play_at_plant(&rt, rt.alloc(), &refusals)
+}
+
+#[test]
+fn an_object_that_is_not_there_is_not_written(rt: HostRuntime) -> Result<(), Fail> {
+    let refusals = Refusals {
+        object: (ObjectKind::NotificationClass, 8),
+        writes: &[(86, None, (1, 31))],
+    };
+    play_at_plant(&rt, rt.alloc(), &refusals)
 }

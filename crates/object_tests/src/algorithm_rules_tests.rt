@@ -7,6 +7,7 @@ use algorithm_rules::Waiting::*;
 use algorithm_rules::*;
 use bac_values::EventState::{self, Fault, HighLimit, LowLimit, Normal, Offnormal};
 use bac_values::{Bits, Text, Value};
+use std::process::Abort;
 use std::test::Fail;
 
 /// An object with limits 20 and 80, a deadband of 5, both limits enabled, and a delay of 10 seconds.
@@ -56,141 +57,96 @@ fn is_met(test: Test, snapshot: &Snapshot<'_>) -> bool
     key(&rule, snapshot).is_some()
 }
 
+/// The rules of an algorithm in a state are these, in their order.
+fn expect_rules(rt: &impl Abort, algorithm: Algorithm, state: EventState, wanted: &[Option<Rule>]) {
+    let mut place: u8 = 0;
+    for own in wanted {
+        same(rt, &(place, rule(algorithm, state, place)), &(place, *own));
+        place = place.wrapping_add(1);
+    }
+    same(rt, &(place, rule(algorithm, state, place)), &(place, None));
+}
+
+fn expect_matches(rt: &impl Abort, algorithm: Algorithm) {
+    let normal = [leads(Offnormal, SomeMatch, TimeDelay)];
+    expect_rules(rt, algorithm, Normal, &normal);
+    let offnormal = [
+        leads(Normal, NoMatch, NormalDelay),
+        leads(Offnormal, OtherMatch, TimeDelay),
+    ];
+    expect_rules(rt, algorithm, Offnormal, &offnormal);
+    expect_rules(rt, algorithm, Fault, &[]);
+    expect_rules(rt, algorithm, HighLimit, &[]);
+    expect_rules(rt, algorithm, LowLimit, &[]);
+}
+
 #[test]
 fn matches_lead_to_offnormal_and_back(rt: HostRuntime) {
-    for algorithm in [ChangeOfState, ChangeOfBitstring, ChangeOfCharacterstring] {
-        same(
-            &rt,
-            &rule(algorithm, Normal, 0),
-            &leads(Offnormal, SomeMatch, TimeDelay),
-        );
-        same(&rt, &rule(algorithm, Normal, 1), &None);
-        same(
-            &rt,
-            &rule(algorithm, Offnormal, 0),
-            &leads(Normal, NoMatch, NormalDelay),
-        );
-        same(
-            &rt,
-            &rule(algorithm, Offnormal, 1),
-            &leads(Offnormal, OtherMatch, TimeDelay),
-        );
-        same(&rt, &rule(algorithm, Offnormal, 2), &None);
-        for state in [Fault, HighLimit, LowLimit] {
-            same(&rt, &rule(algorithm, state, 0), &None);
-        }
-    }
+    expect_matches(&rt, ChangeOfState);
+    expect_matches(&rt, ChangeOfBitstring);
+    expect_matches(&rt, ChangeOfCharacterstring);
 }
 
 #[test]
 fn a_command_that_fails_leads_to_offnormal_and_back(rt: HostRuntime) {
     let algorithm = CommandFailure;
-    same(
-        &rt,
-        &rule(algorithm, Normal, 0),
-        &leads(Offnormal, FeedbackDiffers, TimeDelay),
-    );
-    same(&rt, &rule(algorithm, Normal, 1), &None);
-    same(
-        &rt,
-        &rule(algorithm, Offnormal, 0),
-        &leads(Normal, FeedbackEquals, NormalDelay),
-    );
-    same(&rt, &rule(algorithm, Offnormal, 1), &None);
-    for state in [Fault, HighLimit, LowLimit] {
-        same(&rt, &rule(algorithm, state, 0), &None);
-    }
+    let normal = [leads(Offnormal, FeedbackDiffers, TimeDelay)];
+    expect_rules(&rt, algorithm, Normal, &normal);
+    let offnormal = [leads(Normal, FeedbackEquals, NormalDelay)];
+    expect_rules(&rt, algorithm, Offnormal, &offnormal);
+    expect_rules(&rt, algorithm, Fault, &[]);
+    expect_rules(&rt, algorithm, HighLimit, &[]);
+    expect_rules(&rt, algorithm, LowLimit, &[]);
+}
+
+fn expect_limits(rt: &impl Abort, algorithm: Algorithm) {
+    let normal = [
+        leads(HighLimit, AboveEnabledHigh, TimeDelay),
+        leads(LowLimit, BelowEnabledLow, TimeDelay),
+    ];
+    expect_rules(rt, algorithm, Normal, &normal);
+    let high = [
+        leads(Normal, HighDisabled, AtOnce),
+        leads(LowLimit, BelowEnabledLow, TimeDelay),
+        leads(Normal, BelowHighLessDeadband, NormalDelay),
+    ];
+    expect_rules(rt, algorithm, HighLimit, &high);
+    let low = [
+        leads(Normal, LowDisabled, AtOnce),
+        leads(HighLimit, AboveEnabledHigh, TimeDelay),
+        leads(Normal, AboveLowPlusDeadband, NormalDelay),
+    ];
+    expect_rules(rt, algorithm, LowLimit, &low);
+    expect_rules(rt, algorithm, Fault, &[]);
+    expect_rules(rt, algorithm, Offnormal, &[]);
 }
 
 #[test]
 fn limits_with_a_deadband_lead_up_down_and_back(rt: HostRuntime) {
-    for algorithm in [SignedOutOfRange, UnsignedOutOfRange] {
-        same(
-            &rt,
-            &rule(algorithm, Normal, 0),
-            &leads(HighLimit, AboveEnabledHigh, TimeDelay),
-        );
-        same(
-            &rt,
-            &rule(algorithm, Normal, 1),
-            &leads(LowLimit, BelowEnabledLow, TimeDelay),
-        );
-        same(&rt, &rule(algorithm, Normal, 2), &None);
-        same(
-            &rt,
-            &rule(algorithm, HighLimit, 0),
-            &leads(Normal, HighDisabled, AtOnce),
-        );
-        same(
-            &rt,
-            &rule(algorithm, HighLimit, 1),
-            &leads(LowLimit, BelowEnabledLow, TimeDelay),
-        );
-        same(
-            &rt,
-            &rule(algorithm, HighLimit, 2),
-            &leads(Normal, BelowHighLessDeadband, NormalDelay),
-        );
-        same(&rt, &rule(algorithm, HighLimit, 3), &None);
-        same(
-            &rt,
-            &rule(algorithm, LowLimit, 0),
-            &leads(Normal, LowDisabled, AtOnce),
-        );
-        same(
-            &rt,
-            &rule(algorithm, LowLimit, 1),
-            &leads(HighLimit, AboveEnabledHigh, TimeDelay),
-        );
-        same(
-            &rt,
-            &rule(algorithm, LowLimit, 2),
-            &leads(Normal, AboveLowPlusDeadband, NormalDelay),
-        );
-        same(&rt, &rule(algorithm, LowLimit, 3), &None);
-        same(&rt, &rule(algorithm, Fault, 0), &None);
-        same(&rt, &rule(algorithm, Offnormal, 0), &None);
-    }
+    expect_limits(&rt, SignedOutOfRange);
+    expect_limits(&rt, UnsignedOutOfRange);
 }
 
 #[test]
 fn a_range_leads_up_down_and_back(rt: HostRuntime) {
     let algorithm = UnsignedRange;
-    same(
-        &rt,
-        &rule(algorithm, Normal, 0),
-        &leads(HighLimit, AboveHigh, TimeDelay),
-    );
-    same(
-        &rt,
-        &rule(algorithm, Normal, 1),
-        &leads(LowLimit, BelowLow, TimeDelay),
-    );
-    same(&rt, &rule(algorithm, Normal, 2), &None);
-    same(
-        &rt,
-        &rule(algorithm, HighLimit, 0),
-        &leads(LowLimit, BelowLow, TimeDelay),
-    );
-    same(
-        &rt,
-        &rule(algorithm, HighLimit, 1),
-        &leads(Normal, Within, NormalDelay),
-    );
-    same(&rt, &rule(algorithm, HighLimit, 2), &None);
-    same(
-        &rt,
-        &rule(algorithm, LowLimit, 0),
-        &leads(HighLimit, AboveHigh, TimeDelay),
-    );
-    same(
-        &rt,
-        &rule(algorithm, LowLimit, 1),
-        &leads(Normal, Within, NormalDelay),
-    );
-    same(&rt, &rule(algorithm, LowLimit, 2), &None);
-    same(&rt, &rule(algorithm, Fault, 0), &None);
-    same(&rt, &rule(algorithm, Offnormal, 0), &None);
+    let normal = [
+        leads(HighLimit, AboveHigh, TimeDelay),
+        leads(LowLimit, BelowLow, TimeDelay),
+    ];
+    expect_rules(&rt, algorithm, Normal, &normal);
+    let high = [
+        leads(LowLimit, BelowLow, TimeDelay),
+        leads(Normal, Within, NormalDelay),
+    ];
+    expect_rules(&rt, algorithm, HighLimit, &high);
+    let low = [
+        leads(HighLimit, AboveHigh, TimeDelay),
+        leads(Normal, Within, NormalDelay),
+    ];
+    expect_rules(&rt, algorithm, LowLimit, &low);
+    expect_rules(&rt, algorithm, Fault, &[]);
+    expect_rules(&rt, algorithm, Offnormal, &[]);
 }
 
 #[test]

@@ -5,11 +5,12 @@ ghost use Rattle.object_table.specs.Objects.{IsObject};
 ghost use Rattle.enrollment.specs.Enrollments.{IsEnrollment};
 
 use crate::comparing::{holds, same};
-use algorithm_rules::Algorithm;
+use algorithm_rules::{Algorithm, Snapshot};
 use bac_values::{Bits, Foreign, Items, ObjectId, ObjectKind, PropertyId, Text, Value};
 use enrollment::*;
 use object_table::{Change, ObjectSite, Table, WriteFault};
 use std::alloc::Global;
+use std::process::Abort;
 use std::test::Fail;
 
 fn identifier(kind: ObjectKind, instance: u32) -> Result<ObjectId, Fail> {
@@ -200,93 +201,107 @@ fn foreign(tag: u8, why: Foreign) -> Value {
     Value::Opaque { tag, why }
 }
 
-#[test]
-fn an_unknown_object_or_property_is_told_first(rt: HostRuntime) -> Result<(), Fail> {
-    let list = enrollments_of(rt.alloc(), follower(rt.alloc())?, mirror(rt.alloc())?)?;
-    for (kind, instance) in [
-        (ObjectKind::EventEnrollment, 3),
-        (ObjectKind::EventEnrollment, 0),
-        (ObjectKind::IntegerValue, 1),
-    ] {
-        let object = identifier(kind, instance)?;
-        let answer = list.check_write(object, PropertyId(8), Some(9), &Value::Null);
-        same(&rt, &(instance, error_of(&answer)), &(instance, (1, 31)));
-    }
-    // Present_Value, Out_Of_Service, Time_Delay, Time_Delay_Normal, High_Limit, Reliability_Evaluation_Inhibit,
-    // Event_Parameters, Object_Property_Reference, and all of them.
-    for number in [85, 81, 113, 356, 45, 357, 83, 78, 8, 4_194_303] {
-        same(
-            &rt,
-            &(number, written(&list, number, Some(9), Value::Null)?),
-            &(number, (2, 32)),
-        );
+/// There is no such enrollment.
+fn expect_unknown(
+    rt: &impl Abort,
+    list: &Enrollments,
+    kind: ObjectKind,
+    instance: u32,
+) -> Result<(), Fail> {
+    let object = identifier(kind, instance)?;
+    let answer = list.check_write(object, PropertyId(8), Some(9), &Value::Null);
+    same(rt, &(instance, error_of(&answer)), &(instance, (1, 31)));
+    Ok(())
+}
+
+/// Each of these properties of enrollment 1, with the index, isn't written, for this error.
+fn expect_errors(
+    rt: &impl Abort,
+    list: &Enrollments,
+    numbers: &[u32],
+    index: Option<u32>,
+    error: (u8, u8),
+) -> Result<(), Fail> {
+    for number in numbers {
+        let answer = written(list, *number, index, Value::Null)?;
+        same(rt, &(*number, answer), &(*number, error));
     }
     Ok(())
+}
+
+fn expect_unknown_first(rt: &impl Abort, list: &Enrollments) -> Result<(), Fail> {
+    expect_unknown(rt, list, ObjectKind::EventEnrollment, 3)?;
+    expect_unknown(rt, list, ObjectKind::EventEnrollment, 0)?;
+    expect_unknown(rt, list, ObjectKind::IntegerValue, 1)?;
+    // Present_Value, Out_Of_Service, Time_Delay, Time_Delay_Normal, High_Limit, Reliability_Evaluation_Inhibit,
+    // Event_Parameters, Object_Property_Reference, and all of them.
+    let numbers = [85, 81, 113, 356, 45, 357, 83, 78, 8, 4_194_303];
+    expect_errors(rt, list, &numbers, Some(9), (2, 32))
+}
+
+#[test]
+fn an_unknown_object_or_property_is_told_first(rt: HostRuntime) -> Result<(), Fail> {
+    let list = followers(rt.alloc())?;
+    expect_unknown_first(&rt, &list)
+}
+
+fn expect_indices(rt: &impl Abort, list: &Enrollments) -> Result<(), Fail> {
+    let single = [0, 17, 35, 36, 37, 72, 75, 77, 79, 103, 111, 353, 354];
+    expect_errors(rt, list, &single, Some(0), (2, 50))?;
+    expect_errors(rt, list, &[130], Some(4), (2, 42))?;
+    expect_errors(rt, list, &[130], Some(0), (2, 40))?;
+    expect_errors(rt, list, &[130], Some(3), (2, 40))?;
+    let whole = [0, 17, 36, 37, 72, 75, 77, 79, 103, 111, 130, 353];
+    expect_errors(rt, list, &whole, None, (2, 40))
 }
 
 #[test]
 fn an_index_is_for_the_three_time_stamps_alone(rt: HostRuntime) -> Result<(), Fail> {
-    let list = enrollments_of(rt.alloc(), follower(rt.alloc())?, mirror(rt.alloc())?)?;
-    for number in [0, 17, 35, 36, 37, 72, 75, 77, 79, 103, 111, 353, 354] {
-        same(
-            &rt,
-            &(number, written(&list, number, Some(0), Value::Null)?),
-            &(number, (2, 50)),
-        );
-    }
-    same(&rt, &written(&list, 130, Some(4), Value::Null)?, &(2, 42));
-    for index in [0, 3] {
-        same(
-            &rt,
-            &(index, written(&list, 130, Some(index), Value::Null)?),
-            &(index, (2, 40)),
-        );
-    }
-    for number in [0, 17, 36, 37, 72, 75, 77, 79, 103, 111, 130, 353] {
-        same(
-            &rt,
-            &(number, written(&list, number, None, Value::Null)?),
-            &(number, (2, 40)),
-        );
-    }
+    let list = followers(rt.alloc())?;
+    expect_indices(&rt, &list)
+}
+
+/// A write of the value to a property of enrollment 1 is answered so.
+fn expect_written(
+    rt: &impl Abort,
+    list: &Enrollments,
+    number: u32,
+    value: Value,
+    error: (u8, u8),
+) -> Result<(), Fail> {
+    same(rt, &written(list, number, None, value)?, &error);
     Ok(())
 }
 
+/// Event_Enable.
+fn expect_enabling(rt: &impl Abort, list: &Enrollments) -> Result<(), Fail> {
+    expect_written(rt, list, 35, Value::Bool(true), (2, 9))?;
+    expect_written(rt, list, 35, foreign(4, Foreign::OtherType), (2, 9))?;
+    expect_written(rt, list, 35, foreign(7, Foreign::CharacterSet), (2, 9))?;
+    expect_written(rt, list, 35, foreign(8, Foreign::OutOfRange), (2, 37))?;
+    expect_written(rt, list, 35, bits(2, 0)?, (2, 37))?;
+    expect_written(rt, list, 35, bits(4, 7)?, (2, 37))?;
+    expect_written(rt, list, 35, bits(3, 7)?, (0, 0))
+}
+
+/// Event_Algorithm_Inhibit.
+fn expect_inhibiting(rt: &impl Abort, list: &Enrollments) -> Result<(), Fail> {
+    expect_written(rt, list, 354, bits(3, 7)?, (2, 9))?;
+    expect_written(rt, list, 354, Value::Unsigned(1), (2, 9))?;
+    expect_written(rt, list, 354, Value::Null, (2, 9))?;
+    expect_written(rt, list, 354, Value::Bool(false), (0, 0))
+}
+
 #[test]
-fn event_enable_is_three_bits_and_inhibition_true_or_false(rt: HostRuntime) -> Result<(), Fail> {
-    let list = enrollments_of(rt.alloc(), follower(rt.alloc())?, mirror(rt.alloc())?)?;
-    same(&rt, &written(&list, 35, None, Value::Bool(true))?, &(2, 9));
-    same(
-        &rt,
-        &written(&list, 35, None, foreign(4, Foreign::OtherType))?,
-        &(2, 9),
-    );
-    same(
-        &rt,
-        &written(&list, 35, None, foreign(7, Foreign::CharacterSet))?,
-        &(2, 9),
-    );
-    same(
-        &rt,
-        &written(&list, 35, None, foreign(8, Foreign::OutOfRange))?,
-        &(2, 37),
-    );
-    same(&rt, &written(&list, 35, None, bits(2, 0)?)?, &(2, 37));
-    same(&rt, &written(&list, 35, None, bits(4, 7)?)?, &(2, 37));
-    same(&rt, &written(&list, 35, None, bits(3, 7)?)?, &(0, 0));
-    same(&rt, &written(&list, 354, None, bits(3, 7)?)?, &(2, 9));
-    same(
-        &rt,
-        &written(&list, 354, None, Value::Unsigned(1))?,
-        &(2, 9),
-    );
-    same(&rt, &written(&list, 354, None, Value::Null)?, &(2, 9));
-    same(
-        &rt,
-        &written(&list, 354, None, Value::Bool(false))?,
-        &(0, 0),
-    );
-    Ok(())
+fn event_enable_is_three_bits(rt: HostRuntime) -> Result<(), Fail> {
+    let list = followers(rt.alloc())?;
+    expect_enabling(&rt, &list)
+}
+
+#[test]
+fn inhibition_is_true_or_false(rt: HostRuntime) -> Result<(), Fail> {
+    let list = followers(rt.alloc())?;
+    expect_inhibiting(&rt, &list)
 }
 
 /// Event_Enable and Event_Algorithm_Inhibit of an enrollment.
@@ -298,19 +313,27 @@ fn settings(list: &Enrollments, instance: u32) -> Result<([bool; 3], bool), Fail
 }
 
 /// The settings of enrollment 2 after a write and after it was taken back, and those of enrollment 1 after the write.
+fn taken_back(
+    list: &mut Enrollments,
+    property: PropertyId,
+    value: &Value,
+) -> Result<[([bool; 3], bool); 3], Fail> {
+    let object = identifier(ObjectKind::EventEnrollment, 2)?;
+    let change = list.check_write(object, property, None, value)?;
+    let back = list.apply(change);
+    let written = settings(list, 2)?;
+    let other = settings(list, 1)?;
+    let _ = list.apply(back);
+    Ok([written, settings(list, 2)?, other])
+}
+
 fn written_and_taken_back(
     alloc: Global,
     property: PropertyId,
     value: Value,
 ) -> Result<[([bool; 3], bool); 3], Fail> {
-    let mut list = enrollments_of(alloc, follower(alloc)?, mirror(alloc)?)?;
-    let object = identifier(ObjectKind::EventEnrollment, 2)?;
-    let change = list.check_write(object, property, None, &value)?;
-    let back = list.apply(change);
-    let written = settings(&list, 2)?;
-    let other = settings(&list, 1)?;
-    let _ = list.apply(back);
-    Ok([written, settings(&list, 2)?, other])
+    let mut list = followers(alloc)?;
+    taken_back(&mut list, property, &value)
 }
 
 #[test]
@@ -342,122 +365,182 @@ fn is_unsigned(value: &Value, wanted: u32) -> bool {
     matches!(value, Value::Unsigned(number) if *number == wanted)
 }
 
-/// Enrollments 1 and 2, and the integer values 1, which is -5, and 2, which is 12.
-fn followed(alloc: Global) -> Result<(Enrollments, Table), Fail> {
-    let list = enrollments_of(alloc, follower(alloc)?, mirror(alloc)?)?;
-    Ok((
-        list,
-        table_of(alloc, level(alloc, 1, -5)?, level(alloc, 2, 12)?)?,
-    ))
+/// Enrollments 1 and 2.
+fn followers(alloc: Global) -> Result<Enrollments, Fail> {
+    enrollments_of(alloc, follower(alloc)?, mirror(alloc)?)
+}
+
+/// The integer values 1 and 2.
+fn levels(alloc: Global, first: i32, second: i32) -> Result<Table, Fail> {
+    table_of(alloc, level(alloc, 1, first)?, level(alloc, 2, second)?)
+}
+
+/// The command is 12, and its feedback is -5.
+fn expect_command(rt: &impl Abort, seen: &Snapshot<'_>) {
+    holds(rt, is_signed(seen.value, 12));
+    holds(rt, seen.feedback.is_some_and(|value| is_signed(value, -5)));
+    same(rt, &seen.algorithm, &Algorithm::CommandFailure);
+    same(
+        rt,
+        &[seen.time_delay, seen.time_delay_normal.unwrap_or(0)],
+        &[5, 8],
+    );
+    same(rt, &[seen.low, seen.high], &[0, 0]);
+    same(rt, &seen.deadband, &0);
+    holds(rt, seen.alarm_value.is_none());
+    holds(rt, seen.alarm_values.is_empty());
+}
+
+fn expect_command_of(rt: &impl Abort, list: &Enrollments, table: &Table) -> Result<(), Fail> {
+    let object = identifier(ObjectKind::EventEnrollment, 1)?;
+    let Some(seen) = list.snapshot_of(table, object) else {
+        return Err("no snapshot".into());
+    };
+    expect_command(rt, &seen);
+    Ok(())
 }
 
 #[test]
 fn an_enrollment_sees_the_values_of_its_objects(rt: HostRuntime) -> Result<(), Fail> {
-    let (list, table) = followed(rt.alloc())?;
-    let object = identifier(ObjectKind::EventEnrollment, 1)?;
-    let Some(seen) = list.snapshot_of(&table, object) else {
+    let table = levels(rt.alloc(), -5, 12)?;
+    let list = followers(rt.alloc())?;
+    expect_command_of(&rt, &list, &table)
+}
+
+/// Enrollment 2 sees -5, by both references.
+fn expect_mirror_of(rt: &impl Abort, list: &Enrollments, table: &Table) -> Result<(), Fail> {
+    let object = identifier(ObjectKind::EventEnrollment, 2)?;
+    let Some(seen) = list.snapshot_of(table, object) else {
         return Err("no snapshot".into());
     };
-    holds(&rt, is_signed(seen.value, 12));
-    holds(&rt, seen.feedback.is_some_and(|value| is_signed(value, -5)));
-    same(&rt, &seen.algorithm, &Algorithm::CommandFailure);
-    same(
-        &rt,
-        &[seen.time_delay, seen.time_delay_normal.unwrap_or(0)],
-        &[5, 8],
-    );
-    same(&rt, &[seen.low, seen.high], &[0, 0]);
-    same(&rt, &seen.deadband, &0);
-    holds(&rt, seen.alarm_value.is_none());
-    holds(&rt, seen.alarm_values.is_empty());
+    holds(rt, is_signed(seen.value, -5));
+    holds(rt, seen.feedback.is_some_and(|value| is_signed(value, -5)));
     Ok(())
 }
 
 #[test]
 fn an_object_may_be_its_own_feedback(rt: HostRuntime) -> Result<(), Fail> {
-    let (list, table) = followed(rt.alloc())?;
-    let object = identifier(ObjectKind::EventEnrollment, 2)?;
-    let Some(seen) = list.snapshot_of(&table, object) else {
-        return Err("no snapshot".into());
-    };
-    holds(&rt, is_signed(seen.value, -5));
-    holds(&rt, seen.feedback.is_some_and(|value| is_signed(value, -5)));
-    Ok(())
+    let table = levels(rt.alloc(), -5, 12)?;
+    let list = followers(rt.alloc())?;
+    expect_mirror_of(&rt, &list, &table)
 }
 
-/// Enrollments 2 and 3, integer value 1, and positive integer value 1.
-fn ranged(alloc: Global) -> Result<(Enrollments, Table), Fail> {
-    let list = enrollments_of(alloc, mirror(alloc)?, range(alloc)?)?;
-    Ok((list, table_of(alloc, level(alloc, 1, 0)?, flow(alloc)?)?))
+/// Enrollments 2 and 3.
+fn mirror_and_range(alloc: Global) -> Result<Enrollments, Fail> {
+    enrollments_of(alloc, mirror(alloc)?, range(alloc)?)
+}
+
+/// Integer value 1, and positive integer value 1.
+fn level_and_flow(alloc: Global) -> Result<Table, Fail> {
+    table_of(alloc, level(alloc, 1, 0)?, flow(alloc)?)
+}
+
+/// A number of 90, with the limits of enrollment 3.
+fn expect_range(rt: &impl Abort, seen: &Snapshot<'_>) {
+    holds(rt, is_unsigned(seen.value, 90));
+    holds(rt, seen.feedback.is_none());
+    same(rt, &seen.algorithm, &Algorithm::UnsignedRange);
+    same(rt, &[seen.low, seen.high], &[20, 80]);
+    same(rt, &seen.limit_enable, &[true, true]);
+    same(rt, &seen.time_delay, &3);
+    holds(rt, seen.time_delay_normal.is_none());
+}
+
+fn expect_range_of(rt: &impl Abort, list: &Enrollments, table: &Table) -> Result<(), Fail> {
+    let object = identifier(ObjectKind::EventEnrollment, 3)?;
+    let Some(seen) = list.snapshot_of(table, object) else {
+        return Err("no snapshot".into());
+    };
+    expect_range(rt, &seen);
+    Ok(())
 }
 
 #[test]
 fn a_range_has_limits_of_its_own(rt: HostRuntime) -> Result<(), Fail> {
-    let (list, table) = ranged(rt.alloc())?;
-    let object = identifier(ObjectKind::EventEnrollment, 3)?;
-    let Some(seen) = list.snapshot_of(&table, object) else {
+    let table = level_and_flow(rt.alloc())?;
+    let list = mirror_and_range(rt.alloc())?;
+    expect_range_of(&rt, &list, &table)
+}
+
+/// A number of 90, with the limits of positive integer value 1.
+fn expect_flow(rt: &impl Abort, seen: &Snapshot<'_>) {
+    holds(rt, is_unsigned(seen.value, 90));
+    holds(rt, seen.feedback.is_none());
+    same(rt, &seen.algorithm, &Algorithm::UnsignedOutOfRange);
+    same(rt, &[seen.low, seen.high], &[40, 60]);
+    same(rt, &seen.deadband, &5);
+    same(rt, &seen.limit_enable, &[true, false]);
+    same(
+        rt,
+        &[seen.time_delay, seen.time_delay_normal.unwrap_or(0)],
+        &[10, 20],
+    );
+}
+
+fn expect_flow_of(rt: &impl Abort, list: &Enrollments, table: &Table) -> Result<(), Fail> {
+    let object = identifier(ObjectKind::PositiveIntegerValue, 1)?;
+    let Some(seen) = list.snapshot_of(table, object) else {
         return Err("no snapshot".into());
     };
-    holds(&rt, is_unsigned(seen.value, 90));
-    holds(&rt, seen.feedback.is_none());
-    same(&rt, &seen.algorithm, &Algorithm::UnsignedRange);
-    same(&rt, &[seen.low, seen.high], &[20, 80]);
-    same(&rt, &seen.limit_enable, &[true, true]);
-    same(&rt, &seen.time_delay, &3);
-    holds(&rt, seen.time_delay_normal.is_none());
+    expect_flow(rt, &seen);
     Ok(())
 }
 
 #[test]
 fn a_value_object_has_limits_of_its_own(rt: HostRuntime) -> Result<(), Fail> {
-    let (list, table) = ranged(rt.alloc())?;
-    let object = identifier(ObjectKind::PositiveIntegerValue, 1)?;
-    let Some(seen) = list.snapshot_of(&table, object) else {
-        return Err("no snapshot".into());
-    };
-    holds(&rt, is_unsigned(seen.value, 90));
-    holds(&rt, seen.feedback.is_none());
-    same(&rt, &seen.algorithm, &Algorithm::UnsignedOutOfRange);
-    same(&rt, &[seen.low, seen.high], &[40, 60]);
-    same(&rt, &seen.deadband, &5);
-    same(&rt, &seen.limit_enable, &[true, false]);
-    same(
-        &rt,
-        &[seen.time_delay, seen.time_delay_normal.unwrap_or(0)],
-        &[10, 20],
-    );
+    let table = level_and_flow(rt.alloc())?;
+    let list = mirror_and_range(rt.alloc())?;
+    expect_flow_of(&rt, &list, &table)
+}
+
+/// Nothing is seen of this object.
+fn expect_unseen(
+    rt: &impl Abort,
+    list: &Enrollments,
+    table: &Table,
+    kind: ObjectKind,
+    instance: u32,
+) -> Result<(), Fail> {
+    let object = identifier(kind, instance)?;
+    holds(rt, list.snapshot_of(table, object).is_none());
     Ok(())
+}
+
+fn expect_both_unseen(rt: &impl Abort, list: &Enrollments, table: &Table) -> Result<(), Fail> {
+    expect_unseen(rt, list, table, ObjectKind::EventEnrollment, 1)?;
+    expect_unseen(rt, list, table, ObjectKind::IntegerValue, 2)
 }
 
 #[test]
 fn an_object_that_is_not_there_is_not_seen(rt: HostRuntime) -> Result<(), Fail> {
-    let (list, table) = ranged(rt.alloc())?;
-    for (kind, instance) in [
-        (ObjectKind::EventEnrollment, 1),
-        (ObjectKind::IntegerValue, 2),
-    ] {
-        let object = identifier(kind, instance)?;
-        same(
-            &rt,
-            &(instance, list.snapshot_of(&table, object).is_none()),
-            &(instance, true),
-        );
-    }
+    let table = level_and_flow(rt.alloc())?;
+    let list = mirror_and_range(rt.alloc())?;
+    expect_both_unseen(&rt, &list, &table)
+}
+
+/// The numbers of the reliabilities of enrollments 1 and 2 and of integer values 1 and 2.
+fn four_numbers(list: &Enrollments, table: &Table) -> Result<[u8; 4], Fail> {
+    Ok([
+        number_of(list, table, ObjectKind::EventEnrollment, 1)?,
+        number_of(list, table, ObjectKind::EventEnrollment, 2)?,
+        number_of(list, table, ObjectKind::IntegerValue, 1)?,
+        number_of(list, table, ObjectKind::IntegerValue, 2)?,
+    ])
+}
+
+/// One of the integer values has a field fault.
+fn faulty(table: &mut Table, instance: u32, fault: u32) -> Result<(), Fail> {
+    let change = table.check_fault(identifier(ObjectKind::IntegerValue, instance)?, fault)?;
+    let _ = table.apply(change);
     Ok(())
 }
 
 /// The numbers of the reliabilities of two enrollments and of two integer values, with a field fault of one of these.
 fn reliabilities(alloc: Global, instance: u32, fault: u32) -> Result<[u8; 4], Fail> {
-    let list = enrollments_of(alloc, follower(alloc)?, mirror(alloc)?)?;
-    let mut table = table_of(alloc, level(alloc, 1, 0)?, level(alloc, 2, 0)?)?;
-    let change = table.check_fault(identifier(ObjectKind::IntegerValue, instance)?, fault)?;
-    let _ = table.apply(change);
-    Ok([
-        number_of(&list, &table, ObjectKind::EventEnrollment, 1)?,
-        number_of(&list, &table, ObjectKind::EventEnrollment, 2)?,
-        number_of(&list, &table, ObjectKind::IntegerValue, 1)?,
-        number_of(&list, &table, ObjectKind::IntegerValue, 2)?,
-    ])
+    let mut table = levels(alloc, 0, 0)?;
+    faulty(&mut table, instance, fault)?;
+    let list = followers(alloc)?;
+    four_numbers(&list, &table)
 }
 
 fn number_of(
@@ -483,14 +566,18 @@ fn a_fault_of_either_object_is_a_fault(rt: HostRuntime) -> Result<(), Fail> {
 
 /// The numbers of the reliabilities of two enrollments, of which the second monitors an object that isn't in the table,
 /// and of another object that isn't.
-fn reliabilities_beside_the_table(alloc: Global) -> Result<[u8; 3], Fail> {
-    let list = enrollments_of(alloc, mirror(alloc)?, range(alloc)?)?;
-    let table = table_of(alloc, level(alloc, 1, 0)?, level(alloc, 2, 0)?)?;
+fn three_numbers(list: &Enrollments, table: &Table) -> Result<[u8; 3], Fail> {
     Ok([
-        number_of(&list, &table, ObjectKind::EventEnrollment, 1)?,
-        number_of(&list, &table, ObjectKind::EventEnrollment, 3)?,
-        number_of(&list, &table, ObjectKind::IntegerValue, 3)?,
+        number_of(list, table, ObjectKind::EventEnrollment, 1)?,
+        number_of(list, table, ObjectKind::EventEnrollment, 3)?,
+        number_of(list, table, ObjectKind::IntegerValue, 3)?,
     ])
+}
+
+fn reliabilities_beside_the_table(alloc: Global) -> Result<[u8; 3], Fail> {
+    let table = levels(alloc, 0, 0)?;
+    let list = mirror_and_range(alloc)?;
+    three_numbers(&list, &table)
 }
 
 #[test]
@@ -503,18 +590,11 @@ fn an_object_that_is_not_there_has_no_fault(rt: HostRuntime) -> Result<(), Fail>
     Ok(())
 }
 
-/// Whether enrollment 3 sees something in a table without the object that it monitors.
-fn sees_beside_the_table(alloc: Global) -> Result<bool, Fail> {
-    let list = enrollments_of(alloc, mirror(alloc)?, range(alloc)?)?;
-    let table = table_of(alloc, level(alloc, 1, 0)?, level(alloc, 2, 0)?)?;
-    let object = identifier(ObjectKind::EventEnrollment, 3)?;
-    Ok(list.snapshot_of(&table, object).is_some())
-}
-
 #[test]
 fn a_monitored_object_that_is_not_there_is_not_seen(rt: HostRuntime) -> Result<(), Fail> {
-    holds(&rt, !sees_beside_the_table(rt.alloc())?);
-    Ok(())
+    let table = levels(rt.alloc(), 0, 0)?;
+    let list = mirror_and_range(rt.alloc())?;
+    expect_unseen(&rt, &list, &table, ObjectKind::EventEnrollment, 3)
 }
 
 /// The instances of those that refer to an object, as digits.
@@ -528,34 +608,53 @@ fn watching(list: &Enrollments, kind: ObjectKind, instance: u32) -> Result<u64, 
     Ok(digits)
 }
 
+/// Those that refer to an object are these.
+fn expect_watching(
+    rt: &impl Abort,
+    list: &Enrollments,
+    kind: ObjectKind,
+    instance: u32,
+    digits: u64,
+) -> Result<(), Fail> {
+    same(
+        rt,
+        &(instance, watching(list, kind, instance)?),
+        &(instance, digits),
+    );
+    Ok(())
+}
+
+fn expect_followers(rt: &impl Abort, list: &Enrollments) -> Result<(), Fail> {
+    expect_watching(rt, list, ObjectKind::IntegerValue, 1, 12)?;
+    expect_watching(rt, list, ObjectKind::IntegerValue, 2, 1)?;
+    expect_watching(rt, list, ObjectKind::IntegerValue, 0, 0)?;
+    expect_watching(rt, list, ObjectKind::IntegerValue, 3, 0)?;
+    expect_watching(rt, list, ObjectKind::PositiveIntegerValue, 1, 0)?;
+    expect_watching(rt, list, ObjectKind::EventEnrollment, 1, 0)
+}
+
+fn expect_mirror_and_range(rt: &impl Abort, list: &Enrollments) -> Result<(), Fail> {
+    expect_watching(rt, list, ObjectKind::IntegerValue, 1, 2)?;
+    expect_watching(rt, list, ObjectKind::PositiveIntegerValue, 1, 3)
+}
+
 #[test]
 fn each_that_refers_is_told_once_in_order(rt: HostRuntime) -> Result<(), Fail> {
-    let list = enrollments_of(rt.alloc(), follower(rt.alloc())?, mirror(rt.alloc())?)?;
-    same(&rt, &watching(&list, ObjectKind::IntegerValue, 1)?, &12);
-    same(&rt, &watching(&list, ObjectKind::IntegerValue, 2)?, &1);
-    for (kind, instance) in [
-        (ObjectKind::IntegerValue, 0),
-        (ObjectKind::IntegerValue, 3),
-        (ObjectKind::PositiveIntegerValue, 1),
-        (ObjectKind::EventEnrollment, 1),
-    ] {
-        same(
-            &rt,
-            &(instance, watching(&list, kind, instance)?),
-            &(instance, 0),
-        );
-    }
-    let list = enrollments_of(rt.alloc(), mirror(rt.alloc())?, range(rt.alloc())?)?;
-    same(&rt, &watching(&list, ObjectKind::IntegerValue, 1)?, &2);
-    same(
-        &rt,
-        &watching(&list, ObjectKind::PositiveIntegerValue, 1)?,
-        &3,
-    );
+    let list = followers(rt.alloc())?;
+    expect_followers(&rt, &list)
+}
+
+#[test]
+fn those_that_refer_to_other_objects_are_not_told(rt: HostRuntime) -> Result<(), Fail> {
+    let list = mirror_and_range(rt.alloc())?;
+    expect_mirror_and_range(&rt, &list)
+}
+
+#[test]
+fn nobody_refers_where_there_are_no_enrollments(rt: HostRuntime) -> Result<(), Fail> {
     let none = Enrollments::new(rt.alloc(), Vec::new(rt.alloc()))?;
-    same(&rt, &watching(&none, ObjectKind::IntegerValue, 1)?, &0);
     holds(&rt, none.rows().is_empty());
-    Ok(())
+    expect_watching(&rt, &none, ObjectKind::IntegerValue, 1, 0)
 }
 
 #[test]

@@ -1,12 +1,13 @@
-ghost use Rattle.std.specs.Prelude.{◌≤◌, length};
+ghost use Rattle.std.specs.Prelude.{◌≡◌, ◌<◌, ◌≤◌, length};
+ghost use Rattle.bac_values.specs.Moments.{IsMoment};
 
 use crate::comparing::{holds, same};
 use algorithm_rules::{Algorithm, Snapshot};
 use bac_values::EventState::{self, Fault, HighLimit, LowLimit, Normal, Offnormal};
-use bac_values::{NoMemory, Reliability, Stamp, Transition, Value};
+use bac_values::{Reliability, Stamp, Transition, Value};
 use event_machine::*;
-use std::alloc::Global;
-use std::test::Fail;
+use std::marker::Brand;
+use std::sync::ledger::{Blank, Ledger};
 
 const START: u64 = 1_700_000_000_000;
 
@@ -50,7 +51,9 @@ fn stamp(after: u32) -> Stamp {
     }
 }
 
-pub(crate) fn point(after: u32) -> PointFacts {
+pub(crate) fn point(after: u32) -> PointFacts
+    ensures moment { IsMoment result.moment }
+{
     PointFacts {
         moment: START + u64::from(after),
         stamp: stamp(after),
@@ -81,56 +84,55 @@ pub(crate) const NOTHING: Changed = Changed {
     second: None,
 };
 
-fn started(alloc: Global, snapshot: &Snapshot<'_>) -> Result<(Alarm, Past), NoMemory>
-    requires { length snapshot.now.alarm_values.now ≤ 32 }
+/// An alarm behind the first point of its object.
+pub(crate) fn begun(snapshot: &Snapshot<'_>, first: &PointFacts) -> Alarm
+    requires few { length snapshot.now.alarm_values.now ≤ 32 }
+    requires moment { IsMoment first.now.moment }
 {
-    begun(alloc, snapshot, &point(0))
+    let mut alarm = Alarm::new();
+    begin(&mut alarm, snapshot, first);
+    alarm
 }
 
-/// A new alarm and what is kept of its first point.
-pub(crate) fn begun(
-    alloc: Global,
-    snapshot: &Snapshot<'_>,
-    first: &PointFacts,
-) -> Result<(Alarm, Past), NoMemory>
-    requires { length snapshot.now.alarm_values.now ≤ 32 }
-{
-    let none = Past::new(alloc);
-    let mut past = none.copy(alloc)?;
-    let alarm = Alarm::new();
-    begin(&alarm, &mut past, snapshot, first);
-    Ok((alarm, past))
-}
-
-pub(crate) fn looked(
-    alloc: Global,
+fn counted<L: Ledger>(
     alarm: &mut Alarm,
-    past: &mut Past,
     snapshot: &Snapshot<'_>,
     point: &PointFacts,
-) -> Result<Changed, NoMemory>
-    requires { length snapshot.now.alarm_values.now ≤ 32 }
+    blank: Blank,
+) -> Changed
+    requires name { blank.name ≡ L.name }
+    requires parts { blank.parts ≡ L.parts }
+    requires some { 0 < blank.parts }
+    requires few { length snapshot.now.alarm_values.now ≤ 32 }
+    requires moment { IsMoment point.now.moment }
 {
-    *past = past.copy(alloc)?;
-    Ok(look(alarm, past, snapshot, point))
+    let mut steps = Steps::<L>::new(blank);
+    evaluate(alarm, snapshot, point, &mut steps)
+}
+
+/// One more point, counted in a ledger that nobody reads.
+pub(crate) fn looked(alarm: &mut Alarm, snapshot: &Snapshot<'_>, point: &PointFacts) -> Changed
+    requires few { length snapshot.now.alarm_values.now ≤ 32 }
+    requires moment { IsMoment point.now.moment }
+{
+    counted::<Brand>(alarm, snapshot, point, Blank::new(1))
+}
+
+/// A point at which the object isn't reliable.
+fn faulty(after: u32) -> PointFacts
+    ensures moment { IsMoment result.moment }
+{
+    PointFacts {
+        reliability: Reliability::UnreliableOther,
+        ..point(after)
+    }
 }
 
 #[test]
-fn leaves_a_fault_and_enters_a_limit_at_one_point(rt: HostRuntime) -> Result<(), Fail> {
-    let alloc = rt.alloc();
+fn leaves_a_fault_and_enters_a_limit_at_one_point(rt: HostRuntime) {
     let (within, above) = (Value::Signed(50), Value::Signed(90));
-    let (mut alarm, mut past) = started(alloc, &limits(&within, 0))?;
-    let faulty = |after| PointFacts {
-        reliability: Reliability::UnreliableOther,
-        ..point(after)
-    };
-    let changed = looked(
-        alloc,
-        &mut alarm,
-        &mut past,
-        &limits(&within, 0),
-        &faulty(0),
-    )?;
+    let mut alarm = begun(&limits(&within, 0), &point(0));
+    let changed = looked(&mut alarm, &limits(&within, 0), &faulty(0));
     same(
         &rt,
         &changed,
@@ -139,21 +141,9 @@ fn leaves_a_fault_and_enters_a_limit_at_one_point(rt: HostRuntime) -> Result<(),
             second: None,
         },
     );
-    let changed = looked(
-        alloc,
-        &mut alarm,
-        &mut past,
-        &limits(&above, 0),
-        &faulty(1_000),
-    )?;
+    let changed = looked(&mut alarm, &limits(&above, 0), &faulty(1_000));
     same(&rt, &changed, &NOTHING);
-    let changed = looked(
-        alloc,
-        &mut alarm,
-        &mut past,
-        &limits(&above, 0),
-        &point(2_000),
-    )?;
+    let changed = looked(&mut alarm, &limits(&above, 0), &point(2_000));
     same(
         &rt,
         &changed,
@@ -182,15 +172,13 @@ fn leaves_a_fault_and_enters_a_limit_at_one_point(rt: HostRuntime) -> Result<(),
     same(&rt, &alarm.acked(), &[false, true, true]);
     alarm.acknowledge(Transition::ToOffnormal);
     same(&rt, &alarm.acked(), &[true; 3]);
-    Ok(())
 }
 
 #[test]
-fn another_fault_is_a_move_of_its_own(rt: HostRuntime) -> Result<(), Fail> {
-    let alloc = rt.alloc();
+fn another_fault_is_a_move_of_its_own(rt: HostRuntime) {
     let value = Value::Signed(50);
     let snapshot = limits(&value, 0);
-    let (mut alarm, mut past) = started(alloc, &snapshot)?;
+    let mut alarm = begun(&snapshot, &point(0));
     for (after, reliability, first) in [
         (0, Reliability::UnreliableOther, faults(Normal, Fault)),
         (1_000, Reliability::UnreliableOther, None),
@@ -201,7 +189,7 @@ fn another_fault_is_a_move_of_its_own(rt: HostRuntime) -> Result<(), Fail> {
             reliability,
             ..point(after)
         };
-        let changed = looked(alloc, &mut alarm, &mut past, &snapshot, &seen)?;
+        let changed = looked(&mut alarm, &snapshot, &seen);
         same(
             &rt,
             &(after, changed),
@@ -214,14 +202,12 @@ fn another_fault_is_a_move_of_its_own(rt: HostRuntime) -> Result<(), Fail> {
             ),
         );
     }
-    Ok(())
 }
 
 #[test]
-fn goes_from_one_limit_to_the_other_after_the_delay(rt: HostRuntime) -> Result<(), Fail> {
-    let alloc = rt.alloc();
+fn goes_from_one_limit_to_the_other_after_the_delay(rt: HostRuntime) {
     let (within, above, below) = (Value::Signed(50), Value::Signed(90), Value::Signed(10));
-    let (mut alarm, mut past) = started(alloc, &limits(&within, 10))?;
+    let mut alarm = begun(&limits(&within, 10), &point(0));
     for (after, value, second) in [
         (0, &within, None),
         (0, &above, None),
@@ -232,13 +218,7 @@ fn goes_from_one_limit_to_the_other_after_the_delay(rt: HostRuntime) -> Result<(
         (24_999, &below, None),
         (25_000, &below, moves(HighLimit, LowLimit)),
     ] {
-        let changed = looked(
-            alloc,
-            &mut alarm,
-            &mut past,
-            &limits(value, 10),
-            &point(after),
-        )?;
+        let changed = looked(&mut alarm, &limits(value, 10), &point(after));
         same(
             &rt,
             &(after, changed),
@@ -251,15 +231,13 @@ fn goes_from_one_limit_to_the_other_after_the_delay(rt: HostRuntime) -> Result<(
             ),
         );
     }
-    Ok(())
 }
 
 #[test]
-fn another_alarm_value_is_a_move_once_it_has_lasted(rt: HostRuntime) -> Result<(), Fail> {
-    let alloc = rt.alloc();
+fn another_alarm_value_is_a_move_once_it_has_lasted(rt: HostRuntime) {
     let alarms = [Value::Unsigned(2), Value::Unsigned(3)];
     let (one, two, three) = (Value::Unsigned(1), Value::Unsigned(2), Value::Unsigned(3));
-    let (mut alarm, mut past) = started(alloc, &states(&one, &alarms))?;
+    let mut alarm = begun(&states(&one, &alarms), &point(0));
     for (after, value, second, cause) in [
         (0, &one, None, None),
         (0, &two, None, None),
@@ -273,13 +251,7 @@ fn another_alarm_value_is_a_move_once_it_has_lasted(rt: HostRuntime) -> Result<(
         (16_000, &three, None, Some(1)),
         (21_000, &three, None, Some(1)),
     ] {
-        let changed = looked(
-            alloc,
-            &mut alarm,
-            &mut past,
-            &states(value, &alarms),
-            &point(after),
-        )?;
+        let changed = looked(&mut alarm, &states(value, &alarms), &point(after));
         same(
             &rt,
             &(after, changed),
@@ -293,14 +265,12 @@ fn another_alarm_value_is_a_move_once_it_has_lasted(rt: HostRuntime) -> Result<(
         );
         same(&rt, &(after, alarm.cause()), &(after, cause));
     }
-    Ok(())
 }
 
 #[test]
-fn the_delay_starts_anew_where_an_inhibition_ends(rt: HostRuntime) -> Result<(), Fail> {
-    let alloc = rt.alloc();
+fn the_delay_starts_anew_where_an_inhibition_ends(rt: HostRuntime) {
     let (within, above) = (Value::Signed(50), Value::Signed(90));
-    let (mut alarm, mut past) = started(alloc, &limits(&within, 10))?;
+    let mut alarm = begun(&limits(&within, 10), &point(0));
     for (after, value, inhibited, second) in [
         (0, &above, false, None),
         (10_000, &above, false, moves(Normal, HighLimit)),
@@ -314,7 +284,7 @@ fn the_delay_starts_anew_where_an_inhibition_ends(rt: HostRuntime) -> Result<(),
             inhibited,
             ..point(after)
         };
-        let changed = looked(alloc, &mut alarm, &mut past, &limits(value, 10), &seen)?;
+        let changed = looked(&mut alarm, &limits(value, 10), &seen);
         same(
             &rt,
             &(after, changed),
@@ -327,7 +297,6 @@ fn the_delay_starts_anew_where_an_inhibition_ends(rt: HostRuntime) -> Result<(),
             ),
         );
     }
-    Ok(())
 }
 
 #[test]
@@ -338,4 +307,83 @@ fn a_new_alarm_is_normal_and_acknowledged(rt: HostRuntime) {
     same(&rt, &alarm.stamps(), &[Stamp::NEVER; 3]);
     same(&rt, &alarm.last_states(), &[None; 3]);
     holds(&rt, matches!(Found::Has(&alarm), Found::Has(_)));
+}
+
+#[test]
+fn a_run_starts_with_its_condition_and_tells_when_its_rule_is_due(rt: HostRuntime) {
+    let (within, above) = (Value::Signed(50), Value::Signed(90));
+    let mut alarm = begun(&limits(&within, 10), &point(0));
+    same(&rt, &alarm.runs(), &[None; 3]);
+    same(&rt, &next_due(&alarm, &limits(&within, 10)), &None);
+    let _first = looked(&mut alarm, &limits(&above, 10), &point(3_000));
+    let _second = looked(&mut alarm, &limits(&above, 10), &point(7_000));
+    let run = Run {
+        start: START + 3_000,
+        key: 0,
+    };
+    same(&rt, &alarm.runs(), &[Some(run), None, None]);
+    let due = next_due(&alarm, &limits(&above, 10));
+    same(&rt, &due, &Some(START + 13_000));
+    let due = next_due(&alarm, &limits(&above, 12));
+    same(&rt, &due, &Some(START + 15_000));
+    holds(&rt, is_still(&alarm, &limits(&above, 10), &point(12_999)));
+    holds(&rt, !is_still(&alarm, &limits(&above, 10), &point(13_000)));
+}
+
+#[test]
+fn the_first_rule_that_is_due_is_the_one_of_the_disabled_limit(rt: HostRuntime) {
+    let above = Value::Signed(90);
+    let mut alarm = begun(&limits(&above, 10), &point(0));
+    let _entered = looked(&mut alarm, &limits(&above, 10), &point(10_000));
+    same(&rt, &alarm.state(), &HighLimit);
+    same(&rt, &alarm.runs(), &[None; 3]);
+    let disabled = Snapshot {
+        limit_enable: [true, false],
+        ..limits(&above, 10)
+    };
+    let changed = looked(&mut alarm, &disabled, &point(11_000));
+    let wanted = Changed {
+        first: None,
+        second: moves(HighLimit, Normal),
+    };
+    same(&rt, &changed, &wanted);
+}
+
+#[test]
+fn an_inhibited_object_has_no_runs(rt: HostRuntime) {
+    let above = Value::Signed(90);
+    let mut alarm = begun(&limits(&above, 10), &point(0));
+    holds(&rt, alarm.runs()[0].is_some());
+    let inhibited = PointFacts {
+        inhibited: true,
+        ..point(5_000)
+    };
+    let changed = looked(&mut alarm, &limits(&above, 10), &inhibited);
+    same(&rt, &changed, &NOTHING);
+    same(&rt, &alarm.runs(), &[None; 3]);
+}
+
+#[test]
+fn an_alarm_is_what_it_is_restored_from(rt: HostRuntime) {
+    let run = Run {
+        start: START,
+        key: 1,
+    };
+    let parts = AlarmParts {
+        state: Offnormal,
+        acked: [false, true, true],
+        stamps: [stamp(1), stamp(2), stamp(3)],
+        last_states: [Some(Offnormal), None, Some(Normal)],
+        cause: Some(4),
+        last_reliability: Reliability::OverRange,
+        runs: [None, Some(run), None],
+    };
+    let alarm = Alarm::restore(parts);
+    same(&rt, &alarm.state(), &parts.state);
+    same(&rt, &alarm.acked(), &parts.acked);
+    same(&rt, &alarm.stamps(), &parts.stamps);
+    same(&rt, &alarm.last_states(), &parts.last_states);
+    same(&rt, &alarm.cause(), &parts.cause);
+    same(&rt, &alarm.last_reliability(), &parts.last_reliability);
+    same(&rt, &alarm.runs(), &parts.runs);
 }

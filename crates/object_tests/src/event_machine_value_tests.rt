@@ -1,10 +1,11 @@
-ghost use Rattle.std.specs.Prelude.{◌≡◌, ◌≤◌, length};
+ghost use Rattle.std.specs.Prelude.{◌≤◌, length};
+ghost use Rattle.bac_values.specs.Moments.{IsMoment};
 
 use crate::comparing::same;
 use crate::event_machine_tests::{begun, faults, limits, looked, moves, point};
 use algorithm_rules::{Algorithm, Snapshot};
 use bac_values::EventState::{Fault, HighLimit, LowLimit, Normal, Offnormal};
-use bac_values::{Bits, NoMemory, Reliability, Text, Value};
+use bac_values::{Bits, Reliability, Text, Value};
 use event_machine::*;
 use std::alloc::Global;
 use std::process::Abort;
@@ -15,20 +16,15 @@ use std::test::Fail;
 type Step<'a> = (u32, &'a Value, Option<Move>, Option<u32>);
 
 /// The object moves so, from point to point. All but its value is as it is seen first.
-fn expect_moves<'a>(
-    rt: &impl Abort,
-    alloc: Global,
-    seen: &Snapshot<'a>,
-    steps: &[Step<'a>],
-) -> Result<(), NoMemory>
+fn expect_moves<'a>(rt: &impl Abort, seen: &Snapshot<'a>, steps: &[Step<'a>])
     requires { length seen.now.alarm_values.now ≤ 32 }
 {
     let first = point(0);
-    let (mut alarm, mut past) = begun(alloc, seen, &first)?;
+    let mut alarm = begun(seen, &first);
     for (after, value, second, cause) in steps {
         let now = Snapshot { value, ..*seen };
         let at = point(*after);
-        let changed = looked(alloc, &mut alarm, &mut past, &now, &at)?;
+        let changed = looked(&mut alarm, &now, &at);
         let wanted = Changed {
             first: None,
             second: *second,
@@ -36,7 +32,6 @@ fn expect_moves<'a>(
         same(rt, &(*after, changed), &(*after, wanted));
         same(rt, &(*after, alarm.cause()), &(*after, *cause));
     }
-    Ok(())
 }
 
 /// A delay of five seconds.
@@ -52,7 +47,7 @@ fn watched<'a>(algorithm: Algorithm, value: &'a Value, alarm_values: &'a [Value]
 }
 
 #[test]
-fn a_command_fails_and_is_followed(rt: HostRuntime) -> Result<(), Fail> {
+fn a_command_fails_and_is_followed(rt: HostRuntime) {
     let (on, off) = (Value::Enumerated(1), Value::Enumerated(0));
     let seen = Snapshot {
         feedback: Some(&off),
@@ -66,14 +61,11 @@ fn a_command_fails_and_is_followed(rt: HostRuntime) -> Result<(), Fail> {
         (6_000, &off, None, None),
         (11_000, &off, moves(Offnormal, Normal), None),
     ];
-    expect_moves(&rt, rt.alloc(), &seen, &steps)?;
-    Ok(())
+    expect_moves(&rt, &seen, &steps);
 }
 
 #[test]
-fn an_unsigned_number_leaves_its_range_and_returns_behind_the_deadband(
-    rt: HostRuntime,
-) -> Result<(), Fail> {
+fn an_unsigned_number_leaves_its_range_and_returns_behind_the_deadband(rt: HostRuntime) {
     let (a, b) = (Value::Unsigned(80), Value::Unsigned(81));
     let (c, d, e) = (
         Value::Unsigned(75),
@@ -92,8 +84,7 @@ fn an_unsigned_number_leaves_its_range_and_returns_behind_the_deadband(
         (20_000, &e, None, None),
         (25_000, &e, moves(Normal, LowLimit), None),
     ];
-    expect_moves(&rt, rt.alloc(), &seen, &steps)?;
-    Ok(())
+    expect_moves(&rt, &seen, &steps);
 }
 
 /// Four bits.
@@ -120,7 +111,7 @@ fn bits_outside_the_mask_are_not_compared(rt: HostRuntime) -> Result<(), Fail> {
         (15_000, &both, None, Some(1)),
         (20_000, &both, moves(Offnormal, Normal), Some(1)),
     ];
-    expect_moves(&rt, rt.alloc(), &seen, &steps)?;
+    expect_moves(&rt, &seen, &steps);
     Ok(())
 }
 
@@ -144,33 +135,48 @@ fn a_text_is_in_alarm_while_it_holds_an_alarm_text(rt: HostRuntime) -> Result<()
         (15_000, &calm, None, Some(1)),
         (20_000, &calm, moves(Offnormal, Normal), Some(1)),
     ];
-    expect_moves(&rt, alloc, &seen, &steps)?;
+    expect_moves(&rt, &seen, &steps);
     Ok(())
 }
 
-#[test]
-fn a_fault_from_the_start_is_a_move_at_the_first_point(rt: HostRuntime) -> Result<(), Fail> {
-    let alloc = rt.alloc();
-    let value = Value::Unsigned(1);
-    let seen = watched(Algorithm::ChangeOfState, &value, &[]);
-    let faulty = PointFacts {
+/// The start, at which the object's state is a fault.
+fn unreliable() -> PointFacts
+    ensures moment { IsMoment result.moment }
+{
+    PointFacts {
         reliability: Reliability::MultiStateFault,
         ..point(0)
-    };
-    let (mut alarm, mut past) = begun(alloc, &seen, &faulty)?;
-    same(&rt, &alarm.state(), &Normal);
-    for (point, first) in [
-        (&faulty, faults(Normal, Fault)),
-        (&faulty, None),
-        (&point(0), faults(Fault, Normal)),
-    ] {
-        let changed = looked(alloc, &mut alarm, &mut past, &seen, point)?;
-        let wanted = Changed {
-            first,
-            second: None,
-        };
-        same(&rt, &changed, &wanted);
-        same(&rt, &alarm.last_reliability(), &point.reliability);
     }
-    Ok(())
+}
+
+/// The object moves so at a point, by a fault or its end, and keeps the reliability.
+fn expect_fault<'a>(
+    rt: &impl Abort,
+    alarm: &mut Alarm,
+    seen: &Snapshot<'a>,
+    point: &PointFacts,
+    first: Option<Move>,
+)
+    requires few { length seen.now.alarm_values.now ≤ 32 }
+    requires moment { IsMoment point.now.moment }
+{
+    let changed = looked(alarm, seen, point);
+    let wanted = Changed {
+        first,
+        second: None,
+    };
+    same(rt, &changed, &wanted);
+    same(rt, &alarm.last_reliability(), &point.reliability);
+}
+
+#[test]
+fn a_fault_from_the_start_is_a_move_at_the_first_point(rt: HostRuntime) {
+    let value = Value::Unsigned(1);
+    let seen = watched(Algorithm::ChangeOfState, &value, &[]);
+    let (faulty, well) = (unreliable(), point(0));
+    let mut alarm = begun(&seen, &faulty);
+    same(&rt, &alarm.state(), &Normal);
+    expect_fault(&rt, &mut alarm, &seen, &faulty, faults(Normal, Fault));
+    expect_fault(&rt, &mut alarm, &seen, &faulty, None);
+    expect_fault(&rt, &mut alarm, &seen, &well, faults(Fault, Normal));
 }

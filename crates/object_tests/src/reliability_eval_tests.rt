@@ -5,24 +5,29 @@ use reliability_eval::*;
 use std::alloc::Global;
 use std::test::Fail;
 
-/// A row of an object with a value, which has no class, fault limits from 10 to 20 and two fault values.
-fn row(
-    alloc: Global,
-    kind: ObjectKind,
+/// Two fault values.
+fn two(alloc: Global, first: Value, second: Value) -> Result<Items<Value>, Fail> {
+    Ok(Items::of(vec![in alloc; first, second]?))
+}
+
+/// A row of an object with a value, which has no class, fault limits from 10 to 20 and these fault values.
+fn row_with(
+    object: ObjectId,
+    name: Text,
     value: Value,
-    first: Value,
-    second: Value,
-) -> Result<Row, Fail> {
+    fault_values: Items<Value>,
+    alarm_values: Items<Value>,
+) -> Row {
     let site = ObjectSite {
-        object: ObjectId::of_kind(kind, 1)?,
-        name: Text::new(alloc, "Object")?,
+        object,
+        name,
         value,
         out_of_service: false,
         reliability_inhibit: false,
         states: 0,
         fault_low: Some(10),
         fault_high: Some(20),
-        fault_values: Items::of(vec![in alloc; first, second]?),
+        fault_values,
         class: None,
         notify: 0,
         enable: [false, false, false],
@@ -35,13 +40,28 @@ fn row(
         deadband: 0,
         limit_enable: [false, false],
         alarm_value: None,
-        alarm_values: Items::of(Vec::new(alloc)),
+        alarm_values,
         mask: None,
     };
-    Ok(Row {
+    Row {
         site,
         field_fault: 0,
-    })
+    }
+}
+
+/// Such a row of an object of a kind, with two fault values.
+fn row(
+    alloc: Global,
+    kind: ObjectKind,
+    value: Value,
+    first: Value,
+    second: Value,
+) -> Result<Row, Fail> {
+    let object = ObjectId::of_kind(kind, 1)?;
+    let faults = two(alloc, first, second)?;
+    let name = Text::new(alloc, "Object")?;
+    let none = Items::of(Vec::new(alloc));
+    Ok(row_with(object, name, value, faults, none))
 }
 
 fn level(alloc: Global, value: i32) -> Result<Row, Fail> {

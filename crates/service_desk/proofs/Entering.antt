@@ -7,14 +7,14 @@ use Rattle.ack_alarm.specs.Verdicts.{AcceptsAllowed}
 use Rattle.alarm_core.specs.Found.{found_in}
 use Rattle.alarm_core.specs.State.{State}
 use Rattle.service_desk.specs.declared.decision.Decision.{Decision}
-use Rattle.service_desk.specs.declared.replies.Asker.{Asker}
+use Rattle.service_desk.specs.declared.replies.Requester.{Requester}
 use Rattle.service_desk.specs.Decisions.{EntersAllowed, verdict_decision}
 
-pub verdict_enters : (state : State) (moment : ℕ) (asker : Asker) (object : Identifier) (verdict : Verdict) → AcceptsAllowed (found_in state object) verdict →
-    EntersAllowed state moment (verdict_decision moment asker object verdict)
-verdict_enters state moment asker object (Accept transition named) accepts = (refl, accepts transition named refl)
-verdict_enters state moment asker object Already accepts = tt
-verdict_enters state moment asker object (Error class code) accepts = tt
+pub verdict_enters : (state : State) (moment : ℕ) (requester : Requester) (object : Identifier) (verdict : Verdict) → AcceptsAllowed (found_in state object) verdict →
+    EntersAllowed state moment (verdict_decision moment requester object verdict)
+verdict_enters state moment requester object (Accept transition named) accepts = (refl, accepts transition named refl)
+verdict_enters state moment requester object Already accepts = tt
+verdict_enters state moment requester object (Error class code) accepts = tt
 
 -- what holds of one decision holds of an answer that is it
 pub holds_of : {E : Type 0} (P : Decision → Type 0) (answer : Result Decision E) (decision : Decision) → IfOk answer (λ d. d ≡ decision) → P decision → IfOk answer P

@@ -1,8 +1,10 @@
 pub mod Entering
+pub mod AllowedWrites
+pub mod AllowedEvents
 pub mod Lengths
 pub mod Greatest
 pub mod Room
-pub mod Wanted
+pub mod RequestedRange
 pub mod Fitted
 pub mod Sends
 pub mod Fitting

@@ -1,4 +1,4 @@
--- No reply is longer than its asker takes.
+-- No reply is longer than its requester takes.
 use Rattle.std.proofs.Common.{◌≡◌, ℕ, ◌≤◌, ◌&&◌, Bool, true, false, if◌then◌else◌, List, length, refl, arith, Option, Some, None}
 use Rattle.std.specs.Prelude.{is_some, nat_eq, nat_lt, Result, Ok, Err}
 use Rattle.std.proofs.lemmas.Bool.{ltb-false}
@@ -14,68 +14,68 @@ use Rattle.property_services.specs.Reading.{read_range_of}
 use Rattle.event_log.specs.declared.log_range.LogRange.{LogRange}
 use Rattle.event_log.specs.Log.{Log}
 use Rattle.event_services.specs.declared.information.EventSummary.{EventSummary}
-use Rattle.service_desk.specs.declared.replies.Asker.{Asker}
+use Rattle.service_desk.specs.declared.replies.Requester.{Requester}
 use Rattle.service_desk.specs.Information.{information_reply}
-use Rattle.service_desk.specs.Laws.{FitsAsker}
-use Rattle.service_desk.specs.Ranges.{buffer_answer, has_zero_count, object_answer, range_answer, range_decided, range_reply, range_with, sent_of, wanted}
-use Rattle.service_desk.specs.Replies.{aborted, acknowledged, fitting, refused, rejected, reply_to}
+use Rattle.service_desk.specs.Laws.{FitsRequester}
+use Rattle.service_desk.specs.Ranges.{buffer_answer, has_zero_count, object_answer, range_answer, range_decided, range_reply, range_with, records_that_fit, requested_range}
+use Rattle.service_desk.specs.Replies.{abort, simple_ack, within_max_apdu, error_numbered, reject, reply_to}
 
-pub acknowledged_fits : (asker : Asker) → 50 ≤ asker.max_apdu → FitsAsker asker (acknowledged asker)
-acknowledged_fits asker least = record { apdu = written_simple_ack asker.invoke asker.service; framed = refl; short = omega (arith, least) }
+pub simple_ack_fits : (requester : Requester) → 50 ≤ requester.max_apdu → FitsRequester requester (simple_ack requester)
+simple_ack_fits requester least = record { apdu = written_simple_ack requester.invoke requester.service; framed = refl; short = omega (arith, least) }
 
-pub refused_fits : (asker : Asker) (class code : ℕ) → 50 ≤ asker.max_apdu → FitsAsker asker (refused asker class code)
-refused_fits asker class code least = record { apdu = written_error asker.invoke asker.service class code; framed = refl; short = omega (arith, least) }
+pub error_fits : (requester : Requester) (class code : ℕ) → 50 ≤ requester.max_apdu → FitsRequester requester (error_numbered requester class code)
+error_fits requester class code least = record { apdu = written_error requester.invoke requester.service class code; framed = refl; short = omega (arith, least) }
 
-pub rejected_fits : (asker : Asker) (reason : ℕ) → 50 ≤ asker.max_apdu → FitsAsker asker (rejected asker reason)
-rejected_fits asker reason least = record { apdu = written_reject asker.invoke reason; framed = refl; short = omega (arith, least) }
+pub reject_fits : (requester : Requester) (reason : ℕ) → 50 ≤ requester.max_apdu → FitsRequester requester (reject requester reason)
+reject_fits requester reason least = record { apdu = written_reject requester.invoke reason; framed = refl; short = omega (arith, least) }
 
-pub aborted_fits : (asker : Asker) (reason : ℕ) → 50 ≤ asker.max_apdu → FitsAsker asker (aborted asker reason)
-aborted_fits asker reason least = record { apdu = written_abort asker.invoke reason; framed = refl; short = omega (arith, least) }
+pub abort_fits : (requester : Requester) (reason : ℕ) → 50 ≤ requester.max_apdu → FitsRequester requester (abort requester reason)
+abort_fits requester reason least = record { apdu = written_abort requester.invoke reason; framed = refl; short = omega (arith, least) }
 
 -- an answer is as short, or it is not sent
-chosen : (asker : Asker) (apdu : List ℕ) (long : Bool) → nat_lt asker.max_apdu (length apdu) ≡ long → 50 ≤ asker.max_apdu →
-    FitsAsker asker (if long then aborted asker segmentation_not_supported_reason else reply_to asker.peer apdu)
-chosen asker apdu true is least = aborted_fits asker segmentation_not_supported_reason least
-chosen asker apdu false is least = record { apdu = apdu; framed = refl; short = ltb-false asker.max_apdu (length apdu) is }
+chosen : (requester : Requester) (apdu : List ℕ) (long : Bool) → nat_lt requester.max_apdu (length apdu) ≡ long → 50 ≤ requester.max_apdu →
+    FitsRequester requester (if long then abort requester segmentation_not_supported_reason else reply_to requester.peer apdu)
+chosen requester apdu true is least = abort_fits requester segmentation_not_supported_reason least
+chosen requester apdu false is least = record { apdu = apdu; framed = refl; short = ltb-false requester.max_apdu (length apdu) is }
 
-pub fitting_fits : (asker : Asker) (apdu : List ℕ) → 50 ≤ asker.max_apdu → FitsAsker asker (fitting asker apdu)
-unfolding fitting
-fitting_fits asker apdu least = chosen asker apdu (nat_lt asker.max_apdu (length apdu)) refl least
+pub within_max_apdu_fits : (requester : Requester) (apdu : List ℕ) → 50 ≤ requester.max_apdu → FitsRequester requester (within_max_apdu requester apdu)
+unfolding within_max_apdu
+within_max_apdu_fits requester apdu least = chosen requester apdu (nat_lt requester.max_apdu (length apdu)) refl least
 
-either : (asker : Asker) (test : Bool) (first second : Send) → FitsAsker asker first → FitsAsker asker second → FitsAsker asker (if test then first else second)
-either asker true first second a b = a
-either asker false first second a b = b
+either : (requester : Requester) (test : Bool) (first second : Send) → FitsRequester requester first → FitsRequester requester second → FitsRequester requester (if test then first else second)
+either requester true first second a b = a
+either requester false first second a b = b
 
 -- the answer to GetEventInformation
-pub information_reply_fits : (asker : Asker) (summaries : List EventSummary) (more : Bool) → 50 ≤ asker.max_apdu → FitsAsker asker (information_reply asker summaries more)
-information_reply_fits asker summaries more least =
-    either asker (more && nat_eq (length summaries) 0) _ _ (aborted_fits asker segmentation_not_supported_reason least) (fitting_fits asker _ least)
+pub information_reply_fits : (requester : Requester) (summaries : List EventSummary) (more : Bool) → 50 ≤ requester.max_apdu → FitsRequester requester (information_reply requester summaries more)
+information_reply_fits requester summaries more least =
+    either requester (more && nat_eq (length summaries) 0) _ _ (abort_fits requester segmentation_not_supported_reason least) (within_max_apdu_fits requester _ least)
 
 -- a range
-pub range_reply_fits : (asker : Asker) (request : RangeRequest) (log : Log) (range : LogRange) → 50 ≤ asker.max_apdu → FitsAsker asker (range_reply asker request log range)
-range_reply_fits asker request log range least =
-    either asker (nat_lt 0 range.count && nat_eq (sent_of asker request log range) 0) _ _ (aborted_fits asker segmentation_not_supported_reason least) (fitting_fits asker _ least)
+pub range_reply_fits : (requester : Requester) (request : RangeRequest) (log : Log) (range : LogRange) → 50 ≤ requester.max_apdu → FitsRequester requester (range_reply requester request log range)
+range_reply_fits requester request log range least =
+    either requester (nat_lt 0 range.count && nat_eq (records_that_fit requester request log range) 0) _ _ (abort_fits requester segmentation_not_supported_reason least) (within_max_apdu_fits requester _ least)
 
-buffer_answer_fits : (asker : Asker) (request : RangeRequest) (log : Log) → 50 ≤ asker.max_apdu → FitsAsker asker (buffer_answer asker request log)
-buffer_answer_fits asker request log least =
-    either asker (is_some request.index) _ _ (refused_fits asker property_is_not_an_array_error.class property_is_not_an_array_error.code least)
-    (either asker (has_zero_count request.range) _ _ (refused_fits asker value_out_of_range_error.class value_out_of_range_error.code least) (range_reply_fits asker request log (wanted request.range log) least))
+buffer_answer_fits : (requester : Requester) (request : RangeRequest) (log : Log) → 50 ≤ requester.max_apdu → FitsRequester requester (buffer_answer requester request log)
+buffer_answer_fits requester request log least =
+    either requester (is_some request.index) _ _ (error_fits requester property_is_not_an_array_error.class property_is_not_an_array_error.code least)
+    (either requester (has_zero_count request.range) _ _ (error_fits requester value_out_of_range_error.class value_out_of_range_error.code least) (range_reply_fits requester request log (requested_range request.range log) least))
 
-object_answer_fits : (asker : Asker) (request : RangeRequest) (log : Option Log) → 50 ≤ asker.max_apdu → FitsAsker asker (object_answer asker request log)
-object_answer_fits asker request None least = refused_fits asker unknown_property_error.class unknown_property_error.code least
-object_answer_fits asker request (Some log) least =
-    either asker (nat_eq request.property.0 log_buffer_property) _ _ (buffer_answer_fits asker request log least) (refused_fits asker unknown_property_error.class unknown_property_error.code least)
+object_answer_fits : (requester : Requester) (request : RangeRequest) (log : Option Log) → 50 ≤ requester.max_apdu → FitsRequester requester (object_answer requester request log)
+object_answer_fits requester request None least = error_fits requester unknown_property_error.class unknown_property_error.code least
+object_answer_fits requester request (Some log) least =
+    either requester (nat_eq request.property.0 log_buffer_property) _ _ (buffer_answer_fits requester request log least) (error_fits requester unknown_property_error.class unknown_property_error.code least)
 
-pub range_answer_fits : (asker : Asker) (request : RangeRequest) (there : Bool) (log : Option Log) → 50 ≤ asker.max_apdu → FitsAsker asker (range_answer asker request there log)
-range_answer_fits asker request there log least =
-    either asker there _ _ (object_answer_fits asker request log least) (refused_fits asker unknown_object_error.class unknown_object_error.code least)
+pub range_answer_fits : (requester : Requester) (request : RangeRequest) (there : Bool) (log : Option Log) → 50 ≤ requester.max_apdu → FitsRequester requester (range_answer requester request there log)
+range_answer_fits requester request there log least =
+    either requester there _ _ (object_answer_fits requester request log least) (error_fits requester unknown_object_error.class unknown_object_error.code least)
 
-range_with_fits : (asker : Asker) (is_there : Identifier → Bool) (log_of : Identifier → Option Log) (read : Result RangeRequest Malformed) → 50 ≤ asker.max_apdu →
-    FitsAsker asker (range_with asker is_there log_of read)
-range_with_fits asker is_there log_of (Err refusal) least = rejected_fits asker refusal.reject least
-range_with_fits asker is_there log_of (Ok request) least = range_answer_fits asker request (is_there request.object) (log_of request.object) least
+range_with_fits : (requester : Requester) (is_there : Identifier → Bool) (log_of : Identifier → Option Log) (read : Result RangeRequest Malformed) → 50 ≤ requester.max_apdu →
+    FitsRequester requester (range_with requester is_there log_of read)
+range_with_fits requester is_there log_of (Err refusal) least = reject_fits requester refusal.reject least
+range_with_fits requester is_there log_of (Ok request) least = range_answer_fits requester request (is_there request.object) (log_of request.object) least
 
 -- the answer to ReadRange
-pub range_decided_fits : (asker : Asker) (is_there : Identifier → Bool) (log_of : Identifier → Option Log) (parameters : List ℕ) → 50 ≤ asker.max_apdu →
-    FitsAsker asker (range_decided asker is_there log_of parameters)
-range_decided_fits asker is_there log_of parameters least = range_with_fits asker is_there log_of (read_range_of parameters) least
+pub range_decided_fits : (requester : Requester) (is_there : Identifier → Bool) (log_of : Identifier → Option Log) (parameters : List ℕ) → 50 ≤ requester.max_apdu →
+    FitsRequester requester (range_decided requester is_there log_of parameters)
+range_decided_fits requester is_there log_of parameters least = range_with_fits requester is_there log_of (read_range_of parameters) least

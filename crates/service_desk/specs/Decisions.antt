@@ -35,8 +35,8 @@ use Rattle.object_table.specs.declared.faults.WriteFault.TheVariants as write_fa
 use Rattle.object_table.specs.Rows.{row_of}
 use Rattle.object_table.specs.Verdicts.{checked_fault, checked_set}
 use Rattle.outbox.specs.Outboxes.{has_in_flight, is_idle}
-use Rattle.alarm_core.specs.declared.content.ReadFault.{ReadFault}
-use Rattle.alarm_core.specs.declared.content.ReadFault.TheVariants as read_faults
+use Rattle.property_values.specs.declared.content.ReadFault.{ReadFault}
+use Rattle.property_values.specs.declared.content.ReadFault.TheVariants as read_faults
 use Rattle.alarm_core.specs.declared.event.Act.TheVariants.{Write, Ack, Pump as Pumped, Answer}
 use Rattle.alarm_core.specs.declared.event.Event.{Event}
 use Rattle.alarm_core.specs.Allowed.{IsAllowed}
@@ -50,10 +50,10 @@ use Rattle.alarm_core.specs.Reading.{read_of, write_of}
 use Rattle.alarm_core.specs.State.{State}
 use Rattle.service_desk.specs.declared.decision.Decision.{Decision}
 use Rattle.service_desk.specs.declared.decision.Decision.TheVariants.{Ignore, Idle, Refuse, Reply, Enter}
-use Rattle.service_desk.specs.declared.replies.Asker.{Asker}
+use Rattle.service_desk.specs.declared.replies.Requester.{Requester}
 use Rattle.service_desk.specs.Information.{information_reply, information_room}
 use Rattle.service_desk.specs.Ranges.{range_decided}
-use Rattle.service_desk.specs.Replies.{abort_to, aborted, acknowledged, answered, refused, rejected, reply_to}
+use Rattle.service_desk.specs.Replies.{abort_to, abort, simple_ack, complex_ack, error_numbered, reject, reply_to}
 
 -- a tick is an event where some object would move
 abbrev pub tick_with : List StateTransition → ℕ → Decision
@@ -90,74 +90,74 @@ abbrev pub ack_at : ℕ → Identifier → Transition → EventState → Event
 ack_at moment object transition named = record { moment = moment; act = Ack object transition named }
 
 -- a verdict on an acknowledgement, as it is answered
-abbrev pub verdict_decision : ℕ → Asker → Identifier → Verdict → Decision
-verdict_decision moment asker object (Accept transition named) = Enter (ack_at moment object transition named) (Some (acknowledged asker)) (Some (aborted asker other_reason))
-verdict_decision moment asker object Already = Reply (acknowledged asker)
-verdict_decision moment asker object (Error class code) = Reply (refused asker class code)
+abbrev pub verdict_decision : ℕ → Requester → Identifier → Verdict → Decision
+verdict_decision moment requester object (Accept transition named) = Enter (ack_at moment object transition named) (Some (simple_ack requester)) (Some (abort requester other_reason))
+verdict_decision moment requester object Already = Reply (simple_ack requester)
+verdict_decision moment requester object (Error class code) = Reply (error_numbered requester class code)
 
 -- AcknowledgeAlarm (13.5)
-abbrev pub acknowledge_with : State → ℕ → Asker → Result AckRequest Malformed → Decision
-acknowledge_with state moment asker (Err refusal) = Reply (rejected asker refusal.reject)
-acknowledge_with state moment asker (Ok request) = verdict_decision moment asker request.object (acknowledgement_verdict (found_in state request.object) request)
+abbrev pub acknowledge_with : State → ℕ → Requester → Result AckRequest Malformed → Decision
+acknowledge_with state moment requester (Err refusal) = Reply (reject requester refusal.reject)
+acknowledge_with state moment requester (Ok request) = verdict_decision moment requester request.object (acknowledgement_verdict (found_in state request.object) request)
 
-abbrev pub acknowledge_decision : State → ℕ → Asker → List ℕ → Decision
-acknowledge_decision state moment asker parameters = acknowledge_with state moment asker (acknowledge_request_of parameters)
+abbrev pub acknowledge_decision : State → ℕ → Requester → List ℕ → Decision
+acknowledge_decision state moment requester parameters = acknowledge_with state moment requester (acknowledge_request_of parameters)
 
 -- a property that was read, or the error; no reading ends for want of memory
-abbrev pub read_reply : Asker → ReadRequest → Result (List ℕ) ReadFault → Send
-read_reply asker request (Ok octets) = answered asker (written_read_ack request octets)
-read_reply asker request (Err (read_faults.Error class code)) = refused asker class code
-read_reply asker request (Err read_faults.NoMemory) = aborted asker other_reason
+abbrev pub read_reply : Requester → ReadRequest → Result (List ℕ) ReadFault → Send
+read_reply requester request (Ok octets) = complex_ack requester (written_read_ack request octets)
+read_reply requester request (Err (read_faults.Error class code)) = error_numbered requester class code
+read_reply requester request (Err read_faults.NoMemory) = abort requester other_reason
 
 -- ReadProperty (15.5)
-abbrev pub read_with : State → Asker → Result ReadRequest Malformed → Decision
-read_with state asker (Err refusal) = Reply (rejected asker refusal.reject)
-read_with state asker (Ok request) = Reply (read_reply asker request (read_of state request.object request.property.0 request.index))
+abbrev pub read_with : State → Requester → Result ReadRequest Malformed → Decision
+read_with state requester (Err refusal) = Reply (reject requester refusal.reject)
+read_with state requester (Ok request) = Reply (read_reply requester request (read_of state request.object request.property.0 request.index))
 
-abbrev pub read_decision : State → Asker → List ℕ → Decision
-read_decision state asker parameters = read_with state asker (read_property_of parameters)
+abbrev pub read_decision : State → Requester → List ℕ → Decision
+read_decision state requester parameters = read_with state requester (read_property_of parameters)
 
 -- a write that makes a change, or the error; no verdict on a write is want of memory
-abbrev pub change_decision : ℕ → Asker → Result Change WriteFault → Decision
-change_decision moment asker (Ok change) = Enter (write_at moment change) (Some (acknowledged asker)) (Some (aborted asker other_reason))
-change_decision moment asker (Err (write_faults.Error class code)) = Reply (refused asker class code)
-change_decision moment asker (Err write_faults.NoMemory) = Reply (aborted asker other_reason)
+abbrev pub change_decision : ℕ → Requester → Result Change WriteFault → Decision
+change_decision moment requester (Ok change) = Enter (write_at moment change) (Some (simple_ack requester)) (Some (abort requester other_reason))
+change_decision moment requester (Err (write_faults.Error class code)) = Reply (error_numbered requester class code)
+change_decision moment requester (Err write_faults.NoMemory) = Reply (abort requester other_reason)
 
 -- WriteProperty (15.9)
-abbrev pub write_with : State → ℕ → Asker → Result WriteRequest Malformed → Decision
-write_with state moment asker (Err refusal) = Reply (rejected asker refusal.reject)
-write_with state moment asker (Ok request) = change_decision moment asker (write_of state request.object request.property.0 request.index request.value)
+abbrev pub write_with : State → ℕ → Requester → Result WriteRequest Malformed → Decision
+write_with state moment requester (Err refusal) = Reply (reject requester refusal.reject)
+write_with state moment requester (Ok request) = change_decision moment requester (write_of state request.object request.property.0 request.index request.value)
 
-abbrev pub write_decision : State → ℕ → Asker → List ℕ → Decision
-write_decision state moment asker parameters = write_with state moment asker (write_property_of parameters)
+abbrev pub write_decision : State → ℕ → Requester → List ℕ → Decision
+write_decision state moment requester parameters = write_with state moment requester (write_property_of parameters)
 
 -- ReadRange (15.8): whether there is such an object, and its log, where it is one
-abbrev pub range_decision : State → Asker → List ℕ → Decision
-range_decision state asker parameters = Reply (range_decided asker (has_object state) (λ object. log_in object state.logs) parameters)
+abbrev pub range_decision : State → Requester → List ℕ → Decision
+range_decision state requester parameters = Reply (range_decided requester (has_object state) (λ object. log_in object state.logs) parameters)
 
 -- GetEventInformation (13.12)
-abbrev pub information_with : State → Asker → Result (Option Identifier) Malformed → Decision
-information_with state asker (Err refusal) = Reply (rejected asker refusal.reject)
-information_with state asker (Ok last) = Reply (information_reply asker (summaries_of last (information_room asker) state) (has_more last (information_room asker) state))
+abbrev pub information_with : State → Requester → Result (Option Identifier) Malformed → Decision
+information_with state requester (Err refusal) = Reply (reject requester refusal.reject)
+information_with state requester (Ok last) = Reply (information_reply requester (summaries_of last (information_room requester) state) (has_more last (information_room requester) state))
 
-abbrev pub information_decision : State → Asker → List ℕ → Decision
-information_decision state asker parameters = information_with state asker (information_request_of parameters)
+abbrev pub information_decision : State → Requester → List ℕ → Decision
+information_decision state requester parameters = information_with state requester (information_request_of parameters)
 
 -- a confirmed request, by its service
-abbrev pub request_decision : State → ℕ → Asker → List ℕ → Decision
-request_decision state moment asker parameters =
-    if asker.service == acknowledge_alarm_service then acknowledge_decision state moment asker parameters
-    else (if asker.service == read_property_service then read_decision state asker parameters
-    else (if asker.service == write_property_service then write_decision state moment asker parameters
-    else (if asker.service == read_range_service then range_decision state asker parameters
-    else (if asker.service == get_event_information_service then information_decision state asker parameters
-    else Reply (rejected asker unrecognized_service_reason)))))
+abbrev pub request_decision : State → ℕ → Requester → List ℕ → Decision
+request_decision state moment requester parameters =
+    if requester.service == acknowledge_alarm_service then acknowledge_decision state moment requester parameters
+    else (if requester.service == read_property_service then read_decision state requester parameters
+    else (if requester.service == write_property_service then write_decision state moment requester parameters
+    else (if requester.service == read_range_service then range_decision state requester parameters
+    else (if requester.service == get_event_information_service then information_decision state requester parameters
+    else Reply (reject requester unrecognized_service_reason)))))
 
 -- whether the devices that are asked include the site's
-abbrev pub asks : Result (Option (ℕ × ℕ)) Malformed → ℕ → Bool
-asks (Err refusal) instance = false
-asks (Ok None) instance = true
-asks (Ok (Some limits)) instance = nat_le limits.0 instance && nat_le instance limits.1
+abbrev pub names_device : Result (Option (ℕ × ℕ)) Malformed → ℕ → Bool
+names_device (Err refusal) instance = false
+names_device (Ok None) instance = true
+names_device (Ok (Some limits)) instance = nat_le limits.0 instance && nat_le instance limits.1
 
 -- I-Am (16.10), to the peer that asked
 abbrev pub i_am : Site → Address → Send
@@ -165,7 +165,7 @@ i_am site peer = reply_to peer (written_unconfirmed i_am_service (written_i_am (
 
 -- Who-Is (16.10)
 abbrev pub who_is_decision : Site → Address → List ℕ → Decision
-who_is_decision site peer parameters = if asks (who_is_of parameters) site.device.instance then Reply (i_am site peer) else Ignore
+who_is_decision site peer parameters = if names_device (who_is_of parameters) site.device.instance then Reply (i_am site peer) else Ignore
 
 -- an unconfirmed request, by its service
 abbrev pub unconfirmed_decision : Site → Address → ℕ → List ℕ → Decision
@@ -183,12 +183,12 @@ abbrev pub named_answer_decision : State → ℕ → Address → ℕ → ℕ →
 named_answer_decision state moment peer invoke service kind =
     if service == confirmed_event_notification_service then answer_decision state moment peer invoke kind else Ignore
 
-abbrev pub asker_of : Address → ℕ → ℕ → ℕ → Asker
-asker_of peer max_apdu invoke service = record { peer = peer; max_apdu = max_apdu; invoke = invoke; service = service }
+abbrev pub requester_of : Address → ℕ → ℕ → ℕ → Requester
+requester_of peer max_apdu invoke service = record { peer = peer; max_apdu = max_apdu; invoke = invoke; service = service }
 
 -- an APDU, by its header
 abbrev pub apdu_decision : State → ℕ → Address → List ℕ → Apdu → Decision
-apdu_decision state moment peer octets (Request max_apdu invoke service start) = request_decision state moment (asker_of peer max_apdu invoke service) (drop start octets)
+apdu_decision state moment peer octets (Request max_apdu invoke service start) = request_decision state moment (requester_of peer max_apdu invoke service) (drop start octets)
 apdu_decision state moment peer octets (Segmented invoke) = Reply (abort_to peer invoke segmentation_not_supported_reason)
 apdu_decision state moment peer octets (Unconfirmed service start) = unconfirmed_decision state.site peer service (drop start octets)
 apdu_decision state moment peer octets (SimpleAck invoke service) = named_answer_decision state moment peer invoke service simple_ack_pdu

@@ -18,8 +18,8 @@ use Rattle.event_log.specs.declared.log_range.LogRange.{LogRange}
 use Rattle.event_log.specs.declared.log_record.LogRecord.{LogRecord}
 use Rattle.event_log.specs.Log.{Log}
 use Rattle.event_log.specs.Ranges.{place_by_time, place_of_position, place_of_sequence, range_from, range_of}
-use Rattle.service_desk.specs.declared.replies.Asker.{Asker}
-use Rattle.service_desk.specs.Replies.{aborted, answered, refused_by, rejected}
+use Rattle.service_desk.specs.declared.replies.Requester.{Requester}
+use Rattle.service_desk.specs.Replies.{abort, complex_ack, error, reject}
 
 -- the octets of a log record (BACnetEventLogRecord, 12.27.13): [0] its date and time, [1] the notification that it records
 unfoldable pub written_item : LogRecord → List ℕ
@@ -27,11 +27,11 @@ written_item entry =
     written_tag (opening 0) ++ written_stamp entry.stamp ++ written_tag (closing 0) ++ written_tag (opening 1) ++ written_tag (opening 1) ++ entry.body ++ written_tag (closing 1) ++ written_tag (closing 1)
 
 -- the records that a request asks for
-abbrev pub wanted : RangeBy → Log → LogRange
-wanted All log = range_of 0 (length log.records)
-wanted (Position reference count) log = range_from count (length log.records) (place_of_position reference (length log.records))
-wanted (Sequence reference count) log = range_from count (length log.records) (place_of_sequence reference log.records)
-wanted (Time reference count) log = range_from count (length log.records) (place_by_time count reference log.records)
+abbrev pub requested_range : RangeBy → Log → LogRange
+requested_range All log = range_of 0 (length log.records)
+requested_range (Position reference count) log = range_from count (length log.records) (place_of_position reference (length log.records))
+requested_range (Sequence reference count) log = range_from count (length log.records) (place_of_sequence reference log.records)
+requested_range (Time reference count) log = range_from count (length log.records) (place_by_time count reference log.records)
 
 -- so many records from a place on
 abbrev pub items_from : ℕ → ℕ → Log → List LogRecord
@@ -62,9 +62,9 @@ abbrev pub range_body : RangeRequest → Log → LogRange → ℕ → List ℕ
 range_body request log range sent =
     written_range_ack request (range_flags log range sent) sent (flat_map written_item (items_from range.first sent log)) (first_sequence request log range sent)
 
--- whether an asker takes the answer with so many leading records
-abbrev pub range_fits : Asker → RangeRequest → Log → LogRange → ℕ → Bool
-range_fits asker request log range sent = nat_le (length (written_complex_ack asker.invoke asker.service (range_body request log range sent))) asker.max_apdu
+-- whether an requester takes the answer with so many leading records
+abbrev pub range_fits : Requester → RangeRequest → Log → LogRange → ℕ → Bool
+range_fits requester request log range sent = nat_le (length (written_complex_ack requester.invoke requester.service (range_body request log range sent))) requester.max_apdu
 
 -- the greatest number up to a count for which a test passes, or 0
 unfoldable pub greatest : (ℕ → Bool) → ℕ → ℕ
@@ -72,17 +72,17 @@ greatest test zero = 0
 greatest test (suc n) = if test (suc n) then suc n else greatest test n
 
 -- how many leading records are sent: as many as fit
-abbrev pub sent_of : Asker → RangeRequest → Log → LogRange → ℕ
-sent_of asker request log range = greatest (range_fits asker request log range) range.count
+abbrev pub records_that_fit : Requester → RangeRequest → Log → LogRange → ℕ
+records_that_fit requester request log range = greatest (range_fits requester request log range) range.count
 
 -- a range, where so many of its records are sent; where there are some and none fits, the device would have to send segments
-abbrev pub range_sent : Asker → RangeRequest → Log → LogRange → ℕ → Send
-range_sent asker request log range sent =
-    if nat_lt 0 range.count && sent == 0 then aborted asker segmentation_not_supported_reason else answered asker (range_body request log range sent)
+abbrev pub range_sent : Requester → RangeRequest → Log → LogRange → ℕ → Send
+range_sent requester request log range sent =
+    if nat_lt 0 range.count && sent == 0 then abort requester segmentation_not_supported_reason else complex_ack requester (range_body request log range sent)
 
 -- a range, as it is answered
-abbrev pub range_reply : Asker → RangeRequest → Log → LogRange → Send
-range_reply asker request log range = range_sent asker request log range (sent_of asker request log range)
+abbrev pub range_reply : Requester → RangeRequest → Log → LogRange → Send
+range_reply requester request log range = range_sent requester request log range (records_that_fit requester request log range)
 
 -- how many records a request asks for, where it says so
 abbrev pub count_of : RangeBy → Option ℤ
@@ -101,25 +101,25 @@ abbrev pub has_zero_count : RangeBy → Bool
 has_zero_count range = is_zero_count (count_of range)
 
 -- of a log: Log_Buffer is no array, and a count isn't 0
-abbrev pub buffer_answer : Asker → RangeRequest → Log → Send
-buffer_answer asker request log =
-    if is_some request.index then refused_by asker property_is_not_an_array_error
-    else (if has_zero_count request.range then refused_by asker value_out_of_range_error
-    else range_reply asker request log (wanted request.range log))
+abbrev pub buffer_answer : Requester → RangeRequest → Log → Send
+buffer_answer requester request log =
+    if is_some request.index then error requester property_is_not_an_array_error
+    else (if has_zero_count request.range then error requester value_out_of_range_error
+    else range_reply requester request log (requested_range request.range log))
 
 -- of an object: only the Log_Buffer of a log has a range
-abbrev pub object_answer : Asker → RangeRequest → Option Log → Send
-object_answer asker request None = refused_by asker unknown_property_error
-object_answer asker request (Some log) = if request.property.0 == log_buffer_property then buffer_answer asker request log else refused_by asker unknown_property_error
+abbrev pub object_answer : Requester → RangeRequest → Option Log → Send
+object_answer requester request None = error requester unknown_property_error
+object_answer requester request (Some log) = if request.property.0 == log_buffer_property then buffer_answer requester request log else error requester unknown_property_error
 
 -- by whether there is such an object, and its log, where it is one
-abbrev pub range_answer : Asker → RangeRequest → Bool → Option Log → Send
-range_answer asker request there log = if there then object_answer asker request log else refused_by asker unknown_object_error
+abbrev pub range_answer : Requester → RangeRequest → Bool → Option Log → Send
+range_answer requester request there log = if there then object_answer requester request log else error requester unknown_object_error
 
 -- ReadRange (15.8), by which objects there are, and their logs
-abbrev pub range_with : Asker → (Identifier → Bool) → (Identifier → Option Log) → Result RangeRequest Malformed → Send
-range_with asker is_there log_of (Err refusal) = rejected asker refusal.reject
-range_with asker is_there log_of (Ok request) = range_answer asker request (is_there request.object) (log_of request.object)
+abbrev pub range_with : Requester → (Identifier → Bool) → (Identifier → Option Log) → Result RangeRequest Malformed → Send
+range_with requester is_there log_of (Err refusal) = reject requester refusal.reject
+range_with requester is_there log_of (Ok request) = range_answer requester request (is_there request.object) (log_of request.object)
 
-abbrev pub range_decided : Asker → (Identifier → Bool) → (Identifier → Option Log) → List ℕ → Send
-range_decided asker is_there log_of parameters = range_with asker is_there log_of (read_range_of parameters)
+abbrev pub range_decided : Requester → (Identifier → Bool) → (Identifier → Option Log) → List ℕ → Send
+range_decided requester is_there log_of parameters = range_with requester is_there log_of (read_range_of parameters)

@@ -6,7 +6,7 @@ use Rattle.bac_values.specs.declared.note.Send.{Send}
 use Rattle.bac_values.specs.declared.service_error.ServiceError.{ServiceError}
 use Rattle.apdu_frame.specs.Writing.{written_abort, written_complex_ack, written_error, written_reject, written_simple_ack}
 use Rattle.bvlc_npdu.specs.Writing.{written_frame}
-use Rattle.service_desk.specs.declared.replies.Asker.{Asker}
+use Rattle.service_desk.specs.declared.replies.Requester.{Requester}
 
 -- an APDU on its way to a peer that needn't answer it
 abbrev pub reply_to : Address → List ℕ → Send
@@ -15,26 +15,26 @@ reply_to peer apdu = record { peer = peer; bytes = written_frame peer false apdu
 abbrev pub abort_to : Address → ℕ → ℕ → Send
 abort_to peer invoke reason = reply_to peer (written_abort invoke reason)
 
-abbrev pub acknowledged : Asker → Send
-acknowledged asker = reply_to asker.peer (written_simple_ack asker.invoke asker.service)
+abbrev pub simple_ack : Requester → Send
+simple_ack requester = reply_to requester.peer (written_simple_ack requester.invoke requester.service)
 
-abbrev pub refused : Asker → ℕ → ℕ → Send
-refused asker class code = reply_to asker.peer (written_error asker.invoke asker.service class code)
+abbrev pub error_numbered : Requester → ℕ → ℕ → Send
+error_numbered requester class code = reply_to requester.peer (written_error requester.invoke requester.service class code)
 
 -- an error of the standard
-abbrev pub refused_by : Asker → ServiceError → Send
-refused_by asker error = refused asker error.class error.code
+abbrev pub error : Requester → ServiceError → Send
+error requester named = error_numbered requester named.class named.code
 
-abbrev pub rejected : Asker → ℕ → Send
-rejected asker reason = reply_to asker.peer (written_reject asker.invoke reason)
+abbrev pub reject : Requester → ℕ → Send
+reject requester reason = reply_to requester.peer (written_reject requester.invoke reason)
 
-abbrev pub aborted : Asker → ℕ → Send
-aborted asker reason = abort_to asker.peer asker.invoke reason
+abbrev pub abort : Requester → ℕ → Send
+abort requester reason = abort_to requester.peer requester.invoke reason
 
--- an answer, unless it is longer than the asker takes (5.4.5.3): the device sends no segments
-unfoldable pub fitting : Asker → List ℕ → Send
-fitting asker apdu = if nat_lt asker.max_apdu (length apdu) then aborted asker segmentation_not_supported_reason else reply_to asker.peer apdu
+-- an answer, unless it is longer than the requester takes (5.4.5.3): the device sends no segments
+unfoldable pub within_max_apdu : Requester → List ℕ → Send
+within_max_apdu requester apdu = if nat_lt requester.max_apdu (length apdu) then abort requester segmentation_not_supported_reason else reply_to requester.peer apdu
 
 -- the result of a request
-abbrev pub answered : Asker → List ℕ → Send
-answered asker body = fitting asker (written_complex_ack asker.invoke asker.service body)
+abbrev pub complex_ack : Requester → List ℕ → Send
+complex_ack requester body = within_max_apdu requester (written_complex_ack requester.invoke requester.service body)

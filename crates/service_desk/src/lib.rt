@@ -3,19 +3,19 @@
 //! A decision is a function of the core's state and of the input alone.
 #![tactic(auto)]
 
-mod acknowledging;
-mod answering;
-mod datagrams;
-mod deciding;
+mod acknowledge_alarm;
+mod apdus;
 mod decision;
-mod informing;
+mod get_event_information;
+mod inputs;
 mod laws;
-mod ranging;
-mod reading;
+mod notification_answers;
+mod read_property;
+mod read_range;
 mod replies;
 mod who_is;
-mod writing;
+mod write_property;
 
-pub use deciding::decide;
 pub use decision::Decision;
+pub use inputs::decide;
 pub use laws::each_reply_fits;

@@ -1,6 +1,6 @@
 ghost use Rattle.std.specs.Prelude.{◌≡◌, IfOk, Option, Result};
 ghost use Rattle.bac_tags.specs.declared.malformed.Malformed.{Malformed};
-ghost use Rattle.service_desk.specs.Decisions.{asks, i_am, who_is_decision};
+ghost use Rattle.service_desk.specs.Decisions.{names_device, i_am, who_is_decision};
 
 use crate::Decision;
 use crate::replies::reply_to;
@@ -11,8 +11,8 @@ use property_services::{Malformed, read_who_is, write_i_am};
 use std::alloc::Global;
 
 // Whether the devices that are asked include one of this instance.
-fn asks(limits: Result<Option<(u32, u32)>, Malformed>, instance: u32) -> bool
-    ensures asked { result ≡ asks limits instance }
+fn names_device(limits: Result<Option<(u32, u32)>, Malformed>, instance: u32) -> bool
+    ensures asked { result ≡ names_device limits instance }
 {
     match limits {
         Ok(Some((low, high))) => low <= instance && instance <= high,
@@ -39,7 +39,7 @@ pub(crate) fn who_is(
 ) -> Result<Decision, NoMemory>
     ensures decision { IfOk result (λ decision. decision ≡ who_is_decision core.now.site peer parameters.now) }
 {
-    if !asks(read_who_is(parameters), core.site().device.instance) {
+    if !names_device(read_who_is(parameters), core.site().device.instance) {
         return Ok(Decision::Ignore);
     }
     Ok(Decision::Reply {

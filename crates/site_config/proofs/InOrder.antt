@@ -1,5 +1,5 @@
 -- Entries that are put at their places one after the other weigh no more than what was put.
-use Rattle.std.proofs.Common.{◌≡◌, ℕ, ◌+◌, ◌≤◌, List, [], ◌∷◌, refl, arith}
+use Rattle.std.proofs.Common.{ℕ, ◌+◌, ◌≤◌, List, [], ◌∷◌, arith}
 use Rattle.std.specs.Prelude.{fold}
 use Rattle.std.specs.BTreeMap.{insert_entry}
 use Rattle.std.specs.List.{sum_by}

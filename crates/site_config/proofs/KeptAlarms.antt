@@ -14,14 +14,17 @@ use Rattle.object_table.specs.Values.{is_binary_value}
 use Rattle.site_config.specs.declared.alarm_keys.AlarmKeys.{AlarmKeys}
 use Rattle.site_config.specs.declared.kind_keys.KindKeys.{KindKeys}
 use Rattle.site_config.specs.declared.object.ValuePart.{ValuePart}
-use Rattle.site_config.specs.declared.item_fault.ItemFault.{ItemFault}
+use Rattle.toml_items.specs.declared.item_fault.ItemFault.{ItemFault}
 use Rattle.site_config.specs.AlarmKeys.{alarm_keys_of}
 use Rattle.site_config.specs.KindKeys.{no_kind_keys, limit_keys_of, binary_keys_of, value_keys_of, bits_keys_of, kind_keys_of}
-use Rattle.site_config.specs.Members.{required, or_else, optional}
+use Rattle.toml_items.specs.Members.{required, or_else, optional}
 use Rattle.site_config.specs.Objects.{joined}
-use Rattle.site_config.specs.Values.{notify_in, three_flags_in, two_flags_in, unsigned_in, last_unsigned, limit_in, value_in, list_in, text_in, bits_in, state_of, binary_in}
-use Rattle.site_config.proofs.Numbers.{integer_limit, positive_limit, two_flags_kept, three_flags_kept, notify_kept, KeptList, list_kept}
-use Rattle.site_config.proofs.Steps.{after, found, mapped, required_keeps, or_else_keeps}
+use Rattle.site_config.specs.Values.{notify_in, limit_in, value_in, bits_in, state_of, binary_in}
+use Rattle.toml_items.specs.Values.{three_flags_in, two_flags_in, unsigned_in, last_unsigned, text_in}
+use Rattle.toml_items.specs.Lists.{list_in}
+use Rattle.site_config.proofs.Numbers.{integer_limit, positive_limit, notify_kept}
+use Rattle.toml_items.proofs.Numbers.{two_flags_kept, three_flags_kept, KeptList, list_kept}
+use Rattle.toml_items.proofs.Steps.{after, found, mapped, required_keeps, or_else_keeps}
 
 -- ---- those of every kind
 

@@ -8,10 +8,10 @@ use Rattle.algorithm_rules.specs.declared.table.Algorithm.TheVariants.{ChangeOfB
 use Rattle.bac_values.specs.Identifier.{Identifier}
 use Rattle.bac_values.specs.declared.object_kind.ObjectKind.TheVariants as kinds
 use Rattle.enrollment.specs.declared.enrollment_site.EnrollmentSite.{EnrollmentSite}
-use Rattle.alarm_core.specs.declared.site.LogSite.{LogSite}
+use Rattle.event_log.specs.declared.log_site.LogSite.{LogSite}
 use Rattle.alarm_core.specs.Sites.{IsLogSite}
 use Rattle.site_config.specs.declared.enrollment_item.Watch.{Watch}
-use Rattle.site_config.specs.declared.item_fault.ItemFault.{ItemFault}
+use Rattle.toml_items.specs.declared.item_fault.ItemFault.{ItemFault}
 use Rattle.site_config.specs.declared.keys.Keys.TheVariants as keys
 use Rattle.site_config.specs.AlarmKeys.{alarm_keys_of}
 use Rattle.site_config.specs.Devices.{object_with, name_of}
@@ -19,11 +19,14 @@ use Rattle.site_config.specs.Enrollments.{feedback_of, range_limit, watch_of, ke
 use Rattle.site_config.specs.Items.{enrollment_item, log_item}
 use Rattle.site_config.specs.Keys.{has_key}
 use Rattle.site_config.specs.Logs.{log_of}
-use Rattle.site_config.specs.Members.{required, or_else, some_good, first_unknown, refused_key}
-use Rattle.site_config.specs.Values.{instance_in, algorithm_of, algorithm_in, object_in, unsigned_in, list_in}
+use Rattle.toml_items.specs.Members.{required, or_else, optional_value, first_unknown, refused_key}
+use Rattle.site_config.specs.Values.{instance_in, algorithm_of, algorithm_in, object_in}
+use Rattle.toml_items.specs.Values.{unsigned_in}
+use Rattle.toml_items.specs.Lists.{list_in}
 use Rattle.site_config.proofs.KeptAlarms.{alarm_kept}
-use Rattle.site_config.proofs.Numbers.{instance_kept, unsigned_kept}
-use Rattle.site_config.proofs.Steps.{after, ok_is, found, required_keeps}
+use Rattle.site_config.proofs.Numbers.{instance_kept}
+use Rattle.toml_items.proofs.Numbers.{unsigned_kept}
+use Rattle.toml_items.proofs.Steps.{after, ok_is, found, required_keeps}
 
 -- ---- the algorithm
 
@@ -53,7 +56,7 @@ KeepsParameters CommandFailure feedback low high = IsSome feedback × (low ≡ 0
 KeepsParameters UnsignedRange feedback low high = IsNone feedback
 KeepsParameters _ feedback low high = ⊥
 
-some_is : {A : Type 0} (part : Result A ItemFault) (y : Option A) → some_good part ≡ Ok y → IsSome y
+some_is : {A : Type 0} (part : Result A ItemFault) (y : Option A) → optional_value part ≡ Ok y → IsSome y
 some_is (Ok x) y h = let is : Some x ≡ y = cc in rw (← is) refl
 some_is (Err fault) y h = absurd cc
 

@@ -10,13 +10,16 @@ use Rattle.bac_values.specs.declared.value.Value.{Value}
 use Rattle.bac_values.specs.declared.value.Value.TheVariants.{Unsigned, Text}
 use Rattle.object_table.specs.Objects.{HasStates, AreFaultLimits, IsFaultValue, IsWithin}
 use Rattle.site_config.specs.declared.fault_keys.FaultKeys.{FaultKeys}
-use Rattle.site_config.specs.declared.item_fault.ItemFault.{ItemFault}
+use Rattle.toml_items.specs.declared.item_fault.ItemFault.{ItemFault}
 use Rattle.site_config.specs.FaultKeys.{no_fault_keys, state_number, state_fault_keys_of, text_fault_keys_of, limit_fault_keys_of, fault_limits_of, fault_keys_of}
-use Rattle.site_config.specs.Answers.{◌>>=◌}
-use Rattle.site_config.specs.Members.{required, or_else}
-use Rattle.site_config.specs.Values.{unsigned_in, last_unsigned, limit_in, value_in, list_in, text_in}
-use Rattle.site_config.proofs.Numbers.{unsigned_kept, integer_limit, positive_limit, KeptList, list_kept}
-use Rattle.site_config.proofs.Steps.{after, mapped, required_keeps, or_else_keeps}
+use Rattle.toml_items.specs.Answers.{◌>>=◌}
+use Rattle.toml_items.specs.Members.{required, or_else}
+use Rattle.toml_items.specs.Values.{unsigned_in, last_unsigned, text_in}
+use Rattle.site_config.specs.Values.{limit_in, value_in}
+use Rattle.toml_items.specs.Lists.{list_in}
+use Rattle.toml_items.proofs.Numbers.{unsigned_kept, KeptList, list_kept}
+use Rattle.site_config.proofs.Numbers.{integer_limit, positive_limit}
+use Rattle.toml_items.proofs.Steps.{after, mapped, required_keeps, or_else_keeps}
 
 pub record KeepsFaults (kind : ObjectKind) (faults : FaultKeys) : Type 0 where
   pub states : HasStates (Some kind) faults.states

@@ -17,13 +17,15 @@ use Rattle.site_config.specs.AlarmKeys.{alarm_keys_of, no_alarm_keys}
 use Rattle.site_config.specs.Devices.{object_with, name_of}
 use Rattle.site_config.specs.FaultKeys.{fault_keys_of, state_number}
 use Rattle.site_config.specs.KindKeys.{kind_keys_of, no_kind_keys}
-use Rattle.site_config.specs.Members.{required, or_else, optional}
+use Rattle.toml_items.specs.Members.{required, or_else, optional}
 use Rattle.site_config.specs.Objects.{value_part_of, class_part_of, with_class, joined, object_of}
-use Rattle.site_config.specs.Values.{kind_in, instance_in, present_in, limit_in, unsigned_in, last_unsigned, text_in, bits_in}
+use Rattle.site_config.specs.Values.{kind_in, instance_in, present_in, limit_in, bits_in}
+use Rattle.toml_items.specs.Values.{unsigned_in, last_unsigned, text_in}
 use Rattle.site_config.proofs.KeptAlarms.{alarm_kept, kind_kept, binary_kept}
 use Rattle.site_config.proofs.KeptFaults.{KeepsFaults, faults_kept, states_cover}
-use Rattle.site_config.proofs.Numbers.{unsigned_kept, instance_kept}
-use Rattle.site_config.proofs.Steps.{after, ok_is, mapped, required_keeps}
+use Rattle.toml_items.proofs.Numbers.{unsigned_kept}
+use Rattle.site_config.proofs.Numbers.{instance_kept}
+use Rattle.toml_items.proofs.Steps.{after, ok_is, mapped, required_keeps}
 
 -- the kind of an identifier that is made for a kind
 kind_known : (kind : ObjectKind) → kind_of (number_of_kind kind) ≡ Some kind

@@ -1,5 +1,5 @@
 -- The site of a draft whose notifications fit leaves room for them.
-use Rattle.std.proofs.Common.{◌≡◌, ℕ, ◌+◌, ◌*◌, ◌<◌, ◌≤◌, ◌==◌, suc, cond, nat_lt, Bool, true, false, Option, Some, None, List, [], ◌∷◌, ◌++◌, length, get_or, map, Result, Ok, Err, if◌then◌else◌, refl, sym, ap, ◌∙◌, subst, arith}
+use Rattle.std.proofs.Common.{◌≡◌, ℕ, ◌+◌, ◌*◌, ◌<◌, ◌≤◌, ◌==◌, suc, cond, nat_lt, Bool, true, false, Option, Some, None, List, [], ◌∷◌, ◌++◌, length, map, Ok, Err, if◌then◌else◌, refl, ap, ◌∙◌, subst, arith}
 use Rattle.std.proofs.Math.Nat.{mul-le-mul_right}
 use Rattle.std.specs.List.{All, AllPairs, cons_option, count_by, filter, filter_map, sum_by}
 use Rattle.std.specs.declared.cmp.Ordering.TheVariants.{Less}
@@ -17,9 +17,9 @@ use Rattle.object_table.specs.declared.object_site.ObjectSite.{ObjectSite}
 use Rattle.object_table.specs.declared.row.Row.{Row}
 use Rattle.object_table.specs.Rows.{first_row, rows_of}
 use Rattle.enrollment.specs.declared.enrollment_site.EnrollmentSite.{EnrollmentSite}
-use Rattle.alarm_core.specs.declared.site.ClassSite.{ClassSite}
+use Rattle.notify_class.specs.declared.class_site.ClassSite.{ClassSite}
 use Rattle.alarm_core.specs.Allowed.{members_of as members_at_start, share_of}
-use Rattle.alarm_core.specs.Classes.{first_classes, is_member}
+use Rattle.alarm_core.specs.Classes.{is_member}
 use Rattle.alarm_core.specs.Room.{HasRoom, instance_of}
 use Rattle.alarm_core.specs.State.{state_of}
 use Rattle.site_config.specs.declared.class.ClassItem.{ClassItem}

@@ -13,7 +13,7 @@ use Rattle.object_table.specs.declared.object_site.ObjectSite.{ObjectSite}
 use Rattle.object_table.specs.Objects.{IsObject}
 use Rattle.object_table.specs.Rows.{rows_of}
 use Rattle.outbox.specs.Outboxes.{AreSettings}
-use Rattle.alarm_core.specs.declared.site.DeviceSite.{DeviceSite}
+use Rattle.property_values.specs.declared.device_site.DeviceSite.{DeviceSite}
 use Rattle.alarm_core.specs.declared.site.Site.{Site}
 use Rattle.alarm_core.specs.Room.{HasRoom}
 use Rattle.alarm_core.specs.Sites.{HasInstance, IsLogSite, IsSite}
@@ -26,29 +26,32 @@ use Rattle.site_config.specs.declared.fault.Section.{Section}
 use Rattle.site_config.specs.declared.fault.Section.TheVariants.{Device, Class, Destination, Object, Enrollment, Log}
 use Rattle.site_config.specs.declared.fault.SiteFault.{SiteFault}
 use Rattle.site_config.specs.declared.fault.SiteFault.TheVariants.{TooLong, NoMemory}
-use Rattle.site_config.specs.declared.item_fault.ItemFault.{ItemFault}
+use Rattle.toml_items.specs.declared.item_fault.ItemFault.{ItemFault}
 use Rattle.site_config.specs.declared.keys.Keys.TheVariants as keys
-use Rattle.site_config.specs.Answers.{Gives}
+use Rattle.toml_items.specs.Answers.{Gives}
 use Rattle.site_config.specs.Devices.{device_of, object_with, name_of}
 use Rattle.site_config.specs.Drafts.{draft_of}
 use Rattle.site_config.specs.Identifiers.{id_of_class, id_of_object, id_of_enrollment, id_of_log, identifiers, least_twice}
 use Rattle.site_config.specs.Items.{class_item, destination_item, object_item, enrollment_item, log_item}
 use Rattle.site_config.specs.Keys.{has_key}
 use Rattle.site_config.specs.Limits.{limits_of}
-use Rattle.site_config.specs.Members.{required, or_else, first_unknown, refused_key}
+use Rattle.toml_items.specs.Members.{required, or_else, first_unknown, refused_key}
 use Rattle.site_config.specs.Objects.{keys_of_object, object_of}
 use Rattle.site_config.specs.Notes.{members_of, notes_of}
 use Rattle.site_config.specs.References.{enrollment_dangles, least_dangling}
 use Rattle.site_config.specs.Sections.{placed, device_item, device_from, device_table, device_section, lesser_key, items_of, next_number, section_from, section_of, section_name, tables_at}
 use Rattle.site_config.specs.Sites.{document_of, site_or_no_toml, site_of_document, site_of_draft, site_of, duplicate_of, dangling_of, notes_fit, verdict_on, in_order, with_destinations}
-use Rattle.site_config.specs.Values.{instance_in, moment_in, three_in, unsigned_in, whole_in}
+use Rattle.site_config.specs.Values.{instance_in}
+use Rattle.toml_items.specs.Values.{moment_in, unsigned_in, whole_in}
+use Rattle.toml_items.specs.Lists.{three_in}
 use Rattle.site_config.proofs.Ascending.{fold_ascends, fold_keeps}
 use Rattle.site_config.proofs.KeptEnrollments.{KeepsKeys, enrollment_kept, log_kept}
 use Rattle.site_config.proofs.KeptObjects.{object_kept}
 use Rattle.site_config.proofs.KeptReferences.{same_ids, none_dangles, are_enrollments, have_objects}
 use Rattle.site_config.proofs.KeptRoom.{HasClassId, fit_within, room_kept}
-use Rattle.site_config.proofs.Numbers.{instance_kept, moment_kept, unsigned_kept, whole_kept}
-use Rattle.site_config.proofs.Steps.{after, ok_is, required_keeps, or_else_keeps}
+use Rattle.site_config.proofs.Numbers.{instance_kept}
+use Rattle.toml_items.proofs.Numbers.{moment_kept, unsigned_kept, whole_kept}
+use Rattle.toml_items.proofs.Steps.{after, ok_is, required_keeps, or_else_keeps}
 
 -- an item without its place
 unplaced : {A : Type 0} (section : Section) (number : ℕ) (read : Result A ItemFault) (x : A) → placed section number read ≡ Ok x → read ≡ Ok x

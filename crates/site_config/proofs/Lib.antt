@@ -1,8 +1,5 @@
-pub mod Unknown
-pub mod Fronts
 pub mod Tables
 pub mod Named
-pub mod Steps
 pub mod Numbers
 pub mod Ascending
 pub mod InOrder

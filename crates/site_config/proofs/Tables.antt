@@ -1,6 +1,5 @@
 -- The items of an array of tables.
-use Rattle.std.proofs.Common.{◌≡◌, ℕ, ◌+◌, ◌<◌, ◌≤◌, ◌&&◌, List, [], ◌∷◌, ◌++◌, length, get_or, drop, Option, Some, None, is_some, Result, Ok, Err, refl, sym, ap, ◌∙◌, append_assoc}
-use Rattle.std.specs.List.{list_all}
+use Rattle.std.proofs.Common.{◌≡◌, ℕ, ◌+◌, ◌<◌, ◌≤◌, List, [], ◌∷◌, ◌++◌, length, get_or, drop, Option, Some, None, Result, Ok, Err, refl, sym, ap, ◌∙◌, append_assoc}
 use Rattle.std.proofs.lemmas.List.{append-nil, drop_all}
 use Rattle.toml.specs.declared.value.Value.{Value}
 use Rattle.toml.specs.Data.{Data, string, integer, float, boolean, datetime, array, table, as_table, Items, item, Members}
@@ -8,14 +7,9 @@ use Rattle.toml.specs.View.{items_view, view}
 use Rattle.toml.proofs.Views.{items_view-drop}
 use Rattle.site_config.specs.declared.fault.Section.{Section}
 use Rattle.site_config.specs.declared.fault.SiteFault.{SiteFault}
-use Rattle.site_config.specs.declared.item_fault.ItemFault.{ItemFault}
-use Rattle.site_config.specs.Answers.{◌>>=◌}
-use Rattle.site_config.specs.Sections.{are_tables, items_of, next_number, placed}
-
--- each value is a table
-pub all_are_tables : (vs : List Value) → list_all (λ v. is_some (as_table (view v))) vs ≡ are_tables (items_view vs)
-all_are_tables [] = refl
-all_are_tables (v ∷ vs) = ap (λ b. is_some (as_table (view v)) && b) (all_are_tables vs)
+use Rattle.toml_items.specs.declared.item_fault.ItemFault.{ItemFault}
+use Rattle.toml_items.specs.Answers.{◌>>=◌}
+use Rattle.site_config.specs.Sections.{items_of, next_number, placed}
 
 -- those that were read, and then the others
 abbrev pub with_read : {A : Type 0} → List A → Result (List A) SiteFault → Result (List A) SiteFault

@@ -2,10 +2,11 @@
 use Rattle.std.specs.Prelude.{true, false, None, [], ◌∷◌, codes, Result, Ok}
 use Rattle.toml.specs.Data.{Members, as_bool}
 use Rattle.site_config.specs.declared.alarm_keys.AlarmKeys.{AlarmKeys}
-use Rattle.site_config.specs.declared.item_fault.ItemFault.{ItemFault}
-use Rattle.site_config.specs.Answers.{◌>>=◌}
-use Rattle.site_config.specs.Members.{or_else, optional}
-use Rattle.site_config.specs.Values.{notify_in, three_flags_in, unsigned_in, last_unsigned}
+use Rattle.toml_items.specs.declared.item_fault.ItemFault.{ItemFault}
+use Rattle.toml_items.specs.Answers.{◌>>=◌}
+use Rattle.toml_items.specs.Members.{or_else, optional}
+use Rattle.site_config.specs.Values.{notify_in}
+use Rattle.toml_items.specs.Values.{three_flags_in, unsigned_in, last_unsigned}
 
 unfoldable pub alarm_keys_of : Members → Result AlarmKeys ItemFault
 alarm_keys_of ms = do

@@ -3,11 +3,13 @@ use Rattle.std.specs.Prelude.{false, [], ◌∷◌, codes, Result, Ok}
 use Rattle.toml.specs.Data.{Members, as_bool}
 use Rattle.bac_values.specs.declared.object_kind.ObjectKind.TheVariants as kinds
 use Rattle.site_config.specs.declared.class.ClassItem.{ClassItem}
-use Rattle.site_config.specs.declared.item_fault.ItemFault.{ItemFault}
-use Rattle.site_config.specs.Answers.{◌>>=◌}
+use Rattle.toml_items.specs.declared.item_fault.ItemFault.{ItemFault}
+use Rattle.toml_items.specs.Answers.{◌>>=◌}
 use Rattle.site_config.specs.Devices.{object_with, name_of}
-use Rattle.site_config.specs.Members.{required, or_else}
-use Rattle.site_config.specs.Values.{instance_in, unsigned_in, three_in}
+use Rattle.toml_items.specs.Members.{required, or_else}
+use Rattle.site_config.specs.Values.{instance_in}
+use Rattle.toml_items.specs.Values.{unsigned_in}
+use Rattle.toml_items.specs.Lists.{three_in}
 
 -- a class; its destinations stand in a section of their own
 unfoldable pub class_of : Members → Result ClassItem ItemFault

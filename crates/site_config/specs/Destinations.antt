@@ -3,11 +3,12 @@ use Rattle.std.specs.Prelude.{true, false, [], ◌∷◌, codes, Result, Ok}
 use Rattle.toml.specs.Data.{Members, as_bool}
 use Rattle.bac_values.specs.declared.object_kind.ObjectKind.TheVariants as kinds
 use Rattle.site_config.specs.declared.destination.DestinationSite.{DestinationSite}
-use Rattle.site_config.specs.declared.item_fault.ItemFault.{ItemFault}
-use Rattle.site_config.specs.Answers.{◌>>=◌}
+use Rattle.toml_items.specs.declared.item_fault.ItemFault.{ItemFault}
+use Rattle.toml_items.specs.Answers.{◌>>=◌}
 use Rattle.site_config.specs.Devices.{object_with}
-use Rattle.site_config.specs.Members.{required, or_else}
-use Rattle.site_config.specs.Values.{instance_in, unsigned_in, last_unsigned, peer_in, days_in, time_in, three_flags_in}
+use Rattle.toml_items.specs.Members.{required, or_else}
+use Rattle.site_config.specs.Values.{instance_in, peer_in, days_in}
+use Rattle.toml_items.specs.Values.{unsigned_in, last_unsigned, time_in, three_flags_in}
 
 -- a destination, and the class to which it belongs: on all days, at all times, of all transitions, where nothing else is said
 unfoldable pub destination_of : Members → Result DestinationSite ItemFault

@@ -4,12 +4,13 @@ use Rattle.toml.specs.Data.{Members}
 use Rattle.bac_values.specs.Identifier.{Identifier, number_of_kind}
 use Rattle.bac_values.specs.declared.object_kind.ObjectKind.{ObjectKind}
 use Rattle.bac_values.specs.declared.object_kind.ObjectKind.TheVariants as kinds
-use Rattle.alarm_core.specs.declared.site.DeviceSite.{DeviceSite}
+use Rattle.property_values.specs.declared.device_site.DeviceSite.{DeviceSite}
 use Rattle.script_lines.specs.Report.{object_text}
-use Rattle.site_config.specs.declared.item_fault.ItemFault.{ItemFault}
-use Rattle.site_config.specs.Answers.{◌>>=◌}
-use Rattle.site_config.specs.Members.{named, required, or_else}
-use Rattle.site_config.specs.Values.{instance_in, unsigned_in, whole_in, moment_in, text_in}
+use Rattle.toml_items.specs.declared.item_fault.ItemFault.{ItemFault}
+use Rattle.toml_items.specs.Answers.{◌>>=◌}
+use Rattle.toml_items.specs.Members.{named, required, or_else}
+use Rattle.site_config.specs.Values.{instance_in}
+use Rattle.toml_items.specs.Values.{unsigned_in, whole_in, moment_in, text_in}
 
 -- the object of a kind with an instance
 abbrev pub object_with : ObjectKind → ℕ → Identifier

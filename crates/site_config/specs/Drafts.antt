@@ -4,7 +4,7 @@ use Rattle.toml.specs.Data.{Members}
 use Rattle.site_config.specs.declared.draft.Draft.{Draft}
 use Rattle.site_config.specs.declared.fault.Section.TheVariants.{Class, Destination, Object, Enrollment, Log}
 use Rattle.site_config.specs.declared.fault.SiteFault.{SiteFault}
-use Rattle.site_config.specs.Answers.{◌>>=◌}
+use Rattle.toml_items.specs.Answers.{◌>>=◌}
 use Rattle.site_config.specs.Items.{class_item, destination_item, object_item, enrollment_item, log_item}
 use Rattle.site_config.specs.Sections.{device_section, section_of}
 

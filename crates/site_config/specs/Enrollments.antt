@@ -7,14 +7,15 @@ use Rattle.bac_values.specs.Identifier.{Identifier}
 use Rattle.bac_values.specs.declared.object_kind.ObjectKind.TheVariants as kinds
 use Rattle.enrollment.specs.declared.enrollment_site.EnrollmentSite.{EnrollmentSite}
 use Rattle.site_config.specs.declared.enrollment_item.Watch.{Watch}
-use Rattle.site_config.specs.declared.item_fault.ItemFault.{ItemFault}
+use Rattle.toml_items.specs.declared.item_fault.ItemFault.{ItemFault}
 use Rattle.site_config.specs.declared.keys.Keys.{Keys}
 use Rattle.site_config.specs.declared.keys.Keys.TheVariants.{Enrollment}
 use Rattle.site_config.specs.AlarmKeys.{alarm_keys_of}
-use Rattle.site_config.specs.Answers.{◌>>=◌}
+use Rattle.toml_items.specs.Answers.{◌>>=◌}
 use Rattle.site_config.specs.Devices.{object_with, name_of}
-use Rattle.site_config.specs.Members.{required, some_good}
-use Rattle.site_config.specs.Values.{instance_in, algorithm_in, object_in, unsigned_in, last_unsigned}
+use Rattle.toml_items.specs.Members.{required, optional_value}
+use Rattle.site_config.specs.Values.{instance_in, algorithm_in, object_in}
+use Rattle.toml_items.specs.Values.{unsigned_in, last_unsigned}
 
 -- an enrollment has the keys of its algorithm, and of both where it isn't known
 abbrev pub known_algorithm : Option Data → Option Algorithm
@@ -26,7 +27,7 @@ keys_of_enrollment ms = Enrollment (known_algorithm (get_member (codes "algorith
 
 -- only COMMAND_FAILURE has a feedback
 abbrev pub feedback_of : Algorithm → Members → Result (Option Identifier) ItemFault
-feedback_of CommandFailure ms = some_good (required object_in (codes "feedback") ms)
+feedback_of CommandFailure ms = optional_value (required object_in (codes "feedback") ms)
 feedback_of _ ms = Ok None
 
 -- only UNSIGNED_RANGE has limits

@@ -6,10 +6,12 @@ use Rattle.bac_values.specs.declared.object_kind.ObjectKind.TheVariants.{MultiSt
 use Rattle.bac_values.specs.declared.value.Value.{Value}
 use Rattle.bac_values.specs.declared.value.Value.TheVariants.{Unsigned}
 use Rattle.site_config.specs.declared.fault_keys.FaultKeys.{FaultKeys}
-use Rattle.site_config.specs.declared.item_fault.ItemFault.{ItemFault}
-use Rattle.site_config.specs.Answers.{◌>>=◌}
-use Rattle.site_config.specs.Members.{required, or_else}
-use Rattle.site_config.specs.Values.{unsigned_in, last_unsigned, limit_in, value_in, list_in}
+use Rattle.toml_items.specs.declared.item_fault.ItemFault.{ItemFault}
+use Rattle.toml_items.specs.Answers.{◌>>=◌}
+use Rattle.toml_items.specs.Members.{required, or_else}
+use Rattle.toml_items.specs.Values.{unsigned_in, last_unsigned}
+use Rattle.site_config.specs.Values.{limit_in, value_in}
+use Rattle.toml_items.specs.Lists.{list_in}
 
 -- none of them
 abbrev pub no_fault_keys : FaultKeys

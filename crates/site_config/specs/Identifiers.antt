@@ -4,7 +4,7 @@ use Rattle.std.specs.Ordering.{is_lt}
 use Rattle.bac_values.specs.Identifier.{Identifier}
 use Rattle.bac_values.specs.Orders.{identifier_order}
 use Rattle.enrollment.specs.declared.enrollment_site.EnrollmentSite.{EnrollmentSite}
-use Rattle.alarm_core.specs.declared.site.LogSite.{LogSite}
+use Rattle.event_log.specs.declared.log_site.LogSite.{LogSite}
 use Rattle.object_table.specs.Rows.{is_object}
 use Rattle.object_table.specs.declared.object_site.ObjectSite.{ObjectSite}
 use Rattle.site_config.specs.declared.class.ClassItem.{ClassItem}

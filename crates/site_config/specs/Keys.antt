@@ -1,16 +1,12 @@
 -- The keys of each section.
 use Rattle.std.specs.Prelude.{ℕ, Bool, ◌&&◌, ◌||◌, Option, Some, None, List, [], ◌∷◌, codes}
-use Rattle.std.specs.List.{list_any}
-use Rattle.std.specs.Str.{bytes_eq}
 use Rattle.bac_values.specs.declared.object_kind.ObjectKind.{ObjectKind}
 use Rattle.bac_values.specs.declared.object_kind.ObjectKind.TheVariants.{BinaryValue, MultiStateValue, BitStringValue, CharacterStringValue, IntegerValue, PositiveIntegerValue}
 use Rattle.algorithm_rules.specs.declared.table.Algorithm.{Algorithm}
 use Rattle.algorithm_rules.specs.declared.table.Algorithm.TheVariants.{CommandFailure, UnsignedRange}
+use Rattle.toml_items.specs.Members.{is_among}
 use Rattle.site_config.specs.declared.keys.Keys.{Keys}
 use Rattle.site_config.specs.declared.keys.Keys.TheVariants.{Top, Device, Class, Destination, Object, Enrollment, Log}
-
-abbrev pub is_among : List (List ℕ) → List ℕ → Bool
-is_among names key = list_any (λ name. bytes_eq name key) names
 
 abbrev pub section_names : List (List ℕ)
 section_names = codes "device" ∷ codes "class" ∷ codes "destination" ∷ codes "object" ∷ codes "enrollment" ∷ codes "log" ∷ []

@@ -3,11 +3,13 @@ use Rattle.std.specs.Prelude.{pos, true, false, Some, None, [], ◌∷◌, codes
 use Rattle.toml.specs.Data.{Members}
 use Rattle.bac_values.specs.declared.object_kind.ObjectKind.{ObjectKind}
 use Rattle.bac_values.specs.declared.object_kind.ObjectKind.TheVariants.{BinaryValue, MultiStateValue, BitStringValue, CharacterStringValue, IntegerValue, PositiveIntegerValue}
-use Rattle.site_config.specs.declared.item_fault.ItemFault.{ItemFault}
+use Rattle.toml_items.specs.declared.item_fault.ItemFault.{ItemFault}
 use Rattle.site_config.specs.declared.kind_keys.KindKeys.{KindKeys}
-use Rattle.site_config.specs.Answers.{◌>>=◌}
-use Rattle.site_config.specs.Members.{required, or_else}
-use Rattle.site_config.specs.Values.{unsigned_in, last_unsigned, limit_in, two_flags_in, value_in, list_in, bits_in}
+use Rattle.toml_items.specs.Answers.{◌>>=◌}
+use Rattle.toml_items.specs.Members.{required, or_else}
+use Rattle.toml_items.specs.Values.{unsigned_in, last_unsigned, two_flags_in}
+use Rattle.site_config.specs.Values.{limit_in, value_in, bits_in}
+use Rattle.toml_items.specs.Lists.{list_in}
 
 -- none of them
 abbrev pub no_kind_keys : KindKeys

@@ -1,6 +1,4 @@
-pub mod Answers
 pub mod Values
-pub mod Members
 pub mod Keys
 pub mod Sections
 pub mod Devices

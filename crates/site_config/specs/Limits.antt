@@ -3,7 +3,7 @@ use Rattle.std.specs.Prelude.{ℕ, ◌+◌, ◌==◌, nat_lt, Bool, List, length
 use Rattle.std.specs.BTreeMap.{BTreeMap, get}
 use Rattle.std.specs.List.{list_any}
 use Rattle.std.specs.Ordering.{nat_cmp}
-use Rattle.alarm_core.specs.declared.site.LogSite.{LogSite}
+use Rattle.event_log.specs.declared.log_site.LogSite.{LogSite}
 use Rattle.site_config.specs.declared.destination.DestinationSite.{DestinationSite}
 use Rattle.site_config.specs.declared.draft.Draft.{Draft}
 use Rattle.site_config.specs.declared.fault.Counted.TheVariants.{Records}

@@ -2,12 +2,14 @@
 use Rattle.std.specs.Prelude.{true, false, codes, Result, Ok}
 use Rattle.toml.specs.Data.{Members, as_bool}
 use Rattle.bac_values.specs.declared.object_kind.ObjectKind.TheVariants as kinds
-use Rattle.alarm_core.specs.declared.site.LogSite.{LogSite}
-use Rattle.site_config.specs.declared.item_fault.ItemFault.{ItemFault}
-use Rattle.site_config.specs.Answers.{◌>>=◌}
+use Rattle.event_log.specs.declared.log_site.LogSite.{LogSite}
+use Rattle.toml_items.specs.declared.item_fault.ItemFault.{ItemFault}
+use Rattle.toml_items.specs.Answers.{◌>>=◌}
 use Rattle.site_config.specs.Devices.{object_with, name_of}
-use Rattle.site_config.specs.Members.{required, or_else}
-use Rattle.site_config.specs.Values.{instance_in, unsigned_in, list_in}
+use Rattle.toml_items.specs.Members.{required, or_else}
+use Rattle.site_config.specs.Values.{instance_in}
+use Rattle.toml_items.specs.Values.{unsigned_in}
+use Rattle.toml_items.specs.Lists.{list_in}
 
 unfoldable pub log_of : Members → Result LogSite ItemFault
 log_of ms = do

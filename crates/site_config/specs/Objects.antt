@@ -3,17 +3,17 @@ use Rattle.std.specs.Prelude.{ℕ, false, is_some, Option, Some, None, codes, Re
 use Rattle.toml.specs.Data.{Data, Members, get_member, as_bool}
 use Rattle.bac_values.specs.declared.object_kind.ObjectKind.{ObjectKind}
 use Rattle.object_table.specs.declared.object_site.ObjectSite.{ObjectSite}
-use Rattle.site_config.specs.declared.item_fault.ItemFault.{ItemFault}
+use Rattle.toml_items.specs.declared.item_fault.ItemFault.{ItemFault}
 use Rattle.site_config.specs.declared.keys.Keys.{Keys}
 use Rattle.site_config.specs.declared.keys.Keys.TheVariants.{Object}
 use Rattle.site_config.specs.declared.object.ValuePart.{ValuePart}
 use Rattle.site_config.specs.declared.object.ClassPart.{ClassPart}
 use Rattle.site_config.specs.AlarmKeys.{alarm_keys_of, no_alarm_keys}
-use Rattle.site_config.specs.Answers.{◌>>=◌}
+use Rattle.toml_items.specs.Answers.{◌>>=◌}
 use Rattle.site_config.specs.Devices.{object_with, name_of}
 use Rattle.site_config.specs.FaultKeys.{fault_keys_of}
 use Rattle.site_config.specs.KindKeys.{kind_keys_of, no_kind_keys}
-use Rattle.site_config.specs.Members.{required, or_else, optional}
+use Rattle.toml_items.specs.Members.{required, or_else, optional}
 use Rattle.site_config.specs.Values.{instance_in, kind_in, present_in}
 
 -- an object has the keys of its kind, and of every kind where it isn't known; and the alarm keys where it has a class

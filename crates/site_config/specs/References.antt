@@ -6,7 +6,7 @@ use Rattle.algorithm_rules.specs.declared.table.Algorithm.TheVariants.{UnsignedR
 use Rattle.bac_values.specs.Identifier.{Identifier, number_of_kind}
 use Rattle.bac_values.specs.declared.object_kind.ObjectKind.TheVariants as kinds
 use Rattle.enrollment.specs.declared.enrollment_site.EnrollmentSite.{EnrollmentSite}
-use Rattle.alarm_core.specs.declared.site.LogSite.{LogSite}
+use Rattle.event_log.specs.declared.log_site.LogSite.{LogSite}
 use Rattle.object_table.specs.Rows.{is_object}
 use Rattle.object_table.specs.declared.object_site.ObjectSite.{ObjectSite}
 use Rattle.site_config.specs.declared.class.ClassItem.{ClassItem}

@@ -1,20 +1,22 @@
 -- The sections of a document, and the places of their faults.
-use Rattle.std.specs.Prelude.{ℕ, ◌+◌, ◌-◌, ◌^◌, min, Bool, true, ◌&&◌, is_some, Option, Some, None, List, [], ◌∷◌, codes, Result, Ok, Err, if◌then◌else◌}
+use Rattle.std.specs.Prelude.{ℕ, ◌+◌, ◌-◌, ◌^◌, min, Option, Some, None, List, [], ◌∷◌, codes, Result, Ok, Err, if◌then◌else◌}
 use Rattle.std.specs.Cmp.Lexicographic.{slice_cmp}
 use Rattle.std.specs.Ordering.{nat_cmp, is_lt}
 use Rattle.toml.specs.Data.{Data, table, as_table, as_array, Items, no_items, item, Members, no_members, get_member}
-use Rattle.alarm_core.specs.declared.site.DeviceSite.{DeviceSite}
+use Rattle.property_values.specs.declared.device_site.DeviceSite.{DeviceSite}
 use Rattle.site_config.specs.declared.fault.Section.{Section}
 use Rattle.site_config.specs.declared.fault.Section.TheVariants.{Device, Class, Destination, Object, Enrollment, Log}
 use Rattle.site_config.specs.declared.fault.SiteFault.{SiteFault}
 use Rattle.site_config.specs.declared.fault.SiteFault.TheVariants as site_faults
-use Rattle.site_config.specs.declared.item_fault.ItemFault.{ItemFault}
-use Rattle.site_config.specs.declared.item_fault.ItemFault.TheVariants.{Unknown, Missing, BadValue, NoMemory}
+use Rattle.toml_items.specs.declared.item_fault.ItemFault.{ItemFault}
+use Rattle.toml_items.specs.declared.item_fault.ItemFault.TheVariants.{Unknown, Missing, BadValue, NoMemory}
 use Rattle.site_config.specs.declared.keys.Keys.TheVariants as keys
-use Rattle.site_config.specs.Answers.{◌>>=◌}
+use Rattle.toml_items.specs.Answers.{◌>>=◌}
+use Rattle.toml_items.specs.Lists.{tables}
+use Rattle.toml_items.specs.Values.{◌>>=◌ as ◌>>?◌}
 use Rattle.site_config.specs.Devices.{device_of}
 use Rattle.site_config.specs.Keys.{has_key}
-use Rattle.site_config.specs.Members.{named, first_unknown, refused_key}
+use Rattle.toml_items.specs.Members.{named, first_unknown, refused_key}
 
 -- the fault of an item, with its place
 abbrev pub at_place : Section → ℕ → ItemFault → SiteFault
@@ -67,18 +69,10 @@ device_section document = device_from document (device_table (get_member (codes 
 
 -- ---- arrays of tables
 
-abbrev pub are_tables : Items → Bool
-are_tables no_items = true
-are_tables (item d ds) = is_some (as_table d) && are_tables ds
-
 -- the tables of a section: none where it isn't there
-abbrev pub all_tables : Option Items → Option Items
-all_tables None = None
-all_tables (Some ds) = if are_tables ds then Some ds else None
-
 abbrev pub tables_at : Option Data → Option Items
 tables_at None = Some no_items
-tables_at (Some d) = all_tables (as_array d)
+tables_at (Some d) = as_array d >>? tables
 
 -- items are counted from 1
 abbrev pub next_number : ℕ → ℕ

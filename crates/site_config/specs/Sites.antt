@@ -8,7 +8,7 @@ use Rattle.toml.specs.Parse.{parse_document}
 use Rattle.bac_values.specs.Identifier.{Identifier}
 use Rattle.bac_values.specs.Orders.{identifier_order}
 use Rattle.notify_class.specs.Recipients.{ListedRecipient}
-use Rattle.alarm_core.specs.declared.site.ClassSite.{ClassSite}
+use Rattle.notify_class.specs.declared.class_site.ClassSite.{ClassSite}
 use Rattle.alarm_core.specs.declared.site.Site.{Site}
 use Rattle.site_config.specs.declared.class.ClassItem.{ClassItem}
 use Rattle.site_config.specs.declared.destination.DestinationSite.{DestinationSite}
@@ -16,7 +16,7 @@ use Rattle.site_config.specs.declared.draft.Draft.{Draft}
 use Rattle.site_config.specs.declared.fault.Counted.TheVariants.{Notes}
 use Rattle.site_config.specs.declared.fault.SiteFault.{SiteFault}
 use Rattle.site_config.specs.declared.fault.SiteFault.TheVariants.{TooLong, NotToml, Duplicate, Dangling, TooMany}
-use Rattle.site_config.specs.Answers.{◌>>=◌}
+use Rattle.toml_items.specs.Answers.{◌>>=◌}
 use Rattle.site_config.specs.Drafts.{draft_of}
 use Rattle.site_config.specs.Identifiers.{id_of_class, id_of_object, id_of_enrollment, id_of_log, identifiers, least_twice}
 use Rattle.site_config.specs.Limits.{names_class, limits_of}

@@ -1,20 +1,19 @@
 ghost use Rattle.std.specs.Prelude.{◌≡◌, ◌≤◌, IfOk, IfSome, codes, length};
 ghost use Rattle.toml.specs.View.{table_view};
 ghost use Rattle.site_config.specs.AlarmKeys.{alarm_keys_of, no_alarm_keys};
-ghost use Rattle.site_config.specs.Answers.{Gives};
-ghost use Rattle.site_config.specs.Members.{or_else};
+ghost use Rattle.toml_items.specs.Answers.{Gives};
+ghost use Rattle.toml_items.specs.Members.{or_else};
 ghost use Rattle.site_config.specs.Values.{notify_in};
 
-use crate::item_fault::ItemFault;
-use crate::members::{
-    good, member_at, optional_unsigned, three_flags_or_all, truth_or, unsigned_or,
-};
 use crate::values::notify_in;
 use std::alloc::Global;
 use toml::Table;
+use toml_items::{
+    ItemFault, member_at, optional_unsigned, three_flags_or_all, truth_or, unsigned_or, valid_value,
+};
 
 /// The alarm keys of an object of any kind with a class, and of an enrollment.
-#[derive(Clone, Copy, Debug, PartialEq, Eq)]
+#[derive(Clone, Copy)]
 pub struct AlarmKeys {
     /// Notify_Type: 0 is alarm, 1 is event.
     pub notify: u8,
@@ -36,7 +35,7 @@ fn notify_or_alarm(alloc: Global, table: &Table) -> Result<u8, ItemFault>
     ensures range { IfOk result (λ n. n ≤ 1) }
 {
     match member_at(table, "notify") {
-        Some(value) => good(alloc, "notify", notify_in(value)),
+        Some(value) => valid_value(alloc, "notify", notify_in(value)),
         None => Ok(0),
     }
 }

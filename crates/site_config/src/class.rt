@@ -1,22 +1,24 @@
 ghost use Rattle.std.specs.Prelude.{false, [], ◌∷◌, codes};
 ghost use Rattle.toml.specs.Data.{as_bool};
 ghost use Rattle.toml.specs.View.{table_view};
-ghost use Rattle.site_config.specs.Answers.{Gives};
+ghost use Rattle.toml_items.specs.Answers.{Gives};
 ghost use Rattle.site_config.specs.Classes.{class_of};
-ghost use Rattle.site_config.specs.Members.{required, or_else};
-ghost use Rattle.site_config.specs.Values.{unsigned_in, three_in};
+ghost use Rattle.toml_items.specs.Members.{required, or_else};
+ghost use Rattle.toml_items.specs.Values.{unsigned_in};
+ghost use Rattle.toml_items.specs.Lists.{three_in};
 
-use crate::item_fault::ItemFault;
-use crate::lists::{priorities_in, three_truths_in};
-use crate::members::{good, member_at, name_or, there, unsigned};
+use crate::members::name_or;
 use crate::objects::identifier;
 use crate::values::LAST_INSTANCE;
 use bac_values::{ObjectId, ObjectKind, Text};
 use std::alloc::Global;
 use toml::Table;
+use toml_items::{
+    ItemFault, member_at, required_member, three_octets_in, three_truths_in, unsigned, valid_value,
+};
 
 /// A class, whose destinations stand in a section of their own.
-#[derive(Debug, Drop)]
+#[derive(Drop)]
 pub struct ClassItem {
     /// Its identifier.
     pub object: ObjectId,
@@ -32,8 +34,8 @@ pub struct ClassItem {
 fn priority(alloc: Global, table: &Table) -> Result<[u8; 3], ItemFault>
     ensures answer { Gives ItemFault.NoMemory result (required (three_in (unsigned_in 0 255)) (codes "priority") (table_view table.now)) }
 {
-    let value = there(alloc, table, "priority")?;
-    good(alloc, "priority", priorities_in(value))
+    let value = required_member(alloc, table, "priority")?;
+    valid_value(alloc, "priority", three_octets_in(value))
 }
 
 /// Whether transitions ask for an acknowledgement.
@@ -41,7 +43,7 @@ fn ack_required(alloc: Global, table: &Table) -> Result<[bool; 3], ItemFault>
     ensures answer { Gives ItemFault.NoMemory result (or_else (false ∷ false ∷ false ∷ []) (three_in as_bool) (codes "ack_required") (table_view table.now)) }
 {
     match member_at(table, "ack_required") {
-        Some(value) => good(alloc, "ack_required", three_truths_in(value)),
+        Some(value) => valid_value(alloc, "ack_required", three_truths_in(value)),
         None => Ok([false, false, false]),
     }
 }

@@ -1,5 +1,5 @@
 ghost use Rattle.toml.specs.View.{table_view};
-ghost use Rattle.site_config.specs.Answers.{Gives};
+ghost use Rattle.toml_items.specs.Answers.{Gives};
 ghost use Rattle.site_config.specs.Drafts.{draft_of};
 
 use crate::class::ClassItem;
@@ -13,7 +13,7 @@ use std::alloc::Global;
 use toml::Table;
 
 /// What the sections of a document say, in the order of the text.
-#[derive(Debug, Drop)]
+#[derive(Drop)]
 pub struct Draft {
     /// The device.
     pub device: DeviceSite,

@@ -1,14 +1,13 @@
 ghost use Rattle.std.specs.Prelude.{◌≡◌, codes};
 ghost use Rattle.toml.specs.View.{table_view};
-ghost use Rattle.site_config.specs.Answers.{Gives};
+ghost use Rattle.toml_items.specs.Answers.{Gives};
 ghost use Rattle.site_config.specs.Enrollments.{keys_of_enrollment, feedback_of, range_limit, watch_of, enrollment_of};
-ghost use Rattle.site_config.specs.Members.{required};
+ghost use Rattle.toml_items.specs.Members.{required};
 ghost use Rattle.site_config.specs.Values.{algorithm_in, object_in};
 
 use crate::alarm_keys::alarm_keys_of;
-use crate::item_fault::ItemFault;
 use crate::keys::Keys;
-use crate::members::{good, member_at, name_or, there, unsigned};
+use crate::members::name_or;
 use crate::objects::identifier;
 use crate::values::{LAST_INSTANCE, algorithm_in, object_in};
 use alarm_core::EnrollmentSite;
@@ -16,6 +15,7 @@ use algorithm_rules::Algorithm;
 use bac_values::{ObjectId, ObjectKind};
 use std::alloc::Global;
 use toml::Table;
+use toml_items::{ItemFault, member_at, required_member, unsigned, valid_value};
 
 /// Which keys the enrollment of a table has.
 pub fn keys_of_enrollment(table: &Table) -> Keys
@@ -33,16 +33,16 @@ pub fn keys_of_enrollment(table: &Table) -> Keys
 fn algorithm(alloc: Global, table: &Table) -> Result<Algorithm, ItemFault>
     ensures answer { Gives ItemFault.NoMemory result (required algorithm_in (codes "algorithm") (table_view table.now)) }
 {
-    let value = there(alloc, table, "algorithm")?;
-    good(alloc, "algorithm", algorithm_in(value))
+    let value = required_member(alloc, table, "algorithm")?;
+    valid_value(alloc, "algorithm", algorithm_in(value))
 }
 
 /// The object at a key.
 fn object_at(alloc: Global, table: &Table, key: &str) -> Result<ObjectId, ItemFault>
     ensures answer { Gives ItemFault.NoMemory result (required object_in key.now (table_view table.now)) }
 {
-    let value = there(alloc, table, key)?;
-    good(alloc, key, object_in(value))
+    let value = required_member(alloc, table, key)?;
+    valid_value(alloc, key, object_in(value))
 }
 
 /// The feedback, which only COMMAND_FAILURE has.
@@ -75,7 +75,7 @@ fn range_limit(
 }
 
 /// What an enrollment watches, and by which algorithm.
-#[derive(Clone, Copy, Debug)]
+#[derive(Clone, Copy)]
 pub struct Watch {
     /// The algorithm.
     pub algorithm: Algorithm,

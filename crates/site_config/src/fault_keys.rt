@@ -1,19 +1,20 @@
 ghost use Rattle.std.specs.Prelude.{◌≡◌, ◌≤◌, [], IfOk, codes};
 ghost use Rattle.toml.specs.View.{table_view};
-ghost use Rattle.site_config.specs.Answers.{Gives};
+ghost use Rattle.toml_items.specs.Answers.{Gives};
 ghost use Rattle.site_config.specs.FaultKeys.{state_number, fault_limits_of, state_fault_keys_of, text_fault_keys_of, limit_fault_keys_of, fault_keys_of, no_fault_keys};
-ghost use Rattle.site_config.specs.Members.{or_else};
-ghost use Rattle.site_config.specs.Values.{value_in, list_in};
+ghost use Rattle.toml_items.specs.Members.{or_else};
+ghost use Rattle.site_config.specs.Values.{value_in};
+ghost use Rattle.toml_items.specs.Lists.{list_in};
 
-use crate::item_fault::ItemFault;
 use crate::lists::values_in;
-use crate::members::{good, limit, member_at, unsigned};
+use crate::members::limit;
 use bac_values::{Items, ObjectKind, Value};
 use std::alloc::Global;
 use toml::Table;
+use toml_items::{ItemFault, member_at, unsigned, valid_value};
 
 /// The keys of an object of some kinds that have to do with its faults, and with the states among which it is.
-#[derive(Debug, Drop)]
+#[derive(Drop)]
 pub struct FaultKeys {
     /// Number_Of_States.
     pub states: u32,
@@ -42,7 +43,7 @@ fn fault_values(alloc: Global, table: &Table, kind: ObjectKind) -> Result<Items<
     ensures answer { Gives ItemFault.NoMemory result (or_else [] (list_in 0 32 (value_in kind)) (codes "fault_values") (table_view table.now)) }
 {
     match member_at(table, "fault_values") {
-        Some(value) => good(alloc, "fault_values", values_in(alloc, value, kind, 0, 32)?),
+        Some(value) => valid_value(alloc, "fault_values", values_in(alloc, value, kind, 0, 32)?),
         None => Ok(Items::of(Vec::new(alloc))),
     }
 }

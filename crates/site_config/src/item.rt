@@ -1,24 +1,24 @@
 ghost use Rattle.toml.specs.View.{table_view};
-ghost use Rattle.site_config.specs.Answers.{Gives};
+ghost use Rattle.toml_items.specs.Answers.{Gives};
 ghost use Rattle.site_config.specs.Items.{class_item, destination_item, object_item, enrollment_item, log_item};
 
 use crate::class::{ClassItem, class_of};
 use crate::destination::{DestinationSite, destination_of};
 use crate::enrollment_item::{enrollment_of, keys_of_enrollment};
-use crate::item_fault::ItemFault;
-use crate::keys::{Keys, check_keys};
+use crate::keys::Keys;
 use crate::log::log_of;
 use crate::object::{keys_of_object, object_of};
 use alarm_core::{EnrollmentSite, LogSite};
 use object_table::ObjectSite;
 use std::alloc::Global;
 use toml::Table;
+use toml_items::{ItemFault, check_keys};
 
 /// An item of a section that is an array of tables.
 pub trait Item: Sized + Drop {
     ghost use Rattle.std.specs.Prelude.{Result};
     ghost use Rattle.toml.specs.Data.{Members};
-    ghost use Rattle.site_config.specs.declared.item_fault.ItemFault.{ItemFault as AnItemFault};
+    ghost use Rattle.toml_items.specs.declared.item_fault.ItemFault.{ItemFault as AnItemFault};
 
     /// The item that a table is, or its first fault.
     ghost item_of: { Members → Result Self AnItemFault };

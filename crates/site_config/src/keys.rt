@@ -1,20 +1,13 @@
-ghost use Rattle.std.specs.Prelude.{◌≡◌, not, find, option_copied, string_bytes};
-ghost use Rattle.std.specs.List.{list_any};
-ghost use Rattle.std.specs.Map.{keys_of};
-ghost use Rattle.std.specs.Str.{bytes_eq};
-ghost use Rattle.toml.specs.View.{table_view};
-ghost use Rattle.site_config.specs.Answers.{Gives};
-ghost use Rattle.site_config.specs.Keys.{is_among, has_key, keys_of_kind, alarm_keys_of_kind, keys_of_algorithm};
-ghost use Rattle.site_config.specs.Members.{first_unknown, refused_key};
+ghost use Rattle.std.specs.Prelude.{◌≡◌};
+ghost use Rattle.toml_items.specs.Members.{is_among};
+ghost use Rattle.site_config.specs.Keys.{has_key, keys_of_kind, alarm_keys_of_kind, keys_of_algorithm};
 
-use crate::item_fault::{ItemFault, unknown};
 use algorithm_rules::Algorithm;
 use bac_values::ObjectKind;
-use std::alloc::Global;
-use toml::Table;
+use toml_items::{KnownKeys, is_among};
 
 /// Which keys an item has.
-#[derive(Clone, Copy, Debug, PartialEq, Eq)]
+#[derive(Clone, Copy)]
 pub enum Keys {
     /// Those of the document: its sections.
     Top,
@@ -103,13 +96,6 @@ const LOG: [&str; 6] = [
     "classes",
 ];
 
-/// Whether the key is among these.
-fn is_among(names: &[&str], key: &str) -> bool
-    ensures among { result ≡ list_any (λ name. bytes_eq name.now key.now) names.now }
-{
-    names.iter().any(|name| *name == key)
-}
-
 /// Whether objects of the kind have the key, with a class or without one.
 fn kind_has(kind: Option<ObjectKind>, key: &str) -> bool
     ensures has { result ≡ is_among (keys_of_kind kind) key.now }
@@ -187,20 +173,10 @@ fn has_key(keys: Keys, key: &str) -> bool
     }
 }
 
-/// The least key of the table that items with these keys don't have.
-pub fn unknown_key(table: &Table, keys: Keys) -> Option<&String>
-    ensures first { option_copied result ≡ find (λ key. not (has_key keys (string_bytes key))) (keys_of table.now.entries) }
-{
-    table.keys().find(|key| !has_key(keys, key.as_str()))
-}
+impl KnownKeys for Keys {
+    ghost has_key = { has_key };
 
-/// Refuses an item that has a key of its own.
-#[tactic(auto, using(crate::proofs::Unknown::first_unknown_find))]
-pub fn check_keys(alloc: Global, table: &Table, keys: Keys) -> Result<(), ItemFault>
-    ensures answer { Gives ItemFault.NoMemory result (refused_key (first_unknown (has_key keys) (table_view table.now))) }
-{
-    match unknown_key(table, keys) {
-        Some(key) => Err(unknown(alloc, key.as_str())),
-        None => Ok(()),
+    fn has(self, key: &str) -> bool {
+        has_key(self, key)
     }
 }

@@ -1,20 +1,21 @@
 ghost use Rattle.std.specs.Prelude.{◌≡◌, ◌≤◌, [], IfOk, OnOk, All, Some, codes, length};
 ghost use Rattle.toml.specs.View.{table_view};
-ghost use Rattle.site_config.specs.Answers.{Gives};
+ghost use Rattle.toml_items.specs.Answers.{Gives};
 ghost use Rattle.site_config.specs.KindKeys.{limit_keys_of, binary_keys_of, value_keys_of, bits_keys_of, kind_keys_of, no_kind_keys};
-ghost use Rattle.site_config.specs.Members.{required};
-ghost use Rattle.site_config.specs.Values.{value_in, list_in, bits_in};
+ghost use Rattle.toml_items.specs.Members.{required};
+ghost use Rattle.site_config.specs.Values.{value_in, bits_in};
+ghost use Rattle.toml_items.specs.Lists.{list_in};
 
-use crate::item_fault::ItemFault;
 use crate::lists::{value_in, values_in};
-use crate::members::{good, limit, there, two_flags_or_both, unsigned_or};
+use crate::members::limit;
 use crate::values::bits_in;
 use bac_values::{Bits, Items, ObjectKind, Value};
 use std::alloc::Global;
 use toml::Table;
+use toml_items::{ItemFault, required_member, two_flags_or_both, unsigned_or, valid_value};
 
 /// The alarm keys that only objects of some kinds have.
-#[derive(Debug, Drop)]
+#[derive(Drop)]
 pub struct KindKeys {
     /// Low_Limit.
     pub low: i64,
@@ -72,9 +73,9 @@ fn limit_keys_of(alloc: Global, table: &Table, kind: ObjectKind) -> Result<KindK
 fn binary_keys_of(alloc: Global, table: &Table) -> Result<KindKeys, ItemFault>
     ensures answer { Gives ItemFault.NoMemory result (binary_keys_of (table_view table.now)) }
 {
-    let value = there(alloc, table, "alarm_value")?;
+    let value = required_member(alloc, table, "alarm_value")?;
     let found = value_in(alloc, value, ObjectKind::BinaryValue)?;
-    let value = good(alloc, "alarm_value", found)?;
+    let value = valid_value(alloc, "alarm_value", found)?;
     let none = no_kind_keys(alloc);
     Ok(KindKeys {
         alarm_value: Some(value),
@@ -86,9 +87,9 @@ fn binary_keys_of(alloc: Global, table: &Table) -> Result<KindKeys, ItemFault>
 fn alarm_values(alloc: Global, table: &Table, kind: ObjectKind) -> Result<Items<Value>, ItemFault>
     ensures answer { Gives ItemFault.NoMemory result (required (list_in 1 32 (value_in kind)) (codes "alarm_values") (table_view table.now)) }
 {
-    let value = there(alloc, table, "alarm_values")?;
+    let value = required_member(alloc, table, "alarm_values")?;
     let found = values_in(alloc, value, kind, 1, 32)?;
-    good(alloc, "alarm_values", found)
+    valid_value(alloc, "alarm_values", found)
 }
 
 /// Those of a multi-state or a character string value.
@@ -108,8 +109,8 @@ fn value_keys_of(alloc: Global, table: &Table, kind: ObjectKind) -> Result<KindK
 fn mask(alloc: Global, table: &Table) -> Result<Bits, ItemFault>
     ensures answer { Gives ItemFault.NoMemory result (required bits_in (codes "mask") (table_view table.now)) }
 {
-    let value = there(alloc, table, "mask")?;
-    good(alloc, "mask", bits_in(value))
+    let value = required_member(alloc, table, "mask")?;
+    valid_value(alloc, "mask", bits_in(value))
 }
 
 /// Those of a bit string value.

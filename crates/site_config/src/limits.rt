@@ -1,5 +1,5 @@
 ghost use Rattle.std.specs.Prelude.{◌≡◌, ◌≤◌, nat_lt, length, sum_by, IfOk};
-ghost use Rattle.site_config.specs.Answers.{Gives};
+ghost use Rattle.toml_items.specs.Answers.{Gives};
 ghost use Rattle.site_config.specs.Limits.{count_of, are_crowded, size_of, limits_of};
 
 use crate::counts::{count_in, counts_of};

@@ -1,13 +1,13 @@
-ghost use Rattle.std.specs.Prelude.{◌≡◌, ◌≤◌, All, IfSome, IfOk, IsTrue, length};
+ghost use Rattle.std.specs.Prelude.{◌≡◌, IfOk};
 ghost use Rattle.toml.specs.View.{view, array_view};
-ghost use Rattle.bac_values.specs.declared.value.Value.{Value as PropertyValue};
-ghost use Rattle.site_config.specs.Values.{unsigned_in, instance_in, value_in, present_in, all_in, list_in, three_of, three_in};
-ghost use Rattle.toml.specs.Data.{as_bool};
+ghost use Rattle.site_config.specs.Values.{value_in, present_in};
+ghost use Rattle.toml_items.specs.Lists.{all_in, list_in};
 
-use crate::values::{LAST_INSTANCE, binary_in, bits_in, limit_in, text_in, unsigned_in};
+use crate::values::{binary_in, bits_in, limit_in};
 use bac_values::{Items, NoMemory, ObjectKind, Value, push};
 use std::alloc::Global;
 use toml::value::Array;
+use toml_items::{array_in, text_in, unsigned_in};
 
 /// The value of the kind that a value of the document is.
 pub fn value_in(
@@ -47,6 +47,7 @@ pub fn present_in(
 }
 
 /// The values of the kind that the items of an array are.
+#[tactic(auto, using(toml_items::proofs::Fronts::one_more_read, toml_items::proofs::Fronts::one_bad, toml_items::proofs::Fronts::all_read, toml_items::proofs::Fronts::none_read))]
 fn all_values(
     alloc: Global,
     array: &Array,
@@ -65,7 +66,6 @@ fn all_values(
 }
 
 /// The array of values of the kind that a value of the document is, of so many at least and so many at most.
-#[tactic(auto, using(crate::proofs::Fronts::items_count_view))]
 pub fn values_in(
     alloc: Global,
     value: &toml::Value,
@@ -75,65 +75,8 @@ pub fn values_in(
 ) -> Result<Option<Items<Value>>, NoMemory>
     ensures values { IfOk result (λ found. found ≡ list_in least most (value_in kind) (view value.now)) }
 {
-    let Some(array) = value.as_array() else {
-        return Ok(None);
-    };
-    let size = array.len();
-    if size < least || most < size {
-        return Ok(None);
-    }
-    all_values(alloc, array, kind)
-}
-
-/// The instances that the items of an array are.
-fn all_instances(alloc: Global, array: &Array) -> Result<Option<Items<u32>>, NoMemory>
-    ensures instances { IfOk result (λ found. found ≡ all_in instance_in (array_view array.now)) }
-{
-    let mut instances = Vec::new(alloc);
-    for item in array {
-        let Some(instance) = unsigned_in(item, 0, LAST_INSTANCE) else {
-            return Ok(None);
-        };
-        push(&mut instances, instance)?;
-    }
-    Ok(Some(Items::of(instances)))
-}
-
-/// The array of 1 to 256 instances that a value of the document is.
-#[tactic(auto, using(crate::proofs::Fronts::items_count_view))]
-pub fn instances_in(alloc: Global, value: &toml::Value) -> Result<Option<Items<u32>>, NoMemory>
-    ensures instances { IfOk result (λ found. found ≡ list_in 1 256 instance_in (view value.now)) }
-{
-    let Some(array) = value.as_array() else {
-        return Ok(None);
-    };
-    let size = array.len();
-    if size < 1 || 256 < size {
-        return Ok(None);
-    }
-    all_instances(alloc, array)
-}
-
-/// The three priorities that a value of the document is.
-pub fn priorities_in(value: &toml::Value) -> Option<[u8; 3]>
-    ensures priorities { result ≡ three_in (unsigned_in 0 255) (view value.now) }
-{
-    match value.as_array()?.as_slice() {
-        [a, b, c] => Some([
-            unsigned_in(a, 0, 255)? as u8,
-            unsigned_in(b, 0, 255)? as u8,
-            unsigned_in(c, 0, 255)? as u8,
-        ]),
-        _ => None,
-    }
-}
-
-/// The three truths that a value of the document is.
-pub fn three_truths_in(value: &toml::Value) -> Option<[bool; 3]>
-    ensures truths { result ≡ three_in as_bool (view value.now) }
-{
-    match value.as_array()?.as_slice() {
-        [a, b, c] => Some([a.as_bool()?, b.as_bool()?, c.as_bool()?]),
-        _ => None,
+    match array_in(value, least, most) {
+        Some(array) => all_values(alloc, array, kind),
+        None => Ok(None),
     }
 }

@@ -1,27 +1,27 @@
 ghost use Rattle.std.specs.Prelude.{codes};
 ghost use Rattle.toml.specs.View.{table_view};
-ghost use Rattle.site_config.specs.Answers.{Gives};
+ghost use Rattle.toml_items.specs.Answers.{Gives};
 ghost use Rattle.site_config.specs.Logs.{log_of};
-ghost use Rattle.site_config.specs.Members.{required};
-ghost use Rattle.site_config.specs.Values.{list_in, instance_in};
+ghost use Rattle.toml_items.specs.Members.{required};
+ghost use Rattle.toml_items.specs.Lists.{list_in};
+ghost use Rattle.site_config.specs.Values.{instance_in};
 
-use crate::item_fault::ItemFault;
-use crate::lists::instances_in;
-use crate::members::{good, name_or, there, truth_or, unsigned};
+use crate::members::name_or;
 use crate::objects::identifier;
 use crate::values::LAST_INSTANCE;
 use alarm_core::LogSite;
 use bac_values::{Items, ObjectKind};
 use std::alloc::Global;
 use toml::Table;
+use toml_items::{ItemFault, required_member, truth_or, unsigned, unsigned_list_in, valid_value};
 
 /// The classes whose notifications are recorded.
 fn classes(alloc: Global, table: &Table) -> Result<Items<u32>, ItemFault>
     ensures answer { Gives ItemFault.NoMemory result (required (list_in 1 256 instance_in) (codes "classes") (table_view table.now)) }
 {
-    let value = there(alloc, table, "classes")?;
-    let found = instances_in(alloc, value)?;
-    good(alloc, "classes", found)
+    let value = required_member(alloc, table, "classes")?;
+    let found = unsigned_list_in(alloc, value, 1, 256, LAST_INSTANCE)?;
+    valid_value(alloc, "classes", found)
 }
 
 /// The log of a table, whose keys are all known.

@@ -1,24 +1,26 @@
 ghost use Rattle.std.specs.Prelude.{◌≡◌, ◌≤◌, IfOk, codes};
 ghost use Rattle.toml.specs.View.{table_view};
 ghost use Rattle.object_table.specs.Objects.{IsObject};
-ghost use Rattle.site_config.specs.Answers.{Gives};
-ghost use Rattle.site_config.specs.Members.{required};
+ghost use Rattle.toml_items.specs.Answers.{Gives};
+ghost use Rattle.toml_items.specs.Members.{required};
 ghost use Rattle.site_config.specs.Objects.{keys_of_object, value_part_of, class_part_of, joined, object_of};
 ghost use Rattle.site_config.specs.Values.{kind_in, present_in};
 
 use crate::alarm_keys::{AlarmKeys, alarm_keys_of, no_alarm_keys};
 use crate::fault_keys::{FaultKeys, fault_keys_of};
-use crate::item_fault::ItemFault;
 use crate::keys::Keys;
 use crate::kind_keys::{KindKeys, kind_keys_of, no_kind_keys};
 use crate::lists::present_in;
-use crate::members::{good, member_at, name_or, optional_unsigned, there, truth_or, unsigned};
+use crate::members::name_or;
 use crate::objects::identifier;
 use crate::values::{LAST_INSTANCE, kind_in};
 use bac_values::{ObjectId, ObjectKind, Text, Value};
 use object_table::ObjectSite;
 use std::alloc::Global;
 use toml::Table;
+use toml_items::{
+    ItemFault, member_at, optional_unsigned, required_member, truth_or, unsigned, valid_value,
+};
 
 /// Which keys the object of a table has.
 pub fn keys_of_object(table: &Table) -> Keys
@@ -35,7 +37,7 @@ pub fn keys_of_object(table: &Table) -> Keys
 }
 
 /// What is said of an object before its class.
-#[derive(Debug, Drop)]
+#[derive(Drop)]
 pub struct ValuePart {
     /// Its kind.
     pub kind: ObjectKind,
@@ -54,7 +56,7 @@ pub struct ValuePart {
 }
 
 /// What is said of an object from its class on.
-#[derive(Debug, Drop)]
+#[derive(Drop)]
 pub struct ClassPart {
     /// Its class.
     pub class: Option<u32>,
@@ -68,17 +70,17 @@ pub struct ClassPart {
 fn kind(alloc: Global, table: &Table) -> Result<ObjectKind, ItemFault>
     ensures answer { Gives ItemFault.NoMemory result (required kind_in (codes "kind") (table_view table.now)) }
 {
-    let value = there(alloc, table, "kind")?;
-    good(alloc, "kind", kind_in(value))
+    let value = required_member(alloc, table, "kind")?;
+    valid_value(alloc, "kind", kind_in(value))
 }
 
 /// The value of an object of a kind.
 fn value(alloc: Global, table: &Table, kind: ObjectKind) -> Result<Value, ItemFault>
     ensures answer { Gives ItemFault.NoMemory result (required (present_in kind) (codes "value") (table_view table.now)) }
 {
-    let value = there(alloc, table, "value")?;
+    let value = required_member(alloc, table, "value")?;
     let found = present_in(alloc, value, kind)?;
-    good(alloc, "value", found)
+    valid_value(alloc, "value", found)
 }
 
 /// What is said before the class.

@@ -1,24 +1,22 @@
-ghost use Rattle.std.specs.Prelude.{◌≡◌, ◌⊎◌, ◌∷◌, option_map, option_copied, string_bytes, is_some, not, Some, None};
-ghost use Rattle.std.specs.List.{list_all};
-ghost use Rattle.toml.specs.Data.{as_table};
-ghost use Rattle.toml.specs.View.{array_view, table_view, view};
-ghost use Rattle.site_config.specs.Answers.{Gives};
+ghost use Rattle.std.specs.Prelude.{◌≡◌, ◌⊎◌, ◌∷◌, option_map, string_bytes, Some, None};
+ghost use Rattle.toml.specs.View.{array_view, table_view};
+ghost use Rattle.toml_items.specs.Answers.{Gives};
 ghost use Rattle.site_config.specs.Keys.{has_key};
-ghost use Rattle.site_config.specs.Members.{first_unknown};
-ghost use Rattle.site_config.specs.Sections.{placed, section_name, section_fault, lesser_key, device_item, device_from, device_section, are_tables, items_of, section_of};
+ghost use Rattle.toml_items.specs.Members.{first_unknown};
+ghost use Rattle.site_config.specs.Sections.{placed, section_name, section_fault, lesser_key, device_item, device_from, device_section, items_of, section_of};
 
 use crate::device::device_of;
 use crate::fault::{Section, SiteFault};
 use crate::item::Item;
-use crate::item_fault::{ItemFault, bad_value, unknown};
-use crate::keys::{Keys, unknown_key};
-use crate::members::member_at;
+use crate::keys::Keys;
+use crate::place::at_place;
 use alarm_core::DeviceSite;
 use bac_values::{Items, push};
 use std::alloc::Global;
 use std::cmp::Ordering;
+use toml::Table;
 use toml::value::Array;
-use toml::{Table, Value};
+use toml_items::{ItemFault, bad_value, member_at, tables_in, unknown, unknown_key};
 
 /// The key of a section.
 pub fn section_name(section: Section) -> &'static str
@@ -38,7 +36,7 @@ pub fn section_name(section: Section) -> &'static str
 fn section_fault(alloc: Global, section: Section) -> SiteFault
     ensures fault { (result ≡ SiteFault.NoMemory) ⊎ (result ≡ section_fault section) }
 {
-    bad_value(alloc, section_name(section)).at(section, 0)
+    at_place(bad_value(alloc, section_name(section)), section, 0)
 }
 
 /// The lesser of two keys.
@@ -82,7 +80,7 @@ fn device_from(alloc: Global, document: &Table, table: &Table) -> Result<DeviceS
 {
     match device_item(alloc, document, table) {
         Ok(device) => Ok(device),
-        Err(fault) => Err(fault.at(Section::Device, 0)),
+        Err(fault) => Err(at_place(fault, Section::Device, 0)),
     }
 }
 
@@ -99,21 +97,6 @@ pub fn device_section(alloc: Global, document: &Table) -> Result<DeviceSite, Sit
     }
 }
 
-/// Whether each value is a table.
-fn all_tables(values: &[Value]) -> bool
-    ensures tables { result ≡ list_all (λ v. is_some (as_table (view v))) values.now }
-{
-    values.iter().all(|value| value.is_table())
-}
-
-/// Whether each item is a table.
-#[tactic(auto, using(crate::proofs::Tables::all_are_tables))]
-fn are_tables(array: &Array) -> bool
-    ensures tables { result ≡ are_tables (array_view array.now) }
-{
-    all_tables(array.as_slice())
-}
-
 /// The item of a table, or its fault with its place.
 fn read_item<T: Item>(
     alloc: Global,
@@ -125,7 +108,7 @@ fn read_item<T: Item>(
 {
     match T::read(alloc, table) {
         Ok(item) => Ok(item),
-        Err(fault) => Err(fault.at(section, number)),
+        Err(fault) => Err(at_place(fault, section, number)),
     }
 }
 
@@ -162,11 +145,8 @@ pub fn read_section<T: Item>(
     let Some(value) = member_at(document, section_name(section)) else {
         return Ok(Items::of(Vec::new(alloc)));
     };
-    let Some(array) = value.as_array() else {
-        return Err(section_fault(alloc, section));
-    };
-    if !are_tables(array) {
-        return Err(section_fault(alloc, section));
+    match tables_in(value) {
+        Some(array) => read_items(alloc, section, array),
+        None => Err(section_fault(alloc, section)),
     }
-    read_items(alloc, section, array)
 }

@@ -2,7 +2,7 @@ ghost use Rattle.std.specs.Prelude.{◌≡◌, ◌⊎◌, Some, None, map, IfOk,
 ghost use Rattle.toml.specs.View.{table_view};
 ghost use Rattle.alarm_core.specs.Room.{HasRoom};
 ghost use Rattle.alarm_core.specs.Sites.{IsSite};
-ghost use Rattle.site_config.specs.Answers.{Gives};
+ghost use Rattle.toml_items.specs.Answers.{Gives};
 ghost use Rattle.site_config.specs.Identifiers.{identifiers, least_twice};
 ghost use Rattle.site_config.specs.References.{least_dangling};
 ghost use Rattle.site_config.specs.Sites.{duplicate_of, dangling_of, notes_fit, verdict_on, destinations_of, with_destinations, site_of_draft, site_of_document, document_of, site_of};

@@ -1,11 +1,12 @@
 use crate::comparing::{counts, holds, same};
-use alarm_core::Site;
+use alarm_core::{ClassSite, DeviceSite, EnrollmentSite, LogSite, Site};
 use algorithm_rules::Algorithm;
 use bac_values::{Bits, ObjectId, ObjectKind, Peer, Value};
 use notify_class::Destination;
 use object_table::ObjectSite;
 use site_config::read_site;
 use std::alloc::Global;
+use std::process::Abort;
 use std::test::Fail;
 
 mod changes;
@@ -142,32 +143,46 @@ fn is_always_told(destination: &Destination, ip: u32, process: u32, confirmed: b
         && destination.transitions == [true, true, true]
 }
 
+// What is looked at in a site is looked at by functions that borrow it, each of which looks at a part.
+
+fn expect_device(rt: &impl Abort, device: &DeviceSite) {
+    same(rt, &device.instance, &1001);
+    same(rt, &device.name.as_str(), &"Plant");
+    same(rt, &device.vendor, &999);
+    same(rt, &device.start, &1_700_000_000_000);
+    same(rt, &device.zone_minutes, &0);
+    same(rt, &device.apdu_timeout, &3000);
+    same(rt, &device.retries, &3);
+    same(rt, &device.outbox, &256);
+}
+
+fn expect_class(rt: &impl Abort, class: &ClassSite) {
+    same(rt, &class.name.as_str(), &"notification-class:7");
+    same(rt, &class.class.instance, &7);
+    holds(rt, class.class.priority == [100, 90, 200]);
+    holds(rt, class.class.ack_required == [true, true, false]);
+    let destinations = class.class.destinations.as_slice();
+    counts(rt, destinations.len(), 1);
+    holds(rt, is_always_told(&destinations[0], 0x0A00_0005, 1, true));
+}
+
+/// One class, and a tank.
+fn expect_defaults(rt: &impl Abort, site: &Site) {
+    expect_device(rt, &site.device);
+    let classes = site.classes.as_slice();
+    counts(rt, classes.len(), 1);
+    expect_class(rt, &classes[0]);
+    let objects = site.objects.as_slice();
+    counts(rt, objects.len(), 1);
+    holds(rt, is_tank(&objects[0], 1, 7, 10));
+    holds(rt, site.enrollments.as_slice().is_empty());
+    holds(rt, site.logs.as_slice().is_empty());
+}
+
 #[test]
 fn a_site_is_read_with_its_defaults(rt: HostRuntime) -> Result<(), Fail> {
     let site = site_of(rt.alloc(), &[SURROUNDINGS, TANK])?;
-    let device = &site.device;
-    same(&rt, &device.instance, &1001);
-    same(&rt, &device.name.as_str(), &"Plant");
-    same(&rt, &device.vendor, &999);
-    same(&rt, &device.start, &1_700_000_000_000);
-    same(&rt, &device.zone_minutes, &0);
-    same(&rt, &device.apdu_timeout, &3000);
-    same(&rt, &device.retries, &3);
-    same(&rt, &device.outbox, &256);
-    counts(&rt, site.classes.as_slice().len(), 1);
-    let class = &site.classes.as_slice()[0];
-    same(&rt, &class.name.as_str(), &"notification-class:7");
-    same(&rt, &class.class.instance, &7);
-    holds(&rt, class.class.priority == [100, 90, 200]);
-    holds(&rt, class.class.ack_required == [true, true, false]);
-    counts(&rt, class.class.destinations.as_slice().len(), 1);
-    let destination = &class.class.destinations.as_slice()[0];
-    holds(&rt, is_always_told(destination, 0x0A00_0005, 1, true));
-    counts(&rt, site.objects.as_slice().len(), 1);
-    let tank = &site.objects.as_slice()[0];
-    holds(&rt, is_tank(tank, 1, 7, 10));
-    holds(&rt, site.enrollments.as_slice().is_empty());
-    holds(&rt, site.logs.as_slice().is_empty());
+    expect_defaults(&rt, &site);
     Ok(())
 }
 
@@ -199,22 +214,25 @@ deadband = 5
 time_delay = 0
 ";
 
+/// The objects are tanks with these instances, classes and delays.
+fn expect_tanks(rt: &impl Abort, objects: &[ObjectSite], wanted: &[(u32, u32, u32)]) {
+    same(rt, &objects.len(), &wanted.len());
+    for (object, (instance, class, time_delay)) in objects.iter().zip(wanted.iter()) {
+        holds(rt, is_tank(object, *instance, *class, *time_delay));
+    }
+}
+
 #[test]
 fn a_tank_may_be_without_delay(rt: HostRuntime) -> Result<(), Fail> {
     let site = site_of(rt.alloc(), &[SURROUNDINGS, PROMPT_TANK])?;
-    let objects = site.objects.as_slice();
-    counts(&rt, objects.len(), 1);
-    holds(&rt, is_tank(&objects[0], 1, 7, 0));
+    expect_tanks(&rt, site.objects.as_slice(), &[(1, 7, 0)]);
     Ok(())
 }
 
 #[test]
 fn objects_ascend_whatever_their_order_in_the_text(rt: HostRuntime) -> Result<(), Fail> {
     let site = site_of(rt.alloc(), &[SURROUNDINGS, SECOND_TANK, PROMPT_TANK])?;
-    let objects = site.objects.as_slice();
-    counts(&rt, objects.len(), 2);
-    holds(&rt, is_tank(&objects[0], 1, 7, 0));
-    holds(&rt, is_tank(&objects[1], 2, 7, 10));
+    expect_tanks(&rt, site.objects.as_slice(), &[(1, 7, 0), (2, 7, 10)]);
     Ok(())
 }
 
@@ -235,11 +253,8 @@ time_delay = 10
 #[test]
 fn three_tanks_are_read(rt: HostRuntime) -> Result<(), Fail> {
     let site = site_of(rt.alloc(), &[SURROUNDINGS, TANK, SECOND_TANK, THIRD_TANK])?;
-    let objects = site.objects.as_slice();
-    counts(&rt, objects.len(), 3);
-    for place in 0..3 {
-        holds(&rt, is_tank(&objects[place], place as u32 + 1, 7, 10));
-    }
+    let wanted = [(1, 7, 10), (2, 7, 10), (3, 7, 10)];
+    expect_tanks(&rt, site.objects.as_slice(), &wanted);
     Ok(())
 }
 
@@ -277,61 +292,45 @@ name = \"Note\"
 value = \"ok\"
 ";
 
+/// The object is the first of a kind, with this name and value, and without a class.
+fn expect_other(rt: &impl Abort, site: &ObjectSite, kind: ObjectKind, name: &str, value: &Value) {
+    holds(rt, is_object(site, kind, 1, name, value));
+    holds(rt, is_without_class(site));
+}
+
+/// One object of each kind, in the order of their types.
+fn expect_kinds(rt: &impl Abort, objects: &[ObjectSite], text: &Value, bits: &Value) {
+    counts(rt, objects.len(), 6);
+    let binary = Value::Enumerated(0);
+    expect_other(rt, &objects[0], ObjectKind::BinaryValue, "Pump", &binary);
+    let mode = Value::Unsigned(1);
+    expect_other(rt, &objects[1], ObjectKind::MultiStateValue, "Mode", &mode);
+    same(rt, &objects[1].states, &5);
+    expect_other(rt, &objects[2], ObjectKind::BitStringValue, "Bits", bits);
+    expect_other(
+        rt,
+        &objects[3],
+        ObjectKind::CharacterStringValue,
+        "Note",
+        text,
+    );
+    holds(rt, is_tank(&objects[4], 1, 7, 10));
+    let flow = Value::Unsigned(50);
+    expect_other(
+        rt,
+        &objects[5],
+        ObjectKind::PositiveIntegerValue,
+        "Flow",
+        &flow,
+    );
+}
+
 #[test]
 fn objects_of_every_kind_are_read(rt: HostRuntime) -> Result<(), Fail> {
-    let site = site_of(rt.alloc(), &[SURROUNDINGS, TANK, OTHER_KINDS])?;
-    let objects = site.objects.as_slice();
-    counts(&rt, objects.len(), 6);
-    let text = bac_values::Text::new(rt.alloc(), "ok")?;
+    let text = Value::Text(bac_values::Text::new(rt.alloc(), "ok")?);
     let bits = Value::Bits(Bits::new(4, 0)?);
-    holds(
-        &rt,
-        is_object(
-            &objects[0],
-            ObjectKind::BinaryValue,
-            1,
-            "Pump",
-            &Value::Enumerated(0),
-        ),
-    );
-    holds(
-        &rt,
-        is_object(
-            &objects[1],
-            ObjectKind::MultiStateValue,
-            1,
-            "Mode",
-            &Value::Unsigned(1),
-        ),
-    );
-    same(&rt, &objects[1].states, &5);
-    holds(
-        &rt,
-        is_object(&objects[2], ObjectKind::BitStringValue, 1, "Bits", &bits),
-    );
-    holds(
-        &rt,
-        is_object(
-            &objects[3],
-            ObjectKind::CharacterStringValue,
-            1,
-            "Note",
-            &Value::Text(text),
-        ),
-    );
-    holds(
-        &rt,
-        is_object(
-            &objects[5],
-            ObjectKind::PositiveIntegerValue,
-            1,
-            "Flow",
-            &Value::Unsigned(50),
-        ),
-    );
-    for site in objects {
-        holds(&rt, is_without_class(site) || is_tank(site, 1, 7, 10));
-    }
+    let site = site_of(rt.alloc(), &[SURROUNDINGS, TANK, OTHER_KINDS])?;
+    expect_kinds(&rt, site.objects.as_slice(), &text, &bits);
     Ok(())
 }
 
@@ -347,29 +346,33 @@ class = 7
 time_delay = 5
 ";
 
+/// Two alarm values, 2 and 3.
+fn expect_two_and_three(rt: &impl Abort, values: &[Value]) {
+    counts(rt, values.len(), 2);
+    holds(rt, values[0] == Value::Unsigned(2));
+    holds(rt, values[1] == Value::Unsigned(3));
+}
+
+fn expect_mode(rt: &impl Abort, mode: &ObjectSite) {
+    let value = Value::Unsigned(1);
+    let kind = ObjectKind::MultiStateValue;
+    holds(rt, is_object(mode, kind, 1, "multi-state-value:1", &value));
+    holds(rt, is_alarmed(mode, 7, 5));
+    holds(rt, mode.low == 0 && mode.high == 0 && mode.deadband == 0);
+    holds(rt, mode.limit_enable == [false, false]);
+    same(rt, &mode.states, &5);
+    expect_two_and_three(rt, mode.alarm_values.as_slice());
+}
+
+fn expect_mode_alone(rt: &impl Abort, objects: &[ObjectSite]) {
+    counts(rt, objects.len(), 1);
+    expect_mode(rt, &objects[0]);
+}
+
 #[test]
 fn alarm_values_stand_in_the_order_of_the_text(rt: HostRuntime) -> Result<(), Fail> {
     let site = site_of(rt.alloc(), &[SURROUNDINGS, MODE])?;
-    counts(&rt, site.objects.as_slice().len(), 1);
-    let mode = &site.objects.as_slice()[0];
-    holds(
-        &rt,
-        is_object(
-            mode,
-            ObjectKind::MultiStateValue,
-            1,
-            "multi-state-value:1",
-            &Value::Unsigned(1),
-        ),
-    );
-    holds(&rt, is_alarmed(mode, 7, 5));
-    holds(&rt, mode.low == 0 && mode.high == 0 && mode.deadband == 0);
-    holds(&rt, mode.limit_enable == [false, false]);
-    same(&rt, &mode.states, &5);
-    let values = mode.alarm_values.as_slice();
-    counts(&rt, values.len(), 2);
-    holds(&rt, values[0] == Value::Unsigned(2));
-    holds(&rt, values[1] == Value::Unsigned(3));
+    expect_mode_alone(&rt, site.objects.as_slice());
     Ok(())
 }
 
@@ -420,36 +423,44 @@ fn site_of_two_classes(alloc: Global) -> Result<Site, Fail> {
     Ok(read_site(alloc, text.as_str().as_bytes())?)
 }
 
+fn expect_two_classes(rt: &impl Abort, classes: &[ClassSite]) {
+    counts(rt, classes.len(), 2);
+    same(rt, &classes[0].class.instance, &7);
+    same(rt, &classes[1].class.instance, &8);
+    same(rt, &classes[1].name.as_str(), &"notification-class:8");
+    holds(rt, classes[1].class.priority == [100, 90, 200]);
+    holds(rt, classes[1].class.ack_required == [true, true, false]);
+}
+
 #[test]
 fn objects_are_in_the_one_class_or_the_other(rt: HostRuntime) -> Result<(), Fail> {
     let site = site_of_two_classes(rt.alloc())?;
     same(&rt, &site.device.outbox, &64);
-    let classes = site.classes.as_slice();
-    counts(&rt, classes.len(), 2);
-    same(&rt, &classes[0].class.instance, &7);
-    same(&rt, &classes[1].class.instance, &8);
-    same(&rt, &classes[1].name.as_str(), &"notification-class:8");
-    holds(&rt, classes[1].class.priority == [100, 90, 200]);
-    holds(&rt, classes[1].class.ack_required == [true, true, false]);
-    let objects = site.objects.as_slice();
-    counts(&rt, objects.len(), 2);
-    holds(&rt, is_tank(&objects[0], 1, 8, 0));
-    holds(&rt, is_tank(&objects[1], 2, 7, 0));
+    expect_two_classes(&rt, site.classes.as_slice());
+    expect_tanks(&rt, site.objects.as_slice(), &[(1, 8, 0), (2, 7, 0)]);
     Ok(())
+}
+
+/// The class has destinations at these addresses, with these processes, which are told so.
+fn expect_destinations(rt: &impl Abort, class: &ClassSite, wanted: &[(u32, u32, bool)]) {
+    let destinations = class.class.destinations.as_slice();
+    same(rt, &destinations.len(), &wanted.len());
+    for (destination, (ip, process, confirmed)) in destinations.iter().zip(wanted.iter()) {
+        holds(rt, is_always_told(destination, *ip, *process, *confirmed));
+    }
+}
+
+fn expect_destinations_of_both(rt: &impl Abort, classes: &[ClassSite]) {
+    counts(rt, classes.len(), 2);
+    let first = [(0x0A00_0005, 1, true), (0x0A00_0007, 0, false)];
+    expect_destinations(rt, &classes[0], &first);
+    expect_destinations(rt, &classes[1], &[(0x0A00_0006, 1, true)]);
 }
 
 #[test]
 fn classes_have_their_destinations_in_order(rt: HostRuntime) -> Result<(), Fail> {
     let site = site_of_two_classes(rt.alloc())?;
-    let classes = site.classes.as_slice();
-    counts(&rt, classes.len(), 2);
-    let first = classes[0].class.destinations.as_slice();
-    counts(&rt, first.len(), 2);
-    holds(&rt, is_always_told(&first[0], 0x0A00_0005, 1, true));
-    holds(&rt, is_always_told(&first[1], 0x0A00_0007, 0, false));
-    let second = classes[1].class.destinations.as_slice();
-    counts(&rt, second.len(), 1);
-    holds(&rt, is_always_told(&second[0], 0x0A00_0006, 1, true));
+    expect_destinations_of_both(&rt, site.classes.as_slice());
     Ok(())
 }
 
@@ -460,14 +471,17 @@ instance = 3
 priority = [100, 90, 200]
 ";
 
+fn expect_three_and_seven(rt: &impl Abort, classes: &[ClassSite]) {
+    counts(rt, classes.len(), 2);
+    same(rt, &classes[0].class.instance, &3);
+    holds(rt, classes[0].class.ack_required == [false, false, false]);
+    same(rt, &classes[1].class.instance, &7);
+}
+
 #[test]
 fn classes_ascend_whatever_their_order_in_the_text(rt: HostRuntime) -> Result<(), Fail> {
     let site = site_of(rt.alloc(), &[SURROUNDINGS, UNSORTED_CLASSES])?;
-    let classes = site.classes.as_slice();
-    counts(&rt, classes.len(), 2);
-    same(&rt, &classes[0].class.instance, &3);
-    holds(&rt, classes[0].class.ack_required == [false, false, false]);
-    same(&rt, &classes[1].class.instance, &7);
+    expect_three_and_seven(&rt, site.classes.as_slice());
     Ok(())
 }
 
@@ -489,41 +503,51 @@ low = 20
 high = 80
 ";
 
+/// A tank, and a flow without a class.
+fn expect_tank_and_flow(rt: &impl Abort, objects: &[ObjectSite]) {
+    counts(rt, objects.len(), 2);
+    holds(rt, is_tank(&objects[0], 1, 7, 0));
+    let value = Value::Unsigned(50);
+    let kind = ObjectKind::PositiveIntegerValue;
+    expect_other(rt, &objects[1], kind, "Flow", &value);
+}
+
+/// What the enrollment says beside what it watches: its name, its class, and what an enrollment has by itself.
+fn expect_usual(rt: &impl Abort, range: &EnrollmentSite) {
+    same(rt, &range.name.as_str(), &"Range");
+    same(rt, &range.class, &7);
+    same(rt, &range.notify, &0);
+    holds(rt, range.enable == [true, true, true]);
+    same(rt, &range.time_delay, &0);
+    holds(rt, range.time_delay_normal.is_none());
+    holds(rt, range.detection && !range.inhibit);
+}
+
+/// It watches the flow, between 20 and 80.
+fn expect_range(rt: &impl Abort, range: &EnrollmentSite) -> Result<(), Fail> {
+    let object = ObjectId::of_kind(ObjectKind::EventEnrollment, 1)?;
+    let flow = ObjectId::of_kind(ObjectKind::PositiveIntegerValue, 1)?;
+    same(rt, &range.object, &object);
+    same(rt, &range.algorithm, &Algorithm::UnsignedRange);
+    same(rt, &range.monitored, &flow);
+    holds(rt, range.feedback.is_none());
+    same(rt, &range.low, &20);
+    same(rt, &range.high, &80);
+    expect_usual(rt, range);
+    Ok(())
+}
+
+fn expect_range_alone(rt: &impl Abort, enrollments: &[EnrollmentSite]) -> Result<(), Fail> {
+    counts(rt, enrollments.len(), 1);
+    expect_range(rt, &enrollments[0])
+}
+
 #[test]
 fn an_enrollment_is_read(rt: HostRuntime) -> Result<(), Fail> {
     let site = site_of(rt.alloc(), &[SURROUNDINGS, PROMPT_TANK, RANGE])?;
-    counts(&rt, site.objects.as_slice().len(), 2);
-    holds(&rt, is_tank(&site.objects.as_slice()[0], 1, 7, 0));
-    let flow = &site.objects.as_slice()[1];
-    let value = Value::Unsigned(50);
-    holds(
-        &rt,
-        is_object(flow, ObjectKind::PositiveIntegerValue, 1, "Flow", &value),
-    );
-    holds(&rt, is_without_class(flow));
-    counts(&rt, site.enrollments.as_slice().len(), 1);
-    let range = &site.enrollments.as_slice()[0];
-    holds(
-        &rt,
-        range.object == ObjectId::of_kind(ObjectKind::EventEnrollment, 1)?,
-    );
-    same(&rt, &range.name.as_str(), &"Range");
-    same(&rt, &range.class, &7);
-    holds(&rt, range.algorithm == Algorithm::UnsignedRange);
-    holds(
-        &rt,
-        range.monitored == ObjectId::of_kind(ObjectKind::PositiveIntegerValue, 1)?,
-    );
-    holds(&rt, range.feedback.is_none());
-    same(&rt, &range.low, &20);
-    same(&rt, &range.high, &80);
-    same(&rt, &range.notify, &0);
-    holds(&rt, range.enable == [true, true, true]);
-    same(&rt, &range.time_delay, &0);
-    holds(&rt, range.time_delay_normal.is_none());
-    holds(&rt, range.detection && !range.inhibit);
+    expect_tank_and_flow(&rt, site.objects.as_slice());
     holds(&rt, site.logs.as_slice().is_empty());
-    Ok(())
+    expect_range_alone(&rt, site.enrollments.as_slice())
 }
 
 /// A log of the class.
@@ -535,55 +559,75 @@ size = 2
 classes = [7]
 ";
 
+fn expect_log(rt: &impl Abort, logs: &[LogSite]) -> Result<(), Fail> {
+    let object = ObjectId::of_kind(ObjectKind::EventLog, 1)?;
+    counts(rt, logs.len(), 1);
+    let log = &logs[0];
+    same(rt, &log.object, &object);
+    same(rt, &log.name.as_str(), &"Log");
+    same(rt, &log.size, &2);
+    holds(rt, log.enable && !log.stop_when_full);
+    holds(rt, log.classes.as_slice() == [7].as_slice());
+    Ok(())
+}
+
 #[test]
 fn a_log_is_read(rt: HostRuntime) -> Result<(), Fail> {
     let site = site_of(rt.alloc(), &[SURROUNDINGS, TANK, LOG])?;
-    counts(&rt, site.objects.as_slice().len(), 1);
-    holds(&rt, is_tank(&site.objects.as_slice()[0], 1, 7, 10));
+    expect_tanks(&rt, site.objects.as_slice(), &[(1, 7, 10)]);
     holds(&rt, site.enrollments.as_slice().is_empty());
-    counts(&rt, site.logs.as_slice().len(), 1);
-    let log = &site.logs.as_slice()[0];
-    holds(
-        &rt,
-        log.object == ObjectId::of_kind(ObjectKind::EventLog, 1)?,
-    );
-    same(&rt, &log.name.as_str(), &"Log");
-    same(&rt, &log.size, &2);
-    holds(&rt, log.enable && !log.stop_when_full);
-    holds(&rt, log.classes.as_slice() == [7].as_slice());
-    Ok(())
+    expect_log(&rt, site.logs.as_slice())
+}
+
+/// The class of the control room and of the night watch, and another.
+fn expect_watch(rt: &impl Abort, classes: &[ClassSite]) {
+    counts(rt, classes.len(), 2);
+    let destinations = classes[0].class.destinations.as_slice();
+    counts(rt, destinations.len(), 4);
+    let watch = &destinations[1];
+    same(rt, &watch.days, &0b001_1111);
+    same(rt, &watch.from, &6_480_000);
+    holds(rt, watch.transitions == [true, true, false]);
 }
 
 #[test]
 fn the_example_of_a_plant_is_a_site(rt: HostRuntime) -> Result<(), Fail> {
     let site = site_of(rt.alloc(), &[PLANT])?;
     same(&rt, &site.device.zone_minutes, &60);
-    counts(&rt, site.objects.as_slice().len(), 8);
-    counts(&rt, site.enrollments.as_slice().len(), 2);
-    counts(&rt, site.logs.as_slice().len(), 1);
-    counts(&rt, site.classes.as_slice().len(), 2);
-    let destinations = site.classes.as_slice()[0].class.destinations.as_slice();
-    counts(&rt, destinations.len(), 2);
-    let watch = destinations[1];
-    same(&rt, &watch.days, &0b001_1111);
-    same(&rt, &watch.from, &6_480_000);
-    holds(&rt, watch.transitions == [true, true, false]);
+    same(&rt, &site.objects.as_slice().len(), &8);
+    same(&rt, &site.enrollments.as_slice().len(), &2);
+    same(&rt, &site.logs.as_slice().len(), &1);
+    expect_watch(&rt, site.classes.as_slice());
     Ok(())
+}
+
+/// The bit string value, whose mask has the first two bits.
+fn expect_mask(rt: &impl Abort, valves: &ObjectSite) -> Result<(), Fail> {
+    let mask = Bits::new(4, 0b0011)?;
+    holds(rt, valves.mask == Some(mask));
+    Ok(())
+}
+
+/// The positive integer value.
+fn expect_level(rt: &impl Abort, level: &ObjectSite) {
+    same(rt, &level.notify, &1);
+    holds(rt, level.limit_enable == [true, false]);
+    holds(rt, level.time_delay_normal == Some(10));
+}
+
+fn expect_values(rt: &impl Abort, objects: &[ObjectSite]) -> Result<(), Fail> {
+    counts(rt, objects.len(), 8);
+    holds(rt, objects[0].alarm_value == Some(Value::Enumerated(1)));
+    holds(
+        rt,
+        objects[6].fault_low == Some(-50) && objects[6].fault_high == Some(150),
+    );
+    expect_level(rt, &objects[7]);
+    expect_mask(rt, &objects[4])
 }
 
 #[test]
 fn objects_of_the_plant_have_their_values(rt: HostRuntime) -> Result<(), Fail> {
     let site = site_of(rt.alloc(), &[PLANT])?;
-    let objects = site.objects.as_slice();
-    counts(&rt, objects.len(), 8);
-    holds(&rt, objects[0].alarm_value == Some(Value::Enumerated(1)));
-    holds(&rt, objects[4].mask == Some(Bits::new(4, 0b0011)?));
-    holds(
-        &rt,
-        objects[6].fault_low == Some(-50) && objects[6].fault_high == Some(150),
-    );
-    same(&rt, &objects[7].notify, &1);
-    holds(&rt, objects[7].limit_enable == [true, false]);
-    holds(&rt, objects[7].time_delay_normal == Some(10));
-    Ok(())
+    expect_values(&rt, site.objects.as_slice())
 }

@@ -116,7 +116,7 @@ const CLASSES_AND_DESTINATIONS: [Change; 17] = [
     (
         "address = \"10.0.0.6:47808\"",
         "",
-        "missing destination 3 address",
+        "missing destination 5 address",
     ),
     (
         "class = 7\naddress",

@@ -41,6 +41,26 @@ to = \"23:59:59.99\"
 confirmed = true
 transitions = \"110\"
 
+[[destination]]                 # and from midnight to the morning: a window never goes over midnight
+class = 7
+address = \"10.0.0.7:47808\"
+process = 2
+days = \"1111100\"
+from = \"00:00:00.00\"
+to = \"05:59:59.99\"
+confirmed = true
+transitions = \"110\"
+
+[[destination]]                 # and the whole weekend
+class = 7
+address = \"10.0.0.7:47808\"
+process = 2
+days = \"0000011\"
+from = \"00:00:00.00\"
+to = \"23:59:59.99\"
+confirmed = true
+transitions = \"110\"
+
 [[destination]]                 # the service office, by day
 class = 8
 address = \"10.0.0.6:47808\"

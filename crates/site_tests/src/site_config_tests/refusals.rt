@@ -1,7 +1,10 @@
+ghost use Rattle.std.specs.Prelude.{◌≤◌};
+
 use super::{PLANT, SURROUNDINGS, TANK, joined};
 use crate::comparing::same;
 use site_config::read_site;
 use std::alloc::Global;
+use std::process::Abort;
 use std::test::Fail;
 
 /// How a status tells of a text, and `read` where it is a site.
@@ -10,6 +13,13 @@ pub fn told(alloc: Global, text: &[u8]) -> Result<String, Fail> {
         Ok(_) => Ok(String::from_str(alloc, "read")?),
         Err(fault) => Ok(format!(in alloc; "{fault}")?),
     }
+}
+
+/// A status tells this of a text.
+pub fn expect_told(rt: &impl Abort, alloc: Global, text: &[u8], wanted: &str) -> Result<(), Fail> {
+    let told = told(alloc, text)?;
+    same(rt, &told.as_str(), &wanted);
+    Ok(())
 }
 
 /// Two pairs of objects with the same identifiers, the greater pair first.
@@ -39,82 +49,88 @@ class = 9
 alarm_value = \"active\"
 ";
 
+/// A status tells this of a text of so many spaces.
+fn expect_of_spaces(rt: &impl Abort, alloc: Global, count: usize, wanted: &str) -> Result<(), Fail>
+    requires { count ≤ 1_048_577 }
+{
+    let spaces = vec![in alloc; b' '; count]?;
+    expect_told(rt, alloc, spaces.as_slice(), wanted)
+}
+
+/// A status tells this of a text of these parts.
+fn expect_of_parts(
+    rt: &impl Abort,
+    alloc: Global,
+    parts: &[&str],
+    wanted: &str,
+) -> Result<(), Fail> {
+    let text = joined(alloc, parts)?;
+    expect_told(rt, alloc, text.as_str().as_bytes(), wanted)
+}
+
 #[test]
 fn texts_that_are_no_site(rt: HostRuntime) -> Result<(), Fail> {
     let alloc = rt.alloc();
-    same(
-        &rt,
-        &told(alloc, b"x =")?.as_str(),
-        &"site refused: not-toml",
-    );
-    same(
-        &rt,
-        &told(alloc, b"# \xff")?.as_str(),
-        &"site refused: not-toml",
-    );
+    expect_told(&rt, alloc, b"x =", "site refused: not-toml")?;
+    expect_told(&rt, alloc, b"# \xff", "site refused: not-toml")?;
     let empty = "site refused: missing device 0 instance";
-    same(&rt, &told(alloc, b"")?.as_str(), &empty);
-    let longest = vec![in alloc; b' '; 1_048_576]?;
-    same(&rt, &told(alloc, longest.as_slice())?.as_str(), &empty);
-    let too_long = vec![in alloc; b' '; 1_048_577]?;
-    same(
-        &rt,
-        &told(alloc, too_long.as_slice())?.as_str(),
-        &"site refused: too-long",
-    );
-    let twins = joined(alloc, &[TWINS, SURROUNDINGS])?;
-    let told_of_twins = told(alloc, twins.as_str().as_bytes())?;
-    same(
-        &rt,
-        &told_of_twins.as_str(),
-        &"site refused: duplicate binary-value:1",
-    );
-    let orphans = joined(alloc, &[SURROUNDINGS, ORPHANS])?;
-    let told_of_orphans = told(alloc, orphans.as_str().as_bytes())?;
-    same(
-        &rt,
-        &told_of_orphans.as_str(),
-        &"site refused: dangling binary-value:1",
-    );
-    Ok(())
+    expect_told(&rt, alloc, b"", empty)?;
+    expect_of_spaces(&rt, alloc, 1_048_576, empty)?;
+    expect_of_spaces(&rt, alloc, 1_048_577, "site refused: too-long")
+}
+
+#[test]
+fn the_least_identifier_is_told(rt: HostRuntime) -> Result<(), Fail> {
+    let alloc = rt.alloc();
+    let twice = "site refused: duplicate binary-value:1";
+    expect_of_parts(&rt, alloc, &[TWINS, SURROUNDINGS], twice)?;
+    let dangling = "site refused: dangling binary-value:1";
+    expect_of_parts(&rt, alloc, &[SURROUNDINGS, ORPHANS], dangling)
 }
 
 /// A device with the smallest outbox.
 const SMALL_DEVICE: &str = "[device]\ninstance = 1\nstart = 1700000000000\noutbox = 64\n";
 
+/// A section that is a table, or an array of numbers.
+fn expect_no_section(rt: &impl Abort, alloc: Global, section: &str) -> Result<(), Fail> {
+    let wanted = format!(in alloc; "site refused: bad-value {section} 0 {section}")?;
+    let table = [SMALL_DEVICE, "[", section, "]\n"];
+    expect_of_parts(rt, alloc, &table, wanted.as_str())?;
+    let numbers = [section, " = [5]\n", SMALL_DEVICE];
+    expect_of_parts(rt, alloc, &numbers, wanted.as_str())
+}
+
 #[test]
 fn each_other_section_is_an_array_of_tables(rt: HostRuntime) -> Result<(), Fail> {
     let alloc = rt.alloc();
-    for section in ["class", "destination", "object", "enrollment", "log"] {
-        let wanted = format!(in alloc; "site refused: bad-value {section} 0 {section}")?;
-        let table = format!(in alloc; "{SMALL_DEVICE}[{section}]\n")?;
-        let told_of_table = told(alloc, table.as_str().as_bytes())?;
-        same(&rt, &told_of_table.as_str(), &wanted.as_str());
-        let numbers = format!(in alloc; "{section} = [5]\n{SMALL_DEVICE}")?;
-        let told_of_numbers = told(alloc, numbers.as_str().as_bytes())?;
-        same(&rt, &told_of_numbers.as_str(), &wanted.as_str());
-    }
-    Ok(())
+    expect_no_section(&rt, alloc, "class")?;
+    expect_no_section(&rt, alloc, "destination")?;
+    expect_no_section(&rt, alloc, "object")?;
+    expect_no_section(&rt, alloc, "enrollment")?;
+    expect_no_section(&rt, alloc, "log")
+}
+
+/// A key or a name of 256 octets, between these texts.
+fn expect_of_long(
+    rt: &impl Abort,
+    alloc: Global,
+    before: &str,
+    after: &str,
+    wanted: &str,
+) -> Result<(), Fail> {
+    let long = "k".repeat(alloc, 256)?;
+    let parts = [SMALL_DEVICE, before, long.as_str(), after];
+    expect_of_parts(rt, alloc, &parts, wanted)
 }
 
 #[test]
 fn names_and_keys_have_at_most_256_octets(rt: HostRuntime) -> Result<(), Fail> {
     let alloc = rt.alloc();
-    let long = "k".repeat(alloc, 256)?;
-    let rows = [
-        ("name = \"", "\"\n", "read"),
-        (
-            "name = \"k",
-            "\"\n",
-            "site refused: bad-value device 0 name",
-        ),
-        ("", "k = 1\n", "site refused: unknown device 0 "),
-    ];
-    for (before, after, want) in rows {
-        let text = format!(in alloc; "{SMALL_DEVICE}{before}{long}{after}")?;
-        same(&rt, &told(alloc, text.as_str().as_bytes())?.as_str(), &want);
-    }
-    Ok(())
+    expect_of_long(&rt, alloc, "name = \"", "\"\n", "read")?;
+    let bad_name = "site refused: bad-value device 0 name";
+    expect_of_long(&rt, alloc, "name = \"k", "\"\n", bad_name)?;
+    let unknown = "site refused: unknown device 0 ";
+    expect_of_long(&rt, alloc, "", "k = 1\n", unknown)
 }
 
 /// The plant, whose log has so many classes more than one.
@@ -124,17 +140,21 @@ fn plant_with_classes(alloc: Global, more: usize) -> Result<String, Fail> {
     Ok(PLANT.replacen(alloc, "classes = [7, 8]", classes.as_str(), 1)?)
 }
 
+fn expect_of_classes(
+    rt: &impl Abort,
+    alloc: Global,
+    more: usize,
+    wanted: &str,
+) -> Result<(), Fail> {
+    let text = plant_with_classes(alloc, more)?;
+    expect_told(rt, alloc, text.as_str().as_bytes(), wanted)
+}
+
 #[test]
 fn a_log_has_at_most_256_classes(rt: HostRuntime) -> Result<(), Fail> {
-    let alloc = rt.alloc();
-    for (more, want) in [
-        (255, "read"),
-        (256, "site refused: bad-value log 1 classes"),
-    ] {
-        let text = plant_with_classes(alloc, more)?;
-        same(&rt, &told(alloc, text.as_str().as_bytes())?.as_str(), &want);
-    }
-    Ok(())
+    expect_of_classes(&rt, rt.alloc(), 255, "read")?;
+    let refused = "site refused: bad-value log 1 classes";
+    expect_of_classes(&rt, rt.alloc(), 256, refused)
 }
 
 /// The head, and so many of an item whose instance comes after its first part.
@@ -153,97 +173,114 @@ fn with_many(
     Ok(text)
 }
 
+/// A status tells this of the head and so many of an item.
+fn expect_of_many(
+    rt: &impl Abort,
+    alloc: Global,
+    head: &str,
+    many: (u32, &str, &str),
+    wanted: &str,
+) -> Result<(), Fail> {
+    let (count, before, after) = many;
+    let text = with_many(alloc, head, count, before, after)?;
+    expect_told(rt, alloc, text.as_str().as_bytes(), wanted)
+}
+
+/// How many of an item, its parts before and after its instance, and what is told of so many.
+const TOO_MANY: [(u32, &str, &str, &str); 9] = [
+    (
+        256,
+        "[[class]]\npriority = [1, 2, 3]\ninstance = ",
+        "\n",
+        "read",
+    ),
+    (
+        257,
+        "[[class]]\npriority = [1, 2, 3]\ninstance = ",
+        "\n",
+        "site refused: too-many class",
+    ),
+    (
+        33,
+        "[[destination]]\nclass = 0\nprocess = ",
+        "\naddress = \"10.0.0.5:47808\"\n",
+        "site refused: too-many destination",
+    ),
+    (
+        32,
+        "[[destination]]\nclass = 0\nprocess = ",
+        "\naddress = \"10.0.0.5:47808\"\n",
+        "site refused: dangling notification-class:0",
+    ),
+    (
+        2049,
+        "[[object]]\nkind = \"binary-value\"\nvalue = \"active\"\ninstance = ",
+        "\n",
+        "site refused: too-many object",
+    ),
+    (
+        2049,
+        "[[enrollment]]\nclass = 0\nalgorithm = \"unsigned-range\"\nmonitored = \"multi-state-value:1\"\nlow = 0\nhigh = 9\ninstance = ",
+        "\n",
+        "site refused: too-many enrollment",
+    ),
+    (
+        17,
+        "[[log]]\nsize = 1\nclasses = [0]\ninstance = ",
+        "\n",
+        "site refused: too-many log",
+    ),
+    (
+        2,
+        "[[log]]\nsize = 8193\nclasses = [0]\ninstance = ",
+        "\n",
+        "site refused: too-many records",
+    ),
+    (
+        65,
+        "[[object]]\nkind = \"binary-value\"\nvalue = \"active\"\nclass = 0\nalarm_value = \"active\"\ninstance = ",
+        "\n",
+        "site refused: dangling binary-value:0",
+    ),
+];
+
 #[test]
 fn there_is_too_much_of_something(rt: HostRuntime) -> Result<(), Fail> {
     let alloc = rt.alloc();
-    let rows = [
-        (
-            256,
-            "[[class]]\npriority = [1, 2, 3]\ninstance = ",
-            "\n",
-            "read",
-        ),
-        (
-            257,
-            "[[class]]\npriority = [1, 2, 3]\ninstance = ",
-            "\n",
-            "site refused: too-many class",
-        ),
-        (
-            33,
-            "[[destination]]\nclass = 0\nprocess = ",
-            "\naddress = \"10.0.0.5:47808\"\n",
-            "site refused: too-many destination",
-        ),
-        (
-            32,
-            "[[destination]]\nclass = 0\nprocess = ",
-            "\naddress = \"10.0.0.5:47808\"\n",
-            "site refused: dangling notification-class:0",
-        ),
-        (
-            2049,
-            "[[object]]\nkind = \"binary-value\"\nvalue = \"active\"\ninstance = ",
-            "\n",
-            "site refused: too-many object",
-        ),
-        (
-            2049,
-            "[[enrollment]]\nclass = 0\nalgorithm = \"unsigned-range\"\nmonitored = \"multi-state-value:1\"\nlow = 0\nhigh = 9\ninstance = ",
-            "\n",
-            "site refused: too-many enrollment",
-        ),
-        (
-            17,
-            "[[log]]\nsize = 1\nclasses = [0]\ninstance = ",
-            "\n",
-            "site refused: too-many log",
-        ),
-        (
-            2,
-            "[[log]]\nsize = 8193\nclasses = [0]\ninstance = ",
-            "\n",
-            "site refused: too-many records",
-        ),
-        (
-            65,
-            "[[object]]\nkind = \"binary-value\"\nvalue = \"active\"\nclass = 0\nalarm_value = \"active\"\ninstance = ",
-            "\n",
-            "site refused: dangling binary-value:0",
-        ),
-    ];
-    for (count, before, after, want) in rows {
-        let text = with_many(alloc, SMALL_DEVICE, count, before, after)?;
-        same(&rt, &told(alloc, text.as_str().as_bytes())?.as_str(), &want);
+    for (count, before, after, wanted) in &TOO_MANY {
+        let many = (*count, *before, *after);
+        expect_of_many(&rt, alloc, SMALL_DEVICE, many, *wanted)?;
     }
-    let whole = joined(alloc, &[SURROUNDINGS, TANK])?;
-    let classes = "[[class]]\npriority = [100, 90, 200]\ninstance = 1";
-    let text = with_many(alloc, whole.as_str(), 256, classes, "\n")?;
-    same(
-        &rt,
-        &told(alloc, text.as_str().as_bytes())?.as_str(),
-        &"site refused: too-many class",
-    );
     Ok(())
 }
 
 #[test]
-fn one_tick_may_fill_the_outbox_and_no_more(rt: HostRuntime) -> Result<(), Fail> {
-    let alloc = rt.alloc();
+fn too_many_classes_are_told_beside_others(rt: HostRuntime) -> Result<(), Fail> {
+    let whole = joined(rt.alloc(), &[SURROUNDINGS, TANK])?;
+    let classes = "[[class]]\npriority = [100, 90, 200]\ninstance = 1";
+    let wanted = "site refused: too-many class";
+    let many = (256, classes, "\n");
+    expect_of_many(&rt, rt.alloc(), whole.as_str(), many, wanted)
+}
+
+/// The plant's tank, with the smallest outbox.
+fn small_plant(alloc: Global) -> Result<String, Fail> {
     let head = joined(alloc, &[SURROUNDINGS, TANK])?;
-    let small = head
-        .as_str()
-        .replacen(alloc, "vendor = 999", "outbox = 64", 1)?;
-    let before =
-        "[[object]]\nkind = \"integer-value\"\nvalue = 50\nclass = 7\nlow = 20\nhigh = 80\ninstance = 1";
-    let fits = with_many(alloc, small.as_str(), 63, before, "\n")?;
-    same(
-        &rt,
-        &told(alloc, fits.as_str().as_bytes())?.as_str(),
-        &"read",
-    );
-    let more = with_many(alloc, small.as_str(), 64, before, "\n")?;
-    let told = told(alloc, more.as_str().as_bytes())?;
-    same(&rt, &told.as_str(), &"site refused: too-many notes");
-    Ok(())
+    Ok(
+        head.as_str()
+            .replacen(alloc, "vendor = 999", "outbox = 64", 1)?,
+    )
+}
+
+/// A tank's keys up to the first digit of its instance.
+const MORE_TANKS: &str =
+    "[[object]]\nkind = \"integer-value\"\nvalue = 50\nclass = 7\nlow = 20\nhigh = 80\ninstance = 1";
+
+#[test]
+fn one_tick_may_fill_the_outbox_and_no_more(rt: HostRuntime) -> Result<(), Fail> {
+    let small = small_plant(rt.alloc())?;
+    let head = small.as_str();
+    expect_of_many(&rt, rt.alloc(), head, (63, MORE_TANKS, "\n"), "read")?;
+    let refused = "site refused: too-many notes";
+    expect_of_many(&rt, rt.alloc(), head, (64, MORE_TANKS, "\n"), refused)
 }

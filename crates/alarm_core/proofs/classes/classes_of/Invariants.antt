@@ -1,5 +1,5 @@
 use Rattle.std.proofs.Common.{◌≡◌, map, take}
-use Rattle.alarm_core.specs.declared.site.ClassSite.{ClassSite}
+use Rattle.notify_class.specs.declared.class_site.ClassSite.{ClassSite}
 use Rattle.alarm_core.proofs.classes.classes_of.Given as goal
 
 abbrev pub invariant-loop-listed : goal.invariant-loop-listed

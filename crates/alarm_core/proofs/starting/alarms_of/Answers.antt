@@ -7,5 +7,5 @@ use Rattle.alarm_core.proofs.starting.alarms_of.Goals as goal
 pub loop-subject-preserved : goal.loop-subject-preserved
 loop-subject-preserved c =
     let within : c.loop-subject.subject-index < length c.args.subjects.now = omega arith in
-    kept_map_more (λ subject. first_with c.args.site.now.device.start c.args.stamp (ack_required_of c.args.site.now subject) c.args.objects.now subject) is_detecting
+    kept_map_more (λ subject. first_with c.args.at.now (ack_required_of c.args.site.now subject) c.args.objects.now subject) is_detecting
     c.args.subjects.now c.loop-subject.subject-index c.subject-item.result c.loop-subject.alarms.items _ within c.subject-item.is c.loop-subject.invariant (search rules)

@@ -4,4 +4,4 @@ use Rattle.alarm_core.specs.Subjects.{ack_required_of, is_detecting}
 use Rattle.alarm_core.proofs.starting.alarms_of.Given as goal
 
 abbrev pub invariant-loop-subject : goal.invariant-loop-subject
-invariant-loop-subject l = l.alarms.items ≡ map (λ subject. first_with l.site.device.start l.stamp (ack_required_of l.site subject) l.objects subject) (filter is_detecting (take l.subject-index l.subjects))
+invariant-loop-subject l = l.alarms.items ≡ map (λ subject. first_with l.at (ack_required_of l.site subject) l.objects subject) (filter is_detecting (take l.subject-index l.subjects))

@@ -15,14 +15,14 @@ returns-clause-piece c =
     let moved = c.as_slice.result.now in
     let gone = c.into_vec.result.items in
     let number = c.args.number in
-    let same_events : c.events.result ≡ state.events + 1 = search rules in
+    let same_events : c.events-2.result ≡ state.events + 1 = search rules in
     let same_moment : moment ≡ event.moment = search rules in
     let same_moves : moved ≡ map moved_by (next_transitions event state) = search rules in
     let same_sends : gone ≡ next_sends event state = search rules in
     let fits : step_verdict event state ≡ Ok tt = search rules in
-    let first : c.in_ok-piece.piece.items ≡ Entered number c.events.result moment ∷ [] = c.in_ok-piece.ensures.single in
+    let first : c.in_ok-piece.piece.items ≡ Entered number c.events-2.result moment ∷ [] = c.in_ok-piece.ensures.single in
     let changes : c.add_changes.new.piece.items ≡ c.in_ok-piece.piece.items ++ map (λ moved. Change number moved) moved = c.in_ok-add_changes.ensures.changes in
     let sends : c.add_sends.new.piece.items ≡ c.add_changes.new.piece.items ++ map (send_line number) gone = c.in_ok-add_sends.ensures.sends in
     let reply : c.add_reply.new.piece.items ≡ c.add_sends.new.piece.items ++ reply_lines number c.args.reply = c.in_ok-add_reply.ensures.reply in
-    let lines : c.add_reply.new.piece.items ≡ (((Entered number c.events.result moment ∷ []) ++ map (λ moved. Change number moved) moved) ++ map (send_line number) gone) ++ reply_lines number c.args.reply = cc in
-    lines ∙ fits_is number state event c.args.reply c.args.full (step_verdict event state) moved gone c.events.result moment fits same_events same_moment same_moves same_sends
+    let lines : c.add_reply.new.piece.items ≡ (((Entered number c.events-2.result moment ∷ []) ++ map (λ moved. Change number moved) moved) ++ map (send_line number) gone) ++ reply_lines number c.args.reply = cc in
+    lines ∙ fits_is number state event c.args.reply c.args.full (step_verdict event state) moved gone c.events-2.result moment fits same_events same_moment same_moves same_sends

@@ -4,41 +4,29 @@ use Rattle.ground_io.specs.Trace.{WhereTold}
 use Rattle.script_lines.specs.declared.line.Grammar.TheVariants.{Session}
 use Rattle.script_lines.specs.Reading.{octets_to_come}
 use Rattle.script_lines.specs.Script.{ReadsLine}
-use Rattle.alarm_core.specs.Next.{first_state}
-use Rattle.alarm_server.specs.declared.status.Status.TheVariants.{Done, NoMemory, ScriptRefused, ReadFault}
+use Rattle.alarm_server.specs.declared.status.Status.TheVariants.{ScriptRefused, ReadFault}
 use Rattle.alarm_server.specs.Session.{end_piece, piece_of}
 use Rattle.alarm_server.specs.Status.{of_line_fault, of_unsent}
 use Rattle.alarm_server.proofs.OfUnsent.{emit_cause, is_fault, is_no_read_fault, read_cause, refuses_no_line}
 use Rattle.alarm_server.proofs.Progress.{grammar_fault, read_fault}
-use Rattle.alarm_server.proofs.Played.{line_adds}
-use Rattle.alarm_server.proofs.SessionProgress.{accepts, begins, by_history, ends, ends_at_end, ends_at_first, ends_at_line, ends_at_once, ends_at_piece, goes_on, refused_first, stops_by_history, stops_reading}
+use Rattle.alarm_server.proofs.SessionProgress.{accepts, begins, ends, ends_at_end, ends_at_first, ends_at_line, ends_at_once, ends_at_piece, goes_on, reaches, refused_first, stops_reading, tallies}
 use Rattle.alarm_server.proofs.session.play_session.Goals as goal
 
 pub returns-in_err-lines-clause-ends : goal.returns-in_err-lines-clause-ends
 returns-in_err-lines-clause-ends g c =
     let p = err_from_is_err_and c.from_residual.result c.from_residual.ensures.1 in
-    let site = c.args.site.now in
-    let told = g.G.Ground.told c.args.device.now in
-    rw (p.1, p.2) (by_history site (g.T.Source.left c.args.script.now) NoMemory told told (ends_at_once (first_state site) (g.T.Source.left c.args.script.now) told))
+    rw (p.1, p.2) (ends_at_once c.args.core.now (g.T.Source.left c.args.script.now) (g.G.Ground.told c.args.device.now))
 
-pub returns-in_err-core-clause-ends : goal.returns-in_err-core-clause-ends
-returns-in_err-core-clause-ends g c =
-    let p = err_from_is_err_and c.from_residual-in_err-core.result c.from_residual-in_err-core.ensures.1 in
-    let site = c.args.site.now in
-    let text = g.T.Source.left c.args.script.now in
-    let before = g.G.Ground.told c.args.device.now in
-    let after = g.G.Ground.told c.begin.new.device in
-    let fault = c.in_err-core.field-0.0 in
-    rw (p.1, p.2) (by_history site text (of_unsent fault) before after (ends_at_first (first_state site) text before after fault c.in_err-core.ensures.sends))
+pub returns-in_err-begin-clause-ends : goal.returns-in_err-begin-clause-ends
+returns-in_err-begin-clause-ends g c =
+    let p = err_from_is_err_and c.from_residual-in_err-begin.result c.from_residual-in_err-begin.ensures.1 in
+    rw (p.1, p.2) (ends_at_first c.args.core.now (g.T.Source.left c.args.script.now) (g.G.Ground.told c.args.device.now) (g.G.Ground.told c.begin.new.device) c.in_err-begin.field-0.0 c.in_err-begin.ensures.sends)
 
-pub loop-core-init : goal.loop-core-init
-loop-core-init g c =
-    let start = first_state c.args.site.now in
-    let first = c.in_ok-core.ensures.starts in
+pub loop-lines-init : goal.loop-lines-init
+loop-lines-init g c =
     rw c.in_ok-lines.ensures.start
     (record {
-      progress = begins start c.in_ok-core.core (g.T.Source.left c.args.script.now) (g.G.Ground.told c.args.device.now) (g.G.Ground.told c.begin.new.device) first c.in_ok-core.ensures.sends;
-      few = let none = ap (λ s. s.events) first in omega (arith, none);
+      progress = begins c.args.core.now (g.T.Source.left c.args.script.now) (g.G.Ground.told c.args.device.now) (g.G.Ground.told c.begin.new.device) c.new-tally.result c.new-tally.ensures.nothing c.in_ok-begin.ensures.sends;
       grammar = refl;
       source = λ e. absurd cc;
       size = c.begin.ensures.size;
@@ -50,58 +38,44 @@ loop-core-init g c =
 pub returns-in_err-line-clause-ends : goal.returns-in_err-line-clause-ends
 returns-in_err-line-clause-ends g c =
     let p = err_from_is_err_and c.from_residual-in_err-line.result c.from_residual-in_err-line.ensures.1 in
-    let here = c.loop-core in
+    let here = c.loop-lines in
     let next = c.next_line.new in
-    let site = c.args.site.now in
-    let text = g.T.Source.left c.args.script.now in
-    let before = g.G.Ground.told c.args.device.now in
-    let fault = c.in_err-line.field-0.0 in
     rw (p.1, p.2)
-    (by_history site text (of_line_fault fault) before (g.G.Ground.told here.device)
-    (ends_at_line (first_state site) text (octets_to_come here.lines (g.T.Source.left here.script)) (octets_to_come next.self (g.T.Source.left next.source)) before (g.G.Ground.told here.device) here.lines.number next.self.number here.lines.ended here.core fault here.invariant.progress (rw here.invariant.grammar at c.in_err-line.ensures.line)))
+    (ends_at_line c.args.core.now (g.T.Source.left c.args.script.now) (octets_to_come here.lines (g.T.Source.left here.script)) (octets_to_come next.self (g.T.Source.left next.source)) (g.G.Ground.told c.args.device.now) (g.G.Ground.told here.device) here.lines.number next.self.number here.lines.ended here.core here.tally c.in_err-line.field-0.0 here.invariant.progress (rw here.invariant.grammar at c.in_err-line.ensures.line))
 
 pub returns-in_err-line-clause-refused : goal.returns-in_err-line-clause-refused
 returns-in_err-line-clause-refused g c = λ line e.
     let p = err_from_is_err_and c.from_residual-in_err-line.result c.from_residual-in_err-line.ensures.1 in
     let same : of_line_fault c.in_err-line.field-0.0 ≡ ScriptRefused line = cc in
     let fault = grammar_fault c.in_err-line.field-0.0 line same in
-    let here = c.loop-core in
+    let here = c.loop-lines in
     let next = c.next_line.new in
     let come = octets_to_come here.lines (g.T.Source.left here.script) in
     let come' = octets_to_come next.self (g.T.Source.left next.source) in
     let read = subst (λ f. WhereTold come come' (ReadsLine Session here.lines.number next.self.number (Err f))) fault (rw here.invariant.grammar at c.in_err-line.ensures.line) in
-    refused_first (first_state c.args.site.now) (g.T.Source.left c.args.script.now) come come' (g.G.Ground.told c.args.device.now) (g.G.Ground.told here.device) here.lines.number next.self.number here.lines.ended here.core line here.invariant.progress read
+    refused_first c.args.core.now (g.T.Source.left c.args.script.now) come come' (g.G.Ground.told c.args.device.now) (g.G.Ground.told here.device) here.lines.number next.self.number here.lines.ended here.core here.tally line here.invariant.progress read
 
 pub returns-in_err-line-clause-stops : goal.returns-in_err-line-clause-stops
 returns-in_err-line-clause-stops g c = λ e.
     let p = err_from_is_err_and c.from_residual-in_err-line.result c.from_residual-in_err-line.ensures.1 in
     let same : of_line_fault c.in_err-line.field-0.0 ≡ ReadFault = cc in
     let fault = read_fault c.in_err-line.field-0.0 same in
-    let here = c.loop-core in
+    let here = c.loop-lines in
     let next = c.next_line.new in
-    let site = c.args.site.now in
-    let text = g.T.Source.left c.args.script.now in
-    let before = g.G.Ground.told c.args.device.now in
     let come = octets_to_come here.lines (g.T.Source.left here.script) in
     let come' = octets_to_come next.self (g.T.Source.left next.source) in
     let read = subst (λ f. WhereTold come come' (ReadsLine Session here.lines.number next.self.number (Err f))) fault (rw here.invariant.grammar at c.in_err-line.ensures.line) in
-    stops_by_history site text (g.T.Source.left next.source) before (g.G.Ground.told here.device)
-    (stops_reading (first_state site) text come (g.T.Source.left next.source) next.self.pending before (g.G.Ground.told here.device) here.lines.number next.self.number here.lines.ended next.self.ended here.core here.invariant.progress read c.next_line.ensures.ended c.next_line.ensures.whole_lines (c.next_line.ensures.waits (c.in_err-line.was ∙ ap Err fault)))
+    stops_reading c.args.core.now (g.T.Source.left c.args.script.now) come (g.T.Source.left next.source) next.self.pending (g.G.Ground.told c.args.device.now) (g.G.Ground.told here.device) here.lines.number next.self.number here.lines.ended next.self.ended here.core here.tally here.invariant.progress read c.next_line.ensures.ended c.next_line.ensures.whole_lines (c.next_line.ensures.waits (c.in_err-line.was ∙ ap Err fault))
 
 pub returns-in_err-play_line-clause-ends : goal.returns-in_err-play_line-clause-ends
 returns-in_err-play_line-clause-ends g c =
     let p = err_from_is_err_and c.from_residual-in_err-play_line.result c.from_residual-in_err-play_line.ensures.1 in
-    let here = c.loop-core in
+    let here = c.loop-lines in
     let next = c.next_line.new in
-    let site = c.args.site.now in
-    let text = g.T.Source.left c.args.script.now in
-    let before = g.G.Ground.told c.args.device.now in
     let read = rw (c.in-Some.is, here.invariant.grammar) at c.in_ok-line.ensures.line in
-    let fault = c.in_err-play_line.field-0.0 in
     let line = c.in-Some.line in
     rw (p.1, p.2)
-    (by_history site text (of_unsent fault) before (g.G.Ground.told c.play_line.new.device)
-    (ends_at_piece (first_state site) text (octets_to_come here.lines (g.T.Source.left here.script)) (octets_to_come next.self (g.T.Source.left next.source)) before (g.G.Ground.told here.device) (g.G.Ground.told c.play_line.new.device) here.lines.number next.self.number here.lines.ended here.core line (piece_of here.core line) fault here.invariant.progress read refl c.in_err-play_line.ensures.sends))
+    (ends_at_piece c.args.core.now (g.T.Source.left c.args.script.now) (octets_to_come here.lines (g.T.Source.left here.script)) (octets_to_come next.self (g.T.Source.left next.source)) (g.G.Ground.told c.args.device.now) (g.G.Ground.told here.device) (g.G.Ground.told c.play_line.new.device) here.lines.number next.self.number here.lines.ended here.core here.tally line (piece_of here.core line) c.in_err-play_line.field-0.0 here.invariant.progress read refl c.in_err-play_line.ensures.sends)
 
 pub returns-in_err-play_line-clause-refused : goal.returns-in_err-play_line-clause-refused
 returns-in_err-play_line-clause-refused g c = λ line e.
@@ -123,28 +97,23 @@ returns-in_err-play_line-clause-fault g c =
 pub returns-in_err-play_line-clause-read_cause : goal.returns-in_err-play_line-clause-read_cause
 returns-in_err-play_line-clause-read_cause g c =
     let p = err_from_is_err_and c.from_residual-in_err-play_line.result c.from_residual-in_err-play_line.ensures.1 in
-    let here = c.loop-core in
+    let here = c.loop-lines in
     rw (p.1, p.2) (read_cause c.in_err-play_line.field-0.0 (g.T.Source.faults c.args.script.now) (g.T.Source.faults here.script) (g.T.Source.faults c.next_line.new.source) here.invariant.read c.next_line.ensures.cause.later)
 
 pub returns-in_err-play_line-clause-emit_cause : goal.returns-in_err-play_line-clause-emit_cause
 returns-in_err-play_line-clause-emit_cause g c =
     let p = err_from_is_err_and c.from_residual-in_err-play_line.result c.from_residual-in_err-play_line.ensures.1 in
-    let here = c.loop-core in
+    let here = c.loop-lines in
     rw (p.1, p.2) (emit_cause c.in_err-play_line.field-0.0 (g.G.Ground.emit_faults c.args.device.now) (g.G.Ground.emit_faults here.device) (g.G.Ground.emit_faults c.play_line.new.device) here.invariant.emitted c.in_err-play_line.ensures.cause)
 
-pub loop-core-preserved : goal.loop-core-preserved
-loop-core-preserved g c =
-    let here = c.loop-core in
+pub loop-lines-preserved-in_ok-play_line : goal.loop-lines-preserved-in_ok-play_line
+loop-lines-preserved-in_ok-play_line g c =
+    let here = c.loop-lines in
     let next = c.next_line.new in
     let read = rw (c.in-Some.is, here.invariant.grammar) at c.in_ok-line.ensures.line in
     let line = c.in-Some.line in
-    let moved = c.in_ok-play_line.ensures.state in
-    let adds = line_adds here.core line in
-    let count = ap (λ s. s.events) moved in
-    let grows = rw c.in-Some.is at c.in_ok-line.ensures.grows in
     record {
-      progress = goes_on (first_state c.args.site.now) (g.T.Source.left c.args.script.now) (octets_to_come here.lines (g.T.Source.left here.script)) (octets_to_come next.self (g.T.Source.left next.source)) (g.G.Ground.told c.args.device.now) (g.G.Ground.told here.device) (g.G.Ground.told c.play_line.new.device) here.lines.number next.self.number here.lines.ended next.self.ended here.core c.play_line.new.core line (piece_of here.core line) here.invariant.progress read c.next_line.ensures.ended c.next_line.ensures.whole_lines moved refl c.in_ok-play_line.ensures.sends;
-      few = omega (arith, here.invariant.few, adds, count, grows);
+      progress = goes_on c.args.core.now (g.T.Source.left c.args.script.now) (octets_to_come here.lines (g.T.Source.left here.script)) (octets_to_come next.self (g.T.Source.left next.source)) (g.G.Ground.told c.args.device.now) (g.G.Ground.told here.device) (g.G.Ground.told c.play_line.new.device) here.lines.number next.self.number here.lines.ended next.self.ended here.core c.play_line.new.core here.tally c.play_line.new.tally line (piece_of here.core line) here.invariant.progress read c.next_line.ensures.ended c.next_line.ensures.whole_lines c.in_ok-play_line.ensures.state refl c.in_ok-play_line.ensures.tally c.in_ok-play_line.ensures.sends;
       grammar = c.next_line.ensures.grammar ∙ here.invariant.grammar;
       source = c.next_line.ensures.source;
       size = c.play_line.ensures.size ∙ here.invariant.size;
@@ -153,19 +122,14 @@ loop-core-preserved g c =
       emitted = omega (arith, here.invariant.emitted, c.play_line.ensures.cause.later);
     }
 
-pub loop-core-preserved-in_ok-play_line : goal.loop-core-preserved-in_ok-play_line
-loop-core-preserved-in_ok-play_line g c =
-    let here = c.loop-core in
+pub loop-lines-preserved-in_ok-play_line-2 : goal.loop-lines-preserved-in_ok-play_line-2
+loop-lines-preserved-in_ok-play_line-2 g c =
+    let here = c.loop-lines in
     let next = c.next_line.new in
     let read = rw (c.in-Some.is, here.invariant.grammar) at c.in_ok-line.ensures.line in
     let line = c.in-Some.line in
-    let moved = c.in_ok-play_line.ensures.state in
-    let adds = line_adds here.core line in
-    let count = ap (λ s. s.events) moved in
-    let grows = rw c.in-Some.is at c.in_ok-line.ensures.grows in
     record {
-      progress = goes_on (first_state c.args.site.now) (g.T.Source.left c.args.script.now) (octets_to_come here.lines (g.T.Source.left here.script)) (octets_to_come next.self (g.T.Source.left next.source)) (g.G.Ground.told c.args.device.now) (g.G.Ground.told here.device) (g.G.Ground.told c.play_line.new.device) here.lines.number next.self.number here.lines.ended next.self.ended here.core c.play_line.new.core line (piece_of here.core line) here.invariant.progress read c.next_line.ensures.ended c.next_line.ensures.whole_lines moved refl c.in_ok-play_line.ensures.sends;
-      few = omega (arith, here.invariant.few, adds, count, grows);
+      progress = goes_on c.args.core.now (g.T.Source.left c.args.script.now) (octets_to_come here.lines (g.T.Source.left here.script)) (octets_to_come next.self (g.T.Source.left next.source)) (g.G.Ground.told c.args.device.now) (g.G.Ground.told here.device) (g.G.Ground.told c.play_line.new.device) here.lines.number next.self.number here.lines.ended next.self.ended here.core c.play_line.new.core here.tally c.play_line.new.tally line (piece_of here.core line) here.invariant.progress read c.next_line.ensures.ended c.next_line.ensures.whole_lines c.in_ok-play_line.ensures.state refl c.in_ok-play_line.ensures.tally c.in_ok-play_line.ensures.sends;
       grammar = c.next_line.ensures.grammar ∙ here.invariant.grammar;
       source = c.next_line.ensures.source;
       size = c.play_line.ensures.size ∙ here.invariant.size;
@@ -174,19 +138,14 @@ loop-core-preserved-in_ok-play_line g c =
       emitted = omega (arith, here.invariant.emitted, c.play_line.ensures.cause.later);
     }
 
-pub loop-core-preserved-in_ok-play_line-2 : goal.loop-core-preserved-in_ok-play_line-2
-loop-core-preserved-in_ok-play_line-2 g c =
-    let here = c.loop-core in
+pub loop-lines-preserved-in_ok-play_line-3 : goal.loop-lines-preserved-in_ok-play_line-3
+loop-lines-preserved-in_ok-play_line-3 g c =
+    let here = c.loop-lines in
     let next = c.next_line.new in
     let read = rw (c.in-Some.is, here.invariant.grammar) at c.in_ok-line.ensures.line in
     let line = c.in-Some.line in
-    let moved = c.in_ok-play_line.ensures.state in
-    let adds = line_adds here.core line in
-    let count = ap (λ s. s.events) moved in
-    let grows = rw c.in-Some.is at c.in_ok-line.ensures.grows in
     record {
-      progress = goes_on (first_state c.args.site.now) (g.T.Source.left c.args.script.now) (octets_to_come here.lines (g.T.Source.left here.script)) (octets_to_come next.self (g.T.Source.left next.source)) (g.G.Ground.told c.args.device.now) (g.G.Ground.told here.device) (g.G.Ground.told c.play_line.new.device) here.lines.number next.self.number here.lines.ended next.self.ended here.core c.play_line.new.core line (piece_of here.core line) here.invariant.progress read c.next_line.ensures.ended c.next_line.ensures.whole_lines moved refl c.in_ok-play_line.ensures.sends;
-      few = omega (arith, here.invariant.few, adds, count, grows);
+      progress = goes_on c.args.core.now (g.T.Source.left c.args.script.now) (octets_to_come here.lines (g.T.Source.left here.script)) (octets_to_come next.self (g.T.Source.left next.source)) (g.G.Ground.told c.args.device.now) (g.G.Ground.told here.device) (g.G.Ground.told c.play_line.new.device) here.lines.number next.self.number here.lines.ended next.self.ended here.core c.play_line.new.core here.tally c.play_line.new.tally line (piece_of here.core line) here.invariant.progress read c.next_line.ensures.ended c.next_line.ensures.whole_lines c.in_ok-play_line.ensures.state refl c.in_ok-play_line.ensures.tally c.in_ok-play_line.ensures.sends;
       grammar = c.next_line.ensures.grammar ∙ here.invariant.grammar;
       source = c.next_line.ensures.source;
       size = c.play_line.ensures.size ∙ here.invariant.size;
@@ -195,19 +154,14 @@ loop-core-preserved-in_ok-play_line-2 g c =
       emitted = omega (arith, here.invariant.emitted, c.play_line.ensures.cause.later);
     }
 
-pub loop-core-preserved-in_ok-play_line-3 : goal.loop-core-preserved-in_ok-play_line-3
-loop-core-preserved-in_ok-play_line-3 g c =
-    let here = c.loop-core in
+pub loop-lines-preserved : goal.loop-lines-preserved
+loop-lines-preserved g c =
+    let here = c.loop-lines in
     let next = c.next_line.new in
     let read = rw (c.in-Some.is, here.invariant.grammar) at c.in_ok-line.ensures.line in
     let line = c.in-Some.line in
-    let moved = c.in_ok-play_line.ensures.state in
-    let adds = line_adds here.core line in
-    let count = ap (λ s. s.events) moved in
-    let grows = rw c.in-Some.is at c.in_ok-line.ensures.grows in
     record {
-      progress = goes_on (first_state c.args.site.now) (g.T.Source.left c.args.script.now) (octets_to_come here.lines (g.T.Source.left here.script)) (octets_to_come next.self (g.T.Source.left next.source)) (g.G.Ground.told c.args.device.now) (g.G.Ground.told here.device) (g.G.Ground.told c.play_line.new.device) here.lines.number next.self.number here.lines.ended next.self.ended here.core c.play_line.new.core line (piece_of here.core line) here.invariant.progress read c.next_line.ensures.ended c.next_line.ensures.whole_lines moved refl c.in_ok-play_line.ensures.sends;
-      few = omega (arith, here.invariant.few, adds, count, grows);
+      progress = goes_on c.args.core.now (g.T.Source.left c.args.script.now) (octets_to_come here.lines (g.T.Source.left here.script)) (octets_to_come next.self (g.T.Source.left next.source)) (g.G.Ground.told c.args.device.now) (g.G.Ground.told here.device) (g.G.Ground.told c.play_line.new.device) here.lines.number next.self.number here.lines.ended next.self.ended here.core c.play_line.new.core here.tally c.play_line.new.tally line (piece_of here.core line) here.invariant.progress read c.next_line.ensures.ended c.next_line.ensures.whole_lines c.in_ok-play_line.ensures.state refl c.in_ok-play_line.ensures.tally c.in_ok-play_line.ensures.sends;
       grammar = c.next_line.ensures.grammar ∙ here.invariant.grammar;
       source = c.next_line.ensures.source;
       size = c.play_line.ensures.size ∙ here.invariant.size;
@@ -219,18 +173,11 @@ loop-core-preserved-in_ok-play_line-3 g c =
 pub returns-in_err-end-clause-ends : goal.returns-in_err-end-clause-ends
 returns-in_err-end-clause-ends g c =
     let p = err_from_is_err_and c.from_residual-in_err-end.result c.from_residual-in_err-end.ensures.1 in
-    let here = c.loop-core in
+    let here = c.loop-lines in
     let next = c.next_line.new in
-    let site = c.args.site.now in
-    let text = g.T.Source.left c.args.script.now in
-    let before = g.G.Ground.told c.args.device.now in
-    let after = g.G.Ground.told c.end.new.device in
     let read = rw (c.in_default.is, here.invariant.grammar) at c.in_ok-line.ensures.line in
-    let fault = c.in_err-end.field-0.0 in
     rw (p.1, p.2)
-    (by_history site text (of_unsent fault) before after
-    (ends_at_end (first_state site) text (octets_to_come here.lines (g.T.Source.left here.script)) (octets_to_come next.self (g.T.Source.left next.source)) before (g.G.Ground.told here.device) after here.lines.number next.self.number here.lines.ended here.core (end_piece c.count.result here.core) fault here.invariant.progress read
-    (ap (λ n. end_piece n here.core) c.count.ensures.number) c.in_err-end.ensures.sends))
+    (ends_at_end c.args.core.now (g.T.Source.left c.args.script.now) (octets_to_come here.lines (g.T.Source.left here.script)) (octets_to_come next.self (g.T.Source.left next.source)) (g.G.Ground.told c.args.device.now) (g.G.Ground.told here.device) (g.G.Ground.told c.end.new.device) here.lines.number next.self.number here.lines.ended here.core here.tally (end_piece c.count.result here.core) c.in_err-end.field-0.0 here.invariant.progress read (ap (λ n. end_piece n here.core) c.count.ensures.number) c.in_err-end.ensures.sends)
 
 pub returns-in_err-end-clause-refused : goal.returns-in_err-end-clause-refused
 returns-in_err-end-clause-refused g c = λ line e.
@@ -240,20 +187,28 @@ returns-in_err-end-clause-refused g c = λ line e.
 
 pub returns-clause-ends : goal.returns-clause-ends
 returns-clause-ends g c =
-    let here = c.loop-core in
+    let here = c.loop-lines in
     let next = c.next_line.new in
-    let site = c.args.site.now in
-    let text = g.T.Source.left c.args.script.now in
-    let before = g.G.Ground.told c.args.device.now in
-    let after = g.G.Ground.told c.end.new.device in
     let read = rw (c.in_default.is, here.invariant.grammar) at c.in_ok-line.ensures.line in
-    by_history site text Done before after
-    (ends (first_state site) text (octets_to_come here.lines (g.T.Source.left here.script)) (octets_to_come next.self (g.T.Source.left next.source)) before (g.G.Ground.told here.device) after here.lines.number next.self.number here.lines.ended here.core (end_piece c.count.result here.core) here.invariant.progress read
-    (ap (λ n. end_piece n here.core) c.count.ensures.number) c.in_ok-end.ensures.sends)
+    ends c.args.core.now (g.T.Source.left c.args.script.now) (octets_to_come here.lines (g.T.Source.left here.script)) (octets_to_come next.self (g.T.Source.left next.source)) (g.G.Ground.told c.args.device.now) (g.G.Ground.told here.device) (g.G.Ground.told c.end.new.device) here.lines.number next.self.number here.lines.ended here.core here.tally (end_piece c.count.result here.core) here.invariant.progress read (ap (λ n. end_piece n here.core) c.count.ensures.number) c.in_ok-end.ensures.sends
+
+pub returns-clause-tally : goal.returns-clause-tally
+returns-clause-tally g c =
+    let here = c.loop-lines in
+    let next = c.next_line.new in
+    let read = rw (c.in_default.is, here.invariant.grammar) at c.in_ok-line.ensures.line in
+    tallies c.args.core.now (g.T.Source.left c.args.script.now) (octets_to_come here.lines (g.T.Source.left here.script)) (octets_to_come next.self (g.T.Source.left next.source)) (g.G.Ground.told c.args.device.now) (g.G.Ground.told here.device) here.lines.number next.self.number here.lines.ended here.core here.tally here.invariant.progress read
+
+pub returns-clause-state : goal.returns-clause-state
+returns-clause-state g c =
+    let here = c.loop-lines in
+    let next = c.next_line.new in
+    let read = rw (c.in_default.is, here.invariant.grammar) at c.in_ok-line.ensures.line in
+    reaches c.args.core.now (g.T.Source.left c.args.script.now) (octets_to_come here.lines (g.T.Source.left here.script)) (octets_to_come next.self (g.T.Source.left next.source)) (g.G.Ground.told c.args.device.now) (g.G.Ground.told here.device) here.lines.number next.self.number here.lines.ended here.core here.tally here.invariant.progress read
 
 pub returns-clause-accepted : goal.returns-clause-accepted
 returns-clause-accepted g c =
-    let here = c.loop-core in
+    let here = c.loop-lines in
     let next = c.next_line.new in
     let read = rw (c.in_default.is, here.invariant.grammar) at c.in_ok-line.ensures.line in
-    accepts (first_state c.args.site.now) (g.T.Source.left c.args.script.now) (octets_to_come here.lines (g.T.Source.left here.script)) (octets_to_come next.self (g.T.Source.left next.source)) (g.G.Ground.told c.args.device.now) (g.G.Ground.told here.device) here.lines.number next.self.number here.lines.ended here.core here.invariant.progress read
+    accepts c.args.core.now (g.T.Source.left c.args.script.now) (octets_to_come here.lines (g.T.Source.left here.script)) (octets_to_come next.self (g.T.Source.left next.source)) (g.G.Ground.told c.args.device.now) (g.G.Ground.told here.device) here.lines.number next.self.number here.lines.ended here.core here.tally here.invariant.progress read

@@ -2,15 +2,13 @@ use Rattle.std.proofs.Common.{◌≡◌, ◌-◌, ◌≤◌, true}
 use Rattle.std.specs.Io.KnownBytes.{IsAtEnd}
 use Rattle.script_lines.specs.declared.line.Grammar.TheVariants.{Session}
 use Rattle.script_lines.specs.Reading.{octets_to_come}
-use Rattle.alarm_core.specs.Next.{first_state}
 use Rattle.alarm_server.proofs.SessionProgress.{Progress}
 use Rattle.alarm_server.proofs.session.play_session.Given as goal
 
--- the lines so far were taken, and their pieces went out; there are no more events than lines; the disk is as it was, and faults were counted only upwards
-abbrev pub invariant-loop-core : goal.invariant-loop-core
-invariant-loop-core g l = record {
-  progress : Progress (first_state l.fn.site) (g.T.Source.left l.fn.script) (octets_to_come l.lines (g.T.Source.left l.script)) (g.G.Ground.told l.fn.device) (g.G.Ground.told l.device) l.lines.number l.lines.ended l.core;
-  few : l.core.events ≤ l.lines.number;
+-- the lines so far were taken, and their pieces went out and were counted; the disk is as it was, and faults were counted only upwards
+abbrev pub invariant-loop-lines : goal.invariant-loop-lines
+invariant-loop-lines g l = record {
+  progress : Progress l.fn.core (g.T.Source.left l.fn.script) (octets_to_come l.lines (g.T.Source.left l.script)) (g.G.Ground.told l.fn.device) (g.G.Ground.told l.device) l.lines.number l.lines.ended l.core l.tally;
   grammar : l.lines.grammar ≡ Session;
   source : l.lines.ended ≡ true → IsAtEnd (g.T.Source.left l.script);
   size : g.G.Ground.size l.device ≡ g.G.Ground.size l.fn.device;
@@ -19,5 +17,5 @@ invariant-loop-core g l = record {
   emitted : g.G.Ground.emit_faults l.fn.device ≤ g.G.Ground.emit_faults l.device;
 }
 
-abbrev pub decreases-loop-core : goal.decreases-loop-core
-decreases-loop-core g l = 1000000 - l.lines.number
+abbrev pub decreases-loop-lines : goal.decreases-loop-lines
+decreases-loop-lines g l = 1000000 - l.lines.number

@@ -13,12 +13,12 @@ use Rattle.alarm_server.specs.Trial.{first_point}
 use Rattle.alarm_server.proofs.Progress.{accepts, begins, ends_at_line, refused_first, grammar_fault, read_fault, ends_at_event, goes_on, ends, ends_at_end, stops_reading}
 use Rattle.alarm_server.proofs.trial.play.Goals as goal
 
-pub loop-watch-init : goal.loop-watch-init
-loop-watch-init g c =
+pub loop-lines-init : goal.loop-lines-init
+loop-lines-init g c =
     let told = g.G.Ground.told c.args.device.now in
     rw c.in_ok-lines.ensures.start
     (record {
-      progress = begins c.args.settings (g.T.Source.left c.args.script.now) told c.in_ok-watch.watch c.in_ok-watch.ensures.first;
+      progress = begins c.args.settings (g.T.Source.left c.args.script.now) told c.start-watch.result c.start-watch.ensures.first;
       grammar = refl;
       source = λ e. absurd cc;
       size = refl;
@@ -30,7 +30,7 @@ loop-watch-init g c =
 pub returns-in_err-line-clause-ends : goal.returns-in_err-line-clause-ends
 returns-in_err-line-clause-ends g c =
     let p = err_from_is_err_and c.from_residual-in_err-line.result c.from_residual-in_err-line.ensures.1 in
-    let here = c.loop-watch in
+    let here = c.loop-lines in
     let next = c.next_line.new in
     rw (p.1, p.2)
     (ends_at_line c.args.settings (g.T.Source.left c.args.script.now) (octets_to_come here.lines (g.T.Source.left here.script)) (octets_to_come next.self (g.T.Source.left next.source)) (g.G.Ground.told c.args.device.now) (g.G.Ground.told here.device) here.lines.number next.self.number here.lines.ended here.watch c.in_err-line.field-0.0 here.invariant.progress (rw here.invariant.grammar at c.in_err-line.ensures.line))
@@ -40,7 +40,7 @@ returns-in_err-line-clause-refused g c = λ line e.
     let p = err_from_is_err_and c.from_residual-in_err-line.result c.from_residual-in_err-line.ensures.1 in
     let same : of_line_fault c.in_err-line.field-0.0 ≡ ScriptRefused line = cc in
     let fault = grammar_fault c.in_err-line.field-0.0 line same in
-    let here = c.loop-watch in
+    let here = c.loop-lines in
     let next = c.next_line.new in
     let come = octets_to_come here.lines (g.T.Source.left here.script) in
     let come' = octets_to_come next.self (g.T.Source.left next.source) in
@@ -52,7 +52,7 @@ returns-in_err-line-clause-stops g c = λ e.
     let p = err_from_is_err_and c.from_residual-in_err-line.result c.from_residual-in_err-line.ensures.1 in
     let same : of_line_fault c.in_err-line.field-0.0 ≡ ReadFault = cc in
     let fault = read_fault c.in_err-line.field-0.0 same in
-    let here = c.loop-watch in
+    let here = c.loop-lines in
     let next = c.next_line.new in
     let come = octets_to_come here.lines (g.T.Source.left here.script) in
     let come' = octets_to_come next.self (g.T.Source.left next.source) in
@@ -62,15 +62,15 @@ returns-in_err-line-clause-stops g c = λ e.
 pub returns-in_err-take-clause-ends : goal.returns-in_err-take-clause-ends
 returns-in_err-take-clause-ends g c =
     let p = err_from_is_err_and c.from_residual-in_err-take.result c.from_residual-in_err-take.ensures.1 in
-    let here = c.loop-watch in
+    let here = c.loop-lines in
     let next = c.next_line.new in
     let read = rw (c.in-Some.is, here.invariant.grammar) at c.in_ok-line.ensures.line in
     rw (p.1, p.2)
     (ends_at_event c.args.settings (g.T.Source.left c.args.script.now) (octets_to_come here.lines (g.T.Source.left here.script)) (octets_to_come next.self (g.T.Source.left next.source)) (g.G.Ground.told c.args.device.now) (g.G.Ground.told here.device) (g.G.Ground.told c.take.new.device) here.lines.number next.self.number here.lines.ended here.watch c.in-Some.line c.in_err-take.field-0.0 here.invariant.progress read (c.in_err-take.ensures.sends (first_point c.args.settings)))
 
-pub loop-watch-preserved : goal.loop-watch-preserved
-loop-watch-preserved g c =
-    let here = c.loop-watch in
+pub loop-lines-preserved : goal.loop-lines-preserved
+loop-lines-preserved g c =
+    let here = c.loop-lines in
     let next = c.next_line.new in
     let read = rw (c.in-Some.is, here.invariant.grammar) at c.in_ok-line.ensures.line in
     let first = first_point c.args.settings in
@@ -87,7 +87,7 @@ loop-watch-preserved g c =
 pub returns-in_err-emit-clause-ends : goal.returns-in_err-emit-clause-ends
 returns-in_err-emit-clause-ends g c =
     let p = err_from_is_err_and c.from_residual-in_err-emit.result c.from_residual-in_err-emit.ensures.1 in
-    let here = c.loop-watch in
+    let here = c.loop-lines in
     let next = c.next_line.new in
     let read = rw (c.in_default.is, here.invariant.grammar) at c.in_ok-line.ensures.line in
     let before = g.G.Ground.told here.device in
@@ -99,7 +99,7 @@ returns-in_err-emit-clause-ends g c =
 
 pub returns-clause-ends : goal.returns-clause-ends
 returns-clause-ends g c =
-    let here = c.loop-watch in
+    let here = c.loop-lines in
     let next = c.next_line.new in
     let read = rw (c.in_default.is, here.invariant.grammar) at c.in_ok-line.ensures.line in
     let before = g.G.Ground.told here.device in
@@ -109,7 +109,7 @@ returns-clause-ends g c =
 
 pub returns-clause-accepted : goal.returns-clause-accepted
 returns-clause-accepted g c =
-    let here = c.loop-watch in
+    let here = c.loop-lines in
     let next = c.next_line.new in
     let read = rw (c.in_default.is, here.invariant.grammar) at c.in_ok-line.ensures.line in
     accepts c.args.settings (g.T.Source.left c.args.script.now) (octets_to_come here.lines (g.T.Source.left here.script)) (octets_to_come next.self (g.T.Source.left next.source)) (g.G.Ground.told c.args.device.now) (g.G.Ground.told here.device) here.lines.number next.self.number here.lines.ended here.watch here.invariant.progress read

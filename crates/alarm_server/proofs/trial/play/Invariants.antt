@@ -6,8 +6,8 @@ use Rattle.alarm_server.proofs.Progress.{Progress}
 use Rattle.alarm_server.proofs.trial.play.Given as goal
 
 -- the lines so far were taken, in a trial's grammar, and their moves went out; the disk is as it was, and faults were counted only upwards
-abbrev pub invariant-loop-watch : goal.invariant-loop-watch
-invariant-loop-watch g l = record {
+abbrev pub invariant-loop-lines : goal.invariant-loop-lines
+invariant-loop-lines g l = record {
   progress : Progress l.fn.settings (g.T.Source.left l.initial.script) (octets_to_come l.lines (g.T.Source.left l.script)) (g.G.Ground.told l.initial.device) (g.G.Ground.told l.device) l.lines.number l.lines.ended l.watch;
   grammar : l.lines.grammar ≡ Trial;
   source : l.lines.ended ≡ true → IsAtEnd (g.T.Source.left l.script);
@@ -17,5 +17,5 @@ invariant-loop-watch g l = record {
   emitted : g.G.Ground.emit_faults l.initial.device ≤ g.G.Ground.emit_faults l.device;
 }
 
-abbrev pub decreases-loop-watch : goal.decreases-loop-watch
-decreases-loop-watch g l = 1000000 - l.lines.number
+abbrev pub decreases-loop-lines : goal.decreases-loop-lines
+decreases-loop-lines g l = 1000000 - l.lines.number

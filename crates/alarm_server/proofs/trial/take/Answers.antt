@@ -1,5 +1,4 @@
 use Rattle.std.proofs.Common.{◌≡◌, ◌∷◌, Ok, Err, max, ap, ◌∙◌, rules, of_z, to_z, w32}
-use Rattle.std.proofs.lemmas.Int.{to_z-of_z}
 use Rattle.std.proofs.lemmas.Result.{err_from_is_err_and}
 use Rattle.bac_values.specs.declared.input.Input.TheVariants.{Set}
 use Rattle.bac_values.specs.declared.value.Value.TheVariants.{Signed}
@@ -18,7 +17,7 @@ returns-in_err-look_at-clause-sends g c = λ first later seen.
     let b = g.G.Ground.told c.look_at.new.device in
     let raised = c.max-moment.ensures ∙ ap (max moment) c.moment.ensures.moment in
     let last = to_z w32 (of_z w32 c.value-last.result) in
-    let same : last ≡ watch.value = search (rules, to_z-of_z) in
+    let same : last ≡ watch.value = search rules in
     let again = again_is first later watch moment c.max-moment.result last seen raised same in
     rw (p.1, p.2)
     (event_fault (Unit {0}) fault c.args.line.input moment first later a b c.requires.input
@@ -30,7 +29,7 @@ returns-in_default-clause-seen g c = λ first later seen.
     let moment = c.args.line.moment in
     let raised = c.max-moment.ensures ∙ ap (max moment) c.moment.ensures.moment in
     let last = to_z w32 (of_z w32 c.value-last.result) in
-    let same : last ≡ watch.value = search (rules, to_z-of_z) in
+    let same : last ≡ watch.value = search rules in
     let again = again_is first later watch moment c.max-moment.result last seen raised same in
     rw (tick_only c.args.line.input c.requires.input c.in_default.not-Set)
     (seen_on first later (point_at watch.settings c.max-moment.result (Signed last)) (seen_again moment (newest_of first later)) c.look_at.new.watch again (c.in_ok-look_at.ensures.seen first later seen))
@@ -41,7 +40,7 @@ returns-in_default-clause-sends g c = λ first later seen.
     let moment = c.args.line.moment in
     let raised = c.max-moment.ensures ∙ ap (max moment) c.moment.ensures.moment in
     let last = to_z w32 (of_z w32 c.value-last.result) in
-    let same : last ≡ watch.value = search (rules, to_z-of_z) in
+    let same : last ≡ watch.value = search rules in
     let again = again_is first later watch moment c.max-moment.result last seen raised same in
     rw (tick_only c.args.line.input c.requires.input c.in_default.not-Set)
     (transitions_on (Ok c.in_ok-look_at.field-0) first later (point_at watch.settings c.max-moment.result (Signed last)) (seen_again moment (newest_of first later)) (g.G.Ground.told c.args.device.now) (g.G.Ground.told c.look_at.new.device) again (c.in_ok-look_at.ensures.sends first later seen))
@@ -54,12 +53,12 @@ returns-clause-sends g c = λ first later seen.
     let number = c.in-Signed.number in
     let raised = c.max-moment.ensures ∙ ap (max moment) c.moment.ensures.moment in
     let last = to_z w32 (of_z w32 c.value-last.result) in
-    let same : last ≡ watch.value = search (rules, to_z-of_z) in
+    let same : last ≡ watch.value = search rules in
     let again = again_is first later watch moment c.max-moment.result last seen raised same in
     let point = seen_again moment (newest_of first later) in
     let changed = seen_with (Signed number) point in
     let given = to_z w32 (of_z w32 number) in
-    let same_number : given ≡ number = search (rules, to_z-of_z) in
+    let same_number : given ≡ number = search rules in
     let is = changed_is watch.settings between.settings c.max-moment.result last number given point again c.in_ok-look_at.ensures.settings same_number in
     let known = seen_on first later (point_at watch.settings c.max-moment.result (Signed last)) point between again (c.in_ok-look_at.ensures.seen first later seen) in
     let told = g.G.Ground.told c.args.device.now in

@@ -2,8 +2,8 @@ use Rattle.std.proofs.Common.{◌≡◌, option_map, string_bytes}
 use Rattle.toml.specs.View.{table_view}
 use Rattle.site_config.specs.declared.keys.Keys.TheVariants as keys
 use Rattle.site_config.specs.Keys.{has_key}
-use Rattle.site_config.specs.Members.{first_unknown}
-use Rattle.site_config.proofs.Unknown.{unknown_bytes}
+use Rattle.toml_items.specs.Members.{first_unknown}
+use Rattle.toml_items.proofs.FirstUnknown.{unknown_bytes}
 use Rattle.site_config.proofs.sections.unknown_of_device.Goals as goal
 
 pub returns : goal.returns

@@ -1,6 +1,7 @@
 use Rattle.std.proofs.Common.{rules, ◌≡◌, ◌∙◌, Option, Some, Result, Ok, Err, IfOk, IsTrue, List, ap, subst, sym, inr}
 use Rattle.std.specs.Option.{IsSomeAnd}
 use Rattle.bac_values.specs.Identifier.{Identifier}
+use Rattle.event_log.specs.declared.log_site.LogSite.{LogSite}
 use Rattle.object_table.specs.declared.change.Change.{Change}
 use Rattle.object_table.specs.declared.faults.WriteFault.{WriteFault}
 use Rattle.object_table.specs.Rows.{is_object}
@@ -26,4 +27,8 @@ allowed_where state object kept (Err fault) found own taken = tt
 
 -- src/reading.rt:220:5
 pub returns-in-Some-clause-takes : goal.returns-in-Some-clause-takes
-returns-in-Some-clause-takes c = allowed_where c.args.self.now c.args.object c.in-Some.kept.now c.log_write.result (search rules) c.log_write.ensures.object c.log_write.ensures.takes
+returns-in-Some-clause-takes c =
+    let kept = c.in-Some.kept.now in
+    let own : IfOk c.log_write.result (λ change. change.object ≡ kept.site.object) =
+    subst (λ (site : LogSite). IfOk c.log_write.result (λ change. change.object ≡ site.object)) c.site.ensures.site c.log_write.ensures.object in
+    allowed_where c.args.self.now c.args.object kept c.log_write.result (search rules) own c.log_write.ensures.takes

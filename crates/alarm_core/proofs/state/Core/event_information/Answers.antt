@@ -32,12 +32,12 @@ more_than left x rest = by_tests (nat_lt left (length rest)) (nat_lt (suc left) 
         absurd (omega (arith, below, above))
 
 -- src/informing.rt:109:9
-pub loop-watched-preserved : goal.loop-watched-preserved
-loop-watched-preserved c =
+pub loop-detected-preserved : goal.loop-detected-preserved
+loop-detected-preserved c =
     let alarms = c.args.self.now.alarms in
-    let item = c.watched-item.result in
-    let index = c.loop-watched.watched-index in
-    let left = c.loop-watched.left in
+    let item = c.detected-item.result in
+    let index = c.loop-detected.detected-index in
+    let left = c.loop-detected.left in
     let told = is_told c.args.last in
     let tell = summary_of c.args.self.now in
     let rest = filter told (drop (index + 1) alarms) in
@@ -46,12 +46,12 @@ loop-watched-preserved c =
     let active : told item ≡ true = search rules in
     let room : left ≡ suc (left - 1) = omega arith in
     let here : filter told (drop index alarms) ≡ item ∷ rest = kept_here told alarms index item within is active in
-    let added : c.push.new.items.items ≡ c.loop-watched.summaries.items ++ tell item ∷ [] = search rules in (
+    let added : c.push.new.items.items ≡ c.loop-detected.summaries.items ++ tell item ∷ [] = search rules in (
       ap (λ items. items ++ map tell (take (left - 1) rest)) added
-          ∙ (told_one tell (left - 1) item rest c.loop-watched.summaries.items
-          ∙ (ap (λ n. c.loop-watched.summaries.items ++ map tell (take n (item ∷ rest))) (sym room)
-          ∙ (ap (λ items. c.loop-watched.summaries.items ++ map tell (take left items)) (sym here)
-          ∙ c.loop-watched.invariant.0))),
+          ∙ (told_one tell (left - 1) item rest c.loop-detected.summaries.items
+          ∙ (ap (λ n. c.loop-detected.summaries.items ++ map tell (take n (item ∷ rest))) (sym room)
+          ∙ (ap (λ items. c.loop-detected.summaries.items ++ map tell (take left items)) (sym here)
+          ∙ c.loop-detected.invariant.0))),
       more_than (left - 1) item rest ∙ (ap (λ n. nat_lt n (length (item ∷ rest))) (sym room)
-          ∙ (ap (λ items. nat_lt left (length items)) (sym here) ∙ c.loop-watched.invariant.1)),
+          ∙ (ap (λ items. nat_lt left (length items)) (sym here) ∙ c.loop-detected.invariant.1)),
     )

@@ -1,20 +1,30 @@
-use Rattle.std.proofs.Common.{◌≡◌, ◌↔◌, [], rules, max, IsTrue}
-use Rattle.alarm_core.specs.declared.event.Act.TheVariants.{Tick}
-use Rattle.alarm_core.specs.History.{raised, tick_at}
-use Rattle.alarm_core.specs.Moves.{moved_with}
-use Rattle.alarm_core.specs.Sights.{site_stamp}
-use Rattle.alarm_core.proofs.Moved.{none_moved}
-use Rattle.alarm_core.proofs.Standing.{idle-adds_none}
+use Rattle.std.proofs.Common.{◌≡◌, ◌↔◌, ◌≤◌, ◌∙◌, [], rules, arith, max, IsTrue, ap, sym}
+use Rattle.std.specs.List.{flat_map}
+use Rattle.alarm_core.specs.History.{raised, tick_at, transition_of}
+use Rattle.alarm_core.specs.Evaluations.{site_moment}
+use Rattle.alarm_core.specs.Next.{evaluated_all, states_of, transitions_by}
+use Rattle.alarm_core.specs.Sites.{IsSite}
+use Rattle.alarm_core.proofs.Moved.{at_site, none_moved}
+use Rattle.alarm_core.proofs.Standing.{comes_after, idle-adds_none}
 use Rattle.alarm_core.proofs.state.Core.idle_tick.Goals as goal
 
 pub returns-clause-still : goal.returns-clause-still
 returns-clause-still c =
     let state = c.args.self.now in
     let moment = max c.args.moment state.last_moment in
-    let stamp = site_stamp state.site moment in
-    let none = none_moved moment stamp Tick state.values state.alarms in
-    let still : IsTrue c.are_still.result ↔ (moved_with moment stamp Tick state.values state.alarms ≡ []) = search rules in
-    (λ t. none.0 (still.0 t), λ e. still.1 (none.1 e))
+    let look = site_moment state.site moment in
+    let transitions = flat_map (transitions_by look state.values) state.alarms in
+    let none = none_moved (transition_of moment state.values (states_of (evaluated_all look state.values state.alarms))) transitions in
+    let at = c.at.result in
+    let here : at ≡ look = at_site at state.site moment (search rules) (search rules) in
+    let still : IsTrue c.are_still.result ↔ (flat_map (transitions_by at state.values) state.alarms ≡ []) = search rules in
+    let same : flat_map (transitions_by at state.values) state.alarms ≡ transitions = ap (λ a. flat_map (transitions_by a state.values) state.alarms) here in
+    (λ t. none.0 (sym same ∙ still.0 t), λ e. still.1 (same ∙ none.1 e))
 
 pub returns-clause-history : goal.returns-clause-history
-returns-clause-history c = λ history r. idle-adds_none history c.args.self.now (raised c.args.self.now.last_moment (tick_at c.args.moment)) c.are_still.result r (returns-clause-still c)
+returns-clause-history c =
+    let state = c.args.self.now in
+    let event = raised state.last_moment (tick_at c.args.moment) in
+    let is : IsSite state.site = search rules in
+    let low : state.last_moment ≤ event.moment = omega arith in
+    λ history r. idle-adds_none history state event c.are_still.result (comes_after history state event is low r) r (returns-clause-still c)

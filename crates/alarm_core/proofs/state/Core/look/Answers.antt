@@ -1,21 +1,51 @@
-use Rattle.std.proofs.Common.{◌≡◌, IfOk, List, Vec, Global, map, subst, rules}
+use Rattle.std.proofs.Common.{◌≡◌, ◌∙◌, List, Vec, Global, map, refl, ap, rules}
+use Rattle.std.specs.List.{flat_map}
 use Rattle.event_log.specs.History.{Call}
-use Rattle.notify_class.specs.declared.class.Class.{Class}
-use Rattle.alarm_core.specs.declared.site.Site.{Site}
+use Rattle.alarm_core.specs.History.{StateTransition, moved_by}
 use Rattle.alarm_core.specs.Logs.{KeptLog, records_of}
-use Rattle.alarm_core.specs.Next.{transitions_all}
-use Rattle.alarm_core.specs.State.{State}
-use Rattle.alarm_core.specs.Values.{Values}
+use Rattle.alarm_core.specs.Next.{evaluated_all, transitions_by}
+use Rattle.alarm_core.specs.Notes.{notes_of_transitions}
+use Rattle.alarm_core.specs.Views.{SiteData, transition_in}
+use Rattle.alarm_core.proofs.Looking.{all_seen, seen_after}
+use Rattle.alarm_core.proofs.Moved.{at_site}
 use Rattle.alarm_core.proofs.state.Core.look.Goals as goal
 
-pub returns-clause-entries : goal.returns-clause-entries
-returns-clause-entries c =
-    let core = c.self.inside in
-    let entries = λ (site : Site) (classes : List Class) (values : Values) (logs : List KeptLog).
-    IfOk c.look_at_all.result (λ looked. map (λ (list : Vec Call Global). list.items) looked.entries.items
-    ≡ map (λ (kept : KeptLog). records_of site classes kept.site (transitions_all c.args.moment c.args.stamp values c.args.alarms.now)) logs) in
-    let classes : c.deref.result.now ≡ core.classes.items = search rules in
-    let logs : c.deref-2.result.now ≡ core.logs.items = search rules in
-    subst (λ (s : State). entries s.site s.classes s.values s.logs) c.self.view_is
-    (subst (λ ls. entries core.site core.classes.items core.objects ls) logs
-    (subst (λ cs. entries core.site cs core.objects c.deref-2.result.now) classes c.look_at_all.ensures.entries))
+pub returns-clause-moves : goal.returns-clause-moves
+returns-clause-moves g c =
+    let old = c.args.self.now in
+    let at = c.args.at.now in
+    let after = c.in_ok-alarms.alarms.items in
+    let transitions = c.in_ok-alarms.transitions.items in
+    let seen : c.view-view.result ≡ seen_after old.site at.moment old.classes old.values after = search rules in
+    let alarms : after ≡ evaluated_all at old.values c.args.alarms.now = search rules in
+    let made : transitions ≡ flat_map (transitions_by at old.values) c.args.alarms.now = search rules in
+    let all = all_seen old.site at.moment old.classes old.values c.args.alarms.now at after transitions (at_site at old.site at.moment c.requires.zone refl) alarms made in
+    let told : c.in_ok-told.told.moves.items ≡ map moved_by (map (transition_in c.view-view.result) transitions) = search rules in
+    told ∙ (ap (λ (s : SiteData). map moved_by (map (transition_in s) transitions)) seen ∙ ap (map moved_by) all)
+
+pub returns-clause-notes : goal.returns-clause-notes
+returns-clause-notes g c =
+    let old = c.args.self.now in
+    let at = c.args.at.now in
+    let after = c.in_ok-alarms.alarms.items in
+    let transitions = c.in_ok-alarms.transitions.items in
+    let seen : c.view-view.result ≡ seen_after old.site at.moment old.classes old.values after = search rules in
+    let alarms : after ≡ evaluated_all at old.values c.args.alarms.now = search rules in
+    let made : transitions ≡ flat_map (transitions_by at old.values) c.args.alarms.now = search rules in
+    let all = all_seen old.site at.moment old.classes old.values c.args.alarms.now at after transitions (at_site at old.site at.moment c.requires.zone refl) alarms made in
+    let told : c.in_ok-told.told.notes.items ≡ notes_of_transitions c.view-view.result.site c.view-view.result.classes (map (transition_in c.view-view.result) transitions) = search rules in
+    told ∙ (ap (λ (s : SiteData). notes_of_transitions s.site s.classes (map (transition_in s) transitions)) seen ∙ ap (notes_of_transitions old.site old.classes) all)
+
+pub returns-clause-records : goal.returns-clause-records
+returns-clause-records g c =
+    let old = c.args.self.now in
+    let at = c.args.at.now in
+    let after = c.in_ok-alarms.alarms.items in
+    let transitions = c.in_ok-alarms.transitions.items in
+    let seen : c.view-view.result ≡ seen_after old.site at.moment old.classes old.values after = search rules in
+    let alarms : after ≡ evaluated_all at old.values c.args.alarms.now = search rules in
+    let made : transitions ≡ flat_map (transitions_by at old.values) c.args.alarms.now = search rules in
+    let all = all_seen old.site at.moment old.classes old.values c.args.alarms.now at after transitions (at_site at old.site at.moment c.requires.zone refl) alarms made in
+    let given = λ (s : SiteData) (ts : List StateTransition). map (λ (kept : KeptLog). records_of s.site s.classes kept.site ts) old.logs in
+    let told : map (λ (list : Vec Call Global). list.items) c.in_ok-told.told.records.items ≡ given c.view-view.result (map (transition_in c.view-view.result) transitions) = search rules in
+    told ∙ (ap (λ (s : SiteData). given s (map (transition_in s) transitions)) seen ∙ ap (given (seen_after old.site at.moment old.classes old.values after)) all)

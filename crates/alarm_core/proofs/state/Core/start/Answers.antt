@@ -1,12 +1,12 @@
-use Rattle.std.proofs.Common.{◌≡◌, ◌∙◌, [], map, sym, ap, subst, rules}
-use Rattle.bac_values.specs.declared.stamp.Stamp.{Stamp}
+use Rattle.std.proofs.Common.{◌≡◌, ◌∙◌, ℕ, [], map, sym, ap, subst, rules}
 use Rattle.bac_values.specs.Orders.{peers_with}
+use Rattle.civil_stamp.specs.LocalTime.{ZonedMoment}
 use Rattle.outbox.specs.Outboxes.{new_outbox, peers_of}
 use Rattle.outbox.proofs.Making.{peers_empty}
-use Rattle.alarm_core.specs.declared.site.ClassSite.{ClassSite}
+use Rattle.notify_class.specs.declared.class_site.ClassSite.{ClassSite}
 use Rattle.alarm_core.specs.Classes.{first_classes, known_peers_of, peers_in}
 use Rattle.alarm_core.specs.Next.{first_kept, first_with}
-use Rattle.alarm_core.specs.Sights.{site_stamp, site_zone}
+use Rattle.alarm_core.specs.Evaluations.{site_moment, site_zone}
 use Rattle.alarm_core.specs.Sites.{IsSite}
 use Rattle.alarm_core.specs.Subjects.{ack_required_of, detecting_subjects}
 use Rattle.alarm_core.specs.Values.{Values, first_values}
@@ -38,11 +38,14 @@ pub returns-clause-starts : goal.returns-clause-starts
 returns-clause-starts c =
     let site = c.args.site.now in
     let start = site.device.start in
-    let tracked = λ (stamp : Stamp) (values : Values). map (λ subject. first_with start stamp (ack_required_of site subject) values subject) (detecting_subjects site) in
+    let detected = λ (at : ZonedMoment) (values : Values). map (λ subject. first_with at (ack_required_of site subject) values subject) (detecting_subjects site) in
     let same : c.in_ok-site.site ≡ site = search rules in
     let values : c.in_ok-objects.objects ≡ first_values site = search rules in
-    let stamp : c.stamp_of.result ≡ site_stamp site start = search rules in
-    let alarms = c.in_ok-alarms.ensures.alarms ∙ (ap (tracked c.stamp_of.result) values ∙ ap (λ s. tracked s (first_values site)) stamp) in
+    let at = c.new-at.result in
+    let moment : at.moment ≡ start = search rules in
+    let zone : at.zone ≡ site_zone site = search rules in
+    let here : at ≡ site_moment site start = λ k. record { zone = zone k; moment = moment k } in
+    let alarms = c.in_ok-alarms.ensures.alarms ∙ (ap (detected at) values ∙ ap (λ a. detected a (first_values site)) here) in
     let sites : c.as_slice.result.now ≡ site.classes = c.as_slice.ensures.same in
     let classes : c.in_ok-classes.classes.items ≡ first_classes site = c.in_ok-classes.ensures.classes ∙ ap (map (λ (listed : ClassSite). listed.class)) sites in
     let listed : c.in_ok-listed.listed.items ≡ peers_in c.in_ok-classes.classes.items = search rules in

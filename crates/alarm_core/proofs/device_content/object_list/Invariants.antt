@@ -1,7 +1,0 @@
-use Rattle.std.proofs.Common.{◌≡◌, ◌==◌, filter, take}
-use Rattle.std.specs.List.{flat_map}
-use Rattle.bac_values.specs.Identifier.{Identifier, number_of_kind}
-use Rattle.alarm_core.proofs.device_content.object_list.Given as goal
-
-abbrev pub invariant-loop-kind : goal.invariant-loop-kind
-invariant-loop-kind l = l.list.items ≡ flat_map (λ kind. filter (λ (object : Identifier). object.number == number_of_kind kind) l.identifiers.items) (take l.kind-index l.kind-items)

@@ -1,6 +1,0 @@
-use Rattle.std.proofs.Common.{◌≡◌, map, take}
-use Rattle.alarm_core.specs.Properties.{written_time_stamp}
-use Rattle.alarm_core.proofs.encoding.array_of_stamps.Given as goal
-
-abbrev pub invariant-loop-stamp : goal.invariant-loop-stamp
-invariant-loop-stamp l = l.elements.items ≡ map written_time_stamp (take l.stamp-index l.stamps)

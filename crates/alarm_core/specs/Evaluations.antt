@@ -1,0 +1,95 @@
+-- What the event-state detection of an object sees (ANSI/ASHRAE 135-2020, 13.2 and 13.3).
+use Rattle.std.specs.Prelude.{ℕ, Bool, false, pos, Option, Some, None, List, []}
+use Rattle.std.specs.Option.{option_map}
+use Rattle.bac_values.specs.Identifier.{Identifier}
+use Rattle.bac_values.specs.declared.reliability.Reliability.{Reliability}
+use Rattle.bac_values.specs.declared.stamp.Stamp.{Stamp}
+use Rattle.bac_values.specs.declared.value.Value.TheVariants.{Null}
+use Rattle.algorithm_rules.specs.Facts.{Facts}
+use Rattle.civil_stamp.specs.LocalTime.{LocalZone, ZonedMoment, fixed_zone, local_stamp}
+use Rattle.event_machine.specs.Points.{Point}
+use Rattle.enrollment.specs.Reliabilities.{reliability_with}
+use Rattle.enrollment.specs.Snapshots.{facts_with}
+use Rattle.alarm_core.specs.declared.site.Site.{Site}
+use Rattle.alarm_core.specs.declared.subject.Subject.{Subject}
+use Rattle.alarm_core.specs.Subjects.{ack_required_of, subject_in}
+use Rattle.alarm_core.specs.Values.{Values, first_values}
+
+abbrev pub inhibit_of : Option Subject → Bool
+inhibit_of (Some subject) = subject.inhibit
+inhibit_of None = false
+
+-- Event_Algorithm_Inhibit of an object
+abbrev pub is_inhibited : Identifier → Values → Bool
+is_inhibited object values = inhibit_of (subject_in object values)
+
+-- its reliability: an enrollment's is that of what it refers to
+abbrev pub reliability_at : Identifier → Values → Reliability
+reliability_at object values = reliability_with object values.enrollments values.rows
+
+-- what its event algorithm looks at, if it is there
+abbrev pub facts_at : Identifier → Values → Option Facts
+facts_at object values = facts_with object values.enrollments values.rows
+
+-- the local date and time of a moment in its zone
+abbrev pub stamp_at : ZonedMoment → Stamp
+stamp_at at = local_stamp at.zone at.moment
+
+-- the point of an object that sees these facts, where its class wants these transitions acknowledged
+abbrev pub point_with : ZonedMoment → List Bool → Identifier → Values → Facts → Point
+point_with at ack_required object values facts = record {
+  moment = at.moment;
+  stamp = stamp_at at;
+  facts = facts;
+  reliability = reliability_at object values;
+  inhibited = is_inhibited object values;
+  ack_required = ack_required;
+}
+
+-- the point of an object, if it is there
+abbrev pub point_in : ZonedMoment → List Bool → Identifier → Values → Option Point
+point_in at ack_required object values = option_map (point_with at ack_required object values) (facts_at object values)
+
+-- the zone of a site
+abbrev pub site_zone : Site → LocalZone
+site_zone site = fixed_zone site.device.zone_minutes
+
+-- the local date and time of a moment at a site
+abbrev pub site_stamp : Site → ℕ → Stamp
+site_stamp site moment = local_stamp (site_zone site) moment
+
+-- a moment at a site
+abbrev pub site_moment : Site → ℕ → ZonedMoment
+site_moment site moment = record { zone = site_zone site; moment = moment }
+
+-- the point of a subject of a site
+abbrev pub point_of : Site → Subject → ℕ → Values → Option Point
+point_of site subject moment values = point_in (site_moment site moment) (ack_required_of site subject) subject.object values
+
+-- nothing to look at; each subject of a site is there
+abbrev pub no_facts : Facts
+no_facts = record {
+  value = Null;
+  feedback = None;
+  alarm_value = None;
+  alarm_values = [];
+  mask = None;
+  low = pos 0;
+  high = pos 0;
+  low_enabled = false;
+  high_enabled = false;
+  deadband = 0;
+  time_delay = 0;
+  time_delay_normal = None;
+}
+
+abbrev pub facts_or_none : Option Facts → Facts
+facts_or_none (Some facts) = facts
+facts_or_none None = no_facts
+
+-- the point of an object at the start
+abbrev pub start_point : ZonedMoment → List Bool → Identifier → Values → Point
+start_point at ack_required object values = point_with at ack_required object values (facts_or_none (facts_at object values))
+
+abbrev pub first_point : Site → Subject → Point
+first_point site subject = start_point (site_moment site site.device.start) (ack_required_of site subject) subject.object (first_values site)

@@ -1,0 +1,149 @@
+ghost use Rattle.std.specs.Prelude.{◌≡◌, ◌≤◌, ◌↔◌, [], IfSome, IsTrue, length};
+ghost use Rattle.std.specs.Option.{option_map};
+ghost use Rattle.bac_values.specs.Moments.{IsMoment};
+ghost use Rattle.event_machine.specs.Given.{moves_in, point_of};
+ghost use Rattle.alarm_core.specs.Next.{acked, change_at, change_by, evaluated, first_with};
+
+use crate::Subject;
+use crate::evaluation_input::{EvaluationInput, evaluation_input, first_input};
+use crate::objects::Objects;
+use algorithm_rules::Algorithm;
+use bac_values::{ObjectId, Transition, Value};
+use civil_stamp::LocalMoment;
+use event_machine::{Alarm, Changed, Steps, begin, evaluate, is_still};
+use std::marker::Model;
+use std::sync::ledger::Ledger;
+
+/// An object whose event detection is enabled: its event algorithm, which transitions its class wants acknowledged, and its
+/// alarm.
+#[derive(Clone, Copy)]
+pub(crate) struct DetectedObject {
+    object: ObjectId,
+    algorithm: Algorithm,
+    ack_required: [bool; 3],
+    alarm: Alarm,
+}
+
+impl Model for DetectedObject {
+    ghost use Rattle.alarm_core.specs.State.{DetectedObjectState};
+
+    ghost Value = { DetectedObjectState };
+
+    ghost view = { λ detected. record {
+      object = detected.object;
+      algorithm = detected.algorithm;
+      ack_required = detected.ack_required;
+      alarm = detected.alarm;
+    } };
+
+    ghost inverse = { λ detected. record {
+      object = detected.object;
+      algorithm = detected.algorithm;
+      ack_required = detected.ack_required;
+      alarm = detected.alarm;
+    } };
+}
+
+// One object is evaluated, if it is there.
+fn evaluate_by<L: Ledger>(
+    algorithm: Algorithm,
+    input: Option<&EvaluationInput<'_>>,
+    alarm: &mut Alarm,
+    steps: &mut Steps<L>,
+) -> Changed
+    requires algorithm { IfSome input (λ input. input.now.snapshot.algorithm ≡ algorithm) }
+    requires few { IfSome input (λ input. length input.now.snapshot.alarm_values.now ≤ 32) }
+    requires moment { IfSome input (λ input. IsMoment input.now.point.moment) }
+    ensures alarm { alarm.new ≡ (change_by algorithm (option_map (λ input. point_of input.now.snapshot input.now.point) input.entry) alarm.old).alarm }
+    ensures moves { moves_in result ≡ (change_by algorithm (option_map (λ input. point_of input.now.snapshot input.now.point) input.entry) alarm.old).moves }
+{
+    let Some(input) = input else {
+        return Changed {
+            first: None,
+            second: None,
+        };
+    };
+    evaluate(alarm, &input.snapshot, &input.point, steps)
+}
+
+// Whether one object wouldn't move, if it is there.
+fn is_still_by(algorithm: Algorithm, input: Option<&EvaluationInput<'_>>, alarm: &Alarm) -> bool
+    requires algorithm { IfSome input (λ input. input.now.snapshot.algorithm ≡ algorithm) }
+    requires few { IfSome input (λ input. length input.now.snapshot.alarm_values.now ≤ 32) }
+    ensures still { IsTrue result ↔ ((change_by algorithm (option_map (λ input. point_of input.now.snapshot input.now.point) input.entry) alarm.now).moves ≡ []) }
+{
+    match input {
+        Some(input) => is_still(alarm, &input.snapshot, &input.point),
+        None => true,
+    }
+}
+
+impl DetectedObject {
+    /// An object at the start, whose class wants these transitions acknowledged.
+    pub(crate) fn first(
+        subject: &Subject,
+        ack_required: [bool; 3],
+        objects: &Objects,
+        at: &LocalMoment,
+    ) -> DetectedObject
+        ensures first { result ≡ first_with at.now ack_required objects.now subject.now }
+    {
+        let (object, algorithm) = (subject.object, subject.algorithm);
+        let null = Value::Null;
+        let input = first_input(objects, algorithm, object, at, ack_required, &null);
+        let mut alarm = Alarm::new();
+        begin(&mut alarm, &input.snapshot, &input.point);
+        DetectedObject {
+            object,
+            algorithm,
+            ack_required,
+            alarm,
+        }
+    }
+
+    /// The object.
+    pub(crate) fn object(&self) -> ObjectId
+        ensures object { result ≡ self.now.object }
+    {
+        self.object
+    }
+
+    /// Its alarm.
+    pub(crate) fn alarm(&self) -> &Alarm
+        ensures alarm { result.now ≡ self.now.alarm }
+    {
+        &self.alarm
+    }
+
+    /// Evaluates the object once more, if it is there. No memory is taken.
+    pub(crate) fn evaluate<L: Ledger>(
+        &mut self,
+        objects: &Objects,
+        at: &LocalMoment,
+        steps: &mut Steps<L>,
+    ) -> Changed
+        ensures evaluated { self.new ≡ evaluated at.now objects.now self.old }
+        ensures moves { moves_in result ≡ (change_at at.now objects.now self.old).moves }
+    {
+        let (object, algorithm, ack_required) = (self.object, self.algorithm, self.ack_required);
+        let input = evaluation_input(objects, algorithm, object, at, ack_required);
+        evaluate_by(algorithm, input.as_ref(), &mut self.alarm, steps)
+    }
+
+    /// Whether the object wouldn't move as it is evaluated once more.
+    pub(crate) fn is_still(&self, objects: &Objects, at: &LocalMoment) -> bool
+        ensures still { IsTrue result ↔ ((change_at at.now objects.now self.now).moves ≡ []) }
+    {
+        let input = evaluation_input(objects, self.algorithm, self.object, at, self.ack_required);
+        is_still_by(self.algorithm, input.as_ref(), &self.alarm)
+    }
+
+    /// The transition is acknowledged where the object is the one that is named. No memory is taken.
+    pub(crate) fn acknowledge(&mut self, named: ObjectId, transition: Transition)
+        ensures acked { self.new ≡ acked named transition self.old }
+    {
+        if named == self.object {
+            self.alarm.acknowledge(transition);
+        }
+    }
+}

@@ -1,0 +1,105 @@
+ghost use Rattle.std.specs.Prelude.{◌≡◌, ◌++◌, All, IfOk, OnOk, map};
+ghost use Rattle.property_values.specs.DeviceProperties.{device_content, device_property};
+ghost use Rattle.property_values.specs.Devices.{HasInstance, class_object};
+ghost use Rattle.property_values.specs.Reading.{AnswersContent};
+ghost use Rattle.alarm_core.specs.Devices.{device_object, identifiers_of};
+ghost use Rattle.alarm_core.specs.Sites.{IsSite};
+
+use crate::{ClassSite, EnrollmentSite, LogSite, ReadFault, Site};
+use bac_values::{NoMemory, ObjectId, PropertyId, push};
+use object_table::ObjectSite;
+use property_values::{Content, DeviceProperty, class_object, device_property, object_of_device};
+use std::alloc::Global;
+
+/// The identifier of a site's device.
+pub(crate) fn device_object(site: &Site) -> ObjectId
+    requires site { IsSite site.now }
+    ensures object { result ≡ device_object site.now }
+{
+    object_of_device(&site.device)
+}
+
+fn add_objects(identifiers: &mut Vec<ObjectId>, objects: &[ObjectSite]) -> Result<(), NoMemory>
+    ensures added { OnOk result (identifiers.new.items ≡ identifiers.old.items ++ map (λ (object : ObjectSite). object.object) objects.now) }
+{
+    for object in objects {
+        push(identifiers, object.object)?;
+    }
+    Ok(())
+}
+
+fn add_classes(identifiers: &mut Vec<ObjectId>, classes: &[ClassSite]) -> Result<(), NoMemory>
+    requires instances { All HasInstance classes.now }
+    ensures added { OnOk result (identifiers.new.items ≡ identifiers.old.items ++ map class_object classes.now) }
+{
+    for listed in classes {
+        push(identifiers, class_object(listed))?;
+    }
+    Ok(())
+}
+
+fn add_enrollments(
+    identifiers: &mut Vec<ObjectId>,
+    enrollments: &[EnrollmentSite],
+) -> Result<(), NoMemory>
+    ensures added { OnOk result (identifiers.new.items ≡ identifiers.old.items ++ map (λ (enrollment : EnrollmentSite). enrollment.object) enrollments.now) }
+{
+    for enrollment in enrollments {
+        push(identifiers, enrollment.object)?;
+    }
+    Ok(())
+}
+
+fn add_logs(identifiers: &mut Vec<ObjectId>, logs: &[LogSite]) -> Result<(), NoMemory>
+    ensures added { OnOk result (identifiers.new.items ≡ identifiers.old.items ++ map (λ (log : LogSite). log.object) logs.now) }
+{
+    for log in logs {
+        push(identifiers, log.object)?;
+    }
+    Ok(())
+}
+
+// The device, and the site's objects list by list.
+fn identifiers_of(alloc: Global, site: &Site) -> Result<Vec<ObjectId>, NoMemory>
+    requires site { IsSite site.now }
+    ensures identifiers { IfOk result (λ identifiers. identifiers.items ≡ identifiers_of site.now) }
+{
+    let mut identifiers = Vec::new(alloc);
+    push(&mut identifiers, device_object(site))?;
+    add_objects(&mut identifiers, site.objects.as_slice())?;
+    add_classes(&mut identifiers, site.classes.as_slice())?;
+    add_enrollments(&mut identifiers, site.enrollments.as_slice())?;
+    add_logs(&mut identifiers, site.logs.as_slice())?;
+    Ok(identifiers)
+}
+
+// The identifiers that a property of the device shows: all of the site for Object_List, and none for any other.
+fn identifiers_for(
+    alloc: Global,
+    site: &Site,
+    property: DeviceProperty,
+) -> Result<Vec<ObjectId>, NoMemory>
+    requires site { IsSite site.now }
+    ensures same { IfOk result (λ identifiers. device_property site.now.device identifiers.items property ≡ device_property site.now.device (identifiers_of site.now) property) }
+{
+    match property {
+        DeviceProperty::ObjectList => identifiers_of(alloc, site),
+        _ => Ok(Vec::new(alloc)),
+    }
+}
+
+/// What a property of the site's device is, or that there is none.
+pub(crate) fn device_content(
+    alloc: Global,
+    site: &Site,
+    property: PropertyId,
+) -> Result<Content, ReadFault>
+    requires site { IsSite site.now }
+    ensures content { AnswersContent result (device_content site.now.device (identifiers_of site.now) property.0) }
+{
+    let Some(known) = DeviceProperty::of_number(property.0) else {
+        return Err(ReadFault::UNKNOWN_PROPERTY);
+    };
+    let identifiers = identifiers_for(alloc, site, known)?;
+    Ok(device_property(alloc, &site.device, &identifiers, known)?)
+}

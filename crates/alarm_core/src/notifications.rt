@@ -1,0 +1,275 @@
+ghost use Rattle.std.specs.Prelude.{◌≡◌, ◌==◌, ◌++◌, All, IfOk, OnOk};
+ghost use Rattle.std.specs.List.{flat_map};
+ghost use Rattle.std.specs.Option.{option_copied, option_to_list};
+ghost use Rattle.event_services.specs.Notifications.{IsTold};
+ghost use Rattle.note_maker.specs.EventTypes.{transition_type};
+ghost use Rattle.enrollment.specs.Enrollments.{site_of};
+ghost use Rattle.enrollment.specs.Snapshots.{algorithm_with};
+ghost use Rattle.alarm_core.specs.Classes.{class_in};
+ghost use Rattle.alarm_core.specs.History.{state_in};
+ghost use Rattle.alarm_core.specs.Next.{states_of};
+ghost use Rattle.alarm_core.specs.Notes.{IsShort, class_for, flags_at, is_enabled, notes_of_acknowledgement, notification_of, out_of_service_in, source_of, told_flags, told_value, values_of};
+ghost use Rattle.alarm_core.specs.Sites.{IsSite};
+ghost use Rattle.alarm_core.specs.Subjects.{subject_in};
+ghost use Rattle.alarm_core.specs.Views.{addressed_in, notes_to, transition_in};
+
+use crate::detection::DetectedObject;
+use crate::finding::detected_object;
+use crate::identifiers::device_object;
+use crate::transition::ObjectTransition;
+use crate::view::{Addressed, SiteView};
+use crate::{EnrollmentSite, Site, Subject};
+use bac_values::{EventState, NoMemory, Note, ObjectId, StatusFlags, Transition, Value, push};
+use civil_stamp::LocalMoment;
+use event_services::{EventValues, Notification};
+use note_maker::{
+    Source, acknowledgement_notification, notes_of, status_flags, transition_notification,
+    values_of,
+};
+use notify_class::Class;
+use object_table::{Row, Table};
+use reliability_eval::reliability;
+use std::alloc::Global;
+
+fn source_of(site: &Site, subject: &Subject) -> Source
+    requires site { IsSite site.now }
+    ensures source { result ≡ source_of site.now subject.now }
+{
+    Source {
+        device: device_object(site),
+        object: subject.object,
+        algorithm: subject.algorithm,
+        notify: subject.notify,
+    }
+}
+
+/// Whether transitions of a kind are told of (Event_Enable).
+pub(crate) fn is_enabled(subject: &Subject, transition: Transition) -> bool
+    ensures enabled { result ≡ is_enabled transition subject.now }
+{
+    subject.enable[transition.place()]
+}
+
+fn has_instance(class: &Class, instance: u32) -> bool
+    ensures same { result ≡ (class.now.instance == instance) }
+{
+    class.instance == instance
+}
+
+/// The class with this instance.
+pub(crate) fn class_in(instance: u32, classes: &[Class]) -> Option<&Class>
+    ensures class { option_copied result ≡ class_in instance classes.now }
+{
+    classes.iter().find(|class| has_instance(class, instance))
+}
+
+/// The notification class of an object.
+pub(crate) fn class_for<'a>(subject: &Subject, classes: &'a [Class]) -> Option<&'a Class>
+    ensures class { option_copied result ≡ class_for subject.now classes.now }
+{
+    match subject.class {
+        Some(instance) => class_in(instance, classes),
+        None => None,
+    }
+}
+
+/// The event state of an object, which is NORMAL where its detection isn't enabled.
+pub(crate) fn state_of(alarms: &[DetectedObject], object: ObjectId) -> EventState
+    ensures state { result ≡ state_in object (states_of alarms.now) }
+{
+    match detected_object(alarms, object) {
+        Some(detected) => detected.alarm().state(),
+        None => EventState::Normal,
+    }
+}
+
+fn is_out_of_service(row: Option<&Row>) -> bool
+    ensures out_of_service { result ≡ out_of_service_in (option_copied row.entry) }
+{
+    match row {
+        Some(row) => row.site.out_of_service,
+        None => false,
+    }
+}
+
+// Status_Flags of a value object in an event state.
+fn flags_at(table: &Table, state: EventState, object: ObjectId) -> StatusFlags
+    ensures flags { result ≡ flags_at state object table.now }
+{
+    let out_of_service = is_out_of_service(table.row(object));
+    status_flags(state, reliability(table, object), out_of_service)
+}
+
+// The flags that an enrollment tells.
+fn enrollment_flags(
+    view: &SiteView<'_>,
+    site: &EnrollmentSite,
+    transition: &ObjectTransition,
+) -> StatusFlags
+    ensures flags { result ≡ told_flags (Some site.now) (transition_in view.now transition.now) }
+{
+    let made = transition.made;
+    if made.by_fault {
+        let reliability = view.objects.reliability(transition.object);
+        return status_flags(made.to, reliability, false);
+    }
+    let state = state_of(view.alarms, site.monitored);
+    flags_at(view.objects.table(), state, site.monitored)
+}
+
+// The flags that are told of a transition.
+fn told_flags(view: &SiteView<'_>, transition: &ObjectTransition) -> StatusFlags
+    ensures flags { result ≡ told_flags (site_of transition.now.object view.now.values.enrollments) (transition_in view.now transition.now) }
+{
+    match view.objects.enrollments().row(transition.object) {
+        Some(site) => enrollment_flags(view, site, transition),
+        None => flags_at(view.objects.table(), transition.made.to, transition.object),
+    }
+}
+
+// The present value that is told: an enrollment has none.
+fn told_value<'a>(view: &SiteView<'a>, transition: &ObjectTransition) -> Option<&'a Value>
+    ensures value { option_copied result ≡ told_value (site_of transition.now.object view.now.values.enrollments) (transition_in view.now transition.now) }
+{
+    match view.objects.enrollments().row(transition.object) {
+        Some(_site) => None,
+        None => view.objects.table().value_of(transition.object),
+    }
+}
+
+// What is told of a transition.
+fn told_values(
+    view: &SiteView<'_>,
+    transition: &ObjectTransition,
+) -> Result<Option<EventValues>, NoMemory>
+    ensures values { IfOk result (λ values. values ≡ values_of (transition_in view.now transition.now)) }
+    ensures told { IfOk result (λ values. IsTold (transition_type (algorithm_with transition.now.object view.now.values.enrollments) transition.now.made) values) }
+{
+    let Some(snapshot) = view.objects.snapshot(transition.object) else {
+        return Ok(None);
+    };
+    let reliability = view.objects.reliability(transition.object);
+    let flags = told_flags(view, transition);
+    let value = told_value(view, transition);
+    let (made, cause) = (transition.made, transition.cause);
+    values_of(&snapshot, made, cause, reliability, flags, value)
+}
+
+// The notification of a transition, before it is told to a process.
+fn notification_of(
+    view: &SiteView<'_>,
+    transition: &ObjectTransition,
+    subject: &Subject,
+    class: &Class,
+) -> Result<Notification, NoMemory>
+    requires algorithm { subject.now.algorithm ≡ algorithm_with transition.now.object view.now.values.enrollments }
+    ensures notification { IfOk result (λ facts. facts ≡ notification_of view.now.site (transition_in view.now transition.now) subject.now class.now) }
+    ensures told { IfOk result (λ facts. IsTold facts.event_type facts.values) }
+{
+    let values = told_values(view, transition)?;
+    let source = source_of(view.site, subject);
+    let stamp = view.at.stamp();
+    Ok(transition_notification(&source, class, transition.made, stamp, values))
+}
+
+// The notification of a transition with the class whose recipients are told, if there is one.
+fn addressed_notification<'a>(
+    view: &SiteView<'a>,
+    transition: &ObjectTransition,
+) -> Result<Option<Addressed<'a>>, NoMemory>
+    ensures addressed { IfOk result (λ told. told ≡ addressed_in view.now (transition_in view.now transition.now)) }
+{
+    let kind = transition.made.to.transition();
+    let Some(subject) = view.objects.subject(transition.object) else {
+        return Ok(None);
+    };
+    if !is_enabled(&subject, kind) {
+        return Ok(None);
+    }
+    let Some(class) = class_for(&subject, view.classes) else {
+        return Ok(None);
+    };
+    let facts = notification_of(view, transition, &subject, class)?;
+    Ok(Some(Addressed { class, kind, facts }))
+}
+
+// One more, where it is there.
+fn add_addressed<'a>(
+    list: &mut Vec<Addressed<'a>>,
+    addressed: Option<Addressed<'a>>,
+) -> Result<(), NoMemory>
+    ensures added { OnOk result (list.new.items ≡ list.old.items ++ option_to_list addressed.entry) }
+{
+    match addressed {
+        Some(addressed) => push(list, addressed),
+        None => Ok(()),
+    }
+}
+
+/// The notifications of some transitions with the classes whose recipients are told, each made once.
+pub(crate) fn addressed_notifications<'a>(
+    alloc: Global,
+    view: &SiteView<'a>,
+    transitions: &[ObjectTransition],
+) -> Result<Vec<Addressed<'a>>, NoMemory>
+    ensures addressed { IfOk result (λ list. list.items ≡ flat_map (λ transition. option_to_list (addressed_in view.now (transition_in view.now transition))) transitions.now) }
+{
+    let mut list = Vec::new(alloc);
+    for transition in transitions {
+        let addressed = addressed_notification(view, transition)?;
+        add_addressed(&mut list, addressed)?;
+    }
+    Ok(list)
+}
+
+/// Some notes go behind others.
+pub(crate) fn add_notes(notes: &mut Vec<Note>, mut more: Vec<Note>) -> Result<(), NoMemory>
+    requires old { All IsShort notes.old.items }
+    requires more { All IsShort more.items }
+    ensures added { OnOk result (notes.new.items ≡ notes.old.items ++ more.items) }
+    ensures short { OnOk result (All IsShort notes.new.items) }
+{
+    match notes.append(&mut more) {
+        Ok(()) => Ok(()),
+        Err(_refused) => Err(NoMemory),
+    }
+}
+
+/// The notes of some notifications at a moment.
+pub(crate) fn notes_of_all(
+    alloc: Global,
+    addressed: &[Addressed<'_>],
+    at: &LocalMoment,
+) -> Result<Vec<Note>, NoMemory>
+    ensures notes { IfOk result (λ notes. notes.items ≡ flat_map (notes_to at.now) addressed.now) }
+    ensures short { IfOk result (λ notes. All IsShort notes.items) }
+{
+    let mut notes = Vec::new(alloc);
+    for told in addressed {
+        let more = notes_of(alloc, &told.facts, told.class, told.kind, at)?;
+        add_notes(&mut notes, more)?;
+    }
+    Ok(notes)
+}
+
+/// The notes of an acknowledgement of an object, if it is there.
+pub(crate) fn notes_of_acknowledgement(
+    alloc: Global,
+    view: &SiteView<'_>,
+    object: ObjectId,
+    transition: Transition,
+    named: EventState,
+) -> Result<Vec<Note>, NoMemory>
+    ensures notes { IfOk result (λ notes. notes.items ≡ notes_of_acknowledgement view.now.site view.now.classes view.now.moment (subject_in object view.now.values) transition named) }
+    ensures short { IfOk result (λ notes. All IsShort notes.items) }
+{
+    let Some(subject) = view.objects.subject(object) else {
+        return Ok(Vec::new(alloc));
+    };
+    let Some(class) = class_for(&subject, view.classes) else {
+        return Ok(Vec::new(alloc));
+    };
+    let source = source_of(view.site, &subject);
+    let facts = acknowledgement_notification(&source, class, named, view.at.stamp());
+    notes_of(alloc, &facts, class, transition, view.at)
+}

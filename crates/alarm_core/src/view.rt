@@ -1,0 +1,61 @@
+use crate::Site;
+use crate::detection::DetectedObject;
+use crate::objects::Objects;
+use bac_values::Transition;
+use civil_stamp::LocalMoment;
+use event_services::Notification;
+use notify_class::Class;
+use std::marker::Model;
+
+/// What the transitions of a look are told with: the site, its notification classes, the properties that the look saw, all
+/// objects after it, and its moment.
+#[derive(Drop)]
+pub(crate) struct SiteView<'a> {
+    pub(crate) site: &'a Site,
+    pub(crate) classes: &'a [Class],
+    pub(crate) objects: &'a Objects,
+    pub(crate) alarms: &'a [DetectedObject],
+    pub(crate) at: &'a LocalMoment,
+}
+
+impl<'a> Model for SiteView<'a> {
+    ghost use Rattle.std.specs.Prelude.{◌≡◌};
+    ghost use Rattle.alarm_core.specs.Evaluations.{site_zone};
+    ghost use Rattle.alarm_core.specs.Next.{states_of};
+    ghost use Rattle.alarm_core.specs.Sites.{IsSite};
+    ghost use Rattle.alarm_core.specs.Views.{SiteData};
+
+    ghost Value = { SiteData };
+
+    ghost view = { λ view. record {
+      site = view.site.now;
+      moment = view.at.now.moment;
+      classes = view.classes.now;
+      values = view.objects.now;
+      states = states_of view.alarms.now;
+    } };
+
+    ghost invariant = { λ view. record {
+      site : IsSite view.site.now;
+      zone : view.at.now.zone ≡ site_zone view.site.now;
+    } };
+}
+
+/// A notification, and the class whose recipients are told where they want transitions of this kind.
+#[derive(Drop)]
+pub(crate) struct Addressed<'a> {
+    pub(crate) class: &'a Class,
+    pub(crate) kind: Transition,
+    pub(crate) facts: Notification,
+}
+
+impl<'a> Model for Addressed<'a> {
+    ghost use Rattle.event_services.specs.Notifications.{IsTold};
+    ghost use Rattle.alarm_core.specs.Views.{AddressedNotification};
+
+    ghost Value = { AddressedNotification };
+
+    ghost view = { λ told. record { class = told.class.now; kind = told.kind; facts = told.facts } };
+
+    ghost invariant = { λ told. IsTold told.facts.event_type told.facts.values };
+}

@@ -1,0 +1,85 @@
+-- A session on a site's file, where its text is no site or isn't read.
+use Rattle.std.proofs.Common.{◌≡◌, ◌≢◌, ◌⊎◌, ℕ, Option, Some, None, Result, Ok, Err, List, [], IfSome, take, refl, ap, ◌∙◌, sym, inl, inr}
+use Rattle.ground_io.specs.Trace.{Told}
+use Rattle.alarm_core.specs.declared.site.Site.{Site}
+use Rattle.site_config.specs.declared.fault.SiteFault.{SiteFault}
+use Rattle.site_config.specs.declared.fault.SiteFault.TheVariants as site_fault
+use Rattle.site_config.specs.Sites.{site_of}
+use Rattle.alarm_server.specs.declared.status.Status.{Status}
+use Rattle.alarm_server.specs.declared.status.Status.TheVariants.{Done, Usage, SiteRefused, ScriptRefused, ReadFault, EmitFault, NoMemory}
+use Rattle.alarm_server.specs.Emission.{Ends}
+use Rattle.alarm_server.specs.OnFile.{EndsOnFile, EndsOnSite, RefusesFile}
+use Rattle.alarm_server.specs.Report.{report_of}
+use Rattle.alarm_server.specs.Session.{piece_text}
+use Rattle.alarm_server.specs.Status.{IsSiteFault, of_site_fault}
+use Rattle.alarm_server.specs.Text.{most_octets}
+use Rattle.alarm_server.proofs.Sending.{adds_nothing}
+use Rattle.alarm_server.proofs.Texts.{front_says}
+
+-- ---- nothing went out
+
+ends_on_site : (site : Site) (ended : Status) (script : List ℕ) (told : Option Told) → IsSiteFault ended → Ends piece_text ended (report_of site [] script) told told
+ends_on_site site Done script told fault = absurd fault
+ends_on_site site Usage script told fault = absurd fault
+ends_on_site site (SiteRefused f) script told fault = adds_nothing told
+ends_on_site site (ScriptRefused line) script told fault = absurd fault
+ends_on_site site ReadFault script told fault = ([], report_of site [] script, refl, adds_nothing told)
+ends_on_site site EmitFault script told fault = absurd fault
+ends_on_site site NoMemory script told fault = ([], report_of site [] script, refl, adds_nothing told)
+
+-- it is the text's own fault, or the text wasn't read
+own_fault : (octets : List ℕ) (fault : SiteFault) (ended : Status) → site_of octets ≡ Err fault → IsSiteFault ended → ((f : SiteFault) → ended ≡ SiteRefused f → RefusesFile (Some octets) f) →
+    (ended ≡ SiteRefused fault) ⊎ ((ended ≡ ReadFault) ⊎ (ended ≡ NoMemory))
+own_fault octets fault Done says site refused = absurd site
+own_fault octets fault Usage says site refused = absurd site
+own_fault octets fault (SiteRefused f) says site refused = let own : site_of octets ≡ Err f = (refused f refl).1 in let same : f ≡ fault = cc in inl (ap SiteRefused same)
+own_fault octets fault (ScriptRefused line) says site refused = absurd site
+own_fault octets fault ReadFault says site refused = inr (inl refl)
+own_fault octets fault EmitFault says site refused = absurd site
+own_fault octets fault NoMemory says site refused = inr (inr refl)
+
+ends_by : (octets script : List ℕ) (ended : Status) (told : Option Told) (says : Result Site SiteFault) → site_of octets ≡ says → IsSiteFault ended → ((f : SiteFault) → ended ≡ SiteRefused f → RefusesFile (Some octets) f) → EndsOnSite ended says script told told
+ends_by octets script ended told (Ok site) says fault refused = ends_on_site site ended script told fault
+ends_by octets script ended told (Err f) says fault refused = (own_fault octets f ended says fault refused, adds_nothing told)
+
+pub ends_unopened : (site script : Option (List ℕ)) (ended : Status) (told : Option Told) → IsSiteFault ended → ((f : SiteFault) → ended ≡ SiteRefused f → RefusesFile site f) → EndsOnFile ended site script told told
+ends_unopened None script ended told fault refused = tt
+ends_unopened (Some octets) None ended told fault refused = tt
+ends_unopened (Some octets) (Some text) ended told fault refused = ends_by octets text ended told (site_of octets) refl fault refused
+
+-- ---- what is read is as good as the whole text
+
+-- the text that was read is this site
+pub file_is : (source : Option (List ℕ)) (text : List ℕ) (site : Site) → IfSome source (λ octets. text ≡ take most_octets octets) → site_of text ≡ Ok site → IfSome source (λ octets. site_of octets ≡ Ok site)
+file_is None text site front says = tt
+file_is (Some octets) text site front says = sym (front_says octets) ∙ (ap site_of (sym front) ∙ says)
+
+own_refusal : (found fault : SiteFault) → of_site_fault found ≡ SiteRefused fault → (found ≡ fault) × (found ≢ site_fault.NoMemory)
+own_refusal site_fault.TooLong fault same = (cc, λ e. absurd cc)
+own_refusal site_fault.NotToml fault same = (cc, λ e. absurd cc)
+own_refusal (site_fault.Unknown place) fault same = (cc, λ e. absurd cc)
+own_refusal (site_fault.Missing place) fault same = (cc, λ e. absurd cc)
+own_refusal (site_fault.BadValue place) fault same = (cc, λ e. absurd cc)
+own_refusal (site_fault.Duplicate object) fault same = (cc, λ e. absurd cc)
+own_refusal (site_fault.Dangling object) fault same = (cc, λ e. absurd cc)
+own_refusal (site_fault.TooMany what) fault same = (cc, λ e. absurd cc)
+own_refusal site_fault.NoMemory fault same = absurd cc
+
+-- the text has this fault, where a program is refused by it
+pub text_refused : (text : List ℕ) (found fault : SiteFault) → (found ≡ site_fault.NoMemory) ⊎ (site_of text ≡ Err found) → of_site_fault found ≡ SiteRefused fault → (fault ≢ site_fault.NoMemory) × (site_of text ≡ Err fault)
+text_refused text found fault given same =
+    let own = own_refusal found fault same in
+    let refused : fault ≢ site_fault.NoMemory = λ e. own.1 (own.0 ∙ e) in
+    elim given [
+      | inl no_memory ↦ let never : ⊥ = own.1 no_memory in absurd never
+      | inr says ↦ (refused, says ∙ ap Err own.0)
+    ]
+
+file_has : (source : Option (List ℕ)) (text : List ℕ) (fault : SiteFault) → IfSome source (λ octets. text ≡ take most_octets octets) → site_of text ≡ Err fault → IfSome source (λ octets. site_of octets ≡ Err fault)
+file_has None text fault front says = tt
+file_has (Some octets) text fault front says = sym (front_says octets) ∙ (ap site_of (sym front) ∙ says)
+
+pub file_refused : (source : Option (List ℕ)) (text : List ℕ) (found fault : SiteFault) → IfSome source (λ octets. text ≡ take most_octets octets) → (found ≡ site_fault.NoMemory) ⊎ (site_of text ≡ Err found) → of_site_fault found ≡ SiteRefused fault → RefusesFile source fault
+file_refused source text found fault front given same =
+    let refused = text_refused text found fault given same in
+    (refused.0, file_has source text fault front refused.1)

@@ -1,0 +1,44 @@
+-- The front of a site's text that is read is as good as the whole of it.
+use Rattle.std.proofs.Common.{◌≡◌, ◌≤◌, ◌<◌, ℕ, Bool, true, false, nat_lt, if◌then◌else◌, Option, Some, None, Err, List, [], ◌++◌, IfSome, length, take, refl, ap, ◌∙◌, sym, arith, append-nil, inl, inr}
+use Rattle.std.specs.Io.KnownBytes.{IsAtEnd, Keeps, prepend_known}
+use Rattle.std.proofs.lemmas.Bool.{cases_Bool, ltb-false, ltb-true}
+use Rattle.std.proofs.lemmas.List.{length-take, take-append-le, take_all}
+use Rattle.site_config.specs.declared.fault.SiteFault.TheVariants.{TooLong}
+use Rattle.site_config.specs.Sites.{document_of, site_of, site_or_no_toml}
+use Rattle.alarm_server.specs.Text.{most_octets}
+
+-- the source came to its end
+pub reads_all : (source left : Option (List ℕ)) (text : List ℕ) → Keeps (prepend_known [] source) (prepend_known text left) → IsAtEnd left → length text ≤ most_octets → IfSome source (λ octets. text ≡ take most_octets octets)
+reads_all None left text kept end short = tt
+reads_all (Some octets) None text kept end short = absurd kept
+reads_all (Some octets) (Some rest) text kept end short =
+    let same : text ≡ octets = sym (append-nil text) ∙ (ap (λ l. text ++ l) (sym end) ∙ kept) in
+    sym (take_all most_octets text short) ∙ ap (take most_octets) same
+
+-- as many octets were read as tell that the text is too long
+pub reads_front : (source left : Option (List ℕ)) (text : List ℕ) → Keeps (prepend_known [] source) (prepend_known text left) → most_octets ≤ length text → length text ≤ most_octets → IfSome source (λ octets. text ≡ take most_octets octets)
+reads_front None left text kept long short = tt
+reads_front (Some octets) None text kept long short = absurd kept
+reads_front (Some octets) (Some rest) text kept long short =
+    sym (take_all most_octets text short) ∙ (sym (take-append-le most_octets text rest long) ∙ ap (take most_octets) kept)
+
+is_above : (a b : ℕ) → a < b → nat_lt a b ≡ true
+is_above a b less = elim (cases_Bool (nat_lt a b)) [
+  | inl above ↦ above
+  | inr low ↦ let not_less = ltb-false a b low in let never : ⊥ = omega (arith, less, not_less) in absurd never
+]
+
+too_long : (text : List ℕ) → nat_lt 1048576 (length text) ≡ true → site_of text ≡ Err TooLong
+unfolding site_of
+too_long text above = ap (λ b. if b then Err TooLong else site_or_no_toml (document_of text)) above
+
+-- the site, or the first fault, is the same
+pub front_says : (octets : List ℕ) → site_of (take most_octets octets) ≡ site_of octets
+front_says octets = elim (cases_Bool (nat_lt 1048576 (length octets))) [
+  | inl above ↦
+      let long = ltb-true 1048576 (length octets) above in
+      let count = length-take most_octets octets in
+      let front : 1048576 < length (take most_octets octets) = omega (arith, long, count) in
+      too_long (take most_octets octets) (is_above 1048576 (length (take most_octets octets)) front) ∙ sym (too_long octets above)
+  | inr low ↦ let short = ltb-false 1048576 (length octets) low in ap site_of (take_all most_octets octets (omega (arith, short)))
+]

@@ -1,0 +1,49 @@
+ghost use Rattle.std.specs.Prelude.{◌≡◌, ◌<◌, ◌≤◌, ◌+◌, IfErr, IfOk, IfSome, IsErrOf, MatchBool, OnOk, length, take};
+ghost use Rattle.std.specs.Io.KnownBytes.{IsAtEnd, Keeps, prepend_known};
+ghost use Rattle.ground_io.specs.Counts.{HasCause};
+ghost use Rattle.alarm_server.specs.Status.{IsTextFault};
+ghost use Rattle.alarm_server.specs.Text.{most_octets};
+
+use crate::status::Status;
+use ground_io::Source;
+use std::alloc::Global;
+
+/// How many octets of a site's source are read at most: one more than a site's text may have, so that a longer one is
+/// refused as that.
+const MOST_OCTETS: usize = 1_048_577;
+
+/// How many octets are asked for at once.
+const PIECE: usize = 8_192;
+
+// Reads once, behind the octets that are there, and so many at most. `false` is the source's end.
+fn read_more<S: Source>(source: &mut S, text: &mut Vec<u8>, most: usize) -> Result<bool, Status>
+    requires some { 0 < most }
+    ensures octets { OnOk result (Keeps (prepend_known text.old.items (S.left source.old)) (prepend_known text.new.items (S.left source.new))) }
+    ensures more { IfOk result (λ more. MatchBool more (length text.old.items < length text.new.items)
+        (IsAtEnd (S.left source.new) × (text.new.items ≡ text.old.items))) }
+    ensures most { length text.new.items ≤ length text.old.items + most }
+    ensures fault { IfErr result IsTextFault }
+    ensures cause { HasCause (S.faults source.old) (S.faults source.new) (IsErrOf result Status.ReadFault) }
+{
+    let mut piece = [0; PIECE];
+    let room = most.min(PIECE);
+    let count = source.read(&mut piece[..room])?;
+    text.extend_from_slice(&piece[..count])?;
+    Ok(count > 0)
+}
+
+/// The octets of a source, to its end or as many as tell that it is too long for a site.
+pub fn read_text<S: Source>(alloc: Global, source: &mut S) -> Result<Vec<u8>, Status>
+    ensures text { IfOk result (λ text. IfSome (S.left source.old) (λ octets. text.items ≡ take most_octets octets)) }
+    ensures fault { IfErr result IsTextFault }
+    ensures cause { HasCause (S.faults source.old) (S.faults source.new) (IsErrOf result Status.ReadFault) }
+{
+    let mut text = Vec::new(alloc);
+    while text.len() < MOST_OCTETS {
+        let room = MOST_OCTETS - text.len();
+        if !read_more(source, &mut text, room)? {
+            return Ok(text);
+        }
+    }
+    Ok(text)
+}

@@ -1,0 +1,93 @@
+ghost use Rattle.std.specs.Prelude.{◌≡◌, ◌≢◌, ◌∷◌, ℕ, [], OnOk, IfErr, IfOk, IsErrOf};
+ghost use Rattle.ground_io.specs.Counts.{HasCause};
+ghost use Rattle.script_lines.specs.Report.{report_text};
+ghost use Rattle.alarm_core.specs.Sites.{IsSite};
+ghost use Rattle.site_config.specs.declared.fault.SiteFault.{SiteFault};
+ghost use Rattle.site_config.specs.Sites.{site_of};
+ghost use Rattle.work_load.specs.Site.{workload_site};
+ghost use Rattle.alarm_server.specs.Emission.{Ends};
+ghost use Rattle.alarm_server.specs.Status.{IsFault, IsInnerFault, IsSiteFault, of_memory, status_of};
+ghost use Rattle.alarm_server.specs.Workloads.{AcceptsGenerated, RefusesGenerated, RefusesGeneratedSite, summary_line, summary_of};
+
+use crate::emission::emit;
+use crate::on_file::play_site;
+use crate::status::Status;
+use crate::tally::Tally;
+use alarm_core::Site;
+use bac_values::ReportLine;
+use ground_io::{Ground, MemoryGround, MemorySource};
+use site_config::read_site;
+use std::alloc::Global;
+use work_load::{make_script, make_site};
+
+// The generated site.
+fn generated_site(alloc: Global) -> Result<Site, Status>
+    ensures site { IfOk result (λ site. site_of workload_site ≡ Ok site) }
+    ensures keeps { IfOk result IsSite }
+    ensures refuses_site { (fault : SiteFault) → result ≡ Err (Status.SiteRefused fault) → RefusesGeneratedSite fault }
+    ensures fault { IfErr result IsInnerFault }
+    ensures no_line { IfErr result IsSiteFault }
+{
+    let text = make_site(alloc)?;
+    let site = read_site(alloc, text.as_slice())?;
+    Ok(site)
+}
+
+// How a session over a source and a ground in memory ends. No call of theirs is to fail, so the ground fails for want of
+// memory alone, and the source not at all.
+fn of_memory(status: Status) -> Status
+    ensures status { result ≡ of_memory status }
+{
+    match status {
+        Status::ReadFault | Status::EmitFault => Status::NoMemory,
+        other => other,
+    }
+}
+
+// How many lines of each kind the report of the generated site has, by the script that is drawn from a seed.
+fn tally_of(alloc: Global, seed: u64, count: u32) -> Result<Tally, Status>
+    ensures tally { IfOk result (λ tally. summary_of seed count ≡ summary_line seed count tally ∷ []) }
+    ensures accepted { OnOk result (AcceptsGenerated seed count) }
+    ensures refused { (line : ℕ) → result ≡ Err (Status.ScriptRefused line) → RefusesGenerated seed count line }
+    ensures refuses_site { (fault : SiteFault) → result ≡ Err (Status.SiteRefused fault) → RefusesGeneratedSite fault }
+    ensures fault { IfErr result IsInnerFault }
+{
+    let site = generated_site(alloc)?;
+    let mut script = MemorySource::new(make_script(alloc, seed, count)?, Vec::new(alloc));
+    let mut ground = MemoryGround::new(alloc, Vec::new(alloc), Vec::new(alloc));
+    match play_site(alloc, &site, &mut script, &mut ground) {
+        Ok(tally) => Ok(tally),
+        Err(status) => Err(of_memory(status)),
+    }
+}
+
+/// A session of the generated site by the script that is drawn from a seed: what goes out is one line, which tells how many
+/// lines of each kind its report has. Nothing is read.
+pub fn workload<G: Ground>(
+    alloc: Global,
+    seed: u64,
+    count: u32,
+    device: &mut G,
+) -> Result<(), Status>
+    ensures ends { Ends report_text (status_of result) (summary_of seed count) (G.told device.old) (G.told device.new) }
+    ensures accepted { OnOk result (AcceptsGenerated seed count) }
+    ensures refused { (line : ℕ) → result ≡ Err (Status.ScriptRefused line) → RefusesGenerated seed count line }
+    ensures refuses_site { (fault : SiteFault) → result ≡ Err (Status.SiteRefused fault) → RefusesGeneratedSite fault }
+    ensures fault { IfErr result IsFault }
+    ensures unread { result ≢ Err Status.ReadFault }
+    ensures size { G.size device.new ≡ G.size device.old }
+    ensures disk { G.disk_faults device.new ≡ G.disk_faults device.old }
+    ensures emit_cause { HasCause (G.emit_faults device.old) (G.emit_faults device.new) (IsErrOf result Status.EmitFault) }
+{
+    let tally = tally_of(alloc, seed, count)?;
+    let summary = ReportLine::Summary {
+        seed,
+        count,
+        events: tally.events,
+        changes: tally.changes,
+        sends: tally.sends,
+        full: tally.full,
+    };
+    emit(alloc, device, &summary)?;
+    Ok(())
+}

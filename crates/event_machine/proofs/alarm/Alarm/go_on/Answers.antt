@@ -1,0 +1,11 @@
+use Rattle.std.proofs.Common.{sym, subst}
+use Rattle.event_machine.specs.Given.{point_of}
+use Rattle.event_machine.specs.Runs.{AreInRange}
+use Rattle.event_machine.proofs.Ranges.{runs_in}
+use Rattle.event_machine.proofs.alarm.Alarm.go_on.Goals as goal
+
+pub invariant_of-self : goal.invariant_of-self
+invariant_of-self c =
+    let inside = c.self.inside in
+    subst AreInRange (sym c.next_runs-self-inside.ensures.runs)
+    (runs_in c.args.snapshot.now.algorithm (point_of c.args.snapshot.now c.args.point.now) inside.state inside.cause inside.runs c.requires.moment c.self.invariant)

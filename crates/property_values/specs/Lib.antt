@@ -1,0 +1,6 @@
+pub mod Properties
+pub mod Devices
+pub mod DeviceProperties
+pub mod ClassProperties
+pub mod LogProperties
+pub mod Reading

@@ -1,0 +1,162 @@
+-- What is decided on the state of a history is allowed after it.
+use Rattle.std.proofs.Common.{◌≡◌, ◌==◌, ℕ, max, Bool, true, false, Option, Some, None, Result, Ok, Err, List, [], ◌∷◌, drop, if◌then◌else◌, refl}
+use Rattle.bac_values.specs.Address.{Address}
+use Rattle.bac_values.specs.Identifier.{Identifier}
+use Rattle.bac_values.specs.Pdus.{abort_pdu, error_pdu, reject_pdu, simple_ack_pdu}
+use Rattle.bac_values.specs.Services.{acknowledge_alarm_service, confirmed_event_notification_service, get_event_information_service, read_property_service, read_range_service, who_is_service, write_property_service}
+use Rattle.bac_values.specs.declared.input.Input.{Input}
+use Rattle.bac_values.specs.declared.input.Input.TheVariants.{Tick, Pump, Set, Fault, Datagram}
+use Rattle.bac_values.specs.declared.input.SetFault.{SetFault}
+use Rattle.bac_values.specs.declared.input.SetFault.TheVariants.{WrongKind}
+use Rattle.bac_values.specs.declared.value.Value.{Value}
+use Rattle.bvlc_npdu.specs.declared.reading.Incoming.{Incoming}
+use Rattle.bvlc_npdu.specs.Reading.{incoming_at}
+use Rattle.apdu_frame.specs.declared.apdu.Apdu.{Apdu}
+use Rattle.apdu_frame.specs.declared.apdu.Apdu.TheVariants.{Request, Segmented, Unconfirmed, SimpleAck, Error as ErrorAnswer, Reject as RejectAnswer, Abort as AbortAnswer, Other}
+use Rattle.apdu_frame.specs.Reading.{apdu_of}
+use Rattle.bac_tags.specs.declared.malformed.Malformed.{Malformed}
+use Rattle.event_machine.specs.Finding.{Finding, NoSuchObject, WithoutAlarm, WithAlarm}
+use Rattle.event_services.specs.declared.acknowledge.AckRequest.{AckRequest}
+use Rattle.event_services.specs.Acknowledgements.{acknowledge_request_of}
+use Rattle.event_services.specs.Information.{information_request_of}
+use Rattle.property_services.specs.declared.requests.ReadRequest.{ReadRequest}
+use Rattle.property_services.specs.declared.requests.WriteRequest.{WriteRequest}
+use Rattle.property_services.specs.Reading.{read_property_of, who_is_of, write_property_of}
+use Rattle.ack_alarm.specs.Verdicts.{AcceptsAllowed, acknowledgement_verdict}
+use Rattle.ack_alarm.proofs.Accepting.{accepts}
+use Rattle.object_table.specs.declared.change.Change.{Change}
+use Rattle.object_table.specs.declared.faults.WriteFault.{WriteFault}
+use Rattle.object_table.specs.declared.faults.WriteFault.TheVariants as write_faults
+use Rattle.object_table.specs.Verdicts.{checked_fault, checked_set}
+use Rattle.outbox.specs.Outboxes.{has_in_flight, is_idle}
+use Rattle.alarm_core.specs.declared.event.Act.TheVariants.{Write}
+use Rattle.alarm_core.specs.declared.event.Event.{Event}
+use Rattle.alarm_core.specs.declared.site.Site.{Site}
+use Rattle.alarm_core.specs.Allowed.{IsAllowed, IsAnswer}
+use Rattle.alarm_core.specs.Found.{found_in}
+use Rattle.alarm_core.specs.History.{StateTransition, raised, tick_at}
+use Rattle.alarm_core.specs.Next.{next_transitions}
+use Rattle.alarm_core.specs.Reading.{write_of}
+use Rattle.alarm_core.specs.Sites.{IsSite}
+use Rattle.alarm_core.specs.State.{State, state_of}
+use Rattle.service_desk.specs.declared.decision.Decision.{Decision}
+use Rattle.service_desk.specs.declared.decision.Decision.TheVariants.{Ignore, Idle, Reply, Enter}
+use Rattle.service_desk.specs.declared.replies.Requester.{Requester}
+use Rattle.service_desk.specs.Decisions.{EntersAllowed, acknowledge_decision, acknowledge_with, answer_at, apdu_decision, requester_of, names_device, by_kind, change_decision, decision_on, field_decision, has_no_value, i_am, incoming_decision, information_decision, information_with, pump_at, range_decision, read_decision, read_with, request_decision, tick_with, unconfirmed_decision, who_is_decision, write_decision, write_with}
+use Rattle.service_desk.proofs.AllowedWrites.{fault_allowed, set_allowed, write_allowed}
+use Rattle.service_desk.proofs.Entering.{verdict_enters}
+
+-- of two decisions
+of_two : (P : Decision → Type 0) (test : Bool) (first second : Decision) → P first → P second → P (if test then first else second)
+of_two P true first second p q = p
+of_two P false first second p q = q
+
+-- ---- what comes by time, and from the field
+
+tick_enters : (state : State) (transitions : List StateTransition) (moment : ℕ) → EntersAllowed state moment (tick_with transitions moment)
+tick_enters state [] moment = tt
+tick_enters state (transition ∷ transitions) moment = (refl, tt)
+
+of_kind : (none : Bool) (checked : Result Change SetFault) (change : Change) → (if none then Err WrongKind else checked) ≡ Ok change → checked ≡ Ok change
+of_kind true checked change e = absurd cc
+of_kind false checked change e = e
+
+field_enters : (state : State) (moment : ℕ) (checked : Result Change SetFault) → ((change : Change) → checked ≡ Ok change → IsAllowed state (Write change)) → EntersAllowed state moment (field_decision moment checked)
+field_enters state moment (Err why) allowed = tt
+field_enters state moment (Ok change) allowed = (refl, allowed change refl)
+
+-- ---- what a datagram asks for
+
+module _ (state : State) (moment : ℕ) where
+  abbrev Enters : Decision → Type 0
+  Enters decision = EntersAllowed state moment decision
+
+  judged : (found : Finding) (request : AckRequest) → AcceptsAllowed found (acknowledgement_verdict found request)
+  judged NoSuchObject request transition named e = absurd cc
+  judged WithoutAlarm request transition named e = absurd cc
+  judged (WithAlarm alarm) request transition named e = accepts alarm request transition named e
+
+  acknowledge_enters : (requester : Requester) (request : Result AckRequest Malformed) → Enters (acknowledge_with state moment requester request)
+  acknowledge_enters requester (Err refusal) = tt
+  acknowledge_enters requester (Ok request) =
+      let found = found_in state request.object in
+      verdict_enters state moment requester request.object (acknowledgement_verdict found request) (judged found request)
+
+  read_enters : (requester : Requester) (request : Result ReadRequest Malformed) → Enters (read_with state requester request)
+  read_enters requester (Err refusal) = tt
+  read_enters requester (Ok request) = tt
+
+  change_enters : (requester : Requester) (answer : Result Change WriteFault) → ((change : Change) → answer ≡ Ok change → IsAllowed state (Write change)) → Enters (change_decision moment requester answer)
+  change_enters requester (Ok change) allowed = (refl, allowed change refl)
+  change_enters requester (Err (write_faults.Error class code)) allowed = tt
+  change_enters requester (Err write_faults.NoMemory) allowed = tt
+
+  information_enters : (requester : Requester) (request : Result (Option Identifier) Malformed) → Enters (information_with state requester request)
+  information_enters requester (Err refusal) = tt
+  information_enters requester (Ok last) = tt
+
+  answer_enters : (peer : Address) (invoke kind : ℕ) → IsAnswer kind → (waits : Bool) → has_in_flight peer invoke state.outbox ≡ waits →
+      Enters (if waits then Enter (answer_at moment peer invoke kind) None None else Ignore)
+  answer_enters peer invoke kind is true e = (refl, (is, e))
+  answer_enters peer invoke kind is false e = tt
+
+  unconfirmed_enters : (peer : Address) (service : ℕ) (parameters : List ℕ) → Enters (unconfirmed_decision state.site peer service parameters)
+  unconfirmed_enters peer service parameters =
+      of_two Enters (service == who_is_service) (who_is_decision state.site peer parameters) Ignore
+      (of_two Enters (names_device (who_is_of parameters) state.site.device.instance) (Reply (i_am state.site peer)) Ignore tt tt) tt
+
+  -- what a write makes is allowed
+  abbrev AllowsWrites : Type 0
+  AllowsWrites = (object : Identifier) (number : ℕ) (index : Option ℕ) (value : Value) (change : Change) → write_of state object number index value ≡ Ok change → IsAllowed state (Write change)
+
+  write_enters : AllowsWrites → (requester : Requester) (request : Result WriteRequest Malformed) → Enters (write_with state moment requester request)
+  write_enters writes requester (Err refusal) = tt
+  write_enters writes requester (Ok request) =
+      change_enters requester (write_of state request.object request.property.0 request.index request.value)
+      (λ change e. writes request.object request.property.0 request.index request.value change e)
+
+  request_enters : AllowsWrites → (requester : Requester) (parameters : List ℕ) → Enters (request_decision state moment requester parameters)
+  request_enters writes requester parameters =
+      of_two Enters (requester.service == acknowledge_alarm_service) (acknowledge_decision state moment requester parameters) _ (acknowledge_enters requester (acknowledge_request_of parameters))
+      (of_two Enters (requester.service == read_property_service) (read_decision state requester parameters) _ (read_enters requester (read_property_of parameters))
+      (of_two Enters (requester.service == write_property_service) (write_decision state moment requester parameters) _ (write_enters writes requester (write_property_of parameters))
+      (of_two Enters (requester.service == read_range_service) (range_decision state requester parameters) _ tt
+      (of_two Enters (requester.service == get_event_information_service) (information_decision state requester parameters) _ (information_enters requester (information_request_of parameters)) tt))))
+
+  named_enters : (peer : Address) (invoke service kind : ℕ) → IsAnswer kind →
+      Enters (if service == confirmed_event_notification_service then (if has_in_flight peer invoke state.outbox then Enter (answer_at moment peer invoke kind) None None else Ignore) else Ignore)
+  named_enters peer invoke service kind is =
+      of_two Enters (service == confirmed_event_notification_service) _ Ignore (answer_enters peer invoke kind is (has_in_flight peer invoke state.outbox) refl) tt
+
+  apdu_enters : AllowsWrites → (peer : Address) (octets : List ℕ) (header : Apdu) → Enters (apdu_decision state moment peer octets header)
+  apdu_enters writes peer octets (Request max_apdu invoke service start) = request_enters writes (requester_of peer max_apdu invoke service) (drop start octets)
+  apdu_enters writes peer octets (Segmented invoke) = tt
+  apdu_enters writes peer octets (Unconfirmed service start) = unconfirmed_enters peer service (drop start octets)
+  apdu_enters writes peer octets (SimpleAck invoke service) = named_enters peer invoke service simple_ack_pdu refl
+  apdu_enters writes peer octets (ErrorAnswer invoke service) = named_enters peer invoke service error_pdu refl
+  apdu_enters writes peer octets (RejectAnswer invoke) = answer_enters peer invoke reject_pdu refl (has_in_flight peer invoke state.outbox) refl
+  apdu_enters writes peer octets (AbortAnswer invoke) = answer_enters peer invoke abort_pdu refl (has_in_flight peer invoke state.outbox) refl
+  apdu_enters writes peer octets Other = tt
+
+  incoming_enters : AllowsWrites → (octets : List ℕ) (incoming : Option Incoming) → Enters (incoming_decision state moment octets incoming)
+  incoming_enters writes octets None = tt
+  incoming_enters writes octets (Some incoming) = apdu_enters writes incoming.peer (drop incoming.start octets) (apdu_of (drop incoming.start octets))
+
+-- an event that is entered after a history is allowed there
+pub decision_enters : (site : Site) → IsSite site → (history : List Event) (input : Input) (moment : ℕ) → EntersAllowed (state_of site history) moment (decision_on (state_of site history) input moment)
+decision_enters site is history Tick moment =
+    let state = state_of site history in
+    tick_enters state (next_transitions (raised state.last_moment (tick_at moment)) state) moment
+decision_enters site is history Pump moment =
+    let state = state_of site history in
+    of_two (EntersAllowed state moment) (is_idle (max moment state.last_moment) state.outbox) Idle (Enter (pump_at moment) None None) tt (refl, tt)
+decision_enters site is history (Set object value) moment =
+    let state = state_of site history in
+    let checked = checked_set state.values.rows object value in
+    field_enters state moment (by_kind state object checked) (λ change e. set_allowed state object value change (of_kind (has_no_value state object) checked change e))
+decision_enters site is history (Fault object reliability) moment =
+    let state = state_of site history in
+    let checked = checked_fault state.values.rows object reliability in
+    field_enters state moment (by_kind state object checked) (λ change e. fault_allowed state object reliability change (of_kind (has_no_value state object) checked change e))
+decision_enters site is history (Datagram peer octets) moment =
+    incoming_enters (state_of site history) moment (write_allowed site is history) octets (incoming_at peer octets)

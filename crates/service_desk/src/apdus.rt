@@ -1,0 +1,160 @@
+ghost use Rattle.std.specs.Prelude.{◌≡◌, ◌≤◌, ℕ, IfOk, drop, length};
+ghost use Rattle.bac_values.specs.Services.{longest_apdu};
+ghost use Rattle.apdu_frame.specs.Reading.{apdu_of};
+ghost use Rattle.service_desk.specs.Decisions.{EntersAllowed, apdu_decision, requester_of, incoming_decision, request_decision, unconfirmed_decision};
+ghost use Rattle.bvlc_npdu.specs.Reading.{incoming_at};
+
+use crate::Decision;
+use crate::acknowledge_alarm::acknowledge;
+use crate::get_event_information::event_information;
+use crate::notification_answers::{answer_decision, named_answer_decision};
+use crate::read_property::read_property;
+use crate::read_range::read_range;
+use crate::replies::{Requester, abort_to};
+use crate::who_is::who_is;
+use crate::write_property::write_property;
+use alarm_core::Core;
+use apdu_frame::{Apdu, read_apdu};
+use bac_values::{
+    AbortReason, ConfirmedService, NoMemory, PduType, Peer, RejectReason, UnconfirmedService,
+};
+use bvlc_npdu::unwrap;
+use std::alloc::Global;
+
+// A confirmed request, by its service.
+fn request_decision(
+    alloc: Global,
+    core: &Core,
+    moment: u64,
+    requester: &Requester,
+    parameters: &[u8],
+) -> Result<Decision, NoMemory>
+    requires most { requester.now.max_apdu ≤ longest_apdu }
+    ensures decision { IfOk result (λ decision. decision ≡ request_decision core.now moment requester.now parameters.now) }
+    ensures allowed { IfOk result (EntersAllowed core.now moment) }
+{
+    match ConfirmedService(requester.service) {
+        ConfirmedService::ACKNOWLEDGE_ALARM => acknowledge(
+            alloc, core, moment, requester, parameters,
+        ),
+        ConfirmedService::READ_PROPERTY => read_property(alloc, core, requester, parameters),
+        ConfirmedService::WRITE_PROPERTY => {
+            write_property(alloc, core, moment, requester, parameters)
+        }
+        ConfirmedService::READ_RANGE => read_range(alloc, core, requester, parameters),
+        ConfirmedService::GET_EVENT_INFORMATION => {
+            event_information(alloc, core, requester, parameters)
+        }
+        _ => Ok(Decision::Reply {
+            send: requester.reject(alloc, RejectReason::UNRECOGNIZED_SERVICE.0)?,
+        }),
+    }
+}
+
+// An unconfirmed request, by its service.
+fn unconfirmed_decision(
+    alloc: Global,
+    core: &Core,
+    peer: Peer,
+    service: u8,
+    parameters: &[u8],
+) -> Result<Decision, NoMemory>
+    ensures decision { IfOk result (λ decision. decision ≡ unconfirmed_decision core.now.site peer service parameters.now) }
+    ensures allowed { (moment : ℕ) → IfOk result (EntersAllowed core.now moment) }
+{
+    match UnconfirmedService(service) {
+        UnconfirmedService::WHO_IS => who_is(alloc, core, peer, parameters),
+        _ => Ok(Decision::Ignore),
+    }
+}
+
+fn requester_of(peer: Peer, max_apdu: u16, invoke: u8, service: u8) -> Requester
+    ensures requester { result ≡ requester_of peer max_apdu invoke service }
+{
+    Requester {
+        peer,
+        max_apdu,
+        invoke,
+        service,
+    }
+}
+
+// An APDU of a peer.
+fn apdu_decision(
+    alloc: Global,
+    core: &Core,
+    moment: u64,
+    peer: Peer,
+    octets: &[u8],
+) -> Result<Decision, NoMemory>
+    ensures decision { IfOk result (λ decision. decision ≡ apdu_decision core.now moment peer octets.now (apdu_of octets.now)) }
+    ensures allowed { IfOk result (EntersAllowed core.now moment) }
+{
+    match read_apdu(octets) {
+        Apdu::Request {
+            max_apdu,
+            invoke,
+            service,
+            start,
+        } => {
+            let requester = requester_of(peer, max_apdu, invoke, service);
+            request_decision(alloc, core, moment, &requester, &octets[start..])
+        }
+        Apdu::Segmented { invoke } => Ok(Decision::Reply {
+            send: abort_to(
+                alloc,
+                peer,
+                invoke,
+                AbortReason::SEGMENTATION_NOT_SUPPORTED.0,
+            )?,
+        }),
+        Apdu::Unconfirmed { service, start } => {
+            unconfirmed_decision(alloc, core, peer, service, &octets[start..])
+        }
+        Apdu::SimpleAck { invoke, service } => Ok(named_answer_decision(
+            core,
+            moment,
+            peer,
+            invoke,
+            service,
+            PduType::SIMPLE_ACK.0,
+        )),
+        Apdu::Error { invoke, service } => Ok(named_answer_decision(
+            core,
+            moment,
+            peer,
+            invoke,
+            service,
+            PduType::ERROR.0,
+        )),
+        Apdu::Reject { invoke } => Ok(answer_decision(
+            core,
+            moment,
+            peer,
+            invoke,
+            PduType::REJECT.0,
+        )),
+        Apdu::Abort { invoke } => Ok(answer_decision(core, moment, peer, invoke, PduType::ABORT.0)),
+        Apdu::Other => Ok(Decision::Ignore),
+    }
+}
+
+/// A datagram that came from a sender.
+pub(crate) fn datagram_decision(
+    alloc: Global,
+    core: &Core,
+    moment: u64,
+    sender: Peer,
+    octets: &[u8],
+) -> Result<Decision, NoMemory>
+    ensures decision { IfOk result (λ decision. decision ≡ incoming_decision core.now moment octets.now (incoming_at sender octets.now)) }
+    ensures allowed { IfOk result (EntersAllowed core.now moment) }
+{
+    match unwrap(sender, octets) {
+        Some(incoming) => {
+            let apdu = &octets[incoming.start..];
+            apdu_decision(alloc, core, moment, incoming.peer, apdu)
+        }
+        None => Ok(Decision::Ignore),
+    }
+}

@@ -1,8 +1,0 @@
-use Rattle.std.proofs.Common.{◌≡◌, drop}
-use Rattle.toml.specs.View.{items_view}
-use Rattle.site_config.specs.Values.{instance_in, all_in}
-use Rattle.site_config.proofs.Fronts.{with_front}
-use Rattle.site_config.proofs.lists.all_instances.Given as goal
-
-abbrev pub invariant-loop-item : goal.invariant-loop-item
-invariant-loop-item l = with_front l.instances.items (all_in instance_in (items_view (drop l.item-index l.array.items))) ≡ all_in instance_in (items_view l.array.items)

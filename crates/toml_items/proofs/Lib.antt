@@ -1,0 +1,4 @@
+pub mod FirstUnknown
+pub mod Fronts
+pub mod Steps
+pub mod Numbers
