@@ -1,1 +1,3 @@
 pub mod StampLemmas
+mod HundredthsLemmas
+mod ZoneLemmas

@@ -1,3 +1,4 @@
+pub mod ZoneRules
 pub mod LocalTime
 pub mod CivilStamp
 pub mod LocalMoments

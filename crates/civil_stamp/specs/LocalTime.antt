@@ -1,25 +1,37 @@
--- Local time: what a clock shows that stands a fixed number of minutes ahead of UTC, as a Date and a Time (ANSI/ASHRAE 135-2020, 20.2.12 and 20.2.13).
-use Rattle.std.specs.Prelude.{◌≡◌, ℕ, zero, suc, ◌+◌, ◌-◌, ◌*◌, ◌/◌, ◌%◌, ◌<◌, List, [], ◌∷◌, length, ℤ, pos, neg_ℤ, ◌+ℤ◌, ◌-ℤ◌, ◌*ℤ◌, unsigned_abs, slice_index, nat_le, if◌then◌else◌}
+-- Local time: what the clock of a zone shows, as a Date and a Time (ANSI/ASHRAE 135-2020, 20.2.12 and 20.2.13).
+use Rattle.std.specs.Prelude.{◌≡◌, ℕ, zero, suc, ◌+◌, ◌-◌, ◌*◌, ◌/◌, ◌%◌, ◌<◌, ◌&&◌, Bool, List, [], ◌∷◌, length, ℤ, pos, neg_ℤ, ◌+ℤ◌, ◌-ℤ◌, ◌*ℤ◌, unsigned_abs, slice_index, nat_le, nat_lt, Option, Some, None, option_map, if◌then◌else◌}
 use Rattle.std.specs.Int.{int_div_euclid, int_rem_euclid}
-use Rattle.jiff_core.specs.Calendar.{IsBetween, IsCivilDate, days_from_civil, days_of_months, weekday_number}
+use Rattle.jiff_core.specs.Calendar.{IsBetween, IsCivilDate, days_from_civil, days_in_month, days_of_months, weekday_number}
+use Rattle.jiff_tz.specs.PosixReader.{read_whole}
 use Rattle.jiff_tz.specs.Year.{year_of_day}
 use Rattle.bac_values.specs.Moments.{IsMoment}
 use Rattle.bac_values.specs.declared.stamp.Stamp.{Stamp}
+use Rattle.civil_stamp.specs.ZoneRules.{ClockRule, clock_rule, seconds_ahead, seconds_shown}
 
--- what is seen of a zone: how many minutes its clock stands ahead of UTC. Only the next three definitions say what it is made of
+-- what is seen of a zone: what its rule says of the clock. Only the next five definitions say what it is made of
 abbrev pub LocalZone : Type 0
-LocalZone = ℤ
+LocalZone = ClockRule
 
 -- a zone that stands these minutes ahead of UTC, at most fourteen hours from it
 abbrev pub IsZone : ℤ → Type 0
 IsZone minutes = IsBetween (neg_ℤ (pos 840)) (pos 840) minutes
 
+-- the zone that stands these minutes ahead of UTC all year
 abbrev pub fixed_zone : ℤ → LocalZone
-fixed_zone minutes = minutes
+fixed_zone minutes = record { standard = minutes *ℤ pos 60; daylight = None }
+
+-- the zone of a rule's text, where jiff takes it for a rule
+abbrev pub rule_zone : List ℕ → Option LocalZone
+rule_zone text = option_map clock_rule (read_whole text)
 
 -- how many milliseconds the clock of the zone stands ahead of UTC at the moment
 abbrev pub milliseconds_ahead : LocalZone → ℕ → ℤ
-milliseconds_ahead zone moment = zone *ℤ pos 60_000
+milliseconds_ahead zone moment = seconds_ahead zone (pos moment *ℤ pos 1_000_000) *ℤ pos 1_000
+
+-- how many hundredths of a second the clock of the zone stands ahead of UTC that shows these hundredths since
+-- 1970-01-01T00:00:00 in the year; in a fold or a gap, how many it stood before
+abbrev pub hundredths_ahead : LocalZone → ℤ → ℤ → ℤ
+hundredths_ahead zone year shown = seconds_shown zone year (shown *ℤ pos 10_000_000) *ℤ pos 100
 
 -- the hundredths of a second since 1970-01-01T00:00:00 on the clock of the zone, rounded down
 abbrev pub local_hundredths : LocalZone → ℕ → ℤ
@@ -75,6 +87,35 @@ pub record IsLocalStamp (zone : LocalZone) (moment : ℕ) (stamp : Stamp) : Type
   pub time : IsTimeOfDay stamp
   pub count : stamp_epoch_day stamp *ℤ pos 8_640_000 +ℤ pos (stamp_time stamp) ≡ local_hundredths zone moment
   pub weekday : stamp_weekday stamp ≡ weekday_number (stamp_epoch_day stamp) + 1
+
+-- From a stamp back to UTC.
+
+-- the octets are a day of the calendar and a time of that day; the weekday isn't looked at
+pub record IsCivilTime (stamp : Stamp) : Type 0 where
+  pub date : IsCivilDate (stamp_year stamp) (stamp_month stamp) (stamp_day stamp)
+  pub time : IsTimeOfDay stamp
+
+-- the same as a test
+abbrev pub is_civil_time : Stamp → Bool
+is_civil_time stamp =
+    nat_le 1 (stamp_month stamp) && nat_le (stamp_month stamp) 12
+    && nat_le 1 (stamp_day stamp) && nat_le (stamp_day stamp) (days_in_month (stamp_year stamp) (stamp_month stamp))
+    && nat_lt (stamp_hour stamp) 24 && nat_lt (stamp_minute stamp) 60 && nat_lt (stamp_second stamp) 60
+    && nat_lt (stamp_hundredth stamp) 100
+
+-- the hundredths of a second since 1970-01-01T00:00:00 on a clock that shows the stamp
+abbrev pub shown_hundredths : Stamp → ℤ
+shown_hundredths stamp = stamp_epoch_day stamp *ℤ pos 8_640_000 +ℤ pos (stamp_time stamp)
+
+-- the hundredths of a second since 1970-01-01T00:00:00 at UTC when the clock of the zone shows the stamp: of two times in a
+-- fold the earlier one, and in a gap by the offset before it
+abbrev pub utc_hundredths : LocalZone → Stamp → ℤ
+utc_hundredths zone stamp =
+    shown_hundredths stamp -ℤ hundredths_ahead zone (stamp_year stamp) (shown_hundredths stamp)
+
+-- these, where the stamp is a civil time
+abbrev pub hundredths_in : LocalZone → Stamp → Option ℤ
+hundredths_in zone stamp = if is_civil_time stamp then Some (utc_hundredths zone stamp) else None
 
 -- a moment, and the zone in which its local date and time are told
 pub record ZonedMoment : Type 0 where
