@@ -12,9 +12,11 @@ pub record Log : Type 0 where
   pub total : ℕ
   pub records : List LogRecord
 
--- what a record holds of an event notification: when it came, in local date and time, and the octets of its parameters
+-- what a record holds of an event notification: when it came, in local date and time and in hundredths of a second since
+-- 1970 at UTC, and the octets of its parameters
 pub record LoggedEvent : Type 0 where
   pub stamp : Stamp
+  pub hundredths : ℕ
   pub body : List ℕ
 
 -- the number that follows a number of records; 1 follows the greatest of 32 bits
@@ -47,7 +49,7 @@ is_taken enabled stops size count = enabled && not (stops && nat_le size count)
 
 -- the record of an event, with its number
 abbrev pub entry_of : LoggedEvent → ℕ → LogRecord
-entry_of event number = record { stamp = event.stamp; sequence = number; body = event.body }
+entry_of event number = record { stamp = event.stamp; hundredths = event.hundredths; sequence = number; body = event.body }
 
 -- with one more record, of which the last ones stay that the size allows
 abbrev pub with_entry : LoggedEvent → Log → Log

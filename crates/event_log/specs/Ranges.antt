@@ -1,5 +1,5 @@
 -- Ranges of a log's records (ANSI/ASHRAE 135-2020, 15.8). Places count from 0.
-use Rattle.std.specs.Prelude.{ℕ, zero, suc, ◌+◌, ◌-◌, ◌^◌, ◌==◌, nat_lt, nat_le, Bool, true, false, min, ℤ, pos, negsuc, Option, Some, None, List, [], ◌∷◌, length, position, slice_index, if◌then◌else◌}
+use Rattle.std.specs.Prelude.{ℕ, zero, suc, ◌+◌, ◌-◌, ◌^◌, ◌==◌, nat_lt, nat_le, Bool, true, false, min, ℤ, pos, negsuc, int_lt, Option, Some, None, List, [], ◌∷◌, length, position, slice_index, if◌then◌else◌}
 use Rattle.bac_values.specs.declared.stamp.Stamp.{Stamp}
 use Rattle.event_log.specs.declared.log_record.LogRecord.{LogRecord}
 use Rattle.event_log.specs.declared.log_range.LogRange.{LogRange}
@@ -69,3 +69,18 @@ last_before reference records = last_position (λ entry. is_before entry.stamp r
 abbrev pub place_by_time : ℤ → Stamp → List LogRecord → Option ℕ
 place_by_time (pos n) reference records = first_after reference records
 place_by_time (negsuc n) reference records = last_before reference records
+
+-- Where the clock is put back, a local time comes twice. Hundredths of a second since 1970 at UTC come once.
+
+-- the place of the first record whose hundredths are strictly after a reference
+abbrev pub first_later : ℤ → List LogRecord → Option ℕ
+first_later reference records = position (λ entry. int_lt reference (pos entry.hundredths)) records
+
+-- the place of the last record whose hundredths are strictly before a reference
+abbrev pub last_earlier : ℤ → List LogRecord → Option ℕ
+last_earlier reference records = last_position (λ entry. int_lt (pos entry.hundredths) reference) records
+
+-- by hundredths, too, a positive count begins behind the reference, and a negative one ends before it
+abbrev pub place_by_hundredths : ℤ → ℤ → List LogRecord → Option ℕ
+place_by_hundredths (pos n) reference records = first_later reference records
+place_by_hundredths (negsuc n) reference records = last_earlier reference records

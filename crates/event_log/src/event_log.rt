@@ -2,9 +2,10 @@ ghost use Rattle.std.specs.Prelude.{◌≡◌, ℕ, List, [], ◌∷◌, IfOk, o
 ghost use Rattle.std.specs.Option.{option_map_or};
 ghost use Rattle.circular_buffer.specs.Buffer.{buffer};
 ghost use Rattle.event_log.specs.Log.{Log, IsLog, LoggedEvent, new_log, is_taken, recorded, with_entry, cleared, switched};
-ghost use Rattle.event_log.specs.Ranges.{is_before, first_after, last_before, place_by_time, range_from, place_of_position, place_of_sequence};
+ghost use Rattle.event_log.specs.Ranges.{is_before, first_after, last_before, place_by_hundredths, place_by_time, range_from, place_of_position, place_of_sequence};
 ghost use Rattle.event_log.specs.History.{Recorded, Cleared, Switched, log_after, FollowsCall};
 
+use crate::by_hundredths::{first_later, last_earlier};
 use crate::numbers::{back_of, number_after};
 use crate::order::is_before;
 use crate::{LogRange, LogRecord};
@@ -130,12 +131,13 @@ impl EventLog {
 
     // Takes a record; the oldest goes if there is no room.
     #[tactic(auto, using(crate::proofs::Numbering::is_log_with_entry))]
-    fn push(&mut self, stamp: Stamp, body: Vec<u8>)
-        ensures now { self.new ≡ with_entry (record { stamp = stamp; body = body.items }) self.old }
+    fn push(&mut self, stamp: Stamp, hundredths: u64, body: Vec<u8>)
+        ensures now { self.new ≡ with_entry (record { stamp = stamp; hundredths = hundredths; body = body.items }) self.old }
     {
         self.total = number_after(self.total);
         let _oldest = self.records.push_back(LogRecord {
             stamp,
+            hundredths,
             sequence: self.total,
             body: Items::of(body),
         });
@@ -144,12 +146,12 @@ impl EventLog {
     /// A record comes. It is kept where the log is enabled and isn't both full and set to stop when it is; then the
     /// oldest record goes if there is no room. Otherwise nothing changes.
     #[tactic(auto, using(crate::proofs::Looking::follows))]
-    pub fn record(&mut self, stamp: Stamp, body: Vec<u8>)
-        ensures now { self.new ≡ recorded (record { stamp = stamp; body = body.items }) self.old }
-        ensures looking_back { FollowsCall (Recorded (record { stamp = stamp; body = body.items })) self.old self.new }
+    pub fn record(&mut self, stamp: Stamp, hundredths: u64, body: Vec<u8>)
+        ensures now { self.new ≡ recorded (record { stamp = stamp; hundredths = hundredths; body = body.items }) self.old }
+        ensures looking_back { FollowsCall (Recorded (record { stamp = stamp; hundredths = hundredths; body = body.items })) self.old self.new }
     {
         if self.takes() {
-            self.push(stamp, body);
+            self.push(stamp, hundredths, body);
         }
     }
 
@@ -188,6 +190,19 @@ impl EventLog {
             last_before(&self.records, reference)
         } else {
             first_after(&self.records, reference)
+        };
+        LogRange::from(count, self.len(), place)
+    }
+
+    /// The range by hundredths of a second since 1970-01-01T00:00Z: a positive count begins at the first record whose
+    /// hundredths are strictly after the reference, and a negative one ends at the last whose are strictly before it.
+    pub fn range_by_hundredths(&self, reference: i64, count: i32) -> LogRange
+        ensures range { let length = length self.now.records in result ≡ range_from count length (place_by_hundredths count reference self.now.records) }
+    {
+        let place = if count < 0 {
+            last_earlier(&self.records, reference)
+        } else {
+            first_later(&self.records, reference)
         };
         LogRange::from(count, self.len(), place)
     }

@@ -3,6 +3,7 @@
 //! Memory is taken when a log is made, and never after.
 #![tactic(auto)]
 
+mod by_hundredths;
 mod event_log;
 mod log_range;
 mod log_record;

@@ -11,8 +11,13 @@ fn second(second: u8) -> Stamp {
     }
 }
 
+// When that was at UTC: the 14th of November 2023, at 22:13 and so many seconds.
+fn hundredths(second: u8) -> u64 {
+    169_999_998_000 + u64::from(second) * 100
+}
+
 fn put(alloc: Global, log: &mut EventLog, at: u8) -> Result<(), AllocError> {
-    log.record(second(at), vec![in alloc; at]?);
+    log.record(second(at), hundredths(at), vec![in alloc; at]?);
     Ok(())
 }
 
@@ -60,11 +65,13 @@ fn a_restored_log_answers_as_before(rt: HostRuntime) -> Result<(), Fail> {
     let mut records = Vec::new(alloc);
     records.push(LogRecord {
         stamp: second(2),
+        hundredths: hundredths(2),
         sequence: 2,
         body: Items::of(vec![in alloc; 2u8]?),
     })?;
     records.push(LogRecord {
         stamp: second(3),
+        hundredths: hundredths(3),
         sequence: 3,
         body: Items::of(vec![in alloc; 3u8]?),
     })?;
@@ -87,6 +94,7 @@ fn numbers_go_on_with_1(rt: HostRuntime) -> Result<(), Fail> {
     let mut records = Vec::new(alloc);
     records.push(LogRecord {
         stamp: second(1),
+        hundredths: hundredths(1),
         sequence: u32::MAX,
         body: Items::of(Vec::new(alloc)),
     })?;
@@ -145,7 +153,7 @@ fn a_cleared_log_keeps_its_total(rt: HostRuntime) -> Result<(), Fail> {
 fn of_two_days(alloc: Global) -> Result<EventLog, Fail> {
     let mut log = EventLog::new(alloc, 8, false, true)?;
     for (day, weekday) in [(14u8, 2u8), (14, 255), (15, 1)] {
-        log.record(at_day(day, weekday), Vec::new(alloc));
+        log.record(at_day(day, weekday), hundredths(20), Vec::new(alloc));
     }
     Ok(log)
 }
@@ -187,5 +195,44 @@ fn records_have_the_numbers_up_to_the_total(rt: HostRuntime) -> Result<(), Fail>
     same(&rt, &number_back(2, 1), &1);
     same(&rt, &number_back(2, 2), &u32::MAX);
     same(&rt, &number_back(1, 2), &(u32::MAX - 1));
+    Ok(())
+}
+
+// A log of the night on which the clock of Berlin is put back: a record at 02:30, one at 02:45 and, an hour after the first,
+// one at 02:30 again.
+fn of_a_fold(alloc: Global) -> Result<EventLog, Fail> {
+    let mut log = EventLog::new(alloc, 8, false, true)?;
+    log.record(in_the_fold(30), 172_998_900_000, Vec::new(alloc));
+    log.record(in_the_fold(45), 172_998_990_000, Vec::new(alloc));
+    log.record(in_the_fold(30), 172_999_260_000, Vec::new(alloc));
+    Ok(log)
+}
+
+fn in_the_fold(minute: u8) -> Stamp {
+    Stamp {
+        octets: [124, 10, 27, 7, 2, minute, 0, 0],
+    }
+}
+
+#[test]
+fn hundredths_tell_times_in_a_fold_apart(rt: HostRuntime) -> Result<(), Fail> {
+    let log = of_a_fold(rt.alloc())?;
+    let by = |reference: i64, count: i32| log.range_by_hundredths(reference, count);
+    same(&rt, &by(172_998_990_000, 9), &range(2, 1));
+    same(&rt, &by(172_998_990_000, -9), &range(0, 1));
+    same(&rt, &by(172_998_899_999, 9), &range(0, 3));
+    same(&rt, &by(172_999_260_001, -2), &range(1, 2));
+    same(&rt, &by(172_999_260_000, 1), &range(0, 0));
+    same(&rt, &by(172_998_900_000, -1), &range(0, 0));
+    same(&rt, &by(-1, 2), &range(0, 2));
+    same(&rt, &by(i64::MAX, -1), &range(2, 1));
+    same(&rt, &by(172_998_990_000, 0), &range(0, 0));
+    // By the local time the second record is behind the third one.
+    same(&rt, &log.range_by_time(&in_the_fold(30), 9), &range(1, 2));
+    same(
+        &rt,
+        &log.item(2).map(|entry| entry.hundredths),
+        &Some(172_999_260_000),
+    );
     Ok(())
 }
