@@ -5,7 +5,7 @@ use Rattle.outbox.specs.Outboxes.{OutboxState}
 use Rattle.alarm_core.specs.declared.event.Event.{Event}
 use Rattle.alarm_core.specs.declared.site.Site.{Site}
 use Rattle.alarm_core.specs.Logs.{KeptLog}
-use Rattle.alarm_core.specs.Next.{acted, first_state, next_state}
+use Rattle.alarm_core.specs.CoreSteps.{acted, first_state, next_state}
 use Rattle.alarm_core.specs.State.{DetectedObjectState, State}
 use Rattle.alarm_core.specs.Values.{Values}
 

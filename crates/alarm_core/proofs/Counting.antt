@@ -20,7 +20,7 @@ use Rattle.alarm_core.specs.Allowed.{Comes, IsHistory}
 use Rattle.alarm_core.specs.Classes.{known_peers_of}
 use Rattle.alarm_core.specs.Deliveries.{event_notes, outbox_after}
 use Rattle.alarm_core.specs.Laws.{CountsTheLongerHistory, may_notify}
-use Rattle.alarm_core.specs.Next.{next_notes, outbox_with}
+use Rattle.alarm_core.specs.CoreSteps.{next_notes, outbox_with}
 use Rattle.alarm_core.specs.State.{state_of}
 use Rattle.alarm_core.specs.Verdicts.{queue_verdict, step_verdict}
 use Rattle.alarm_core.proofs.Delivering.{are_known, first_outbox, outbox_more, peers_kept}

@@ -19,7 +19,7 @@ use Rattle.alarm_core.specs.declared.event.Event.{Event}
 use Rattle.alarm_core.specs.declared.site.Site.{Site}
 use Rattle.alarm_core.specs.Classes.{known_peers_of, learned_with}
 use Rattle.alarm_core.specs.Deliveries.{event_notes, event_sends, operations_of, operations_with, outbox_after, timing_at}
-use Rattle.alarm_core.specs.Next.{outbox_with, sends_with}
+use Rattle.alarm_core.specs.CoreSteps.{outbox_with, sends_with}
 use Rattle.alarm_core.specs.Known.{Knows}
 use Rattle.alarm_core.proofs.NotesGo.{notes_known}
 

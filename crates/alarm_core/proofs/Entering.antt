@@ -4,7 +4,7 @@ use Rattle.std.proofs.lemmas.List.{drop_more, get_or_at, length-map, length-take
 use Rattle.std.proofs.lemmas.List.Edits.{map_over_more}
 use Rattle.event_log.specs.History.{Call}
 use Rattle.alarm_core.specs.Logs.{KeptLog}
-use Rattle.alarm_core.specs.Next.{after_calls}
+use Rattle.alarm_core.specs.CoreSteps.{after_calls}
 
 -- a log with its calls
 abbrev pub taken_by : (KeptLog → List Call) → KeptLog → KeptLog

@@ -20,7 +20,7 @@ use Rattle.alarm_core.specs.declared.site.Site.{Site}
 use Rattle.alarm_core.specs.declared.subject.Subject.{Subject}
 use Rattle.alarm_core.specs.declared.transition.ObjectTransition.{ObjectTransition}
 use Rattle.alarm_core.specs.Classes.{class_in, classes_after}
-use Rattle.alarm_core.specs.Next.{change_at, evaluated_all, next_notes, states_of, transitions_all, transitions_by}
+use Rattle.alarm_core.specs.CoreSteps.{change_at, evaluated_all, next_notes, states_of, transitions_all, transitions_by}
 use Rattle.alarm_core.specs.History.{Occurrence, ObjectState, StateTransition, object_transition, occurrences_of, tick_at, transition_of, values_after}
 use Rattle.alarm_core.specs.Notes.{class_for, is_enabled, notes_of_transition, notes_of_transitions, notification_of, with_class}
 use Rattle.alarm_core.specs.Evaluations.{site_moment, site_zone}

@@ -13,7 +13,7 @@ use Rattle.alarm_core.specs.declared.site.Site.{Site}
 use Rattle.alarm_core.specs.Classes.{classes_after}
 use Rattle.alarm_core.specs.History.{event_looks}
 use Rattle.alarm_core.specs.Logs.{KeptLog, behind, call_of_change, calls_by, calls_of, first_log, kept_log_of, logs_after}
-use Rattle.alarm_core.specs.Next.{after_calls, first_kept, logs_with}
+use Rattle.alarm_core.specs.CoreSteps.{after_calls, first_kept, logs_with}
 
 -- calls behind older ones are made after those
 behind_after : (first : Log) (calls older : List Call) → log_after first (behind calls older) ≡ after_calls calls (log_after first older)

@@ -7,10 +7,10 @@ use Rattle.alarm_core.specs.declared.site.Site.{Site}
 use Rattle.alarm_core.specs.declared.transition.ObjectTransition.{ObjectTransition}
 use Rattle.alarm_core.specs.Evaluations.{site_moment}
 use Rattle.alarm_core.specs.History.{transition_of}
-use Rattle.alarm_core.specs.Next.{evaluated_all, states_of, transitions_all, transitions_by}
+use Rattle.alarm_core.specs.CoreSteps.{evaluated_all, states_of, transitions_all, transitions_by}
 use Rattle.alarm_core.specs.State.{DetectedObjectState}
 use Rattle.alarm_core.specs.Values.{Values}
-use Rattle.alarm_core.specs.Views.{SiteData, transition_in}
+use Rattle.alarm_core.specs.ViewSteps.{SiteData, transition_in}
 
 -- what is seen after a look
 abbrev pub seen_after : Site → ℕ → List Class → Values → List DetectedObjectState → SiteData

@@ -10,7 +10,7 @@ use Rattle.alarm_core.specs.declared.site.Site.{Site}
 use Rattle.alarm_core.specs.Evaluations.{site_moment, site_zone}
 use Rattle.alarm_core.specs.declared.transition.ObjectTransition.{ObjectTransition}
 use Rattle.alarm_core.specs.History.{StateTransition, joined, moved_by}
-use Rattle.alarm_core.specs.Views.{SiteData, moved_of, transition_in}
+use Rattle.alarm_core.specs.ViewSteps.{SiteData, moved_of, transition_in}
 use Rattle.alarm_core.proofs.Still.{map-none}
 
 -- those of one look

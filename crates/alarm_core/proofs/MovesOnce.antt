@@ -14,8 +14,8 @@ use Rattle.algorithm_rules.specs.declared.table.Algorithm.TheVariants.{ChangeOfB
 use Rattle.algorithm_rules.specs.declared.table.Rule.{Rule}
 use Rattle.event_machine.specs.Detection.{Detection, enters, fault_by, fault_target, inhibited_step, is_fault, is_normal, look_step, rule_by, rule_held, sees, stays}
 use Rattle.event_machine.specs.Held.{is_held}
-use Rattle.event_machine.specs.Next as next
-use Rattle.event_machine.specs.Next.{goes_on, inhibited_change, later_change, next_look, relied_on, rule_lasting}
+use Rattle.event_machine.specs.AlarmSteps as next
+use Rattle.event_machine.specs.AlarmSteps.{goes_on, inhibited_change, later_change, next_look, relied_on, rule_lasting}
 use Rattle.event_machine.specs.Points.{Point}
 use Rattle.event_machine.specs.Summary.{AlarmState}
 use Rattle.alarm_core.proofs.NotesGo.{found}

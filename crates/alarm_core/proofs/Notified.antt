@@ -3,7 +3,7 @@ use Rattle.std.proofs.Common.{◌≡◌, List, ◌∷◌, ◌++◌, ap, ◌∙�
 use Rattle.alarm_core.specs.declared.event.Event.{Event}
 use Rattle.alarm_core.specs.Allowed.{Comes, Represents}
 use Rattle.alarm_core.specs.Deliveries.{notifications_of}
-use Rattle.alarm_core.specs.Next.{next_notes}
+use Rattle.alarm_core.specs.CoreSteps.{next_notes}
 use Rattle.alarm_core.specs.State.{State}
 use Rattle.alarm_core.proofs.Standing.{stands}
 

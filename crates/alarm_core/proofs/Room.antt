@@ -26,7 +26,7 @@ use Rattle.notify_class.specs.declared.class_site.ClassSite.{ClassSite}
 use Rattle.alarm_core.specs.declared.site.Site.{Site}
 use Rattle.alarm_core.specs.Allowed.{IsAllowed, IsHistory, members_of, room_beside, share_of}
 use Rattle.alarm_core.specs.Classes.{classes_after, classes_with, edited, is_member}
-use Rattle.alarm_core.specs.Next.{next_notes}
+use Rattle.alarm_core.specs.CoreSteps.{next_notes}
 use Rattle.alarm_core.specs.History.{tick_at, values_after, values_with}
 use Rattle.alarm_core.specs.Room.{HasRoom, instance_of}
 use Rattle.alarm_core.specs.declared.subject.Subject.{Subject}

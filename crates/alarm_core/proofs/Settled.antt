@@ -15,7 +15,7 @@ use Rattle.alarm_core.specs.declared.subject.Subject.{Subject}
 use Rattle.alarm_core.specs.Subjects.{ack_required_of}
 use Rattle.alarm_core.specs.Values.{Values, written}
 use Rattle.alarm_core.specs.Evaluations.{facts_at, first_point, point_with, reliability_at, site_moment}
-use Rattle.alarm_core.specs.Next.{change_at, change_by}
+use Rattle.alarm_core.specs.CoreSteps.{change_at, change_by}
 use Rattle.alarm_core.specs.State.{detected_object_of}
 use Rattle.alarm_core.specs.History.{Occurrence, AllEvaluated, detection_of, incidents_of, looked_with, occurrences_of, occurrences_with, values_after, values_with}
 use Rattle.alarm_core.proofs.MovesOnce.{FaultShows, look_shows, moves_once}

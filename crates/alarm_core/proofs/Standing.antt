@@ -9,7 +9,7 @@ use Rattle.bac_values.specs.Identifier.{Identifier}
 use Rattle.bac_values.specs.declared.transition.Transition.{Transition}
 use Rattle.event_machine.specs.Points.{Incident, Acknowledged, IsCourse}
 use Rattle.event_machine.specs.Summary.{AlarmState, alarm_of}
-use Rattle.event_machine.specs.Next.{acknowledged}
+use Rattle.event_machine.specs.AlarmSteps.{acknowledged}
 use Rattle.event_machine.proofs.Keeping.{keeps_course}
 use Rattle.event_machine.specs.Points.{Point}
 use Rattle.object_table.specs.Rows.{is_object}
@@ -28,7 +28,7 @@ use Rattle.alarm_core.specs.Deliveries.{event_notes, notes_by, notifications_of,
 use Rattle.alarm_core.specs.Logs.{KeptLog, logs_after}
 use Rattle.alarm_core.specs.State.{State, DetectedObjectState, alarms_of, state_of, detected_object_of}
 use Rattle.alarm_core.specs.Allowed.{Comes, IsAllowed, IsHistory, Represents}
-use Rattle.alarm_core.specs.Next.{acked, after_looks, alarms_with, change_by, evaluated, evaluated_all, first_detected, first_state, logs_with, next_looks, next_notes, next_state, next_transitions, outbox_with, state_of_detected, states_of, transitions_all, transitions_by, transitions_of_looks}
+use Rattle.alarm_core.specs.CoreSteps.{acked, after_looks, alarms_with, change_by, evaluated, evaluated_all, first_detected, first_state, logs_with, next_looks, next_notes, next_state, next_transitions, outbox_with, state_of_detected, states_of, transitions_all, transitions_by, transitions_of_looks}
 use Rattle.alarm_core.specs.Laws.{StandsForItsHistory}
 use Rattle.alarm_core.specs.Room.{HasRoom}
 use Rattle.alarm_core.specs.RunStarts.{run_starts_in, run_starts_of, runs_in}

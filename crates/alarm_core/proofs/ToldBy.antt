@@ -35,13 +35,13 @@ use Rattle.alarm_core.specs.declared.subject.Subject.{Subject}
 use Rattle.alarm_core.specs.declared.transition.ObjectTransition.{ObjectTransition}
 use Rattle.alarm_core.specs.Found.{detected_object_in}
 use Rattle.alarm_core.specs.History.{ObjectState, StateTransition, state_found, state_in}
-use Rattle.alarm_core.specs.Next.{state_of_detected, states_of}
+use Rattle.alarm_core.specs.CoreSteps.{state_of_detected, states_of}
 use Rattle.alarm_core.specs.Notes.{addressed, class_for, is_enabled, move_of, notes_of_acknowledgement, notes_of_transition, notes_of_transitions, notification_of, source_of, told_flags, told_value, values_of, with_class}
 use Rattle.alarm_core.specs.Evaluations.{facts_at, reliability_at, site_moment, site_stamp, site_zone}
 use Rattle.alarm_core.specs.State.{DetectedObjectState}
 use Rattle.alarm_core.specs.Logs.{KeptLog, record_of_transition, records_of}
 use Rattle.alarm_core.specs.Subjects.{subject_in}
-use Rattle.alarm_core.specs.Views.{AddressedNotification, SiteData, addressed_in, notes_to, record_to, transition_in}
+use Rattle.alarm_core.specs.ViewSteps.{AddressedNotification, SiteData, addressed_in, notes_to, record_to, transition_in}
 use Rattle.alarm_core.proofs.Flattened.{flat_map-flat_map}
 
 -- what is made of each, where it is mapped before

@@ -19,7 +19,7 @@ use Rattle.alarm_core.specs.Evaluations.{site_moment}
 use Rattle.alarm_core.specs.History.{StateTransition, event_at, moved_by, tick_at}
 use Rattle.alarm_core.specs.Logs.{KeptLog, call_of_change, calls_by, records_of}
 use Rattle.alarm_core.specs.Notes.{notes_of_transition, notes_of_transitions}
-use Rattle.alarm_core.specs.Next.{acked, acted, after_calls, evaluated_all, next_notes, next_transitions, transitions_all}
+use Rattle.alarm_core.specs.CoreSteps.{acked, acted, after_calls, evaluated_all, next_notes, next_transitions, transitions_all}
 use Rattle.alarm_core.specs.declared.state.Done.{Done}
 use Rattle.alarm_core.specs.State.{State, DetectedObjectState}
 use Rattle.alarm_core.specs.Values.{Values, written}

@@ -2,7 +2,7 @@
 use Rattle.std.specs.Prelude.{Bool, ◌||◌, if◌then◌else◌, Option, Some, None, List, find, is_some}
 use Rattle.std.specs.List.{list_any}
 use Rattle.bac_values.specs.Identifier.{Identifier}
-use Rattle.event_machine.specs.Next.{new_alarm}
+use Rattle.event_machine.specs.AlarmSteps.{new_alarm}
 use Rattle.event_machine.specs.Summary.{AlarmState}
 use Rattle.event_machine.specs.Finding.{Finding, NoSuchObject, WithoutAlarm, WithAlarm}
 use Rattle.object_table.specs.Rows.{is_object, row_of}

@@ -19,7 +19,7 @@ use Rattle.alarm_core.specs.State.{State, state_of}
 use Rattle.alarm_core.specs.Allowed.{Comes, IsAllowed, IsHistory}
 use Rattle.alarm_core.specs.Classes.{known_peers_of, listed_peers}
 use Rattle.alarm_core.specs.Deliveries.{event_sends, notifications_of, outbox_after}
-use Rattle.alarm_core.specs.Next.{first_state, next_notes, next_sends, next_state, next_transitions}
+use Rattle.alarm_core.specs.CoreSteps.{first_state, next_notes, next_sends, next_state, next_transitions}
 use Rattle.alarm_core.specs.RunStarts.{run_starts_in, run_starts_of}
 use Rattle.alarm_core.specs.Reading.{write_of}
 use Rattle.alarm_core.specs.Room.{HasRoom}

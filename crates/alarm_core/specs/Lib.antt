@@ -13,8 +13,8 @@ pub mod State
 pub mod Found
 pub mod Allowed
 pub mod Room
-pub mod Next
-pub mod Views
+pub mod CoreSteps
+pub mod ViewSteps
 pub mod RunStarts
 pub mod Laws
 pub mod EnrollmentProperties

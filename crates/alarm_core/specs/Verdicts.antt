@@ -7,7 +7,7 @@ use Rattle.outbox.specs.declared.answers.QueueFault.TheVariants as faults
 use Rattle.alarm_core.specs.declared.event.Event.{Event}
 use Rattle.alarm_core.specs.declared.event.StepFault.{StepFault}
 use Rattle.alarm_core.specs.declared.event.StepFault.TheVariants.{Full, NoMemory}
-use Rattle.alarm_core.specs.Next.{next_notes}
+use Rattle.alarm_core.specs.CoreSteps.{next_notes}
 use Rattle.alarm_core.specs.State.{State}
 
 -- notifications are added, and more would then wait than there may

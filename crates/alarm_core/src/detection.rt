@@ -2,7 +2,7 @@ ghost use Rattle.std.specs.Prelude.{◌≡◌, ◌≤◌, ◌↔◌, [], IfSome,
 ghost use Rattle.std.specs.Option.{option_map};
 ghost use Rattle.bac_values.specs.Moments.{IsMoment};
 ghost use Rattle.event_machine.specs.Given.{moves_in, point_of};
-ghost use Rattle.alarm_core.specs.Next.{acked, change_at, change_by, evaluated, first_with};
+ghost use Rattle.alarm_core.specs.CoreSteps.{acked, change_at, change_by, evaluated, first_with};
 
 use crate::Subject;
 use crate::evaluation_input::{EvaluationInput, evaluation_input, first_input};

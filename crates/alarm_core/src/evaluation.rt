@@ -2,7 +2,7 @@ ghost use Rattle.std.specs.Prelude.{◌≡◌, ◌∷◌, ◌++◌, ◌↔◌, [
 ghost use Rattle.std.specs.List.{flat_map};
 ghost use Rattle.std.specs.Option.{option_to_list};
 ghost use Rattle.alarm_core.specs.History.{object_transition};
-ghost use Rattle.alarm_core.specs.Next.{acked, evaluated, evaluated_all, transitions_by};
+ghost use Rattle.alarm_core.specs.CoreSteps.{acked, evaluated, evaluated_all, transitions_by};
 
 use crate::detection::DetectedObject;
 use crate::objects::Objects;

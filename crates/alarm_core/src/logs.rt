@@ -7,9 +7,9 @@ ghost use Rattle.bac_values.specs.declared.object_kind.ObjectKind.TheVariants.{E
 ghost use Rattle.event_log.specs.History.{Call};
 ghost use Rattle.object_table.specs.Rows.{is_object};
 ghost use Rattle.alarm_core.specs.Logs.{KeptLog, call_of_change, call_of_value, call_of_what, kept_log, records_class};
-ghost use Rattle.alarm_core.specs.Next.{after_calls, first_kept};
+ghost use Rattle.alarm_core.specs.CoreSteps.{after_calls, first_kept};
 ghost use Rattle.alarm_core.specs.Sites.{IsLogSite};
-ghost use Rattle.alarm_core.specs.Views.{record_to};
+ghost use Rattle.alarm_core.specs.ViewSteps.{record_to};
 
 use crate::view::Addressed;
 use crate::{LogSite, Site};

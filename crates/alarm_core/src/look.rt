@@ -2,7 +2,7 @@ ghost use Rattle.std.specs.Prelude.{◌≡◌, ◌++◌, All, IfOk, OnOk, map};
 ghost use Rattle.alarm_core.specs.History.{moved_by};
 ghost use Rattle.alarm_core.specs.Logs.{KeptLog, records_of};
 ghost use Rattle.alarm_core.specs.Notes.{IsShort, notes_of_transitions};
-ghost use Rattle.alarm_core.specs.Views.{moved_of, transition_in};
+ghost use Rattle.alarm_core.specs.ViewSteps.{moved_of, transition_in};
 
 use crate::detection::DetectedObject;
 use crate::logs::{Entry, SiteLog, records_of_all};

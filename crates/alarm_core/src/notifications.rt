@@ -7,11 +7,11 @@ ghost use Rattle.enrollment.specs.Enrollments.{site_of};
 ghost use Rattle.enrollment.specs.Snapshots.{algorithm_with};
 ghost use Rattle.alarm_core.specs.Classes.{class_in};
 ghost use Rattle.alarm_core.specs.History.{state_in};
-ghost use Rattle.alarm_core.specs.Next.{states_of};
+ghost use Rattle.alarm_core.specs.CoreSteps.{states_of};
 ghost use Rattle.alarm_core.specs.Notes.{IsShort, class_for, flags_at, is_enabled, notes_of_acknowledgement, notification_of, out_of_service_in, source_of, told_flags, told_value, values_of};
 ghost use Rattle.alarm_core.specs.Sites.{IsSite};
 ghost use Rattle.alarm_core.specs.Subjects.{subject_in};
-ghost use Rattle.alarm_core.specs.Views.{addressed_in, notes_to, transition_in};
+ghost use Rattle.alarm_core.specs.ViewSteps.{addressed_in, notes_to, transition_in};
 
 use crate::detection::DetectedObject;
 use crate::finding::detected_object;

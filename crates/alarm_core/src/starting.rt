@@ -1,7 +1,7 @@
 ghost use Rattle.std.specs.Prelude.{◌≡◌, ◌==◌, ◌++◌, ◌∷◌, [], IfOk, OnOk, filter, find, if◌then◌else◌, map};
 ghost use Rattle.std.specs.Option.{option_copied};
 ghost use Rattle.notify_class.specs.declared.class_site.ClassSite.{ClassSite as Listed};
-ghost use Rattle.alarm_core.specs.Next.{first_with};
+ghost use Rattle.alarm_core.specs.CoreSteps.{first_with};
 ghost use Rattle.alarm_core.specs.Subjects.{ack_required_of, detecting_subjects, is_before_enrollments, is_behind_enrollments, is_detecting, site_class_of, subject_of_enrollment, subject_of_object, subjects_of};
 
 use crate::detection::DetectedObject;

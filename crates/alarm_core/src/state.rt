@@ -14,7 +14,7 @@ ghost use Rattle.event_log.specs.History.{Call};
 ghost use Rattle.alarm_core.specs.Found.{alarm_in, device_object, found_in, has_object, is_other_object};
 ghost use Rattle.alarm_core.specs.History.{event_at, moved_by, raised, tick_at, transitions_of};
 ghost use Rattle.alarm_core.specs.Logs.{KeptLog, call_of_change, kept_log, log_in, records_of};
-ghost use Rattle.alarm_core.specs.Next.{acted, after_calls, evaluated_all, first_state, next_notes, next_sends, next_state, next_transitions, sends_with, states_of, transitions_all};
+ghost use Rattle.alarm_core.specs.CoreSteps.{acted, after_calls, evaluated_all, first_state, next_notes, next_sends, next_state, next_transitions, sends_with, states_of, transitions_all};
 ghost use Rattle.alarm_core.specs.Notes.{IsShort, notes_of_transitions};
 ghost use Rattle.alarm_core.specs.Room.{HasRoom};
 ghost use Rattle.alarm_core.specs.Evaluations.{site_moment, site_zone};

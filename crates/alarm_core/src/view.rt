@@ -21,9 +21,9 @@ pub(crate) struct SiteView<'a> {
 impl<'a> Model for SiteView<'a> {
     ghost use Rattle.std.specs.Prelude.{◌≡◌};
     ghost use Rattle.alarm_core.specs.Evaluations.{site_zone};
-    ghost use Rattle.alarm_core.specs.Next.{states_of};
+    ghost use Rattle.alarm_core.specs.CoreSteps.{states_of};
     ghost use Rattle.alarm_core.specs.Sites.{IsSite};
-    ghost use Rattle.alarm_core.specs.Views.{SiteData};
+    ghost use Rattle.alarm_core.specs.ViewSteps.{SiteData};
 
     ghost Value = { SiteData };
 
@@ -51,7 +51,7 @@ pub(crate) struct Addressed<'a> {
 
 impl<'a> Model for Addressed<'a> {
     ghost use Rattle.event_services.specs.Notifications.{IsTold};
-    ghost use Rattle.alarm_core.specs.Views.{AddressedNotification};
+    ghost use Rattle.alarm_core.specs.ViewSteps.{AddressedNotification};
 
     ghost Value = { AddressedNotification };
 

@@ -4,7 +4,7 @@ use Rattle.ground_io.specs.Trace.{Told, Adds, WhereTold}
 use Rattle.script_lines.specs.declared.line.Grammar.TheVariants.{Session}
 use Rattle.script_lines.specs.Script.{lines_of}
 use Rattle.alarm_core.specs.declared.site.Site.{Site}
-use Rattle.alarm_core.specs.Next.{first_state}
+use Rattle.alarm_core.specs.CoreSteps.{first_state}
 use Rattle.alarm_core.specs.Sites.{IsSite}
 use Rattle.alarm_core.specs.State.{State}
 use Rattle.alarm_core.proofs.Standing.{stands}
@@ -13,7 +13,7 @@ use Rattle.alarm_server.specs.declared.status.Status.{Status}
 use Rattle.alarm_server.specs.declared.tally.Tally.{Tally}
 use Rattle.alarm_server.specs.Emission.{sent, Ends}
 use Rattle.alarm_server.specs.Report.{front_pieces, report_of}
-use Rattle.alarm_server.specs.Session.{piece_text, session_over, state_front}
+use Rattle.alarm_server.specs.SessionSteps.{piece_text, session_over, state_front}
 use Rattle.alarm_server.specs.Stopping.{StopsReading}
 use Rattle.alarm_server.specs.Tallies.{tally_of}
 use Rattle.alarm_server.proofs.Played.{front_is, report_is}

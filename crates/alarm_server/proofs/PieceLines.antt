@@ -8,9 +8,9 @@ use Rattle.bac_values.specs.declared.report.ReportLine.TheVariants.{Entered, Cha
 use Rattle.alarm_core.specs.declared.event.Event.{Event}
 use Rattle.alarm_core.specs.declared.event.StepFault.{StepFault}
 use Rattle.alarm_core.specs.History.{moved_by}
-use Rattle.alarm_core.specs.Next.{next_sends, next_transitions}
+use Rattle.alarm_core.specs.CoreSteps.{next_sends, next_transitions}
 use Rattle.alarm_core.specs.State.{State}
-use Rattle.alarm_server.specs.Session.{enter_piece, entered_piece, reply_lines, send_line}
+use Rattle.alarm_server.specs.SessionSteps.{enter_piece, entered_piece, reply_lines, send_line}
 
 -- the lines in the order in which they are put together
 abbrev put_together : ℕ → ℕ → ℕ → List Moved → List Send → Option Send → List ReportLine

@@ -10,7 +10,7 @@ use Rattle.alarm_core.specs.Sites.{IsSite}
 use Rattle.alarm_core.specs.State.{State, state_of}
 use Rattle.alarm_core.proofs.Standing.{stands}
 use Rattle.alarm_server.specs.Script.{spelled_in, refused_in}
-use Rattle.alarm_server.specs.Session.{decision_for, event_in, open_piece, piece_of, pieces_over, session_end, session_over, state_by, state_over, state_with}
+use Rattle.alarm_server.specs.SessionSteps.{decision_for, event_in, open_piece, piece_of, pieces_over, session_end, session_over, state_by, state_over, state_with}
 use Rattle.alarm_server.specs.Report.{front_pieces, history_by, history_over, history_with, pieces_of, report_of}
 use Rattle.alarm_server.proofs.Comings.{InRange, line_goes, spelled_in_range}
 

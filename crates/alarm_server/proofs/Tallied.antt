@@ -6,7 +6,7 @@ use Rattle.std.proofs.lemmas.List.Sums.{sum_by-append}
 use Rattle.bac_values.specs.declared.report.ReportLine.{ReportLine}
 use Rattle.alarm_core.specs.State.{State}
 use Rattle.alarm_server.specs.declared.tally.Tally.{Tally}
-use Rattle.alarm_server.specs.Session.{end_piece, open_piece}
+use Rattle.alarm_server.specs.SessionSteps.{end_piece, open_piece}
 use Rattle.alarm_server.specs.Tallies.{is_change, is_entered, is_full, is_sent, no_tally, tally_of, tally_with}
 
 abbrev made : ℕ → ℕ → ℕ → ℕ → Tally

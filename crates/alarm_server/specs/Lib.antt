@@ -5,7 +5,7 @@ pub mod Status
 pub mod Causes
 pub mod Emission
 pub mod Stopping
-pub mod Session
+pub mod SessionSteps
 pub mod Report
 pub mod Tallies
 pub mod Text

@@ -1,3 +1,3 @@
 pub mod Headers
-pub mod Reading
+pub mod ReadingSteps
 pub mod Writing

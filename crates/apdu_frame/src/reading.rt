@@ -1,7 +1,7 @@
 ghost use Rattle.std.specs.Prelude.{◌≡◌, ◌≢◌, ◌∷◌};
 ghost use Rattle.apdu_frame.specs.declared.apdu.Apdu.{Apdu};
 ghost use Rattle.apdu_frame.specs.Headers.{BeginsWithin, IsApdu, max_apdu_of};
-ghost use Rattle.apdu_frame.specs.Reading.{apdu_of, request_of};
+ghost use Rattle.apdu_frame.specs.ReadingSteps.{apdu_of, request_of};
 
 use crate::Apdu;
 use bac_values::{LONGEST_APDU, PduType};

@@ -1,6 +1,6 @@
 ghost use Rattle.std.specs.Prelude.{◌≡◌};
 ghost use Rattle.apdu_frame.specs.declared.apdu.Apdu.{Apdu};
-ghost use Rattle.apdu_frame.specs.Reading.{apdu_of};
+ghost use Rattle.apdu_frame.specs.ReadingSteps.{apdu_of};
 ghost use Rattle.apdu_frame.specs.Writing.{written_simple_ack, written_error, written_reject, written_abort};
 
 /// The tag of an Enumerated of one octet.

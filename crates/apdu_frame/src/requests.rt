@@ -1,6 +1,6 @@
 ghost use Rattle.std.specs.Prelude.{◌≡◌, ◌++◌, IfOk};
 ghost use Rattle.apdu_frame.specs.declared.apdu.Apdu.{Apdu};
-ghost use Rattle.apdu_frame.specs.Reading.{apdu_of};
+ghost use Rattle.apdu_frame.specs.ReadingSteps.{apdu_of};
 ghost use Rattle.apdu_frame.specs.Writing.{written_complex_ack, written_request, written_unconfirmed};
 
 use bac_values::NoMemory;

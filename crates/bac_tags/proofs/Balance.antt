@@ -8,7 +8,7 @@ use Rattle.bac_tags.specs.declared.tag.Tag.{Tag}
 use Rattle.bac_tags.specs.declared.tag.Shape.{Shape}
 use Rattle.bac_tags.specs.declared.tag.Shape.TheVariants.{Primitive, Opening, Closing}
 use Rattle.bac_tags.specs.Tags.{SpellsTag}
-use Rattle.bac_tags.specs.Reading.{tag_at}
+use Rattle.bac_tags.specs.ReadingSteps.{tag_at}
 use Rattle.bac_tags.proofs.Standing.{IsBytes, Stands, Stands-then, Stands-nil, Stands-front, Stands-back, Stands-within}
 use Rattle.bac_tags.proofs.TagLaws.{tag_found, tag_again}
 use Rattle.bac_tags.specs.EnclosingTags.{opening, closing}

@@ -5,7 +5,7 @@ use Rattle.std.proofs.lemmas.List.{length-append, length-drop, take_at}
 use Rattle.bac_tags.specs.declared.fault.TagFault.{TagFault}
 use Rattle.bac_tags.specs.declared.fault.TagFault.TheVariants.{BadLength}
 use Rattle.bac_tags.specs.Places.{IsSpelledAt}
-use Rattle.bac_tags.specs.Reading.{◌>>=◌}
+use Rattle.bac_tags.specs.ReadingSteps.{◌>>=◌}
 use Rattle.bac_tags.proofs.Standing.{IsBytes, Stands, Stands-from, Stands-then, Stands-front, Stands-back, Stands-within}
 use Rattle.bac_tags.proofs.Steps.{bind_ok, ok_is}
 use Rattle.bac_tags.proofs.ElementLaws.{some_ok}

@@ -8,7 +8,7 @@ use Rattle.bac_tags.specs.Places.{IsSpelledAt}
 use Rattle.bac_tags.specs.Tags.{SpellsTag, EndsInTag}
 use Rattle.bac_tags.specs.Elements.{element_tag, IsBetween, HasOtherTag, HasOtherLength}
 use Rattle.bac_tags.specs.Contents.{IsBoolean, SpellsBoolean, EndsInBoolean, IsNoBoolean}
-use Rattle.bac_tags.specs.Reading.{◌>>=◌, tag_at, header_at, boolean_in, boolean_of, boolean_at}
+use Rattle.bac_tags.specs.ReadingSteps.{◌>>=◌, tag_at, header_at, boolean_in, boolean_of, boolean_at}
 use Rattle.bac_tags.proofs.Steps.{bind_ok, bind_err}
 use Rattle.bac_tags.proofs.Standing.{IsBytes, Stands, Stands-from}
 use Rattle.bac_tags.proofs.Answered.{Spelled, is_found, is_only}

@@ -12,7 +12,7 @@ use Rattle.bac_values.specs.declared.value.Foreign.TheVariants.{OtherType, Chara
 use Rattle.bac_values.specs.Identifier.{Identifier}
 use Rattle.bac_values.specs.BitString.{BitString}
 use Rattle.bac_tags.specs.Values.{has_length, IsOtherType, IsForeign, IsValue}
-use Rattle.bac_tags.specs.Reading.{unsigned_of, signed_of, identifier_of, string_of, bits_of, number_in, characters_in, text_in, string_in, value_in}
+use Rattle.bac_tags.specs.ReadingSteps.{unsigned_of, signed_of, identifier_of, string_of, bits_of, number_in, characters_in, text_in, string_in, value_in}
 use Rattle.bac_tags.proofs.Steps.{chosen}
 use Rattle.bac_tags.proofs.Standing.{IsBytes}
 use Rattle.bac_tags.proofs.Texts.{is_text, no_text}

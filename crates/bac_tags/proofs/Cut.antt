@@ -10,7 +10,7 @@ use Rattle.bac_tags.specs.declared.tag.Tag.{Tag}
 use Rattle.bac_tags.specs.declared.tag.Shape.{Shape}
 use Rattle.bac_tags.specs.declared.tag.Shape.TheVariants.{Primitive, Opening, Closing}
 use Rattle.bac_tags.specs.Tags.{SpellsLength, SpellsShape, SpellsTag, EndsInTag}
-use Rattle.bac_tags.specs.Reading.{◌>>=◌, octet_at, octets_at, number_at, extended_at, shape_at, tag_at}
+use Rattle.bac_tags.specs.ReadingSteps.{◌>>=◌, octet_at, octets_at, number_at, extended_at, shape_at, tag_at}
 use Rattle.bac_tags.proofs.Steps.{bind_err, chosen, ok_is, fails}
 use Rattle.bac_tags.proofs.Standing.{IsBytes, Stands-from, octet_found, octet_small, octets_cut}
 use Rattle.bac_tags.proofs.TagLaws.{number_found, tag_found, tag_again}

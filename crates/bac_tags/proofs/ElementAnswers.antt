@@ -9,14 +9,14 @@ use Rattle.bac_tags.specs.Places.{IsSpelledAt}
 use Rattle.bac_tags.specs.Tags.{SpellsTag}
 use Rattle.bac_tags.specs.Elements.{SpellsElement}
 use Rattle.bac_tags.specs.Contents.{IsUnsigned, IsObject, SpellsUnsigned, SpellsObject}
-use Rattle.bac_tags.specs.Reading.{unsigned_of, identifier_of, unsigned_at, object_at}
+use Rattle.bac_tags.specs.ReadingSteps.{unsigned_of, identifier_of, unsigned_at, object_at}
 use Rattle.bac_tags.proofs.Standing.{IsBytes}
 use Rattle.bac_tags.proofs.Readers.{Reads, reads}
 use Rattle.bac_tags.proofs.Numbers.{unsigned_values, identifier_values}
 use Rattle.bac_tags.specs.declared.malformed.Malformed.{Malformed}
 use Rattle.bac_tags.specs.Refusals.{invalid_tag, RefusesRequired, RefusesOptional}
 use Rattle.bac_tags.specs.Parameters.{IsThere, IsOptionalAt}
-use Rattle.bac_tags.specs.ParameterReading.{or_invalid, required, or_absent, optional}
+use Rattle.bac_tags.specs.ParameterReadingSteps.{or_invalid, required, or_absent, optional}
 use Rattle.bac_tags.proofs.RequiredReaders.{ReadsOptional, reads_optional, required_inside, required_outside, optional_inside, optional_outside}
 use Rattle.bac_tags.proofs.ParameterAnswers.{Answers}
 

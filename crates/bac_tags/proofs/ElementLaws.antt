@@ -11,7 +11,7 @@ use Rattle.bac_tags.specs.declared.tag.Shape.{Shape}
 use Rattle.bac_tags.specs.declared.tag.Shape.TheVariants.{Primitive, Opening, Closing}
 use Rattle.bac_tags.specs.Tags.{SpellsTag, EndsInTag}
 use Rattle.bac_tags.specs.Elements.{element_tag, IsBetween, EndsInContent, EndsInElement, HasOtherTag, HasOtherLength}
-use Rattle.bac_tags.specs.Reading.{◌>>=◌, octets_at, tag_at, length_in, header_at, content_at}
+use Rattle.bac_tags.specs.ReadingSteps.{◌>>=◌, octets_at, tag_at, length_in, header_at, content_at}
 use Rattle.bac_tags.proofs.Steps.{bind_ok, bind_err, chosen, ok_is}
 use Rattle.bac_tags.proofs.Standing.{IsBytes, Stands, Stands-from, Stands-then, Stands-front, Stands-back, Stands-within, octets_found, octets_again, octets_short, octets_cut}
 use Rattle.bac_tags.proofs.Answered.{Spelled}

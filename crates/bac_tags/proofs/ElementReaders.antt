@@ -9,7 +9,7 @@ use Rattle.bac_tags.specs.Tags.{SpellsTag}
 use Rattle.bac_tags.specs.Elements.{SpellsElement}
 use Rattle.bac_tags.specs.Contents.{IsUnsigned, IsSigned, IsObject, IsBoolean, IsBits, SpellsUnsigned, SpellsSigned, SpellsObject, SpellsBoolean, SpellsBits}
 use Rattle.bac_tags.specs.Stamps.{SpellsStamp}
-use Rattle.bac_tags.specs.Reading.{◌>>=◌, valued, content_at, unsigned_of, unsigned_at, signed_of, signed_at, identifier_of, object_at, boolean_of, boolean_at, bits_of, bits_at, stamp_at}
+use Rattle.bac_tags.specs.ReadingSteps.{◌>>=◌, valued, content_at, unsigned_of, unsigned_at, signed_of, signed_at, identifier_of, object_at, boolean_of, boolean_at, bits_of, bits_at, stamp_at}
 use Rattle.bac_tags.proofs.Steps.{bind_ok, ok_is}
 use Rattle.bac_tags.proofs.Standing.{IsBytes, Stands, Stands-from, Stands-then, Stands-front, Stands-back, Stands-within}
 use Rattle.bac_tags.proofs.Answered.{Spelled}

@@ -11,7 +11,7 @@ use Rattle.bac_values.specs.Identifier.{Identifier}
 use Rattle.bac_tags.specs.Contents.{IsUnsigned, IsSigned, IsObject, IsBits, mirrored}
 use Rattle.bac_tags.specs.Elements.{IsBetween}
 use Rattle.bac_values.specs.BitString.{BitString}
-use Rattle.bac_tags.specs.Reading.{unsigned_of, signed_of, identifier_of, string_of, bits_of}
+use Rattle.bac_tags.specs.ReadingSteps.{unsigned_of, signed_of, identifier_of, string_of, bits_of}
 use Rattle.bac_tags.proofs.Standing.{IsBytes}
 use Rattle.bac_tags.proofs.Steps.{chosen}
 use Rattle.bac_tags.proofs.Readers.{Values, Forms}

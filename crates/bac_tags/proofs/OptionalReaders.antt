@@ -8,7 +8,7 @@ use Rattle.bac_tags.proofs.Standing.{IsBytes, Stands}
 use Rattle.bac_tags.proofs.Answered.{Spelled}
 use Rattle.bac_tags.specs.declared.malformed.Malformed.{Malformed}
 use Rattle.bac_tags.specs.Refusals.{invalid_tag}
-use Rattle.bac_tags.specs.ParameterReading.{or_absent, optional}
+use Rattle.bac_tags.specs.ParameterReadingSteps.{or_absent, optional}
 use Rattle.bac_tags.proofs.RequiredReaders.{optional_inside, optional_outside, absent_other}
 use Rattle.bac_tags.proofs.ElementReaders.{Reader}
 use Rattle.bac_tags.proofs.Sequences.{stands_inside}

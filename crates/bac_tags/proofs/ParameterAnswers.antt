@@ -4,8 +4,8 @@ use Rattle.std.specs.Prelude.{◌⊎◌, ◌↔◌, IfOk}
 use Rattle.std.proofs.lemmas.Bool.{cases_lt, lt-ltb, le-ltb}
 use Rattle.bac_tags.specs.declared.malformed.Malformed.{Malformed}
 use Rattle.bac_tags.specs.Refusals.{too_many_arguments, Behind, RefusesMore}
-use Rattle.bac_tags.specs.ParameterReading.{nothing_follows, whole}
-use Rattle.bac_tags.specs.Reading.{◌>>=◌}
+use Rattle.bac_tags.specs.ParameterReadingSteps.{nothing_follows, whole}
+use Rattle.bac_tags.specs.ReadingSteps.{◌>>=◌}
 use Rattle.bac_tags.proofs.Steps.{bind_ok, bind_err, ok_is}
 
 -- what a step answers, and when

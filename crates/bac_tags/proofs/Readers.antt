@@ -7,7 +7,7 @@ use Rattle.bac_tags.specs.declared.fault.TagFault.{TagFault}
 use Rattle.bac_tags.specs.declared.fault.TagFault.TheVariants.{Truncated, WrongTag, BadLength}
 use Rattle.bac_tags.specs.Places.{IsSpelledAt}
 use Rattle.bac_tags.specs.Elements.{SpellsElement, IsBetween, EndsInElement, HasOtherTag, HasOtherLength, HasOtherForm}
-use Rattle.bac_tags.specs.Reading.{◌>>=◌, valued, formed, content_at}
+use Rattle.bac_tags.specs.ReadingSteps.{◌>>=◌, valued, formed, content_at}
 use Rattle.bac_tags.proofs.Steps.{bind_ok, bind_err, ok_is}
 use Rattle.bac_tags.proofs.Standing.{IsBytes, Stands, Stands-from}
 use Rattle.bac_tags.proofs.Answered.{Spelled, is_found, is_only}

@@ -9,7 +9,7 @@ use Rattle.bac_tags.specs.Elements.{HasOtherTag}
 use Rattle.bac_tags.specs.declared.malformed.Malformed.{Malformed}
 use Rattle.bac_tags.specs.Refusals.{invalid_tag, missing_parameter}
 use Rattle.bac_tags.specs.Parameters.{IsThere, IsAbsent, IsOptionalAt}
-use Rattle.bac_tags.specs.ParameterReading.{or_invalid, required, or_absent, optional}
+use Rattle.bac_tags.specs.ParameterReadingSteps.{or_invalid, required, or_absent, optional}
 
 pub record ReadsRequired {X : Type 0} (Spells : List ℕ → X → Type 0) (input : List ℕ) (place : ℕ) (answer : Result (X × ℕ) Malformed) : Type 0 where
   pub found : IfOk answer (λ x. IsSpelledAt Spells input place x.0 x.1)

@@ -11,7 +11,7 @@ use Rattle.bac_tags.specs.declared.tag.Tag.{Tag}
 use Rattle.bac_tags.specs.Tags.{FitsShape}
 use Rattle.bac_tags.specs.Contents.{IsUnsigned, IsSigned, IsObject, IsBoolean, IsBits}
 use Rattle.bac_tags.specs.Values.{IsOneElement}
-use Rattle.bac_tags.specs.Reading.{tag_at, unsigned_of, unsigned_at, signed_of, signed_at, identifier_of, object_at, boolean_of, boolean_at, bits_of, bits_at, stamp_at, value_at}
+use Rattle.bac_tags.specs.ReadingSteps.{tag_at, unsigned_of, unsigned_at, signed_of, signed_at, identifier_of, object_at, boolean_of, boolean_at, bits_of, bits_at, stamp_at, value_at}
 use Rattle.bac_tags.specs.Writing.{written_tag, written_unsigned, written_signed, written_object, written_boolean, written_bits, written_stamp, written_value}
 use Rattle.bac_tags.proofs.Standing.{Stands, Stands-from}
 use Rattle.bac_tags.proofs.TagLaws.{tag_again}

@@ -10,7 +10,7 @@ use Rattle.bac_tags.proofs.Standing.{IsBytes, Stands}
 use Rattle.bac_tags.proofs.Answered.{Spelled}
 use Rattle.bac_tags.specs.declared.malformed.Malformed.{Malformed}
 use Rattle.bac_tags.specs.Refusals.{invalid_tag, missing_parameter, too_many_arguments}
-use Rattle.bac_tags.specs.ParameterReading.{or_invalid, required, or_absent, optional, nothing_follows}
+use Rattle.bac_tags.specs.ParameterReadingSteps.{or_invalid, required, or_absent, optional, nothing_follows}
 use Rattle.bac_tags.proofs.RequiredReaders.{required_inside, required_outside, optional_inside, optional_outside}
 use Rattle.bac_tags.proofs.ElementReaders.{Reader}
 

@@ -7,7 +7,7 @@ use Rattle.bac_tags.specs.declared.fault.TagFault.TheVariants.{Truncated, WrongT
 use Rattle.bac_tags.specs.Places.{IsSpelledAt}
 use Rattle.bac_tags.specs.Elements.{SpellsElement, EndsInElement, HasOtherTag, HasOtherLength}
 use Rattle.bac_tags.specs.Stamps.{IsFour, SpellsDate, SpellsStamp, HasDate}
-use Rattle.bac_tags.specs.Reading.{◌>>=◌, content_at, stamp_at}
+use Rattle.bac_tags.specs.ReadingSteps.{◌>>=◌, content_at, stamp_at}
 use Rattle.bac_tags.proofs.Steps.{bind_ok, bind_err, ok_is}
 use Rattle.bac_tags.proofs.Standing.{IsBytes, Stands, Stands-from, Stands-then, Stands-front, Stands-back, Stands-within}
 use Rattle.bac_tags.proofs.Answered.{Spelled, is_found, is_only}

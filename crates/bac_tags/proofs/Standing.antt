@@ -5,7 +5,7 @@ use Rattle.std.proofs.lemmas.Bool.{ltb-false, le-ltb, lt-ltb, ltb-true}
 use Rattle.std.proofs.lemmas.List.{drop_more, drop-drop, drop_at, take_at, take-append-drop, length-append, length-take, length-drop}
 use Rattle.bac_tags.specs.declared.fault.TagFault.{TagFault}
 use Rattle.bac_tags.specs.declared.fault.TagFault.TheVariants.{Truncated}
-use Rattle.bac_tags.specs.Reading.{octet_at, octets_at}
+use Rattle.bac_tags.specs.ReadingSteps.{octet_at, octets_at}
 use Rattle.bac_tags.proofs.Steps.{chosen, guard_ok}
 
 abbrev pub IsBytes : List ℕ → Type 0

@@ -2,7 +2,7 @@
 use Rattle.std.proofs.Common.{◌≡◌, Bool, true, false, cond, Result, Ok, Err, refl, inl, inr}
 use Rattle.std.specs.Prelude.{◌⊎◌}
 use Rattle.bac_tags.specs.declared.fault.TagFault.{TagFault}
-use Rattle.bac_tags.specs.Reading.{◌>>=◌}
+use Rattle.bac_tags.specs.ReadingSteps.{◌>>=◌}
 
 -- the value of a step that did not fail
 pub bind_ok : {A B E : Type 0} (r : Result A E) (f : A → Result B E) (y : B) → (r >>= f) ≡ Ok y → (x : A) × (r ≡ Ok x) × (f x ≡ Ok y)

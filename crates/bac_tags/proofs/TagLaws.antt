@@ -6,7 +6,7 @@ use Rattle.bac_tags.specs.declared.tag.Tag.{Tag}
 use Rattle.bac_tags.specs.declared.tag.Shape.{Shape}
 use Rattle.bac_tags.specs.declared.tag.Shape.TheVariants.{Primitive, Opening, Closing}
 use Rattle.bac_tags.specs.Tags.{SpellsTagNumber, SpellsLength, SpellsShape, SpellsTag}
-use Rattle.bac_tags.specs.Reading.{◌>>=◌, octet_at, octets_at, number_at, extended_at, shape_at, tag_at}
+use Rattle.bac_tags.specs.ReadingSteps.{◌>>=◌, octet_at, octets_at, number_at, extended_at, shape_at, tag_at}
 use Rattle.bac_tags.proofs.Steps.{bind_ok, chosen, ok_is}
 use Rattle.bac_tags.proofs.Answered.{Spelled}
 use Rattle.bac_tags.proofs.Standing.{IsBytes, Stands, Stands-nil, Stands-then, Stands-front, Stands-back, octet_found, octet_small, octet_again, octets_found, octets_again}

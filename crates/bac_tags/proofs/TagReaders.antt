@@ -9,7 +9,7 @@ use Rattle.bac_tags.specs.declared.tag.Shape.{Shape}
 use Rattle.bac_tags.specs.declared.tag.Shape.TheVariants.{Primitive, Opening, Closing}
 use Rattle.bac_tags.specs.Places.{IsSpelledAt}
 use Rattle.bac_tags.specs.Tags.{SpellsTag, EndsInTag}
-use Rattle.bac_tags.specs.Reading.{◌>>=◌, tag_at}
+use Rattle.bac_tags.specs.ReadingSteps.{◌>>=◌, tag_at}
 use Rattle.bac_tags.proofs.Steps.{bind_ok, bind_err, chosen, ok_is}
 use Rattle.bac_tags.proofs.Standing.{IsBytes, Stands, Stands-from}
 use Rattle.bac_tags.proofs.TagLaws.{tag_found, tag_again}

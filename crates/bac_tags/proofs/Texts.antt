@@ -7,7 +7,7 @@ use Rattle.std.proofs.lemmas.Str.{is_utf8-from_IsUtf8, IsUtf8-from_is_utf8}
 use Rattle.bac_values.specs.declared.value.Value.TheVariants as values
 use Rattle.bac_values.specs.declared.value.Foreign.TheVariants.{NotUtf8}
 use Rattle.bac_tags.specs.Values.{has_length}
-use Rattle.bac_tags.specs.Reading.{octets_at, application_at, characters_in, text_in, value_in, value_at, IsText}
+use Rattle.bac_tags.specs.ReadingSteps.{octets_at, application_at, characters_in, text_in, value_in, value_at, IsText}
 
 pub is_text : (octets : List ℕ) → length octets ≤ 256 → IsUtf8 octets → characters_in octets ≡ values.Text octets
 is_text octets short utf8 = rw (le-ltb 256 (length octets) short, is_utf8-from_IsUtf8 octets utf8) refl

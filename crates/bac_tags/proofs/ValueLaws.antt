@@ -16,7 +16,7 @@ use Rattle.bac_tags.specs.Tags.{SpellsTag, EndsInTag}
 use Rattle.bac_tags.specs.Elements.{element_tag, SpellsElement}
 use Rattle.bac_tags.specs.Contents.{SpellsBoolean}
 use Rattle.bac_tags.specs.Values.{has_length, IsValue, SpellsValue, EndsInValue, HasNoValueTag, HasNoLength, HasNoString}
-use Rattle.bac_tags.specs.Reading.{◌>>=◌, octets_at, tag_at, length_in, application_at, number_in, text_in, string_in, value_in, value_at, unsigned_of, signed_of, identifier_of, string_of, IsText, GivesValue}
+use Rattle.bac_tags.specs.ReadingSteps.{◌>>=◌, octets_at, tag_at, length_in, application_at, number_in, text_in, string_in, value_in, value_at, unsigned_of, signed_of, identifier_of, string_of, IsText, GivesValue}
 use Rattle.bac_tags.proofs.Steps.{bind_ok, bind_err, chosen, ok_is}
 use Rattle.bac_tags.proofs.Standing.{IsBytes, Stands, Stands-from, Stands-then, Stands-front, Stands-back, Stands-within, octets_found, octets_again, octets_short, octets_cut}
 use Rattle.bac_tags.proofs.Answered.{Spelled, is_only}

@@ -8,7 +8,7 @@ use Rattle.bac_tags.specs.declared.tag.Tag.{Tag}
 use Rattle.bac_tags.specs.declared.tag.Shape.{Shape}
 use Rattle.bac_tags.specs.declared.tag.Shape.TheVariants.{Primitive, Opening, Closing}
 use Rattle.bac_tags.specs.Tags.{SpellsTag}
-use Rattle.bac_tags.specs.Reading.{◌>>=◌, tag_at}
+use Rattle.bac_tags.specs.ReadingSteps.{◌>>=◌, tag_at}
 use Rattle.bac_tags.specs.EnclosingTags.{opening, closing, opening_at}
 
 -- how many octets of content stand behind the tag of a primitive element; the value of an application's Boolean is in its tag (20.2.3)

@@ -7,7 +7,7 @@ use Rattle.bac_tags.specs.declared.tag.Shape.{Shape}
 use Rattle.bac_tags.specs.declared.tag.Shape.TheVariants.{Primitive, Opening, Closing}
 use Rattle.bac_tags.specs.Tags.{SpellsTag}
 use Rattle.bac_tags.specs.Elements.{SpellsElement, IsBetween}
-use Rattle.bac_tags.specs.Reading.{◌>>=◌, tag_at}
+use Rattle.bac_tags.specs.ReadingSteps.{◌>>=◌, tag_at}
 
 abbrev pub in_context : ℕ → Shape → Tag
 in_context number shape = record { number = number; context = true; shape = shape }

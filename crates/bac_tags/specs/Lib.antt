@@ -1,6 +1,6 @@
 pub mod Places
 pub mod Tags
-pub mod Reading
+pub mod ReadingSteps
 pub mod Writing
 pub mod Elements
 pub mod Contents
@@ -10,5 +10,5 @@ pub mod EnclosingTags
 pub mod Balanced
 pub mod Parameters
 pub mod Refusals
-pub mod ParameterReading
+pub mod ParameterReadingSteps
 pub mod ParameterWriting

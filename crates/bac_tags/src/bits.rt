@@ -4,7 +4,7 @@ ghost use Rattle.bac_values.specs.ApplicationTags.{bit_string_tag};
 ghost use Rattle.bac_tags.specs.Places.{IsSpelledAt};
 ghost use Rattle.bac_tags.specs.Elements.{EndsInElement, HasOtherTag, HasOtherLength, HasOtherForm};
 ghost use Rattle.bac_tags.specs.Contents.{IsBits, SpellsBits, mirrored};
-ghost use Rattle.bac_tags.specs.Reading.{unsigned_of, string_of, bits_of, bits_at};
+ghost use Rattle.bac_tags.specs.ReadingSteps.{unsigned_of, string_of, bits_of, bits_at};
 ghost use Rattle.bac_tags.specs.Writing.{written_bits};
 
 use crate::TagFault;
@@ -70,7 +70,7 @@ pub(crate) fn bits_of(content: &[u8]) -> Option<Bits>
 }
 
 /// The BitString at a place, and the place after it.
-#[tactic(auto, unfolding(crate::specs::Reading::bits_at))]
+#[tactic(auto, unfolding(crate::specs::ReadingSteps::bits_at))]
 fn bits_at(input: &[u8], at: usize, context: Option<u8>) -> Result<(Bits, usize), TagFault>
     requires { at ≤ length input.now }
     ensures exact { result ≡ bits_at input.now at context }

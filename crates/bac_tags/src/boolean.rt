@@ -4,7 +4,7 @@ ghost use Rattle.bac_values.specs.ApplicationTags.{boolean_tag};
 ghost use Rattle.bac_tags.specs.Places.{IsSpelledAt};
 ghost use Rattle.bac_tags.specs.Elements.{HasOtherTag};
 ghost use Rattle.bac_tags.specs.Contents.{SpellsBoolean, EndsInBoolean, IsNoBoolean};
-ghost use Rattle.bac_tags.specs.Reading.{boolean_in, boolean_at};
+ghost use Rattle.bac_tags.specs.ReadingSteps.{boolean_in, boolean_at};
 ghost use Rattle.bac_tags.specs.Writing.{written_boolean};
 
 use crate::element::{BOOLEAN, content_at, element_tag, header_at, write_element};
@@ -23,7 +23,7 @@ fn boolean_in(number: u32) -> Option<bool>
 }
 
 /// The Boolean at a place, and the place after it.
-#[tactic(auto, unfolding(crate::specs::Reading::boolean_at))]
+#[tactic(auto, unfolding(crate::specs::ReadingSteps::boolean_at))]
 fn boolean_at(input: &[u8], at: usize, context: Option<u8>) -> Result<(bool, usize), TagFault>
     requires { at ≤ length input.now }
     ensures exact { result ≡ boolean_at input.now at context }

@@ -1,6 +1,6 @@
 ghost use Rattle.std.specs.Prelude.{◌≡◌, ◌+◌, ◌<◌, ◌≤◌, ◌^◌, ◌++◌, length, IfOk, OnOk, OnErr};
 ghost use Rattle.bac_tags.specs.Elements.{element_tag};
-ghost use Rattle.bac_tags.specs.Reading.{Gives, header_at, content_at};
+ghost use Rattle.bac_tags.specs.ReadingSteps.{Gives, header_at, content_at};
 ghost use Rattle.bac_tags.specs.Writing.{written_element};
 
 use crate::octets::octets_at;
@@ -34,7 +34,7 @@ pub(crate) const OBJECT_IDENTIFIER: u8 = ApplicationTag::OBJECT_IDENTIFIER.0;
 
 /// The length in the tag of a primitive element of that type, or with that number in a context, and the place
 /// after the tag.
-#[tactic(auto, unfolding(crate::specs::Reading::header_at))]
+#[tactic(auto, unfolding(crate::specs::ReadingSteps::header_at))]
 pub(crate) fn header_at(
     input: &[u8],
     at: usize,
@@ -57,7 +57,7 @@ pub(crate) fn header_at(
 
 /// The content of a primitive element of that type, or with that number in a context, whose length is from
 /// `least` to `most`, and the place after it.
-#[tactic(auto, unfolding(crate::specs::Reading::content_at))]
+#[tactic(auto, unfolding(crate::specs::ReadingSteps::content_at))]
 pub(crate) fn content_at(
     input: &[u8],
     at: usize,

@@ -2,10 +2,10 @@ ghost use Rattle.std.specs.Prelude.{◌≡◌, ◌↔◌, ℕ, ◌<◌, ◌≤�
 ghost use Rattle.bac_values.specs.Identifier.{Identifier};
 ghost use Rattle.bac_tags.specs.Places.{IsSpelledAt};
 ghost use Rattle.bac_tags.specs.Contents.{SpellsUnsigned, SpellsObject};
-ghost use Rattle.bac_tags.specs.Reading.{unsigned_at, object_at};
+ghost use Rattle.bac_tags.specs.ReadingSteps.{unsigned_at, object_at};
 ghost use Rattle.bac_tags.specs.Refusals.{invalid_tag, missing_parameter};
 ghost use Rattle.bac_tags.specs.Parameters.{IsThere, IsAbsent, IsOptionalAt};
-ghost use Rattle.bac_tags.specs.ParameterReading.{required, optional};
+ghost use Rattle.bac_tags.specs.ParameterReadingSteps.{required, optional};
 
 use crate::malformed::Malformed;
 use crate::parameter::{optional, required};

@@ -1,7 +1,7 @@
 ghost use Rattle.std.specs.Prelude.{◌≡◌, ◌↔◌, ℕ, ◌<◌, ◌≤◌, ◌++◌, Some, length, drop, IfOk, OnOk, OnErr};
 ghost use Rattle.bac_tags.specs.Places.{IsSpelledAt};
 ghost use Rattle.bac_tags.specs.Tags.{EndsInTag};
-ghost use Rattle.bac_tags.specs.Reading.{Gives, content_at};
+ghost use Rattle.bac_tags.specs.ReadingSteps.{Gives, content_at};
 ghost use Rattle.bac_tags.specs.Writing.{written_tag};
 ghost use Rattle.bac_tags.specs.EnclosingTags.{in_context, opening, closing, SpellsOnly, IsOtherTag, opening_at, closing_at};
 

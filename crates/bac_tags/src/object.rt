@@ -4,7 +4,7 @@ ghost use Rattle.bac_values.specs.ApplicationTags.{object_identifier_tag};
 ghost use Rattle.bac_tags.specs.Places.{IsSpelledAt};
 ghost use Rattle.bac_tags.specs.Elements.{EndsInElement, HasOtherTag, HasOtherLength};
 ghost use Rattle.bac_tags.specs.Contents.{SpellsObject};
-ghost use Rattle.bac_tags.specs.Reading.{identifier_of, object_at};
+ghost use Rattle.bac_tags.specs.ReadingSteps.{identifier_of, object_at};
 ghost use Rattle.bac_tags.specs.Writing.{written_object};
 
 use crate::TagFault;
@@ -25,7 +25,7 @@ pub(crate) fn identifier_of(content: &[u8]) -> ObjectId
 }
 
 /// The ObjectIdentifier at a place, and the place after it.
-#[tactic(auto, unfolding(crate::specs::Reading::object_at))]
+#[tactic(auto, unfolding(crate::specs::ReadingSteps::object_at))]
 fn object_at(input: &[u8], at: usize, context: Option<u8>) -> Result<(ObjectId, usize), TagFault>
     requires { at ≤ length input.now }
     ensures exact { result ≡ object_at input.now at context }

@@ -1,5 +1,5 @@
 ghost use Rattle.std.specs.Prelude.{◌≡◌};
-ghost use Rattle.bac_tags.specs.ParameterReading.{or_invalid, required, optional, nothing_follows};
+ghost use Rattle.bac_tags.specs.ParameterReadingSteps.{or_invalid, required, optional, nothing_follows};
 
 use crate::TagFault;
 use crate::malformed::{Malformed, invalid_tag, missing_parameter, too_many_arguments};

@@ -8,7 +8,7 @@ ghost use Rattle.bac_tags.specs.declared.tag.Tag.{Tag};
 ghost use Rattle.bac_tags.specs.Tags.{FitsShape};
 ghost use Rattle.bac_tags.specs.Contents.{IsBits};
 ghost use Rattle.bac_tags.specs.Values.{IsOneElement};
-ghost use Rattle.bac_tags.specs.Reading.{tag_at, unsigned_at, signed_at, object_at, boolean_at, bits_at, stamp_at, value_at};
+ghost use Rattle.bac_tags.specs.ReadingSteps.{tag_at, unsigned_at, signed_at, object_at, boolean_at, bits_at, stamp_at, value_at};
 ghost use Rattle.bac_tags.specs.Writing.{written_tag, written_unsigned, written_signed, written_object, written_boolean, written_bits, written_stamp, written_value};
 
 /// What was written is read back with its place, whatever stands before it and behind it. A date with a time is

@@ -3,7 +3,7 @@ ghost use Rattle.bac_values.specs.ApplicationTags.{signed_tag};
 ghost use Rattle.bac_tags.specs.Places.{IsSpelledAt};
 ghost use Rattle.bac_tags.specs.Elements.{EndsInElement, HasOtherTag, HasOtherLength};
 ghost use Rattle.bac_tags.specs.Contents.{SpellsSigned};
-ghost use Rattle.bac_tags.specs.Reading.{signed_of, signed_at};
+ghost use Rattle.bac_tags.specs.ReadingSteps.{signed_of, signed_at};
 ghost use Rattle.bac_tags.specs.Writing.{signed_size, written_signed};
 
 use crate::TagFault;
@@ -21,7 +21,7 @@ pub(crate) fn signed_of(content: &[u8]) -> i32
 }
 
 /// The Signed at a place, and the place after it.
-#[tactic(auto, unfolding(crate::specs::Reading::signed_at))]
+#[tactic(auto, unfolding(crate::specs::ReadingSteps::signed_at))]
 fn signed_at(input: &[u8], at: usize, context: Option<u8>) -> Result<(i32, usize), TagFault>
     requires { at ≤ length input.now }
     ensures exact { result ≡ signed_at input.now at context }

@@ -4,7 +4,7 @@ ghost use Rattle.bac_values.specs.ApplicationTags.{date_tag, time_tag};
 ghost use Rattle.bac_tags.specs.Places.{IsSpelledAt};
 ghost use Rattle.bac_tags.specs.Elements.{EndsInElement, HasOtherTag, HasOtherLength};
 ghost use Rattle.bac_tags.specs.Stamps.{SpellsStamp, HasDate};
-ghost use Rattle.bac_tags.specs.Reading.{stamp_at};
+ghost use Rattle.bac_tags.specs.ReadingSteps.{stamp_at};
 ghost use Rattle.bac_tags.specs.Writing.{written_stamp};
 
 use crate::TagFault;
@@ -25,7 +25,7 @@ fn stamp_of(date: &[u8], time: &[u8]) -> Stamp
 }
 
 /// The stamp at a place, and the place after it.
-#[tactic(auto, unfolding(crate::specs::Reading::stamp_at))]
+#[tactic(auto, unfolding(crate::specs::ReadingSteps::stamp_at))]
 fn stamp_at(input: &[u8], at: usize) -> Result<(Stamp, usize), TagFault>
     requires { at ≤ length input.now }
     ensures exact { result ≡ stamp_at input.now at }

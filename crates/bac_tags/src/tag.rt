@@ -1,7 +1,7 @@
 ghost use Rattle.std.specs.Prelude.{◌≡◌, ◌↔◌, ℕ, ◌<◌, ◌≤◌, ◌++◌, length, drop, IfErr, IfOk, OnOk, OnErr};
 ghost use Rattle.bac_tags.specs.Places.{IsSpelledAt};
 ghost use Rattle.bac_tags.specs.Tags.{SpellsTag, EndsInTag};
-ghost use Rattle.bac_tags.specs.Reading.{number_at, extended_at, shape_at, tag_at};
+ghost use Rattle.bac_tags.specs.ReadingSteps.{number_at, extended_at, shape_at, tag_at};
 ghost use Rattle.bac_tags.specs.Writing.{written_low, written_tag};
 
 use crate::TagFault;
@@ -35,7 +35,7 @@ pub enum Shape {
 }
 
 /// The tag's number, and the place after it.
-#[tactic(auto, unfolding(crate::specs::Reading::number_at))]
+#[tactic(auto, unfolding(crate::specs::ReadingSteps::number_at))]
 fn number_at(input: &[u8], place: usize, high: u8) -> Result<(u8, usize), TagFault>
     requires { place ≤ length input.now }
     ensures exact { result ≡ number_at input.now place high }
@@ -49,7 +49,7 @@ fn number_at(input: &[u8], place: usize, high: u8) -> Result<(u8, usize), TagFau
 }
 
 /// A length of its own octets, and the place after them.
-#[tactic(auto, unfolding(crate::specs::Reading::extended_at))]
+#[tactic(auto, unfolding(crate::specs::ReadingSteps::extended_at))]
 fn extended_at(input: &[u8], place: usize) -> Result<(u32, usize), TagFault>
     ensures exact { result ≡ extended_at input.now place }
     ensures within { IfOk result (λ x. (place < x.1) × (x.1 ≤ length input.now)) }
@@ -69,7 +69,7 @@ fn extended_at(input: &[u8], place: usize) -> Result<(u32, usize), TagFault>
 }
 
 /// What follows the tag, and the place after its length.
-#[tactic(auto, unfolding(crate::specs::Reading::shape_at))]
+#[tactic(auto, unfolding(crate::specs::ReadingSteps::shape_at))]
 fn shape_at(input: &[u8], place: usize, low: u8) -> Result<(Shape, usize), TagFault>
     requires { place ≤ length input.now }
     ensures exact { result ≡ shape_at input.now place low }
@@ -92,7 +92,7 @@ fn shape_at(input: &[u8], place: usize, low: u8) -> Result<(Shape, usize), TagFa
 }
 
 /// The tag at a place, and the place after it.
-#[tactic(auto, unfolding(crate::specs::Reading::tag_at))]
+#[tactic(auto, unfolding(crate::specs::ReadingSteps::tag_at))]
 fn tag_at(input: &[u8], at: usize) -> Result<(Tag, usize), TagFault>
     ensures exact { result ≡ tag_at input.now at }
     ensures within { IfOk result (λ x. (at < x.1) × (x.1 ≤ length input.now)) }

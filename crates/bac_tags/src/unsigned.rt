@@ -3,7 +3,7 @@ ghost use Rattle.bac_values.specs.ApplicationTags.{unsigned_tag};
 ghost use Rattle.bac_tags.specs.Places.{IsSpelledAt};
 ghost use Rattle.bac_tags.specs.Elements.{EndsInElement, HasOtherTag, HasOtherLength};
 ghost use Rattle.bac_tags.specs.Contents.{SpellsUnsigned, SpellsEnumerated};
-ghost use Rattle.bac_tags.specs.Reading.{unsigned_of, unsigned_at};
+ghost use Rattle.bac_tags.specs.ReadingSteps.{unsigned_of, unsigned_at};
 ghost use Rattle.bac_tags.specs.Writing.{unsigned_size, written_unsigned, written_enumerated};
 
 use crate::TagFault;
@@ -21,7 +21,7 @@ pub(crate) fn unsigned_of(content: &[u8]) -> u32
 }
 
 /// The Unsigned at a place, and the place after it.
-#[tactic(auto, unfolding(crate::specs::Reading::unsigned_at))]
+#[tactic(auto, unfolding(crate::specs::ReadingSteps::unsigned_at))]
 fn unsigned_at(input: &[u8], at: usize, context: Option<u8>) -> Result<(u32, usize), TagFault>
     requires { at ≤ length input.now }
     ensures exact { result ≡ unsigned_at input.now at context }

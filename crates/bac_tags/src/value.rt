@@ -3,7 +3,7 @@ ghost use Rattle.bac_values.specs.declared.value.Value.{Value};
 ghost use Rattle.bac_tags.specs.Places.{IsSpelledAt};
 ghost use Rattle.bac_tags.specs.Tags.{EndsInTag};
 ghost use Rattle.bac_tags.specs.Values.{has_length, SpellsValue, EndsInValue, HasNoValueTag, HasNoLength, HasNoString, IsWritable, SpellsWritten};
-ghost use Rattle.bac_tags.specs.Reading.{application_at, characters_in, text_in, string_in, value_in, value_at, IsText, GivesValue};
+ghost use Rattle.bac_tags.specs.ReadingSteps.{application_at, characters_in, text_in, string_in, value_in, value_at, IsText, GivesValue};
 ghost use Rattle.bac_tags.specs.Writing.{written_value};
 
 use crate::bits::bits_of;
@@ -23,7 +23,7 @@ use bac_values::{Foreign, NoMemory, Text, Value};
 use std::alloc::Global;
 
 /// The type and the length in the tag of an application's primitive element, and the place after the tag.
-#[tactic(auto, unfolding(crate::specs::Reading::application_at))]
+#[tactic(auto, unfolding(crate::specs::ReadingSteps::application_at))]
 fn application_at(input: &[u8], at: usize) -> Result<(u8, u32, usize), TagFault>
     requires { at ≤ length input.now }
     ensures exact { result ≡ application_at input.now at }
@@ -107,7 +107,7 @@ fn string_in(content: &[u8]) -> Option<Value>
 }
 
 /// The value of a content of that type, whose length the type has. None where the content isn't of its form.
-#[tactic(auto, unfolding(crate::specs::Reading::value_in))]
+#[tactic(auto, unfolding(crate::specs::ReadingSteps::value_in))]
 fn value_in(alloc: Global, kind: u8, content: &[u8]) -> Result<Option<Value>, NoMemory>
     requires { IsTrue (has_length kind (length content.now)) }
     ensures value { IfOk result (λ value. value ≡ value_in kind content.now) }
@@ -135,7 +135,7 @@ fn value_in(alloc: Global, kind: u8, content: &[u8]) -> Result<Option<Value>, No
 }
 
 /// The value at a place, and the place after it.
-#[tactic(auto, unfolding(crate::specs::Reading::value_at))]
+#[tactic(auto, unfolding(crate::specs::ReadingSteps::value_at))]
 fn value_at(alloc: Global, input: &[u8], at: usize) -> Result<(Value, usize), TagFault>
     requires { at ≤ length input.now }
     ensures exact { GivesValue result (value_at input.now at) }

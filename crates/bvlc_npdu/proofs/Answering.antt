@@ -3,7 +3,7 @@ use Rattle.std.proofs.Common.{◌≡◌, ℕ, ◌-◌, ◌≤◌, List, length, 
 use Rattle.std.proofs.lemmas.Option.{some_pair_parts, none-some}
 use Rattle.bac_values.specs.Address.{Address}
 use Rattle.bvlc_npdu.specs.Frame.{IsFrame}
-use Rattle.bvlc_npdu.specs.Reading.{frame_at}
+use Rattle.bvlc_npdu.specs.ReadingSteps.{frame_at}
 use Rattle.bvlc_npdu.proofs.Numbers.{AreOctets}
 use Rattle.bvlc_npdu.proofs.Taking.{frame_takes}
 use Rattle.bvlc_npdu.proofs.Finding.{frame_found, apdu_ends, length-EndsWith, drop-EndsWith}

@@ -8,7 +8,7 @@ use Rattle.byteorder.specs.Endian.{big_number}
 use Rattle.byteorder.specs.Numbers.{big_number-reads_back}
 use Rattle.bac_values.specs.Address.{Address}
 use Rattle.bvlc_npdu.specs.Frame.{has_bit, IsMessage, IsCarried, IsGlobalBroadcast, IsStation, IsNpdu, IsFrame}
-use Rattle.bvlc_npdu.specs.Reading.{◌>>=◌, past, message_at, forwarded_at, origin_at, after_global_broadcast, after_destination, station_at, source_at, after_hop_count, addressed_at, npdu_at, frame_at}
+use Rattle.bvlc_npdu.specs.ReadingSteps.{◌>>=◌, past, message_at, forwarded_at, origin_at, after_global_broadcast, after_destination, station_at, source_at, after_hop_count, addressed_at, npdu_at, frame_at}
 
 message_spelled : (function n : ℕ) (content : List ℕ) → n < 2 ^ 16 → n ≡ 4 + length content → message_at (0x81 ∷ function ∷ bytes_high_first 2 n ++ content) ≡ Some (function, content)
 unfolding message_at

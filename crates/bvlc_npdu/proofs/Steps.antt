@@ -1,6 +1,6 @@
 -- What a step that answered has passed.
 use Rattle.std.proofs.Common.{◌≡◌, Bool, true, false, cond, Option, Some, None, refl, ◌⊎◌, inl, inr}
-use Rattle.bvlc_npdu.specs.Reading.{◌>>=◌}
+use Rattle.bvlc_npdu.specs.ReadingSteps.{◌>>=◌}
 
 -- the value of a step that answered
 pub bind_some : {A B : Type 0} (o : Option A) (f : A → Option B) (y : B) → (o >>= f) ≡ Some y → (x : A) × (o ≡ Some x) × (f x ≡ Some y)

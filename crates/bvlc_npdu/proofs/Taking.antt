@@ -8,7 +8,7 @@ use Rattle.std.proofs.lemmas.Option.{same_Some}
 use Rattle.byteorder.specs.Endian.{big_number}
 use Rattle.bac_values.specs.Address.{Address}
 use Rattle.bvlc_npdu.specs.Frame.{has_bit, IsMessage, IsCarried, IsForwarded, IsGlobalBroadcast, IsStation, IsDestination, IsSource, IsHopCount, IsNpdu, IsFrame}
-use Rattle.bvlc_npdu.specs.Reading.{◌>>=◌, past, message_at, forwarded_at, origin_at, after_global_broadcast, after_destination, station_at, source_at, after_hop_count, addressed_at, npdu_at, frame_at}
+use Rattle.bvlc_npdu.specs.ReadingSteps.{◌>>=◌, past, message_at, forwarded_at, origin_at, after_global_broadcast, after_destination, station_at, source_at, after_hop_count, addressed_at, npdu_at, frame_at}
 use Rattle.bvlc_npdu.proofs.Steps.{bind_some, guard_some, test_some, branch_taken}
 use Rattle.bvlc_npdu.proofs.Numbers.{AreOctets, AreOctets-behind, octets_of_two, octets_of_four}
 

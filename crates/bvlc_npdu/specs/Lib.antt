@@ -1,3 +1,3 @@
 pub mod Frame
-pub mod Reading
+pub mod ReadingSteps
 pub mod Writing

@@ -1,9 +1,9 @@
 ghost use Rattle.std.specs.Prelude.{◌≡◌, ◌≢◌, ◌≤◌, List, ℕ, drop, length, IfSome, IsSomeAnd};
 ghost use Rattle.bac_values.specs.Address.{Address};
 ghost use Rattle.bvlc_npdu.specs.Frame.{IsFrame};
-ghost use Rattle.bvlc_npdu.specs.Reading.{Answers, past, message_at, forwarded_at, origin_at};
-ghost use Rattle.bvlc_npdu.specs.Reading.{after_global_broadcast, after_destination, station_at, source_at};
-ghost use Rattle.bvlc_npdu.specs.Reading.{after_hop_count, addressed_at, npdu_at, frame_at, incoming_at};
+ghost use Rattle.bvlc_npdu.specs.ReadingSteps.{Answers, past, message_at, forwarded_at, origin_at};
+ghost use Rattle.bvlc_npdu.specs.ReadingSteps.{after_global_broadcast, after_destination, station_at, source_at};
+ghost use Rattle.bvlc_npdu.specs.ReadingSteps.{after_hop_count, addressed_at, npdu_at, frame_at, incoming_at};
 
 use crate::layout::{
     ALL_NETWORKS, BVLL_OF_IP, FORWARDED, HAS_DESTINATION, HAS_SOURCE, IS_NETWORK_MESSAGE,
@@ -32,7 +32,7 @@ fn past(count: usize, octets: &[u8]) -> Option<&[u8]>
 }
 
 /// The function of a message that is as long as it says, and what it carries.
-#[tactic(auto, unfolding(crate::specs::Reading::message_at))]
+#[tactic(auto, unfolding(crate::specs::ReadingSteps::message_at))]
 fn read_message(octets: &[u8]) -> Option<(u8, &[u8])>
     ensures { Answers (λ message. (message.0, message.1.now)) result (message_at octets.now) }
 {
@@ -48,7 +48,7 @@ fn read_message(octets: &[u8]) -> Option<(u8, &[u8])>
 }
 
 /// The device that a Forwarded-NPDU names, and the NPDU.
-#[tactic(auto, unfolding(crate::specs::Reading::forwarded_at))]
+#[tactic(auto, unfolding(crate::specs::ReadingSteps::forwarded_at))]
 fn read_forwarded(content: &[u8]) -> Option<(Peer, &[u8])>
     ensures { Answers (λ carried. (carried.0, carried.1.now)) result (forwarded_at content.now) }
 {
@@ -61,7 +61,7 @@ fn read_forwarded(content: &[u8]) -> Option<(Peer, &[u8])>
 }
 
 /// The device from which the NPDU comes that a function carries, and the NPDU.
-#[tactic(auto, unfolding(crate::specs::Reading::origin_at))]
+#[tactic(auto, unfolding(crate::specs::ReadingSteps::origin_at))]
 fn read_origin(sender: Peer, function: u8, content: &[u8]) -> Option<(Peer, &[u8])>
     ensures { Answers (λ carried. (carried.0, carried.1.now)) result (origin_at sender function content.now) }
 {
@@ -73,7 +73,7 @@ fn read_origin(sender: Peer, function: u8, content: &[u8]) -> Option<(Peer, &[u8
 }
 
 /// The octets behind a destination that stands for all networks.
-#[tactic(auto, unfolding(crate::specs::Reading::after_global_broadcast))]
+#[tactic(auto, unfolding(crate::specs::ReadingSteps::after_global_broadcast))]
 fn skip_global_broadcast(octets: &[u8]) -> Option<&[u8]>
     ensures { Answers (λ rest. rest.now) result (after_global_broadcast octets.now) }
 {
@@ -87,7 +87,7 @@ fn skip_global_broadcast(octets: &[u8]) -> Option<&[u8]>
 }
 
 /// The octets behind the destination, where the control octet says that there is one.
-#[tactic(auto, unfolding(crate::specs::Reading::after_destination))]
+#[tactic(auto, unfolding(crate::specs::ReadingSteps::after_destination))]
 fn skip_destination(control: u8, octets: &[u8]) -> Option<&[u8]>
     ensures { Answers (λ rest. rest.now) result (after_destination control octets.now) }
 {
@@ -98,7 +98,7 @@ fn skip_destination(control: u8, octets: &[u8]) -> Option<&[u8]>
 }
 
 /// The network and the address of a station, and the octets behind them.
-#[tactic(auto, unfolding(crate::specs::Reading::station_at))]
+#[tactic(auto, unfolding(crate::specs::ReadingSteps::station_at))]
 fn read_station(octets: &[u8]) -> Option<(u16, Mac, &[u8])>
     ensures exact { Answers (λ station. (station.0, station.1, station.2.now)) result
         (station_at octets.now) }
@@ -122,7 +122,7 @@ fn read_station(octets: &[u8]) -> Option<(u16, Mac, &[u8])>
 }
 
 /// The peer, which is a station behind the device where the control octet says that there is a source.
-#[tactic(auto, unfolding(crate::specs::Reading::source_at))]
+#[tactic(auto, unfolding(crate::specs::ReadingSteps::source_at))]
 fn read_source(control: u8, origin: Peer, octets: &[u8]) -> Option<(Peer, &[u8])>
     ensures { Answers (λ source. (source.0, source.1.now)) result (source_at control origin octets.now) }
 {
@@ -136,7 +136,7 @@ fn read_source(control: u8, origin: Peer, octets: &[u8]) -> Option<(Peer, &[u8])
 }
 
 /// The octets behind the hop count, which goes with a destination.
-#[tactic(auto, unfolding(crate::specs::Reading::after_hop_count))]
+#[tactic(auto, unfolding(crate::specs::ReadingSteps::after_hop_count))]
 fn skip_hop_count(control: u8, octets: &[u8]) -> Option<&[u8]>
     ensures { Answers (λ rest. rest.now) result (after_hop_count control octets.now) }
 {
@@ -147,7 +147,7 @@ fn skip_hop_count(control: u8, octets: &[u8]) -> Option<&[u8]>
 }
 
 /// The peer and the APDU behind the control octet.
-#[tactic(auto, unfolding(crate::specs::Reading::addressed_at))]
+#[tactic(auto, unfolding(crate::specs::ReadingSteps::addressed_at))]
 fn read_addressed(origin: Peer, control: u8, octets: &[u8]) -> Option<(Peer, &[u8])>
     ensures { Answers (λ found. (found.0, found.1.now)) result (addressed_at origin control octets.now) }
 {
@@ -160,7 +160,7 @@ fn read_addressed(origin: Peer, control: u8, octets: &[u8]) -> Option<(Peer, &[u
 }
 
 /// The peer and the APDU of an NPDU that is no message of the network layer.
-#[tactic(auto, unfolding(crate::specs::Reading::npdu_at))]
+#[tactic(auto, unfolding(crate::specs::ReadingSteps::npdu_at))]
 fn read_npdu(origin: Peer, octets: &[u8]) -> Option<(Peer, &[u8])>
     ensures { Answers (λ found. (found.0, found.1.now)) result (npdu_at origin octets.now) }
 {
@@ -175,7 +175,7 @@ fn read_npdu(origin: Peer, octets: &[u8]) -> Option<(Peer, &[u8])>
 }
 
 /// The peer and the APDU of a datagram.
-#[tactic(auto, unfolding(crate::specs::Reading::frame_at))]
+#[tactic(auto, unfolding(crate::specs::ReadingSteps::frame_at))]
 fn read_frame(sender: Peer, bytes: &[u8]) -> Option<(Peer, &[u8])>
     ensures { Answers (λ found. (found.0, found.1.now)) result (frame_at sender bytes.now) }
 {

@@ -16,7 +16,7 @@ use Rattle.event_machine.specs.Detection.{Detection, sees, fault_target, fault_b
 use Rattle.event_machine.specs.Runs.{earliest, run_with, run_start_of, run_at, runs_of}
 use Rattle.event_machine.specs.Since.{detection_tried}
 use Rattle.event_machine.specs.Summary.{AlarmState, alarm_of, IsAfter}
-use Rattle.event_machine.specs.Next.{key_at, run_onward, next_run, next_runs, lasting, lasting_at, or_else, rule_lasting}
+use Rattle.event_machine.specs.AlarmSteps.{key_at, run_onward, next_run, next_runs, lasting, lasting_at, or_else, rule_lasting}
 use Rattle.event_machine.specs.Due.{due_by, due_at, earlier, next_due_of, has_come, SeesTheSame}
 use Rattle.event_machine.proofs.Courses.{IsKnown, known}
 use Rattle.event_machine.proofs.GoingOn.{three_same, ready, runs_onward}

@@ -11,7 +11,7 @@ use Rattle.algorithm_rules.specs.Rules.{rules_of, match_rules, command_rules, li
 use Rattle.event_machine.specs.Held.{is_held}
 use Rattle.event_machine.specs.Detection.{Detection, rule_held}
 use Rattle.event_machine.specs.Runs.{run_start_of, runs_of, has_gone_on}
-use Rattle.event_machine.specs.Next.{lasting, lasting_at, or_else, rule_lasting}
+use Rattle.event_machine.specs.AlarmSteps.{lasting, lasting_at, or_else, rule_lasting}
 
 abbrev pick : (Rule → Bool) → Option Rule → Option Rule
 pick test None = None

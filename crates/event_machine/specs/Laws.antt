@@ -9,7 +9,7 @@ use Rattle.event_machine.specs.Detection.{sees, detection_at, moves_at}
 use Rattle.event_machine.specs.Runs.{run_at, run_start_of, has_gone_on}
 use Rattle.event_machine.specs.Since.{detection_tried}
 use Rattle.event_machine.specs.Summary.{AlarmState, IsAfter}
-use Rattle.event_machine.specs.Next.{acknowledged, begun, key_at, next_look, next_run}
+use Rattle.event_machine.specs.AlarmSteps.{acknowledged, begun, key_at, next_look, next_run}
 
 pub record KeepsCourse : Type 0 where
   pub begins : (algorithm : Algorithm) (first : Point) → IsAfter algorithm first [] (begun algorithm first)

@@ -5,7 +5,7 @@ pub mod AlarmRecord
 pub mod Since
 pub mod Runs
 pub mod Summary
-pub mod Next
+pub mod AlarmSteps
 pub mod Laws
 pub mod Given
 pub mod Rest

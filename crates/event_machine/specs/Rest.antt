@@ -3,7 +3,7 @@ use Rattle.std.specs.Prelude.{Bool, ◌&&◌, ◌||◌, if◌then◌else◌, is_
 use Rattle.algorithm_rules.specs.declared.table.Algorithm.{Algorithm}
 use Rattle.event_machine.specs.Points.{Point}
 use Rattle.event_machine.specs.Detection.{fault_target, is_fault, is_normal}
-use Rattle.event_machine.specs.Next.{next_runs, rule_lasting}
+use Rattle.event_machine.specs.AlarmSteps.{next_runs, rule_lasting}
 use Rattle.event_machine.specs.Summary.{AlarmState}
 
 -- no fault comes, changes or ends; and the object is in FAULT, or inhibited in NORMAL, or the run of no rule has gone on for its delay

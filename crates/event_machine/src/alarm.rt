@@ -7,7 +7,7 @@ ghost use Rattle.event_machine.specs.Given.{alarm_of_parts, point_of};
 ghost use Rattle.event_machine.specs.Points.{Point, Incident, Acknowledged};
 ghost use Rattle.event_machine.specs.Runs.{AreInRange};
 ghost use Rattle.event_machine.specs.Summary.{IsAfter};
-ghost use Rattle.event_machine.specs.Next.{acknowledged, begins, entered, goes_on, new_alarm};
+ghost use Rattle.event_machine.specs.AlarmSteps.{acknowledged, begins, entered, goes_on, new_alarm};
 
 use crate::running::next_runs;
 use crate::{AlarmParts, PointFacts, Run};

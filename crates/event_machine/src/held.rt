@@ -1,6 +1,6 @@
 ghost use Rattle.std.specs.Prelude.{◌≡◌, ◌≤◌, length};
 ghost use Rattle.event_machine.specs.Given.{point_of};
-ghost use Rattle.event_machine.specs.Next.{lasting, rule_lasting};
+ghost use Rattle.event_machine.specs.AlarmSteps.{lasting, rule_lasting};
 ghost use Rattle.event_machine.specs.Runs.{has_gone_on};
 
 use crate::{PointFacts, Run};

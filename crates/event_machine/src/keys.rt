@@ -1,7 +1,7 @@
 ghost use Rattle.std.specs.Prelude.{◌≡◌, ◌≤◌, length};
 ghost use Rattle.algorithm_rules.specs.Facts.{facts_of};
 ghost use Rattle.event_machine.specs.Held.{key_in_detection, other_than};
-ghost use Rattle.event_machine.specs.Next.{key_at};
+ghost use Rattle.event_machine.specs.AlarmSteps.{key_at};
 
 use algorithm_rules::{Rule, Snapshot, Test, key, rule};
 use bac_values::EventState;

@@ -1,7 +1,7 @@
 ghost use Rattle.std.specs.Prelude.{◌≡◌, ◌≤◌, ◌↔◌, ◌∷◌, [], List, IsTrue, length};
 ghost use Rattle.event_machine.specs.Detection.{moves_at};
 ghost use Rattle.event_machine.specs.Given.{point_of};
-ghost use Rattle.event_machine.specs.Next.{next_look};
+ghost use Rattle.event_machine.specs.AlarmSteps.{next_look};
 ghost use Rattle.event_machine.specs.Points.{Incident, IsCourse, Looked, Point};
 ghost use Rattle.event_machine.specs.Rest.{rests};
 ghost use Rattle.event_machine.specs.Summary.{IsAfter};

@@ -1,6 +1,6 @@
 ghost use Rattle.std.specs.Prelude.{◌≡◌, ◌≤◌, length};
 ghost use Rattle.event_machine.specs.Given.{point_of};
-ghost use Rattle.event_machine.specs.Next.{next_runs, run_onward};
+ghost use Rattle.event_machine.specs.AlarmSteps.{next_runs, run_onward};
 
 use crate::keys::key_at;
 use crate::{PointFacts, Run};

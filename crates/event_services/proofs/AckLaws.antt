@@ -5,11 +5,11 @@ use Rattle.std.proofs.lemmas.List.{length-append, length-drop, drop_all, drop_at
 use Rattle.bac_values.specs.Identifier.{Identifier}
 use Rattle.bac_tags.specs.declared.fault.TagFault.{TagFault}
 use Rattle.bac_tags.specs.Contents.{SpellsUnsigned, SpellsObject}
-use Rattle.bac_tags.specs.Reading.{valued, content_at, unsigned_at, object_at, ◌>>=◌}
+use Rattle.bac_tags.specs.ReadingSteps.{valued, content_at, unsigned_at, object_at, ◌>>=◌}
 use Rattle.bac_tags.proofs.Standing.{IsBytes, Stands, Stands-from, Stands-then, Stands-front, Stands-back, Stands-within}
 use Rattle.bac_tags.specs.declared.malformed.Malformed.{Malformed}
 use Rattle.bac_tags.specs.Refusals.{invalid_tag, missing_parameter, too_many_arguments}
-use Rattle.bac_tags.specs.ParameterReading.{or_invalid, required, nothing_follows}
+use Rattle.bac_tags.specs.ParameterReadingSteps.{or_invalid, required, nothing_follows}
 use Rattle.bac_tags.specs.EnclosingTags.{enclosed_at}
 use Rattle.bac_tags.proofs.Reasons.{five_four, five_seven, four_seven}
 use Rattle.bac_tags.proofs.Steps.{bind_ok, ok_is, err_is}

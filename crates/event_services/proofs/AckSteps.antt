@@ -3,11 +3,11 @@ use Rattle.std.proofs.Common.{◌≡◌, ℕ, zero, suc, ◌+◌, ◌<◌, ◌�
 use Rattle.std.specs.Prelude.{◌⊎◌}
 use Rattle.bac_tags.specs.declared.fault.TagFault.{TagFault}
 use Rattle.bac_tags.specs.Contents.{SpellsUnsigned, SpellsEnumerated, SpellsObject}
-use Rattle.bac_tags.specs.Reading.{valued, content_at, unsigned_at, object_at, ◌>>=◌}
+use Rattle.bac_tags.specs.ReadingSteps.{valued, content_at, unsigned_at, object_at, ◌>>=◌}
 use Rattle.bac_tags.proofs.Standing.{IsBytes, Stands, Stands-nil, Stands-then, Stands-front, Stands-back, Stands-within}
 use Rattle.bac_tags.specs.declared.malformed.Malformed.{Malformed}
 use Rattle.bac_tags.specs.Refusals.{invalid_tag, missing_parameter}
-use Rattle.bac_tags.specs.ParameterReading.{required, nothing_follows}
+use Rattle.bac_tags.specs.ParameterReadingSteps.{required, nothing_follows}
 use Rattle.bac_tags.specs.EnclosingTags.{enclosed_at}
 use Rattle.bac_tags.proofs.Steps.{bind_err, ok_is, err_is}
 use Rattle.bac_tags.proofs.RequiredReaders.{required_outside}

@@ -7,14 +7,14 @@ use Rattle.bac_tags.specs.declared.fault.TagFault.{TagFault}
 use Rattle.bac_tags.specs.Places.{IsSpelledAt}
 use Rattle.bac_tags.specs.Elements.{HasOtherTag}
 use Rattle.bac_tags.specs.Contents.{IsObject, SpellsObject}
-use Rattle.bac_tags.specs.Reading.{identifier_of, object_at, ◌>>=◌}
+use Rattle.bac_tags.specs.ReadingSteps.{identifier_of, object_at, ◌>>=◌}
 use Rattle.bac_tags.proofs.Standing.{IsBytes, Stands-within}
 use Rattle.bac_tags.proofs.Readers.{reads}
 use Rattle.bac_tags.proofs.Numbers.{identifier_values}
 use Rattle.bac_tags.specs.declared.malformed.Malformed.{Malformed}
 use Rattle.bac_tags.specs.Refusals.{invalid_tag, too_many_arguments}
 use Rattle.bac_tags.specs.Parameters.{IsOptionalAt}
-use Rattle.bac_tags.specs.ParameterReading.{optional, nothing_follows}
+use Rattle.bac_tags.specs.ParameterReadingSteps.{optional, nothing_follows}
 use Rattle.bac_tags.proofs.Reasons.{four_seven}
 use Rattle.bac_tags.proofs.Steps.{bind_ok, bind_err, ok_is}
 use Rattle.bac_tags.proofs.ElementReaders.{spelled_from, element_some, tag_some}

@@ -8,7 +8,7 @@ use Rattle.bac_tags.specs.declared.fault.TagFault.{TagFault}
 use Rattle.bac_tags.specs.declared.fault.TagFault.TheVariants.{Truncated, WrongTag, BadLength, NoMemory}
 use Rattle.bac_tags.specs.Contents.{SpellsSigned, SpellsBits}
 use Rattle.bac_tags.specs.Values.{SpellsValue}
-use Rattle.bac_tags.specs.Reading.{◌>>=◌, content_at, unsigned_at, signed_at, bits_of, bits_at, tag_at, value_at, valued, unsigned_of, signed_of}
+use Rattle.bac_tags.specs.ReadingSteps.{◌>>=◌, content_at, unsigned_at, signed_at, bits_of, bits_at, tag_at, value_at, valued, unsigned_of, signed_of}
 use Rattle.bac_tags.specs.EnclosingTags.{opening, closing, IsOtherTag, SpellsEnclosed, is_closing, opening_at, closing_at, enclosed_at}
 use Rattle.bac_tags.proofs.Steps.{bind_err}
 use Rattle.bac_tags.proofs.Standing.{IsBytes, Stands-within}
@@ -19,7 +19,7 @@ use Rattle.bac_tags.proofs.ValueLaws.{value_err}
 use Rattle.bac_tags.proofs.TagReaders.{is_opening_tag, is_closing_tag, tests_opening, tests_closing, one_tag_err, ReadsTag, reads_opening}
 use Rattle.bac_tags.proofs.ElementReaders.{Reader, tag_some, opening_found, bits_reader, signed_reader, enclosed_reader}
 use Rattle.event_services.specs.declared.notification.EventValues.{EventValues}
-use Rattle.event_services.specs.NoteReading.{Reads, both_at, made_at, held_at, number_at, flags_of, flags_at, text_of, text_at, property_state_in, property_state_at, reliability_number_at, present_value, property_value_at, properties_at, bitstring_at, changed_state_at, commanded_at, unsigned_range_at, signed_out_of_range_at, unsigned_out_of_range_at, changed_text_at, reliability_at, told_at, values_at}
+use Rattle.event_services.specs.NoteReadingSteps.{Reads, both_at, made_at, held_at, number_at, flags_of, flags_at, text_of, text_at, property_state_in, property_state_at, reliability_number_at, present_value, property_value_at, properties_at, bitstring_at, changed_state_at, commanded_at, unsigned_range_at, signed_out_of_range_at, unsigned_out_of_range_at, changed_text_at, reliability_at, told_at, values_at}
 use Rattle.event_services.specs.NoteGrammar.{SpellsNumber, SpellsReliability, SpellsFlags, SpellsText, SpellsPropertyState, SpellsPresentValue, SpellsToldOf}
 use Rattle.event_services.proofs.NoteReaders.{held_reader, number_reader, flags_reader, text_reader, value_reader}
 use Rattle.event_services.proofs.ToldReaders.{property_state_reader, reliability_reader, property_value_reader, present_holds, told_reader}

@@ -9,16 +9,16 @@ use Rattle.bac_tags.specs.declared.tag.Tag.{Tag}
 use Rattle.bac_tags.specs.Tags.{SpellsTag}
 use Rattle.bac_tags.specs.Elements.{element_tag, SpellsElement, HasOtherTag}
 use Rattle.bac_tags.specs.Contents.{IsUnsigned, SpellsObject, SpellsBoolean}
-use Rattle.bac_tags.specs.Reading.{content_at, unsigned_at, object_at, boolean_at}
+use Rattle.bac_tags.specs.ReadingSteps.{content_at, unsigned_at, object_at, boolean_at}
 use Rattle.bac_tags.proofs.Standing.{Stands, Stands-front, Stands-back, Stands-within}
 use Rattle.bac_tags.proofs.ElementLaws.{header_other}
-use Rattle.bac_tags.specs.ParameterReading.{optional}
+use Rattle.bac_tags.specs.ParameterReadingSteps.{optional}
 use Rattle.bac_tags.proofs.ElementReaders.{Reader, object_reader, boolean_reader}
 use Rattle.bac_tags.proofs.Sequences.{required_again, nothing_none}
 use Rattle.bac_tags.proofs.OptionalReaders.{optional_again, optional_none}
 use Rattle.event_services.specs.declared.notification.Notification.{Notification}
-use Rattle.event_services.specs.NoteReading.{Reads, number_at, octet_number_at, state_at, text_at, moment_at, values_at}
-use Rattle.event_services.specs.NoteService.{source_at, kind_at, states_at, notification_of}
+use Rattle.event_services.specs.NoteReadingSteps.{Reads, number_at, octet_number_at, state_at, text_at, moment_at, values_at}
+use Rattle.event_services.specs.NoteServiceSteps.{source_at, kind_at, states_at, notification_of}
 use Rattle.event_services.specs.NoteGrammar.{SpellsNumber, SpellsOctetNumber, SpellsState, SpellsText, SpellsMoment, SpellsValuesOf, SpellsNotification}
 use Rattle.bac_tags.specs.Parameters.{SpellsIfGiven}
 use Rattle.event_services.proofs.AckLaws.{from_start}

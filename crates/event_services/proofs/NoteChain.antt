@@ -6,15 +6,15 @@ use Rattle.bac_values.specs.declared.event_state.EventState.{EventState}
 use Rattle.bac_values.specs.declared.stamp.Stamp.{Stamp}
 use Rattle.bac_tags.specs.declared.malformed.Malformed.{Malformed}
 use Rattle.bac_tags.proofs.Steps.{err_is}
-use Rattle.bac_tags.specs.ParameterReading.{optional, nothing_follows}
-use Rattle.bac_tags.specs.Reading.{◌>>=◌}
+use Rattle.bac_tags.specs.ParameterReadingSteps.{optional, nothing_follows}
+use Rattle.bac_tags.specs.ReadingSteps.{◌>>=◌}
 use Rattle.event_services.specs.declared.notification.Notification.{Notification}
 use Rattle.event_services.specs.declared.notification.EventValues.{EventValues}
 use Rattle.event_services.specs.declared.read_note.NoteFault.{NoteFault}
 use Rattle.event_services.specs.declared.read_note.NoteFault.TheVariants as faults
 use Rattle.event_services.specs.NoteTexts.{HasText}
-use Rattle.event_services.specs.NoteReading.{text_at, values_at}
-use Rattle.event_services.specs.NoteService.{source_at, kind_at, states_at, notification_of, fault_of, as_note, GivesNote}
+use Rattle.event_services.specs.NoteReadingSteps.{text_at, values_at}
+use Rattle.event_services.specs.NoteServiceSteps.{source_at, kind_at, states_at, notification_of, fault_of, as_note, GivesNote}
 
 abbrev pub Source : Type 0
 Source = (ℕ × Identifier × Identifier × Stamp) × ℕ

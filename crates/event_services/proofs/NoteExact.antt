@@ -9,10 +9,10 @@ use Rattle.bac_tags.specs.declared.malformed.Malformed.{Malformed}
 use Rattle.bac_tags.specs.Places.{IsSpelledAt}
 use Rattle.bac_tags.specs.Elements.{HasOtherTag}
 use Rattle.bac_tags.specs.Contents.{IsBoolean, SpellsObject, SpellsBoolean}
-use Rattle.bac_tags.specs.Reading.{◌>>=◌, unsigned_at, boolean_of, boolean_at}
+use Rattle.bac_tags.specs.ReadingSteps.{◌>>=◌, unsigned_at, boolean_of, boolean_at}
 use Rattle.bac_tags.specs.Refusals.{invalid_tag, RefusesRequired, RefusesOptional, RefusesMore, Behind}
 use Rattle.bac_tags.specs.Parameters.{IsOptionalAt}
-use Rattle.bac_tags.specs.ParameterReading.{or_absent, optional, nothing_follows}
+use Rattle.bac_tags.specs.ParameterReadingSteps.{or_absent, optional, nothing_follows}
 use Rattle.bac_tags.proofs.Steps.{bind_err, ok_is}
 use Rattle.bac_tags.proofs.Standing.{IsBytes}
 use Rattle.bac_tags.proofs.Booleans.{boolean_forms}
@@ -24,8 +24,8 @@ use Rattle.bac_tags.proofs.ParameterAnswers.{Answers}
 use Rattle.bac_tags.proofs.ElementAnswers.{Element, ends_within, optional_ends, begins_before, required_answers, of_optional, unsigned_reads}
 use Rattle.event_services.specs.declared.notification.Notification.{Notification}
 use Rattle.event_services.specs.declared.notification.EventValues.{EventValues}
-use Rattle.event_services.specs.NoteReading.{Reads, number_at, octet_number_at, state_at, text_of, text_at, moment_at, values_at}
-use Rattle.event_services.specs.NoteService.{source_at, kind_at, states_at, notification_of}
+use Rattle.event_services.specs.NoteReadingSteps.{Reads, number_at, octet_number_at, state_at, text_of, text_at, moment_at, values_at}
+use Rattle.event_services.specs.NoteServiceSteps.{source_at, kind_at, states_at, notification_of}
 use Rattle.event_services.specs.NoteGrammar.{SpellsNumber, SpellsOctetNumber, SpellsState, IsTextContent, SpellsText, SpellsMoment, SpellsValuesOf}
 use Rattle.event_services.specs.NoteRefusals.{HasNoValues, AreValuesAt, RefusesValues, RefusesNotification}
 use Rattle.event_services.proofs.NoteChain.{Source, Kind, States, note_of}

@@ -2,18 +2,18 @@
 use Rattle.std.proofs.Common.{◌≡◌, ℕ, ◌≤◌, Bool, Option, Some, None, List, [], ◌++◌, length, Result, Ok, refl, sym, ap, subst, ◌∙◌, arith}
 use Rattle.bac_values.specs.Identifier.{Identifier}
 use Rattle.bac_tags.specs.Contents.{SpellsObject, SpellsBoolean}
-use Rattle.bac_tags.specs.Reading.{object_at, boolean_at, ◌>>=◌}
+use Rattle.bac_tags.specs.ReadingSteps.{object_at, boolean_at, ◌>>=◌}
 use Rattle.bac_tags.proofs.Standing.{IsBytes, Stands, Stands-nil, Stands-then, Stands-within}
 use Rattle.bac_tags.proofs.Answered.{Spelled}
 use Rattle.bac_tags.specs.declared.malformed.Malformed.{Malformed}
-use Rattle.bac_tags.specs.ParameterReading.{required, optional, nothing_follows}
+use Rattle.bac_tags.specs.ParameterReadingSteps.{required, optional, nothing_follows}
 use Rattle.bac_tags.proofs.Steps.{bind_ok, ok_is}
 use Rattle.bac_tags.proofs.ElementReaders.{Reader, object_reader, boolean_reader}
 use Rattle.bac_tags.proofs.Sequences.{required_ok, nothing_ok}
 use Rattle.event_services.specs.declared.notification.Notification.{Notification}
 use Rattle.event_services.specs.declared.notification.EventValues.{EventValues}
-use Rattle.event_services.specs.NoteReading.{Reads, number_at, octet_number_at, state_at, text_at, moment_at, values_at}
-use Rattle.event_services.specs.NoteService.{source_at, kind_at, states_at, notification_of}
+use Rattle.event_services.specs.NoteReadingSteps.{Reads, number_at, octet_number_at, state_at, text_at, moment_at, values_at}
+use Rattle.event_services.specs.NoteServiceSteps.{source_at, kind_at, states_at, notification_of}
 use Rattle.event_services.specs.NoteGrammar.{SpellsNumber, SpellsOctetNumber, SpellsState, SpellsText, SpellsMoment, SpellsValuesOf, SpellsNotification}
 use Rattle.bac_tags.specs.Parameters.{SpellsIfGiven}
 use Rattle.event_services.proofs.AckLaws.{all_there}

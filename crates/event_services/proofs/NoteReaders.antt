@@ -20,7 +20,7 @@ use Rattle.bac_tags.specs.declared.fault.TagFault.TheVariants.{BadLength}
 use Rattle.bac_tags.specs.Contents.{IsBits, SpellsBits}
 use Rattle.bac_tags.specs.Stamps.{SpellsStamp}
 use Rattle.bac_tags.specs.Values.{SpellsValue}
-use Rattle.bac_tags.specs.Reading.{◌>>=◌, bits_at, stamp_at, value_at}
+use Rattle.bac_tags.specs.ReadingSteps.{◌>>=◌, bits_at, stamp_at, value_at}
 use Rattle.bac_tags.proofs.Steps.{bind_ok, ok_is}
 use Rattle.bac_tags.proofs.Standing.{Stands, Stands-then, Stands-front, Stands-back, Stands-within}
 use Rattle.bac_tags.proofs.Answered.{Spelled}
@@ -32,7 +32,7 @@ use Rattle.bac_tags.proofs.ValueLaws.{value_found, value_again}
 use Rattle.bac_tags.specs.EnclosingTags.{SpellsEnclosed, enclosed_at}
 use Rattle.bac_tags.proofs.ElementReaders.{Reader, read_found as spelled_found, element_some, tag_some, unsigned_reader, bits_reader, stamp_reader, enclosed_reader}
 use Rattle.event_services.specs.Notifications.{bits_of_flags}
-use Rattle.event_services.specs.NoteReading.{Reads, both_at, held_at, number_at, octet_of, octet_number_at, state_at, flags_of, flags_at, text_of, text_at, moment_at}
+use Rattle.event_services.specs.NoteReadingSteps.{Reads, both_at, held_at, number_at, octet_of, octet_number_at, state_at, flags_of, flags_at, text_of, text_at, moment_at}
 use Rattle.event_services.specs.NoteGrammar.{SpellsBoth, SpellsNumber, SpellsOctetNumber, SpellsState, SpellsReliability, SpellsFlags, IsTextContent, SpellsText, SpellsMoment}
 use Rattle.event_services.proofs.TextForms.{text_from}
 

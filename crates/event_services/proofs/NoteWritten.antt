@@ -22,7 +22,7 @@ use Rattle.event_services.specs.declared.notification.EventValues.{EventValues}
 use Rattle.event_services.specs.declared.notification.EventValues.TheVariants.{Bitstring, State, Command, UnsignedRange, SignedOutOfRange, UnsignedOutOfRange, Characterstring, Reliability}
 use Rattle.event_services.specs.Notifications.{type_of_values, written_text_in, bits_of_flags, written_flags, state_number, written_property, written_told, written_values, written_notification}
 use Rattle.bac_tags.specs.ParameterWriting.{written_enclosed, written_if_given}
-use Rattle.event_services.specs.NoteService.{notification_of}
+use Rattle.event_services.specs.NoteServiceSteps.{notification_of}
 use Rattle.event_services.specs.NoteGrammar.{SpellsBoth, SpellsNumber, SpellsOctetNumber, SpellsState, SpellsReliability, SpellsFlags, IsTextContent, SpellsText, SpellsMoment, SpellsPropertyState, SpellsPropertyList, SpellsTold, SpellsToldOf, SpellsValuesOf, SpellsNotification}
 use Rattle.bac_tags.specs.Parameters.{SpellsIfGiven}
 use Rattle.event_services.specs.NoteRanges.{IsLong, IsText, IfAny, IsInRange, IsNotable}

@@ -7,7 +7,7 @@ use Rattle.bac_tags.specs.declared.tag.Tag.{Tag}
 use Rattle.bac_tags.specs.Elements.{element_tag, SpellsElement}
 use Rattle.bac_tags.specs.Contents.{IsUnsigned}
 use Rattle.bac_tags.specs.Stamps.{SpellsStamp}
-use Rattle.bac_tags.specs.Reading.{◌>>=◌, valued, content_at, tag_at, unsigned_at, stamp_at}
+use Rattle.bac_tags.specs.ReadingSteps.{◌>>=◌, valued, content_at, tag_at, unsigned_at, stamp_at}
 use Rattle.bac_tags.proofs.Steps.{bind_ok, chosen, ok_is}
 use Rattle.bac_tags.proofs.Standing.{IsBytes, Stands, Stands-front}
 use Rattle.bac_tags.proofs.Answered.{Spelled}

@@ -7,8 +7,8 @@ use Rattle.std.proofs.lemmas.List.{take_all, length-drop}
 use Rattle.std.proofs.lemmas.Str.{is_utf8-from_IsUtf8, IsUtf8-from_is_utf8}
 use Rattle.bac_tags.specs.declared.fault.TagFault.{TagFault}
 use Rattle.bac_tags.specs.declared.fault.TagFault.TheVariants.{BadLength}
-use Rattle.bac_tags.specs.Reading.{content_at}
-use Rattle.event_services.specs.NoteReading.{text_of, text_at}
+use Rattle.bac_tags.specs.ReadingSteps.{content_at}
+use Rattle.event_services.specs.NoteReadingSteps.{text_of, text_at}
 
 -- the octets behind the first one
 pub rest_is : (content : List ℕ) → take (length content - 1) (drop 1 content) ≡ drop 1 content

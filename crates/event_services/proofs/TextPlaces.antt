@@ -11,7 +11,7 @@ use Rattle.bac_tags.specs.Values.{SpellsValue}
 use Rattle.bac_tags.specs.declared.tag.Tag.{Tag}
 use Rattle.bac_tags.specs.declared.tag.Shape.{Shape}
 use Rattle.bac_tags.specs.declared.tag.Shape.TheVariants.{Primitive, Opening, Closing}
-use Rattle.bac_tags.specs.Reading.{tag_at, value_at, GivesValue}
+use Rattle.bac_tags.specs.ReadingSteps.{tag_at, value_at, GivesValue}
 use Rattle.bac_tags.specs.EnclosingTags.{SpellsEnclosed, is_closing, opening_at, enclosed_at}
 use Rattle.bac_tags.proofs.Steps.{err_is}
 use Rattle.bac_tags.proofs.Standing.{IsBytes}
@@ -19,7 +19,7 @@ use Rattle.bac_tags.proofs.ElementReaders.{Reader, spelled_to, opening_found, en
 use Rattle.event_services.specs.declared.notification.EventValues.{EventValues}
 use Rattle.event_services.specs.NoteGrammar.{SpellsNumber, SpellsText, SpellsPresentValue}
 use Rattle.event_services.specs.NoteTexts.{IsAfter, IsInside, IsText, IsTextValue, HoldsText, IsTextOfCommand, IsTextOfChange, IsTextOfProperty, IsTextOfReliability, IsTextTold}
-use Rattle.event_services.specs.NoteReading.{Reads, GivesRead, held_at, number_at, flags_at, text_at, present_value, property_value_at, properties_at, reliability_number_at, commanded_at, changed_text_at, reliability_at, told_at, values_at}
+use Rattle.event_services.specs.NoteReadingSteps.{Reads, GivesRead, held_at, number_at, flags_at, text_at, present_value, property_value_at, properties_at, reliability_number_at, commanded_at, changed_text_at, reliability_at, told_at, values_at}
 use Rattle.event_services.proofs.NoteReaders.{held_reader, number_reader, text_reader, value_reader}
 use Rattle.event_services.proofs.ToldReaders.{present_holds}
 

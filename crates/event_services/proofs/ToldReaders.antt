@@ -13,7 +13,7 @@ use Rattle.bac_tags.specs.declared.tag.Tag.{Tag}
 use Rattle.bac_tags.specs.Elements.{element_tag}
 use Rattle.bac_tags.specs.Contents.{IsUnsigned, SpellsSigned, SpellsBits}
 use Rattle.bac_tags.specs.Values.{SpellsValue}
-use Rattle.bac_tags.specs.Reading.{◌>>=◌, tag_at, signed_at, bits_at, value_at}
+use Rattle.bac_tags.specs.ReadingSteps.{◌>>=◌, tag_at, signed_at, bits_at, value_at}
 use Rattle.bac_tags.proofs.Steps.{bind_ok, chosen, ok_is}
 use Rattle.bac_tags.proofs.Standing.{IsBytes, Stands, Stands-then, Stands-front, Stands-back, Stands-within}
 use Rattle.bac_tags.proofs.Answered.{Spelled}
@@ -23,7 +23,7 @@ use Rattle.bac_tags.proofs.ElementReaders.{Reader, tag_some, opening_found, open
 use Rattle.event_services.specs.declared.notification.EventValues.{EventValues}
 use Rattle.event_services.specs.declared.notification.EventValues.TheVariants.{Bitstring, State, Command, UnsignedRange, SignedOutOfRange, UnsignedOutOfRange, Characterstring, Reliability}
 use Rattle.event_services.specs.Notifications.{state_number}
-use Rattle.event_services.specs.NoteReading.{Reads, both_at, made_at, held_at, number_at, flags_at, text_at, property_state_in, property_state_at, reliability_number_at, present_value, property_value_at, properties_at, bitstring_at, changed_state_at, commanded_at, unsigned_range_at, signed_out_of_range_at, unsigned_out_of_range_at, changed_text_at, reliability_at, told_at, values_at}
+use Rattle.event_services.specs.NoteReadingSteps.{Reads, both_at, made_at, held_at, number_at, flags_at, text_at, property_state_in, property_state_at, reliability_number_at, present_value, property_value_at, properties_at, bitstring_at, changed_state_at, commanded_at, unsigned_range_at, signed_out_of_range_at, unsigned_out_of_range_at, changed_text_at, reliability_at, told_at, values_at}
 use Rattle.event_services.specs.NoteGrammar.{SpellsBoth, SpellsNumber, SpellsReliability, SpellsFlags, SpellsText, SpellsPropertyState, SpellsPresentValue, SpellsPropertyValue, SpellsPropertyList, SpellsTold, SpellsToldOf, SpellsValuesOf}
 use Rattle.event_services.proofs.StampReaders.{element_number}
 use Rattle.event_services.proofs.NoteReaders.{both_reader, Holds, held_reader, number_reader, reliability_holds, flags_reader, text_reader, value_reader}

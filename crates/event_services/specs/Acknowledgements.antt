@@ -3,9 +3,9 @@ use Rattle.std.specs.Prelude.{◌≡◌, ◌≢◌, ℕ, zero, suc, ◌<◌, Som
 use Rattle.bac_values.specs.Identifier.{Identifier}
 use Rattle.bac_tags.specs.declared.fault.TagFault.{TagFault}
 use Rattle.bac_tags.specs.Contents.{SpellsUnsigned, SpellsEnumerated, SpellsObject}
-use Rattle.bac_tags.specs.Reading.{content_at, unsigned_at, object_at, ◌>>=◌}
+use Rattle.bac_tags.specs.ReadingSteps.{content_at, unsigned_at, object_at, ◌>>=◌}
 use Rattle.bac_tags.specs.declared.malformed.Malformed.{Malformed}
-use Rattle.bac_tags.specs.ParameterReading.{required, nothing_follows}
+use Rattle.bac_tags.specs.ParameterReadingSteps.{required, nothing_follows}
 use Rattle.bac_tags.specs.EnclosingTags.{SpellsEnclosed, SpellsOctets, enclosed_at}
 use Rattle.event_services.specs.declared.acknowledge.AckRequest.{AckRequest}
 use Rattle.event_services.specs.declared.time_stamp.AckStamp.{AckStamp}

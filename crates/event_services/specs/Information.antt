@@ -6,11 +6,11 @@ use Rattle.bac_values.specs.Identifier.{Identifier}
 use Rattle.bac_values.specs.declared.stamp.Stamp.{Stamp}
 use Rattle.bac_tags.specs.Elements.{HasOtherTag}
 use Rattle.bac_tags.specs.Contents.{SpellsObject}
-use Rattle.bac_tags.specs.Reading.{object_at, ◌>>=◌}
+use Rattle.bac_tags.specs.ReadingSteps.{object_at, ◌>>=◌}
 use Rattle.bac_tags.specs.Writing.{written_unsigned, written_object, written_boolean, written_bits, written_stamp}
 use Rattle.bac_tags.specs.declared.malformed.Malformed.{Malformed}
 use Rattle.bac_tags.specs.Parameters.{IsThere, IsAbsent}
-use Rattle.bac_tags.specs.ParameterReading.{optional, nothing_follows}
+use Rattle.bac_tags.specs.ParameterReadingSteps.{optional, nothing_follows}
 use Rattle.event_services.specs.declared.information.EventSummary.{EventSummary}
 use Rattle.bac_tags.specs.ParameterWriting.{written_enclosed}
 

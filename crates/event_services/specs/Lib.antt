@@ -2,8 +2,8 @@ pub mod TimeStamps
 pub mod Acknowledgements
 pub mod Notifications
 pub mod Information
-pub mod NoteReading
-pub mod NoteService
+pub mod NoteReadingSteps
+pub mod NoteServiceSteps
 pub mod NoteRefusals
 pub mod NoteGrammar
 pub mod NoteRanges

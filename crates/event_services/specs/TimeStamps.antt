@@ -4,7 +4,7 @@ use Rattle.bac_tags.specs.declared.fault.TagFault.{TagFault}
 use Rattle.bac_tags.specs.declared.fault.TagFault.TheVariants.{WrongTag}
 use Rattle.bac_tags.specs.Contents.{SpellsUnsigned}
 use Rattle.bac_tags.specs.Stamps.{SpellsStamp}
-use Rattle.bac_tags.specs.Reading.{◌>>=◌, content_at, tag_at, unsigned_at, stamp_at}
+use Rattle.bac_tags.specs.ReadingSteps.{◌>>=◌, content_at, tag_at, unsigned_at, stamp_at}
 use Rattle.bac_tags.specs.EnclosingTags.{SpellsEnclosed, SpellsOctets, enclosed_at}
 use Rattle.event_services.specs.declared.time_stamp.AckStamp.{AckStamp}
 use Rattle.event_services.specs.declared.time_stamp.AckStamp.TheVariants.{Time, Sequence, DateTime}

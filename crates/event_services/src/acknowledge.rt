@@ -1,8 +1,8 @@
 ghost use Rattle.std.specs.Prelude.{◌≡◌, ◌↔◌, ◌⊎◌, ℕ, ◌<◌, ◌≤◌, Some, length, IfOk, IfErr};
-ghost use Rattle.bac_tags.specs.Reading.{content_at};
+ghost use Rattle.bac_tags.specs.ReadingSteps.{content_at};
 ghost use Rattle.bac_tags.specs.Refusals.{invalid_tag, missing_parameter, too_many_arguments};
 ghost use Rattle.event_services.specs.declared.acknowledge.AckRequest.{AckRequest};
-ghost use Rattle.bac_tags.specs.ParameterReading.{required};
+ghost use Rattle.bac_tags.specs.ParameterReadingSteps.{required};
 ghost use Rattle.bac_tags.specs.EnclosingTags.{enclosed_at};
 ghost use Rattle.event_services.specs.TimeStamps.{time_stamp_at};
 ghost use Rattle.event_services.specs.Acknowledgements.{SpellsAcknowledgement, LacksParameter, HasInvalidParameter, HasMore, skipped, acknowledge_request_of};

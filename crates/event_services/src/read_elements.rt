@@ -1,6 +1,6 @@
 ghost use Rattle.std.specs.Prelude.{◌≡◌, ◌<◌, ◌≤◌, length, IfOk, IfSome, MatchOption};
 ghost use Rattle.event_services.specs.NoteTexts.{IsText};
-ghost use Rattle.event_services.specs.NoteReading.{GivesRead, octet_number_at, state_at, flags_of, flags_at, text_of, text_at, moment_at};
+ghost use Rattle.event_services.specs.NoteReadingSteps.{GivesRead, octet_number_at, state_at, flags_of, flags_at, text_of, text_at, moment_at};
 
 use crate::time_stamp::enclosed_stamp;
 use bac_tags::{TagFault, read_bits, read_closing, read_octets, read_opening, read_unsigned};
@@ -8,7 +8,7 @@ use bac_values::{Bits, EventState, Stamp, StatusFlags, Text};
 use std::alloc::Global;
 
 /// The number of one octet with that number in a context, and the place after it.
-#[tactic(auto, unfolding(crate::specs::NoteReading::octet_number_at))]
+#[tactic(auto, unfolding(crate::specs::NoteReadingSteps::octet_number_at))]
 pub(crate) fn octet_number_at(input: &[u8], at: usize, number: u8) -> Result<(u8, usize), TagFault>
     requires { at ≤ length input.now }
     ensures exact { result ≡ octet_number_at number input.now at }
@@ -23,7 +23,7 @@ pub(crate) fn octet_number_at(input: &[u8], at: usize, number: u8) -> Result<(u8
 }
 
 /// The event state with that number in a context, and the place after it.
-#[tactic(auto, unfolding(crate::specs::NoteReading::state_at))]
+#[tactic(auto, unfolding(crate::specs::NoteReadingSteps::state_at))]
 pub(crate) fn state_at(input: &[u8], at: usize, number: u8) -> Result<(EventState, usize), TagFault>
     requires { at ≤ length input.now }
     ensures exact { result ≡ state_at number input.now at }
@@ -53,7 +53,7 @@ fn flags_of(string: Bits) -> Option<StatusFlags>
 }
 
 /// The status flags, and the place after them.
-#[tactic(auto, unfolding(crate::specs::NoteReading::flags_at))]
+#[tactic(auto, unfolding(crate::specs::NoteReadingSteps::flags_at))]
 pub(crate) fn flags_at(input: &[u8], at: usize) -> Result<(StatusFlags, usize), TagFault>
     requires { at ≤ length input.now }
     ensures exact { result ≡ flags_at input.now at }
@@ -67,7 +67,7 @@ pub(crate) fn flags_at(input: &[u8], at: usize) -> Result<(StatusFlags, usize), 
 }
 
 /// The date and the time of a time stamp between the tags of a number, and the place after them.
-#[tactic(auto, unfolding(crate::specs::NoteReading::moment_at))]
+#[tactic(auto, unfolding(crate::specs::NoteReadingSteps::moment_at))]
 pub(crate) fn moment_at(input: &[u8], at: usize, number: u8) -> Result<(Stamp, usize), TagFault>
     requires { at ≤ length input.now }
     ensures exact { result ≡ moment_at number input.now at }
@@ -97,7 +97,7 @@ fn text_of(content: &[u8]) -> Option<&str>
 }
 
 /// The text with that number in a context, and the place after it.
-#[tactic(auto, unfolding(crate::specs::NoteReading::text_at))]
+#[tactic(auto, unfolding(crate::specs::NoteReadingSteps::text_at))]
 pub(crate) fn text_at(
     alloc: Global,
     input: &[u8],

@@ -1,15 +1,15 @@
 ghost use Rattle.std.specs.Prelude.{◌≡◌, ◌↔◌, ◌⊎◌, ℕ, ◌<◌, ◌≤◌, length, IfOk};
 ghost use Rattle.event_services.specs.declared.read_note.NoteFault.TheVariants as faults;
-ghost use Rattle.bac_tags.specs.ParameterReading.{required, optional};
-ghost use Rattle.bac_tags.specs.Reading.{boolean_at};
-ghost use Rattle.event_services.specs.NoteReading.{octet_number_at, state_at, text_at, moment_at, values_at};
+ghost use Rattle.bac_tags.specs.ParameterReadingSteps.{required, optional};
+ghost use Rattle.bac_tags.specs.ReadingSteps.{boolean_at};
+ghost use Rattle.event_services.specs.NoteReadingSteps.{octet_number_at, state_at, text_at, moment_at, values_at};
 ghost use Rattle.event_services.specs.declared.notification.Notification.{Notification};
 ghost use Rattle.event_services.specs.Notifications.{written_notification};
 ghost use Rattle.event_services.specs.NoteGrammar.{SpellsNotification};
 ghost use Rattle.event_services.specs.NoteRanges.{IsNotable};
 ghost use Rattle.event_services.specs.NoteTexts.{IsText, IsTextOfValues, HasText};
 ghost use Rattle.event_services.specs.NoteRefusals.{RefusesNotification, EndsBeforeRequired};
-ghost use Rattle.event_services.specs.NoteService.{source_at, kind_at, states_at, notification_of, fault_of, as_note, GivesNote};
+ghost use Rattle.event_services.specs.NoteServiceSteps.{source_at, kind_at, states_at, notification_of, fault_of, as_note, GivesNote};
 
 use crate::read_elements::{moment_at, octet_number_at, state_at, text_at};
 use crate::read_values::values_at;
@@ -37,7 +37,7 @@ pub enum NoteFault {
 }
 
 impl From<Malformed> for NoteFault {
-    ghost use Rattle.event_services.specs.NoteService.{fault_of};
+    ghost use Rattle.event_services.specs.NoteServiceSteps.{fault_of};
 
     ghost from_gives = { λ why fault. fault ≡ fault_of why };
 
@@ -128,7 +128,7 @@ fn optional_values(
 }
 
 /// The process, the device, the object and the time stamp, and the place after them.
-#[tactic(auto, unfolding(crate::specs::NoteService::source_at))]
+#[tactic(auto, unfolding(crate::specs::NoteServiceSteps::source_at))]
 fn source_at(bytes: &[u8]) -> Result<((u32, ObjectId, ObjectId, Stamp), usize), Malformed>
     ensures exact { result ≡ source_at bytes.now }
     ensures within { IfOk result (λ x. x.1 ≤ length bytes.now) }
@@ -141,7 +141,7 @@ fn source_at(bytes: &[u8]) -> Result<((u32, ObjectId, ObjectId, Stamp), usize), 
 }
 
 /// The class, the priority and the event type, and the place after them.
-#[tactic(auto, unfolding(crate::specs::NoteService::kind_at))]
+#[tactic(auto, unfolding(crate::specs::NoteServiceSteps::kind_at))]
 fn kind_at(bytes: &[u8], at: usize) -> Result<((u32, u8, u8), usize), Malformed>
     requires { at ≤ length bytes.now }
     ensures exact { result ≡ kind_at bytes.now at }
@@ -157,7 +157,7 @@ fn kind_at(bytes: &[u8], at: usize) -> Result<((u32, u8, u8), usize), Malformed>
 type States = (u8, Option<bool>, Option<EventState>, EventState);
 
 /// What is notified and the states, and the place after them.
-#[tactic(auto, unfolding(crate::specs::NoteService::states_at))]
+#[tactic(auto, unfolding(crate::specs::NoteServiceSteps::states_at))]
 fn states_at(bytes: &[u8], at: usize) -> Result<(States, usize), Malformed>
     requires { at ≤ length bytes.now }
     ensures exact { result ≡ states_at bytes.now at }
@@ -171,7 +171,7 @@ fn states_at(bytes: &[u8], at: usize) -> Result<(States, usize), Malformed>
 }
 
 /// The notification that the octets are.
-#[tactic(auto, unfolding(crate::specs::NoteService::notification_of))]
+#[tactic(auto, unfolding(crate::specs::NoteServiceSteps::notification_of))]
 fn notification_of(alloc: Global, bytes: &[u8]) -> Result<Notification, NoteFault>
     ensures exact { GivesNote (HasText bytes.now) result (notification_of bytes.now) }
 {

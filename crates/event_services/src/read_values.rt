@@ -1,8 +1,8 @@
 ghost use Rattle.std.specs.Prelude.{◌≡◌, ◌<◌, ◌≤◌, length, IfOk};
-ghost use Rattle.bac_tags.specs.Reading.{value_at};
+ghost use Rattle.bac_tags.specs.ReadingSteps.{value_at};
 ghost use Rattle.bac_tags.specs.EnclosingTags.{enclosed_at};
 ghost use Rattle.event_services.specs.NoteTexts.{HoldsText, IsTextOfChange, IsTextOfCommand, IsTextOfProperties, IsTextOfProperty, IsTextOfReliability, IsTextOfValues, IsTextTold};
-ghost use Rattle.event_services.specs.NoteReading.{GivesRead, property_state_in, property_state_at, present_value, property_value_at, properties_at, reliability_number_at, bitstring_at, changed_state_at, commanded_at, unsigned_range_at, signed_out_of_range_at, unsigned_out_of_range_at, changed_text_at, reliability_at, told_at, values_at};
+ghost use Rattle.event_services.specs.NoteReadingSteps.{GivesRead, property_state_in, property_state_at, present_value, property_value_at, properties_at, reliability_number_at, bitstring_at, changed_state_at, commanded_at, unsigned_range_at, signed_out_of_range_at, unsigned_out_of_range_at, changed_text_at, reliability_at, told_at, values_at};
 
 use crate::EventValues;
 use crate::read_elements::{flags_at, text_at};
@@ -33,7 +33,7 @@ fn property_state_in(number: u8, input: &[u8], at: usize) -> Result<((bool, u32)
 }
 
 /// The state of a property, and the place after it.
-#[tactic(auto, unfolding(crate::specs::NoteReading::property_state_at))]
+#[tactic(auto, unfolding(crate::specs::NoteReadingSteps::property_state_at))]
 fn property_state_at(input: &[u8], at: usize) -> Result<((bool, u32), usize), TagFault>
     requires { at ≤ length input.now }
     ensures exact { result ≡ property_state_at input.now at }
@@ -73,7 +73,7 @@ fn enclosed_value(
 }
 
 /// The reliability with that number in a context, and the place after it.
-#[tactic(auto, unfolding(crate::specs::NoteReading::reliability_number_at))]
+#[tactic(auto, unfolding(crate::specs::NoteReadingSteps::reliability_number_at))]
 fn reliability_number_at(
     input: &[u8],
     at: usize,
@@ -91,7 +91,7 @@ fn reliability_number_at(
 }
 
 /// The present value of a list of properties' values, and the place after it.
-#[tactic(auto, unfolding(crate::specs::NoteReading::property_value_at))]
+#[tactic(auto, unfolding(crate::specs::NoteReadingSteps::property_value_at))]
 fn property_value_at(alloc: Global, input: &[u8], at: usize) -> Result<(Value, usize), TagFault>
     requires { at ≤ length input.now }
     ensures exact { GivesRead (IsTextOfProperty input.now at) result (property_value_at input.now at) }
@@ -105,7 +105,7 @@ fn property_value_at(alloc: Global, input: &[u8], at: usize) -> Result<(Value, u
 }
 
 /// The present value of an object between the tags 2, or none, and the place after them.
-#[tactic(auto, unfolding(crate::specs::NoteReading::properties_at))]
+#[tactic(auto, unfolding(crate::specs::NoteReadingSteps::properties_at))]
 fn properties_at(alloc: Global, input: &[u8], at: usize) -> Result<(Option<Value>, usize), TagFault>
     requires { at ≤ length input.now }
     ensures exact { GivesRead (IsTextOfProperties input.now at) result (properties_at input.now at) }
@@ -123,7 +123,7 @@ fn properties_at(alloc: Global, input: &[u8], at: usize) -> Result<(Option<Value
 }
 
 /// What is told of a change of bits, and the place after it.
-#[tactic(auto, unfolding(crate::specs::NoteReading::bitstring_at))]
+#[tactic(auto, unfolding(crate::specs::NoteReadingSteps::bitstring_at))]
 fn bitstring_at(input: &[u8], at: usize) -> Result<(EventValues, usize), TagFault>
     requires { at ≤ length input.now }
     ensures exact { result ≡ bitstring_at input.now at }
@@ -135,7 +135,7 @@ fn bitstring_at(input: &[u8], at: usize) -> Result<(EventValues, usize), TagFaul
 }
 
 /// What is told of a change of state, and the place after it.
-#[tactic(auto, unfolding(crate::specs::NoteReading::changed_state_at))]
+#[tactic(auto, unfolding(crate::specs::NoteReadingSteps::changed_state_at))]
 fn changed_state_at(input: &[u8], at: usize) -> Result<(EventValues, usize), TagFault>
     requires { at ≤ length input.now }
     ensures exact { result ≡ changed_state_at input.now at }
@@ -154,7 +154,7 @@ fn changed_state_at(input: &[u8], at: usize) -> Result<(EventValues, usize), Tag
 }
 
 /// What is told of a command that isn't followed, and the place after it.
-#[tactic(auto, unfolding(crate::specs::NoteReading::commanded_at))]
+#[tactic(auto, unfolding(crate::specs::NoteReadingSteps::commanded_at))]
 fn commanded_at(alloc: Global, input: &[u8], at: usize) -> Result<(EventValues, usize), TagFault>
     requires { at ≤ length input.now }
     ensures exact { GivesRead (IsTextOfCommand input.now at) result (commanded_at input.now at) }
@@ -174,7 +174,7 @@ fn commanded_at(alloc: Global, input: &[u8], at: usize) -> Result<(EventValues, 
 }
 
 /// What is told of a number without a sign outside its range, and the place after it.
-#[tactic(auto, unfolding(crate::specs::NoteReading::unsigned_range_at))]
+#[tactic(auto, unfolding(crate::specs::NoteReadingSteps::unsigned_range_at))]
 fn unsigned_range_at(input: &[u8], at: usize) -> Result<(EventValues, usize), TagFault>
     requires { at ≤ length input.now }
     ensures exact { result ≡ unsigned_range_at input.now at }
@@ -194,7 +194,7 @@ fn unsigned_range_at(input: &[u8], at: usize) -> Result<(EventValues, usize), Ta
 }
 
 /// What is told of a number with a sign outside its range with a deadband, and the place after it.
-#[tactic(auto, unfolding(crate::specs::NoteReading::signed_out_of_range_at))]
+#[tactic(auto, unfolding(crate::specs::NoteReadingSteps::signed_out_of_range_at))]
 fn signed_out_of_range_at(input: &[u8], at: usize) -> Result<(EventValues, usize), TagFault>
     requires { at ≤ length input.now }
     ensures exact { result ≡ signed_out_of_range_at input.now at }
@@ -216,7 +216,7 @@ fn signed_out_of_range_at(input: &[u8], at: usize) -> Result<(EventValues, usize
 }
 
 /// What is told of a number without a sign outside its range with a deadband, and the place after it.
-#[tactic(auto, unfolding(crate::specs::NoteReading::unsigned_out_of_range_at))]
+#[tactic(auto, unfolding(crate::specs::NoteReadingSteps::unsigned_out_of_range_at))]
 fn unsigned_out_of_range_at(input: &[u8], at: usize) -> Result<(EventValues, usize), TagFault>
     requires { at ≤ length input.now }
     ensures exact { result ≡ unsigned_out_of_range_at input.now at }
@@ -238,7 +238,7 @@ fn unsigned_out_of_range_at(input: &[u8], at: usize) -> Result<(EventValues, usi
 }
 
 /// What is told of a change of text, and the place after it.
-#[tactic(auto, unfolding(crate::specs::NoteReading::changed_text_at))]
+#[tactic(auto, unfolding(crate::specs::NoteReadingSteps::changed_text_at))]
 fn changed_text_at(alloc: Global, input: &[u8], at: usize) -> Result<(EventValues, usize), TagFault>
     requires { at ≤ length input.now }
     ensures exact { GivesRead (IsTextOfChange input.now at) result (changed_text_at input.now at) }
@@ -258,7 +258,7 @@ fn changed_text_at(alloc: Global, input: &[u8], at: usize) -> Result<(EventValue
 }
 
 /// What is told of a change of reliability, and the place after it.
-#[tactic(auto, unfolding(crate::specs::NoteReading::reliability_at))]
+#[tactic(auto, unfolding(crate::specs::NoteReadingSteps::reliability_at))]
 fn reliability_at(alloc: Global, input: &[u8], at: usize) -> Result<(EventValues, usize), TagFault>
     requires { at ≤ length input.now }
     ensures exact { GivesRead (IsTextOfReliability input.now at) result (reliability_at input.now at) }
@@ -278,7 +278,7 @@ fn reliability_at(alloc: Global, input: &[u8], at: usize) -> Result<(EventValues
 }
 
 /// What is told of an event of that type, and the place after it.
-#[tactic(auto, unfolding(crate::specs::NoteReading::told_at))]
+#[tactic(auto, unfolding(crate::specs::NoteReadingSteps::told_at))]
 fn told_at(
     alloc: Global,
     kind: u8,
@@ -303,7 +303,7 @@ fn told_at(
 }
 
 /// The values of an event of that type, and the place after them.
-#[tactic(auto, unfolding(crate::specs::NoteReading::values_at))]
+#[tactic(auto, unfolding(crate::specs::NoteReadingSteps::values_at))]
 pub(crate) fn values_at(
     alloc: Global,
     kind: u8,

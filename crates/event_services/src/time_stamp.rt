@@ -1,5 +1,5 @@
 ghost use Rattle.std.specs.Prelude.{◌≡◌, ◌<◌, ◌≤◌, length, IfOk};
-ghost use Rattle.bac_tags.specs.Reading.{stamp_at};
+ghost use Rattle.bac_tags.specs.ReadingSteps.{stamp_at};
 ghost use Rattle.bac_tags.specs.EnclosingTags.{enclosed_at};
 ghost use Rattle.event_services.specs.TimeStamps.{form_at, time_stamp_at};
 

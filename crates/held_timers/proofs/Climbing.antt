@@ -3,7 +3,7 @@ use Rattle.std.proofs.Common.{◌≡◌, ◌≢◌, ℕ, zero, suc, ◌+◌, ◌
 use Rattle.std.specs.Int.{IsPowerOfTwo}
 use Rattle.std.proofs.Math.Nat.{pow-suc}
 use Rattle.held_timers.specs.Dues.{is_due, first_due_from}
-use Rattle.held_timers.specs.Tournament.{IsTournament, BeginsAt}
+use Rattle.held_timers.specs.TournamentSteps.{IsTournament, BeginsAt}
 use Rattle.held_timers.proofs.Searching.{one_more, moved, doubled, level_fits, skip_node}
 
 -- the search up has come to a node: the first due leaf from an index on is the first one behind the node's own leaves

@@ -3,7 +3,7 @@ use Rattle.std.proofs.Common.{◌≡◌, ◌≢◌, ℕ, ◌+◌, ◌*◌, ◌/�
 use Rattle.std.proofs.lemmas.Bool.{cases_eq}
 use Rattle.std.proofs.lemmas.List.{get_or-set_same, get_or-set_other, length-set, drop-set-lt, drop-set-add}
 use Rattle.held_timers.specs.Dues.{earlier}
-use Rattle.held_timers.specs.Tournament.{IsTournament}
+use Rattle.held_timers.specs.TournamentSteps.{IsTournament}
 
 -- node k holds the earlier moment of the two below it
 abbrev pub Wins : List (Option ℕ) → ℕ → Type 0

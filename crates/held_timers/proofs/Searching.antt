@@ -7,7 +7,7 @@ use Rattle.std.proofs.lemmas.Bool.{or_parts, cond-true, cond-false}
 use Rattle.std.proofs.lemmas.List.{drop-drop, length-drop, get_or-drop}
 use Rattle.std.proofs.lemmas.Nat.{pow_pos}
 use Rattle.held_timers.specs.Dues.{earlier, is_due, least_due, first_due_from}
-use Rattle.held_timers.specs.Tournament.{IsTournament, BeginsAt}
+use Rattle.held_timers.specs.TournamentSteps.{IsTournament, BeginsAt}
 use Rattle.held_timers.proofs.Winners.{least_of_node}
 
 -- the earlier of two moments is due where one of them is

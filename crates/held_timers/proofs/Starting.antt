@@ -3,7 +3,7 @@ use Rattle.std.proofs.Common.{◌≡◌, ℕ, ◌+◌, ◌*◌, ◌<◌, ◌≤�
 use Rattle.std.proofs.lemmas.List.{length-replicate, get_or-replicate, drop-replicate, take-replicate}
 use Rattle.std.specs.Int.{IsPowerOfTwo}
 use Rattle.held_timers.specs.Dues.{earlier}
-use Rattle.held_timers.specs.Tournament.{HoldsTimers}
+use Rattle.held_timers.specs.TournamentSteps.{HoldsTimers}
 
 leaves_none : (leaves : ℕ) → drop leaves (replicate (2 * leaves) None) ≡ replicate {A = Option ℕ} leaves None
 leaves_none leaves = drop-replicate leaves (2 * leaves) None ∙ ap (λ n. replicate n None) (omega arith)

@@ -6,7 +6,7 @@ use Rattle.std.specs.Prelude.{unwrap_or}
 use Rattle.std.proofs.lemmas.Option.{none-some}
 use Rattle.std.proofs.lemmas.List.{drop-append-le, length-take, take-append-drop, length-drop}
 use Rattle.held_timers.specs.Dues.{is_due, first_due_from}
-use Rattle.held_timers.specs.Tournament.{HoldsTimers}
+use Rattle.held_timers.specs.TournamentSteps.{HoldsTimers}
 
 never : (moment i n : ℕ) → position_from (is_due moment) i (replicate n None) ≡ None
 never moment i zero = refl

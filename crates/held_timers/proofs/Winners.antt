@@ -5,7 +5,7 @@ use Rattle.std.proofs.Math.Seq.{take-add}
 use Rattle.std.proofs.lemmas.List.{drop-drop, take-append-drop, take_all, length-drop}
 use Rattle.std.proofs.lemmas.Nat.{pow_pos}
 use Rattle.held_timers.specs.Dues.{earlier, least_due}
-use Rattle.held_timers.specs.Tournament.{IsTournament, HoldsTimers}
+use Rattle.held_timers.specs.TournamentSteps.{IsTournament, HoldsTimers}
 
 pub earlier-None : (due : Option ℕ) → earlier due None ≡ due
 earlier-None None = refl

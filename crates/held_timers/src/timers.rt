@@ -16,7 +16,7 @@ pub struct Timers {
 
 impl Model for Timers {
     ghost use Rattle.std.specs.Prelude.{List, ℕ, Option, take, drop};
-    ghost use Rattle.held_timers.specs.Tournament.{HoldsTimers};
+    ghost use Rattle.held_timers.specs.TournamentSteps.{HoldsTimers};
 
     ghost Value = { List (Option ℕ) };
 

@@ -1,7 +1,7 @@
 ghost use Rattle.std.specs.Prelude.{◌≡◌, ◌<◌, ◌*◌, IsTrue, None, Some, ℕ, length, drop, slice_index_or, slice_set};
 ghost use Rattle.std.specs.Int.{IsPowerOfTwo};
 ghost use Rattle.held_timers.specs.Dues.{earlier, first_due_from, is_due};
-ghost use Rattle.held_timers.specs.Tournament.{BeginsAt, IsTournament};
+ghost use Rattle.held_timers.specs.TournamentSteps.{BeginsAt, IsTournament};
 
 /// The earlier of two due moments.
 fn earlier(first: Option<u64>, second: Option<u64>) -> Option<u64>

@@ -3,13 +3,13 @@ use Rattle.std.proofs.Common.{◌≡◌, ℕ, ◌+◌, ◌≤◌, Option, Some, 
 use Rattle.std.specs.Prelude.{◌⊎◌}
 use Rattle.bac_tags.specs.Places.{IsSpelledAt}
 use Rattle.bac_tags.specs.Contents.{SpellsUnsigned}
-use Rattle.bac_tags.specs.Reading.{unsigned_at}
+use Rattle.bac_tags.specs.ReadingSteps.{unsigned_at}
 use Rattle.bac_tags.proofs.Standing.{IsBytes, Stands, Stands-then, Stands-front, Stands-back}
 use Rattle.bac_tags.specs.declared.malformed.Malformed.{Malformed}
 use Rattle.bac_tags.specs.Parameters.{IsOptionalAt}
-use Rattle.bac_tags.specs.ParameterReading.{required, optional}
+use Rattle.bac_tags.specs.ParameterReadingSteps.{required, optional}
 use Rattle.property_services.specs.Requests.{SpellsWhoIs}
-use Rattle.property_services.specs.Reading.{limits_behind, limits_at, who_is_of}
+use Rattle.property_services.specs.ReadingSteps.{limits_behind, limits_at, who_is_of}
 use Rattle.property_services.specs.Refusals.{IsLimitsAt, RefusesLimits, RefusesWhoIs}
 use Rattle.bac_tags.specs.Refusals.{Behind, RefusesRequired, RefusesOptional}
 use Rattle.bac_tags.proofs.ParameterAnswers.{Answers, Both, Made, then, mapped, said, Whole, ended, whole_said}

@@ -12,7 +12,7 @@ use Rattle.bac_tags.specs.Tags.{SpellsTag}
 use Rattle.bac_tags.specs.Elements.{element_tag}
 use Rattle.bac_tags.specs.Contents.{SpellsUnsigned}
 use Rattle.bac_tags.specs.Stamps.{SpellsStamp}
-use Rattle.bac_tags.specs.Reading.{tag_at, unsigned_at, stamp_at, ◌>>=◌}
+use Rattle.bac_tags.specs.ReadingSteps.{tag_at, unsigned_at, stamp_at, ◌>>=◌}
 use Rattle.bac_tags.proofs.Steps as tags
 use Rattle.bac_tags.proofs.Standing.{IsBytes, Stands, Stands-from, Stands-then, Stands-front, Stands-back, Stands-within}
 use Rattle.bac_tags.proofs.TagLaws.{tag_found, tag_again}
@@ -20,14 +20,14 @@ use Rattle.bac_tags.specs.declared.malformed.Malformed.{Malformed}
 use Rattle.bac_tags.specs.Refusals.{invalid_tag, Behind}
 use Rattle.bac_tags.specs.Parameters.{IsThere, IsAbsent}
 use Rattle.bac_tags.specs.EnclosingTags.{opening, IsOtherTag, SpellsEnclosed}
-use Rattle.bac_tags.specs.ParameterReading.{or_invalid}
+use Rattle.bac_tags.specs.ParameterReadingSteps.{or_invalid}
 use Rattle.bac_tags.proofs.Steps.{bind_ok, bind_err, ok_is}
 use Rattle.property_services.specs.declared.requests.ReadRequest.{ReadRequest}
 use Rattle.property_services.specs.declared.requests.RangeRequest.{RangeRequest}
 use Rattle.property_services.specs.declared.requests.RangeBy.{RangeBy}
 use Rattle.property_services.specs.declared.requests.RangeBy.TheVariants.{All, Position, Sequence, Time}
 use Rattle.property_services.specs.Requests.{SpellsCounted, SpellsGivenRange, SpellsRange, SpellsReadRange, reference_of}
-use Rattle.property_services.specs.Reading.{opened, counted_at, dated_at, range_behind, range_at, range_request, range_request_at, reference_at, read_range_of}
+use Rattle.property_services.specs.ReadingSteps.{opened, counted_at, dated_at, range_behind, range_at, range_request, range_request_at, reference_at, read_range_of}
 use Rattle.property_services.specs.Refusals.{IsNoRange, IsRangeAt, RefusesRange, IsReferenceAt, RefusesReference, IsRangeRequestAt, RefusesReadRange}
 use Rattle.bac_tags.proofs.ParameterAnswers.{Answers, Both, Made, then, mapped, said, Whole, ended, whole_said}
 use Rattle.bac_tags.proofs.ElementAnswers.{invalid_ok, invalid_err, ends_within, begins_before, tag_some}

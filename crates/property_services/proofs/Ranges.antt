@@ -5,7 +5,7 @@ use Rattle.bac_tags.specs.Places.{IsSpelledAt}
 use Rattle.bac_tags.specs.Tags.{SpellsTag}
 use Rattle.bac_tags.specs.Contents.{IsSigned, SpellsUnsigned, SpellsSigned}
 use Rattle.bac_tags.specs.Stamps.{SpellsStamp}
-use Rattle.bac_tags.specs.Reading.{signed_of, unsigned_at, signed_at, stamp_at, ◌>>=◌}
+use Rattle.bac_tags.specs.ReadingSteps.{signed_of, unsigned_at, signed_at, stamp_at, ◌>>=◌}
 use Rattle.bac_tags.proofs.Standing.{IsBytes, Stands, Stands-then, Stands-front, Stands-back, Stands-within}
 use Rattle.bac_tags.proofs.Readers.{Reads, reads}
 use Rattle.bac_tags.proofs.Numbers.{signed_values}
@@ -13,7 +13,7 @@ use Rattle.bac_tags.proofs.StampLaws.{reads_stamp}
 use Rattle.bac_tags.specs.declared.malformed.Malformed.{Malformed}
 use Rattle.bac_tags.specs.Refusals.{invalid_tag}
 use Rattle.bac_tags.specs.EnclosingTags.{closing, SpellsOnly, closing_at}
-use Rattle.bac_tags.specs.ParameterReading.{or_invalid}
+use Rattle.bac_tags.specs.ParameterReadingSteps.{or_invalid}
 use Rattle.bac_tags.proofs.Steps.{bind_ok, bind_err, ok_is}
 use Rattle.bac_tags.proofs.TagReaders.{reads_closing}
 use Rattle.property_services.specs.Requests.{SpellsCounted}

@@ -5,14 +5,14 @@ use Rattle.std.proofs.lemmas.List.{append-nil, drop_all}
 use Rattle.bac_values.specs.Identifier.{Identifier}
 use Rattle.bac_tags.specs.Places.{IsSpelledAt}
 use Rattle.bac_tags.specs.Contents.{SpellsUnsigned, SpellsObject}
-use Rattle.bac_tags.specs.Reading.{unsigned_at, object_at, ◌>>=◌}
+use Rattle.bac_tags.specs.ReadingSteps.{unsigned_at, object_at, ◌>>=◌}
 use Rattle.bac_tags.proofs.Standing.{IsBytes, Stands, Stands-from, Stands-then, Stands-front, Stands-back}
 use Rattle.bac_tags.specs.declared.malformed.Malformed.{Malformed}
 use Rattle.bac_tags.specs.Parameters.{IsAbsent, IsOptionalAt, SpellsIfGiven}
-use Rattle.bac_tags.specs.ParameterReading.{required, optional}
+use Rattle.bac_tags.specs.ParameterReadingSteps.{required, optional}
 use Rattle.property_services.specs.declared.requests.ReadRequest.{ReadRequest}
 use Rattle.property_services.specs.Requests.{SpellsReference}
-use Rattle.property_services.specs.Reading.{property_id, reference_at, read_property_of}
+use Rattle.property_services.specs.ReadingSteps.{property_id, reference_at, read_property_of}
 use Rattle.property_services.specs.Refusals.{RefusesReference, IsReferenceAt, RefusesReadProperty}
 use Rattle.bac_tags.specs.Refusals.{Behind, RefusesRequired, RefusesOptional}
 use Rattle.bac_tags.proofs.ParameterAnswers.{Answers, Both, Made, then, mapped, said, Whole, ended, whole_said}

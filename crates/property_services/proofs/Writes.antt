@@ -10,7 +10,7 @@ use Rattle.bac_tags.specs.declared.fault.TagFault.{TagFault}
 use Rattle.bac_tags.specs.Places.{IsSpelledAt}
 use Rattle.bac_tags.specs.Contents.{SpellsUnsigned}
 use Rattle.bac_tags.specs.Values.{SpellsValue}
-use Rattle.bac_tags.specs.Reading.{unsigned_at, value_at, ◌>>=◌}
+use Rattle.bac_tags.specs.ReadingSteps.{unsigned_at, value_at, ◌>>=◌}
 use Rattle.bac_tags.proofs.Steps as tags
 use Rattle.bac_tags.proofs.Standing.{IsBytes, Stands, Stands-then, Stands-front, Stands-back}
 use Rattle.bac_tags.proofs.Readers.{part_bytes}
@@ -19,7 +19,7 @@ use Rattle.bac_tags.specs.declared.malformed.Malformed.{Malformed}
 use Rattle.bac_tags.specs.Parameters.{IsOptionalAt, SpellsIfGiven}
 use Rattle.bac_tags.specs.EnclosingTags.{SpellsEnclosed}
 use Rattle.bac_tags.specs.Balanced.{AreElements, SpellsElements, elements_at}
-use Rattle.bac_tags.specs.ParameterReading.{or_invalid, required, optional, whole}
+use Rattle.bac_tags.specs.ParameterReadingSteps.{or_invalid, required, optional, whole}
 use Rattle.bac_tags.proofs.Steps.{bind_ok, bind_err, ok_is}
 use Rattle.bac_tags.proofs.RequiredReaders.{required_inside, required_outside}
 use Rattle.bac_tags.proofs.Between.{elements_found, elements_again}
@@ -28,7 +28,7 @@ use Rattle.property_services.specs.declared.fault.ServiceFault.TheVariants as fa
 use Rattle.property_services.specs.declared.requests.ReadRequest.{ReadRequest}
 use Rattle.property_services.specs.declared.requests.WriteRequest.{WriteRequest}
 use Rattle.property_services.specs.Requests.{IsWritten, SpellsWriteProperty, reference_in}
-use Rattle.property_services.specs.Reading.{reference_at, content_at, write_at, value_or_other, value_of, write_request, write_property_of, GivesWrite}
+use Rattle.property_services.specs.ReadingSteps.{reference_at, content_at, write_at, value_or_other, value_of, write_request, write_property_of, GivesWrite}
 use Rattle.property_services.specs.Refusals.{IsReferenceAt, RefusesReference, IsWriteAt, RefusesWrite, RefusesWriteProperty}
 use Rattle.bac_tags.specs.Refusals.{Behind, RefusesRequired, RefusesOptional}
 use Rattle.bac_tags.proofs.ParameterAnswers.{Answers, Both, Made, then, mapped, said, Whole, ended}

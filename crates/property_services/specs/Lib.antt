@@ -1,4 +1,4 @@
 pub mod Requests
-pub mod Reading
+pub mod ReadingSteps
 pub mod Refusals
 pub mod Writing

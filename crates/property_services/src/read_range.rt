@@ -4,8 +4,8 @@ ghost use Rattle.bac_tags.specs.Refusals.{missing_parameter};
 ghost use Rattle.property_services.specs.declared.requests.RangeRequest.{RangeRequest};
 ghost use Rattle.property_services.specs.Requests.{SpellsReadRange};
 ghost use Rattle.property_services.specs.Refusals.{RefusesReadRange, EndsBeforeProperty};
-ghost use Rattle.bac_tags.specs.ParameterReading.{or_invalid};
-ghost use Rattle.property_services.specs.Reading.{opened, counted_at, dated_at, range_behind, range_at, range_request_at, read_range_of};
+ghost use Rattle.bac_tags.specs.ParameterReadingSteps.{or_invalid};
+ghost use Rattle.property_services.specs.ReadingSteps.{opened, counted_at, dated_at, range_behind, range_at, range_request_at, read_range_of};
 
 use crate::reference::reference_at;
 use crate::{RangeBy, RangeRequest};
@@ -26,7 +26,7 @@ fn opened(tag: Tag) -> Option<u8>
 }
 
 /// A number and a count in the list with this number, which begins at `begin`, and the place after the list.
-#[tactic(auto, unfolding(crate::specs::Reading::counted_at))]
+#[tactic(auto, unfolding(crate::specs::ReadingSteps::counted_at))]
 fn counted_at(
     input: &[u8],
     begin: usize,
@@ -44,7 +44,7 @@ fn counted_at(
 }
 
 /// A date, a time and a count in the list with this number, which begins at `begin`, and the place after the list.
-#[tactic(auto, unfolding(crate::specs::Reading::dated_at))]
+#[tactic(auto, unfolding(crate::specs::ReadingSteps::dated_at))]
 fn dated_at(
     input: &[u8],
     begin: usize,
@@ -62,7 +62,7 @@ fn dated_at(
 }
 
 /// The range in a list that begins at `begin` and whose opening tag has this number, or all where it isn't a range's.
-#[tactic(auto, unfolding(crate::specs::Reading::range_behind))]
+#[tactic(auto, unfolding(crate::specs::ReadingSteps::range_behind))]
 fn range_behind(
     input: &[u8],
     begin: usize,
@@ -92,7 +92,7 @@ fn range_behind(
 }
 
 /// The range at a place, all where there is none, and the place after it.
-#[tactic(auto, unfolding(crate::specs::Reading::range_at))]
+#[tactic(auto, unfolding(crate::specs::ReadingSteps::range_at))]
 fn range_at(input: &[u8], at: usize) -> Result<(RangeBy, usize), Malformed>
     requires { at ≤ length input.now }
     ensures exact { result ≡ range_at input.now at }
@@ -106,7 +106,7 @@ fn range_at(input: &[u8], at: usize) -> Result<(RangeBy, usize), Malformed>
 }
 
 /// What is to be read at the front of the octets, and the place after it.
-#[tactic(auto, unfolding(crate::specs::Reading::range_request_at))]
+#[tactic(auto, unfolding(crate::specs::ReadingSteps::range_request_at))]
 fn range_request_at(input: &[u8]) -> Result<(RangeRequest, usize), Malformed>
     ensures exact { result ≡ range_request_at input.now }
     ensures within { IfOk result (λ x. x.1 ≤ length input.now) }

@@ -4,14 +4,14 @@ ghost use Rattle.bac_tags.specs.Refusals.{missing_parameter};
 ghost use Rattle.property_services.specs.declared.requests.ReadRequest.{ReadRequest};
 ghost use Rattle.property_services.specs.Requests.{SpellsReadProperty};
 ghost use Rattle.property_services.specs.Refusals.{RefusesReadProperty, EndsBeforeProperty};
-ghost use Rattle.property_services.specs.Reading.{reference_at, read_property_of};
+ghost use Rattle.property_services.specs.ReadingSteps.{reference_at, read_property_of};
 
 use crate::ReadRequest;
 use bac_tags::{Malformed, nothing_follows, optional_unsigned, required_object, required_unsigned};
 use bac_values::PropertyId;
 
 /// The object, the property and the index at the front of the octets, and the place after them.
-#[tactic(auto, unfolding(crate::specs::Reading::reference_at))]
+#[tactic(auto, unfolding(crate::specs::ReadingSteps::reference_at))]
 pub(crate) fn reference_at(input: &[u8]) -> Result<(ReadRequest, usize), Malformed>
     ensures exact { result ≡ reference_at input.now }
     ensures within { IfOk result (λ x. x.1 ≤ length input.now) }

@@ -3,12 +3,12 @@ ghost use Rattle.bac_tags.specs.declared.malformed.Malformed.{Malformed};
 ghost use Rattle.bac_tags.specs.Refusals.{missing_parameter};
 ghost use Rattle.property_services.specs.Requests.{SpellsWhoIs};
 ghost use Rattle.property_services.specs.Refusals.{RefusesWhoIs, EndsBeforeHighest};
-ghost use Rattle.property_services.specs.Reading.{limits_behind, limits_at, who_is_of};
+ghost use Rattle.property_services.specs.ReadingSteps.{limits_behind, limits_at, who_is_of};
 
 use bac_tags::{Malformed, nothing_follows, optional_unsigned, required_unsigned};
 
 /// The limits behind the lowest instance, if that is given, and the place after them.
-#[tactic(auto, unfolding(crate::specs::Reading::limits_behind))]
+#[tactic(auto, unfolding(crate::specs::ReadingSteps::limits_behind))]
 fn limits_behind(
     input: &[u8],
     low: Option<u32>,
@@ -26,7 +26,7 @@ fn limits_behind(
 }
 
 /// The limits at the front of the octets, and the place after them.
-#[tactic(auto, unfolding(crate::specs::Reading::limits_at))]
+#[tactic(auto, unfolding(crate::specs::ReadingSteps::limits_at))]
 fn limits_at(input: &[u8]) -> Result<(Option<(u32, u32)>, usize), Malformed>
     ensures exact { result ≡ limits_at input.now }
     ensures within { IfOk result (λ x. x.1 ≤ length input.now) }

@@ -5,9 +5,9 @@ ghost use Rattle.bac_tags.specs.Values.{SpellsValue};
 ghost use Rattle.property_services.specs.declared.requests.WriteRequest.{WriteRequest};
 ghost use Rattle.property_services.specs.Requests.{SpellsWriteProperty};
 ghost use Rattle.property_services.specs.Refusals.{RefusesWriteProperty, EndsBeforeValue, HasText};
-ghost use Rattle.property_services.specs.Reading.{content_at, write_at, value_of, write_property_of, GivesWrite};
-ghost use Rattle.bac_tags.specs.Reading.{Gives};
-ghost use Rattle.bac_tags.specs.ParameterReading.{whole};
+ghost use Rattle.property_services.specs.ReadingSteps.{content_at, write_at, value_of, write_property_of, GivesWrite};
+ghost use Rattle.bac_tags.specs.ReadingSteps.{Gives};
+ghost use Rattle.bac_tags.specs.ParameterReadingSteps.{whole};
 
 use crate::reference::reference_at;
 use crate::{ReadRequest, ServiceFault, WriteRequest};
@@ -18,7 +18,7 @@ use bac_values::{Foreign, NoMemory, Value};
 use std::alloc::Global;
 
 /// The elements of the value, and the place after its closing tag.
-#[tactic(auto, unfolding(crate::specs::Reading::content_at))]
+#[tactic(auto, unfolding(crate::specs::ReadingSteps::content_at))]
 fn content_at(input: &[u8], at: usize) -> Result<(&[u8], usize), Malformed>
     requires { at ≤ length input.now }
     ensures exact { Gives (λ x. (x.0.now, x.1)) result (content_at input.now at) }
@@ -29,7 +29,7 @@ fn content_at(input: &[u8], at: usize) -> Result<(&[u8], usize), Malformed>
 }
 
 /// What is written, the elements of the value, and the place after the priority, if there is one.
-#[tactic(auto, unfolding(crate::specs::Reading::write_at))]
+#[tactic(auto, unfolding(crate::specs::ReadingSteps::write_at))]
 fn write_at(input: &[u8]) -> Result<((ReadRequest, &[u8]), usize), Malformed>
     ensures exact { Gives (λ x. ((x.0.0, x.0.1.now), x.1)) result (write_at input.now) }
 {
@@ -53,7 +53,7 @@ fn whole_write(input: &[u8]) -> Result<(ReadRequest, &[u8]), Malformed>
 }
 
 /// The value of elements that are exactly one application value.
-#[tactic(auto, unfolding(crate::specs::Reading::value_of))]
+#[tactic(auto, unfolding(crate::specs::ReadingSteps::value_of))]
 fn value_of(alloc: Global, content: &[u8]) -> Result<Value, NoMemory>
     ensures value { IfOk result (λ value. value ≡ value_of content.now) }
     ensures no_memory { OnErr result ((text : List ℕ) × (end : ℕ) × IsSpelledAt SpellsValue content.now 0 (Value.Text text) end) }

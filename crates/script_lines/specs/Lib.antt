@@ -2,7 +2,7 @@ pub mod Number
 pub mod Words
 pub mod SessionLine
 pub mod Line
-pub mod Reading
+pub mod ReadingSteps
 pub mod Script
-pub mod Taking
+pub mod TakingSteps
 pub mod Report

@@ -9,7 +9,7 @@ use Rattle.script_lines.specs.declared.lines.LineFault.TheVariants as line_fault
 use Rattle.script_lines.specs.declared.line.LineSays.{LineSays}
 use Rattle.script_lines.specs.declared.line.LineSays.TheVariants.{Skipped, Outside, Spells}
 use Rattle.script_lines.specs.Line.{line_says}
-use Rattle.script_lines.specs.Reading.{Reading}
+use Rattle.script_lines.specs.ReadingSteps.{Reading}
 
 abbrev pub is_line_feed : ℕ → Bool
 is_line_feed c = c == 10

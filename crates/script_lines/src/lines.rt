@@ -3,7 +3,7 @@ ghost use Rattle.std.specs.List.{position_or_len};
 ghost use Rattle.std.specs.Io.KnownBytes.{Keeps, prepend_known, IsAtEnd};
 ghost use Rattle.ground_io.specs.Counts.{HasCause};
 ghost use Rattle.script_lines.specs.Script.{is_line_feed};
-ghost use Rattle.script_lines.specs.Taking.{taken_of};
+ghost use Rattle.script_lines.specs.TakingSteps.{taken_of};
 ghost use Rattle.script_lines.specs.declared.line.Grammar.TheVariants.{Trial, Session};
 ghost use Rattle.script_lines.specs.declared.lines.LineFault.TheVariants.{Read, NoMemory as WantsMemory};
 
@@ -129,7 +129,7 @@ pub struct Lines {
 
 impl Model for Lines {
     ghost use Rattle.std.specs.Prelude.{◌≤◌};
-    ghost use Rattle.script_lines.specs.Reading.{Reading};
+    ghost use Rattle.script_lines.specs.ReadingSteps.{Reading};
 
     ghost Value = { Reading };
 
@@ -142,10 +142,10 @@ impl Lines {
     ghost use Rattle.std.specs.Prelude.{◌≢◌, ◌+◌, ◌<◌, ◌≤◌, [], true, false, position, IfSome, IsOk, OnSome};
     ghost use Rattle.std.specs.List.{before_first, position_or_len};
     ghost use Rattle.script_lines.specs.Line.{HoldsOctets, IsLineOf, SpellsLine, line_says};
-    ghost use Rattle.script_lines.specs.Reading.{octets_to_come};
+    ghost use Rattle.script_lines.specs.ReadingSteps.{octets_to_come};
     ghost use Rattle.ground_io.specs.Trace.{WhereTold};
     ghost use Rattle.script_lines.specs.Script.{front_says, is_line_feed, ReadsLine, TakesLines};
-    ghost use Rattle.script_lines.specs.Taking.{CountsLine, TakesLine, TakesLineOf, behind_line};
+    ghost use Rattle.script_lines.specs.TakingSteps.{CountsLine, TakesLine, TakesLineOf, behind_line};
 
     // A reader of a script in a grammar, at its first line.
     fn of(alloc: Global, grammar: Grammar) -> Result<Lines, NoMemory>

@@ -10,10 +10,10 @@ use Rattle.bac_values.specs.declared.input.SetFault.{SetFault}
 use Rattle.bac_values.specs.declared.input.SetFault.TheVariants.{WrongKind}
 use Rattle.bac_values.specs.declared.value.Value.{Value}
 use Rattle.bvlc_npdu.specs.declared.reading.Incoming.{Incoming}
-use Rattle.bvlc_npdu.specs.Reading.{incoming_at}
+use Rattle.bvlc_npdu.specs.ReadingSteps.{incoming_at}
 use Rattle.apdu_frame.specs.declared.apdu.Apdu.{Apdu}
 use Rattle.apdu_frame.specs.declared.apdu.Apdu.TheVariants.{Request, Segmented, Unconfirmed, SimpleAck, Error as ErrorAnswer, Reject as RejectAnswer, Abort as AbortAnswer, Other}
-use Rattle.apdu_frame.specs.Reading.{apdu_of}
+use Rattle.apdu_frame.specs.ReadingSteps.{apdu_of}
 use Rattle.bac_tags.specs.declared.malformed.Malformed.{Malformed}
 use Rattle.event_machine.specs.Finding.{Finding, NoSuchObject, WithoutAlarm, WithAlarm}
 use Rattle.event_services.specs.declared.acknowledge.AckRequest.{AckRequest}
@@ -21,7 +21,7 @@ use Rattle.event_services.specs.Acknowledgements.{acknowledge_request_of}
 use Rattle.event_services.specs.Information.{information_request_of}
 use Rattle.property_services.specs.declared.requests.ReadRequest.{ReadRequest}
 use Rattle.property_services.specs.declared.requests.WriteRequest.{WriteRequest}
-use Rattle.property_services.specs.Reading.{read_property_of, who_is_of, write_property_of}
+use Rattle.property_services.specs.ReadingSteps.{read_property_of, who_is_of, write_property_of}
 use Rattle.ack_alarm.specs.Verdicts.{AcceptsAllowed, acknowledgement_verdict}
 use Rattle.ack_alarm.proofs.Accepting.{accepts}
 use Rattle.object_table.specs.declared.change.Change.{Change}
@@ -35,14 +35,14 @@ use Rattle.alarm_core.specs.declared.site.Site.{Site}
 use Rattle.alarm_core.specs.Allowed.{IsAllowed, IsAnswer}
 use Rattle.alarm_core.specs.Found.{found_in}
 use Rattle.alarm_core.specs.History.{StateTransition, raised, tick_at}
-use Rattle.alarm_core.specs.Next.{next_transitions}
+use Rattle.alarm_core.specs.CoreSteps.{next_transitions}
 use Rattle.alarm_core.specs.Reading.{write_of}
 use Rattle.alarm_core.specs.Sites.{IsSite}
 use Rattle.alarm_core.specs.State.{State, state_of}
 use Rattle.service_desk.specs.declared.decision.Decision.{Decision}
 use Rattle.service_desk.specs.declared.decision.Decision.TheVariants.{Ignore, Idle, Reply, Enter}
 use Rattle.service_desk.specs.declared.replies.Requester.{Requester}
-use Rattle.service_desk.specs.Decisions.{EntersAllowed, acknowledge_decision, acknowledge_with, answer_at, apdu_decision, requester_of, names_device, by_kind, change_decision, decision_on, field_decision, has_no_value, i_am, incoming_decision, information_decision, information_with, pump_at, range_decision, read_decision, read_with, request_decision, tick_with, unconfirmed_decision, who_is_decision, write_decision, write_with}
+use Rattle.service_desk.specs.DecisionSteps.{EntersAllowed, acknowledge_decision, acknowledge_with, answer_at, apdu_decision, requester_of, names_device, by_kind, change_decision, decision_on, field_decision, has_no_value, i_am, incoming_decision, information_decision, information_with, pump_at, range_decision, read_decision, read_with, request_decision, tick_with, unconfirmed_decision, who_is_decision, write_decision, write_with}
 use Rattle.service_desk.proofs.AllowedWrites.{fault_allowed, set_allowed, write_allowed}
 use Rattle.service_desk.proofs.Entering.{verdict_enters}
 

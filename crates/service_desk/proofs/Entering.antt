@@ -8,7 +8,7 @@ use Rattle.alarm_core.specs.Found.{found_in}
 use Rattle.alarm_core.specs.State.{State}
 use Rattle.service_desk.specs.declared.decision.Decision.{Decision}
 use Rattle.service_desk.specs.declared.replies.Requester.{Requester}
-use Rattle.service_desk.specs.Decisions.{EntersAllowed, verdict_decision}
+use Rattle.service_desk.specs.DecisionSteps.{EntersAllowed, verdict_decision}
 
 pub verdict_enters : (state : State) (moment : ℕ) (requester : Requester) (object : Identifier) (verdict : Verdict) → AcceptsAllowed (found_in state object) verdict →
     EntersAllowed state moment (verdict_decision moment requester object verdict)

@@ -8,7 +8,7 @@ use Rattle.event_services.specs.Acknowledgements.{acknowledge_request_of}
 use Rattle.event_services.specs.Information.{information_request_of}
 use Rattle.property_services.specs.declared.requests.ReadRequest.{ReadRequest}
 use Rattle.property_services.specs.declared.requests.WriteRequest.{WriteRequest}
-use Rattle.property_services.specs.Reading.{read_property_of, write_property_of}
+use Rattle.property_services.specs.ReadingSteps.{read_property_of, write_property_of}
 use Rattle.ack_alarm.specs.declared.verdict.Verdict.{Verdict}
 use Rattle.ack_alarm.specs.declared.verdict.Verdict.TheVariants.{Accept, Already, Error}
 use Rattle.ack_alarm.specs.Verdicts.{acknowledgement_verdict}
@@ -24,7 +24,7 @@ use Rattle.alarm_core.specs.Reading.{read_of, write_of}
 use Rattle.alarm_core.specs.State.{State}
 use Rattle.service_desk.specs.declared.decision.Decision.{Decision}
 use Rattle.service_desk.specs.declared.replies.Requester.{Requester}
-use Rattle.service_desk.specs.Decisions.{acknowledge_with, change_decision, information_with, read_reply, read_with, verdict_decision, write_with}
+use Rattle.service_desk.specs.DecisionSteps.{acknowledge_with, change_decision, information_with, read_reply, read_with, verdict_decision, write_with}
 use Rattle.service_desk.specs.Laws.{EachReplyFits, FitsRequester, RepliesFit}
 use Rattle.service_desk.specs.Information.{information_room}
 use Rattle.service_desk.proofs.Sends.{abort_fits, simple_ack_fits, within_max_apdu_fits, information_reply_fits, range_decided_fits, error_fits, reject_fits}

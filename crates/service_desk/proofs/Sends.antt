@@ -10,7 +10,7 @@ use Rattle.bac_values.specs.declared.note.Send.{Send}
 use Rattle.apdu_frame.specs.Writing.{written_abort, written_error, written_reject, written_simple_ack}
 use Rattle.bac_tags.specs.declared.malformed.Malformed.{Malformed}
 use Rattle.property_services.specs.declared.requests.RangeRequest.{RangeRequest}
-use Rattle.property_services.specs.Reading.{read_range_of}
+use Rattle.property_services.specs.ReadingSteps.{read_range_of}
 use Rattle.event_log.specs.declared.log_range.LogRange.{LogRange}
 use Rattle.event_log.specs.Log.{Log}
 use Rattle.event_services.specs.declared.information.EventSummary.{EventSummary}

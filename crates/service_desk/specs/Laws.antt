@@ -6,7 +6,7 @@ use Rattle.alarm_core.specs.State.{State}
 use Rattle.service_desk.specs.declared.decision.Decision.{Decision}
 use Rattle.service_desk.specs.declared.decision.Decision.TheVariants.{Enter, Reply}
 use Rattle.service_desk.specs.declared.replies.Requester.{Requester}
-use Rattle.service_desk.specs.Decisions.{request_decision}
+use Rattle.service_desk.specs.DecisionSteps.{request_decision}
 use Rattle.service_desk.specs.Replies.{reply_to}
 
 -- an APDU that an requester takes, on its way to it

@@ -1,5 +1,5 @@
 pub mod Replies
 pub mod Ranges
 pub mod Information
-pub mod Decisions
+pub mod DecisionSteps
 pub mod Laws

@@ -12,7 +12,7 @@ use Rattle.bac_tags.specs.EnclosingTags.{closing, opening}
 use Rattle.property_services.specs.declared.requests.RangeBy.{RangeBy}
 use Rattle.property_services.specs.declared.requests.RangeBy.TheVariants.{All, Position, Sequence, Time}
 use Rattle.property_services.specs.declared.requests.RangeRequest.{RangeRequest}
-use Rattle.property_services.specs.Reading.{read_range_of}
+use Rattle.property_services.specs.ReadingSteps.{read_range_of}
 use Rattle.property_services.specs.Writing.{written_range_ack}
 use Rattle.event_log.specs.declared.log_range.LogRange.{LogRange}
 use Rattle.event_log.specs.declared.log_record.LogRecord.{LogRecord}

@@ -6,8 +6,8 @@ use native.Mathlib.Decide.{dec_le}
 use lib.ListN.{get_elem?}
 use Rattle.std.specs.Prelude.{◌==◌, if◌then◌else◌}
 use Rattle.turnstile.specs.Histories.{StartsWith, entries_under, Accounts, times, among}
-use Rattle.turnstile.specs.Views.{own_number, with_call}
-use Rattle.turnstile.specs.Rule.{total, AreAbove}
+use Rattle.turnstile.specs.ViewSteps.{own_number, with_call}
+use Rattle.turnstile.specs.RuleSteps.{total, AreAbove}
 
 module _ {V : Type 0} (f : V → ℕ) where
   pub total_set : (vs : List V) (k : ℕ) (v w : V) → get_elem? vs k ≡ some v → total f (set vs k w) + f v ≡ total f vs + f w

@@ -11,13 +11,13 @@ use Rattle.turnstile.specs.declared.memo.Memo.{Memo}
 use Rattle.atomic_table.specs.Table.{State, Me, Act, step, keeps, takes, gives, stepped, Allows, Enters, Splits, Joins, opening, put_back, homes_after, carried_after, Valid}
 use Rattle.atomic_table.proofs.Lists.{at_set, set_else, exchanged}
 use Rattle.turnstile.specs.Histories.{StartsWith, entries_under, times, among, NoOther, Licensed}
-use Rattle.turnstile.specs.Views.{IsHolding, own_number, longer, is_within, IsWithin, shut_of, heard, at_stage, inside, after_call, with_mark}
+use Rattle.turnstile.specs.ViewSteps.{IsHolding, own_number, longer, is_within, IsWithin, shut_of, heard, at_stage, inside, after_call, with_mark}
 use Rattle.turnstile.specs.declared.view.View.{View}
 use Rattle.turnstile.specs.declared.view.Place.{Place}
 use Rattle.turnstile.specs.declared.view.Place.TheVariants.{Empty, Held, Given}
 use Rattle.turnstile.specs.declared.view.Stage.{Stage}
 use Rattle.turnstile.specs.declared.view.Stage.TheVariants.{Idle, Waits, Within, Shut}
-use Rattle.turnstile.specs.Rule.{total, has_ticket, has_some_ticket, AreAbove, Staged, Holds, Fits, Locked, Kept}
+use Rattle.turnstile.specs.RuleSteps.{total, has_ticket, has_some_ticket, AreAbove, Staged, Holds, Fits, Locked, Kept}
 use Rattle.turnstile.specs.Steps.{Drew, PassedOn, Settled, Closed, Raised, Loaded, Turned, Looked}
 use Rattle.turnstile.proofs.Counts.{total_set, total_at, total_two, total_found, own_times, above_more, among_here, among_there, under_other, times_with_call, accounts_other, accounts_own, starts_append, total_zero, there_set, there_same, starts_both}
 use Rattle.turnstile.proofs.Stages.{other_ticket, waits_same, within_some, within_is, within_served, more_drawn, restaged, within_out, shut_out}

@@ -9,12 +9,12 @@ use Rattle.std.specs.Prelude.{max}
 use Rattle.atomic_table.specs.Table.{State, Me, step, keeps, Allows, Splits, Joins, opening}
 use Rattle.atomic_table.proofs.Lists.{at_set, at_snoc, set_else, at_longer}
 use Rattle.turnstile.specs.Histories.{times, among, Licensed}
-use Rattle.turnstile.specs.Views.{IsWithin, own_number, newcomer, named, left_of, right_of, nobody, joined}
+use Rattle.turnstile.specs.ViewSteps.{IsWithin, own_number, newcomer, named, left_of, right_of, nobody, joined}
 use Rattle.turnstile.specs.declared.view.View.{View}
 use Rattle.turnstile.specs.declared.view.Place.{Place}
 use Rattle.turnstile.specs.declared.view.Place.TheVariants.{Held}
 use Rattle.turnstile.specs.declared.view.Stage.TheVariants.{Idle}
-use Rattle.turnstile.specs.Rule.{total, has_ticket, has_some_ticket, AreAbove, Fits, Kept}
+use Rattle.turnstile.specs.RuleSteps.{total, has_ticket, has_some_ticket, AreAbove, Fits, Kept}
 use Rattle.turnstile.specs.Steps.{Named}
 use Rattle.turnstile.proofs.Counts.{total_set, total_snoc, total_at, times_append, accounts_append, times_one, times_none, times_here, times_there, own_times, above_both, among_append, among_here, among_there, there_set, there_same}
 

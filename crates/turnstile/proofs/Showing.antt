@@ -4,7 +4,7 @@ use Rattle.atomic_table.specs.Table.{Me}
 use Rattle.atomic_table.specs.Seated.{TableId}
 use Rattle.turnstile.specs.Histories.{StartsWith, Accounts, times, IsOnce, NoOther, among}
 use Rattle.turnstile.specs.Passes.{Known, all_calls, Sees, Joins}
-use Rattle.turnstile.specs.Views.{own_number, own_calls, carried_calls, of_view, of_views, IsAtRest, AreAtRest, heard, joined, at_stage}
+use Rattle.turnstile.specs.ViewSteps.{own_number, own_calls, carried_calls, of_view, of_views, IsAtRest, AreAtRest, heard, joined, at_stage}
 use Rattle.turnstile.specs.Steps.{Turned}
 use Rattle.turnstile.specs.declared.view.View.{View}
 use Rattle.turnstile.specs.declared.view.Place.{Place}

@@ -2,8 +2,8 @@
 use Rattle.std.proofs.Common.{◌≡◌, ◌≢◌, ℕ, ◌<◌, ◌≤◌, true, List, [], ◌∷◌, refl, ap, arith, eq-eqb, ne_eqb}
 use mathlib.Core.Option.{Option, none, some}
 use Rattle.std.specs.Prelude.{if◌then◌else◌}
-use Rattle.turnstile.specs.Views.{is_within, IsWithin, shut_of}
-use Rattle.turnstile.specs.Rule.{has_ticket, has_some_ticket, Staged}
+use Rattle.turnstile.specs.ViewSteps.{is_within, IsWithin, shut_of}
+use Rattle.turnstile.specs.RuleSteps.{has_ticket, has_some_ticket, Staged}
 use Rattle.turnstile.specs.declared.view.Place.{Place}
 use Rattle.turnstile.specs.declared.view.Place.TheVariants.{Empty}
 use Rattle.turnstile.specs.declared.view.Stage.{Stage}

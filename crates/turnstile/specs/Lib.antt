@@ -1,5 +1,5 @@
 pub mod Histories
 pub mod Passes
-pub mod Views
-pub mod Rule
+pub mod ViewSteps
+pub mod RuleSteps
 pub mod Steps

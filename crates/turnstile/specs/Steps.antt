@@ -2,8 +2,8 @@
 use Rattle.std.specs.Prelude.{◌≡◌, ◌≢◌, ℕ, ◌+◌, ◌<◌, ◌≤◌, ◌^◌, List, [], ◌∷◌, length, max, Some}
 use Rattle.atomic_table.specs.Table.{Me, Step}
 use Rattle.turnstile.specs.Histories.{StartsWith, Accounts, times, IsOnce, NoOther, among, Licensed}
-use Rattle.turnstile.specs.Views.{shut_of, named, longer, heard, at_stage, inside, after_call, with_mark}
-use Rattle.turnstile.specs.Rule.{Holds, AreAbove}
+use Rattle.turnstile.specs.ViewSteps.{shut_of, named, longer, heard, at_stage, inside, after_call, with_mark}
+use Rattle.turnstile.specs.RuleSteps.{Holds, AreAbove}
 use Rattle.turnstile.specs.declared.memo.Memo.{Memo}
 use Rattle.turnstile.specs.declared.view.View.{View}
 use Rattle.turnstile.specs.declared.view.Place.{Place}

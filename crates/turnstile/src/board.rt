@@ -6,7 +6,7 @@ ghost use Rattle.std.specs.Prelude.{◌≡◌, [], ◌∷◌, ◌++◌, length, 
 ghost use Rattle.turnstile.specs.declared.view.Stage.TheVariants.{Idle, Waits};
 ghost use Rattle.turnstile.specs.Histories.{StartsWith, IsOnce};
 ghost use Rattle.turnstile.specs.Passes.{Sees};
-ghost use Rattle.turnstile.specs.Views.{IsBoard, own_number, of_view, at_stage, after_call, heard, joined, IsHolding};
+ghost use Rattle.turnstile.specs.ViewSteps.{IsBoard, own_number, of_view, at_stage, after_call, heard, joined, IsHolding};
 ghost use Rattle.turnstile.specs.Steps.{Turned};
 
 use crate::bell::{Bell, Bells};

@@ -18,7 +18,7 @@ pub struct Pass<E, O> {
 
 impl<E, O> Model for Pass<E, O> {
     ghost use Rattle.turnstile.specs.Passes.{Known};
-    ghost use Rattle.turnstile.specs.Views.{of_views, AreAtRest};
+    ghost use Rattle.turnstile.specs.ViewSteps.{of_views, AreAtRest};
 
     ghost Value = { Known E O };
 
@@ -35,7 +35,7 @@ pub struct Holding<T: Chronicle> {
 
 impl<T: Chronicle> Model for Holding<T> {
     ghost use Rattle.turnstile.specs.Passes.{Known};
-    ghost use Rattle.turnstile.specs.Views.{of_view, IsHolding};
+    ghost use Rattle.turnstile.specs.ViewSteps.{of_view, IsHolding};
 
     ghost Value = { Known T.Entry T.Origin };
 

@@ -87,7 +87,7 @@ impl<T, E, O> Play<Place<T, E>, View<E, O>> for Close {
 pub struct Part;
 
 impl<E, O> Split<View<E, O>> for Part {
-    ghost use Rattle.turnstile.specs.Views.{left_of, right_of};
+    ghost use Rattle.turnstile.specs.ViewSteps.{left_of, right_of};
 
     ghost left = { left_of };
 
@@ -98,7 +98,7 @@ impl<E, O> Split<View<E, O>> for Part {
 pub struct Merge;
 
 impl<E, O> Join<View<E, O>> for Merge {
-    ghost use Rattle.turnstile.specs.Views.{joined, nobody};
+    ghost use Rattle.turnstile.specs.ViewSteps.{joined, nobody};
 
     ghost both = { joined };
 

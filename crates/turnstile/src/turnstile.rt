@@ -29,7 +29,7 @@ pub struct Turnstile<T: Chronicle> {
 
 impl<T: Chronicle> Model for Turnstile<T> {
     ghost use Rattle.turnstile.specs.Passes.{Identity};
-    ghost use Rattle.turnstile.specs.Views.{IsBoard};
+    ghost use Rattle.turnstile.specs.ViewSteps.{IsBoard};
 
     ghost Value = { Identity T.Origin };
 

@@ -1,7 +1,7 @@
 //! What lies in the turnstile's slot, what a seat of its table knows, and the rule of the table. No caller
 //! sees these types.
 
-ghost use Rattle.turnstile.specs.Rule.{IsFull, Contains};
+ghost use Rattle.turnstile.specs.RuleSteps.{IsFull, Contains};
 
 use crate::chronicle::Chronicle;
 use crate::memo::Memo;
@@ -57,8 +57,8 @@ pub struct Ruling<T> {
 
 impl<T: Chronicle> TableRule<Place<T, T::Entry>, View<T::Entry, T::Origin>, Memo<T>> for Ruling<T> {
     ghost use Rattle.std.specs.Prelude.{◌≡◌};
-    ghost use Rattle.turnstile.specs.Views.{newcomer};
-    ghost use Rattle.turnstile.specs.Rule.{Kept};
+    ghost use Rattle.turnstile.specs.ViewSteps.{newcomer};
+    ghost use Rattle.turnstile.specs.RuleSteps.{Kept};
 
     ghost holds = { λ key. Kept T.stands T.origin (T.origin key.value) T.licenses };
 

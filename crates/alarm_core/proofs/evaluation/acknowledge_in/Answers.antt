@@ -1,7 +1,7 @@
 use Rattle.std.proofs.Common.{◌∙◌, ap, rules, sym}
 use Rattle.std.proofs.lemmas.List.Edits.{map_over_more}
 use Rattle.std.specs.Prelude.{slice_set}
-use Rattle.alarm_core.specs.Next.{acked}
+use Rattle.alarm_core.specs.CoreSteps.{acked}
 use Rattle.alarm_core.specs.State.{DetectedObjectState}
 use Rattle.alarm_core.proofs.evaluation.acknowledge_in.Goals as goal
 

@@ -1,5 +1,5 @@
 use Rattle.std.proofs.Common.{◌≡◌, ◌++◌, map, take, drop}
-use Rattle.alarm_core.specs.Next.{acked}
+use Rattle.alarm_core.specs.CoreSteps.{acked}
 use Rattle.alarm_core.proofs.evaluation.acknowledge_in.Given as goal
 
 abbrev pub invariant-loop-detected : goal.invariant-loop-detected

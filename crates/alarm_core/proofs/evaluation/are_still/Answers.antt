@@ -1,7 +1,7 @@
 use Rattle.std.proofs.Common.{◌≡◌, ◌<◌, [], length, IsTrue, false, true, ap, ◌∙◌, subst, arith}
 use Rattle.std.specs.List.{flat_map}
 use Rattle.alarm_core.specs.History.{object_transition}
-use Rattle.alarm_core.specs.Next.{change_at, transitions_by}
+use Rattle.alarm_core.specs.CoreSteps.{change_at, transitions_by}
 use Rattle.alarm_core.proofs.Still.{flat_map-none, map-none}
 use Rattle.alarm_core.proofs.evaluation.are_still.Goals as goal
 

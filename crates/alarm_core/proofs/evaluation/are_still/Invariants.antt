@@ -1,6 +1,6 @@
 use Rattle.std.proofs.Common.{◌≡◌, [], take}
 use Rattle.std.specs.List.{flat_map}
-use Rattle.alarm_core.specs.Next.{transitions_by}
+use Rattle.alarm_core.specs.CoreSteps.{transitions_by}
 use Rattle.alarm_core.proofs.evaluation.are_still.Given as goal
 
 abbrev pub invariant-loop-detected : goal.invariant-loop-detected

@@ -1,6 +1,6 @@
 use Rattle.std.proofs.Common.{◌≡◌, map, take}
 use Rattle.std.specs.List.{flat_map}
-use Rattle.alarm_core.specs.Next.{evaluated, transitions_by}
+use Rattle.alarm_core.specs.CoreSteps.{evaluated, transitions_by}
 use Rattle.alarm_core.proofs.evaluation.evaluate_all.Given as goal
 
 abbrev pub invariant-loop-detected : goal.invariant-loop-detected

@@ -1,7 +1,7 @@
 use Rattle.std.proofs.Common.{◌≡◌, ◌∙◌, ◌++◌, map, ap, rules}
 use Rattle.event_machine.specs.Given.{moves_in}
 use Rattle.alarm_core.specs.History.{object_transition}
-use Rattle.alarm_core.specs.Next.{change_at}
+use Rattle.alarm_core.specs.CoreSteps.{change_at}
 use Rattle.alarm_core.proofs.RecordedBy.{two_made}
 use Rattle.alarm_core.proofs.evaluation.evaluate_next.Goals as goal
 

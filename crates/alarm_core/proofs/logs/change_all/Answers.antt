@@ -2,7 +2,7 @@ use Rattle.std.proofs.Common.{◌∙◌, ap, rules, sym}
 use Rattle.std.proofs.lemmas.List.Edits.{map_over_more}
 use Rattle.std.specs.Prelude.{slice_set}
 use Rattle.alarm_core.specs.Logs.{KeptLog, call_of_change}
-use Rattle.alarm_core.specs.Next.{after_calls}
+use Rattle.alarm_core.specs.CoreSteps.{after_calls}
 use Rattle.alarm_core.proofs.logs.change_all.Goals as goal
 
 -- src/logs.rt:158:5

@@ -1,6 +1,6 @@
 use Rattle.std.proofs.Common.{◌≡◌, ◌++◌, map, take, drop}
 use Rattle.alarm_core.specs.Logs.{KeptLog, call_of_change}
-use Rattle.alarm_core.specs.Next.{after_calls}
+use Rattle.alarm_core.specs.CoreSteps.{after_calls}
 use Rattle.alarm_core.proofs.logs.change_all.Given as goal
 
 abbrev pub invariant-loop-kept : goal.invariant-loop-kept

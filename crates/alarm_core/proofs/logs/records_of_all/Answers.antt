@@ -1,7 +1,7 @@
 use Rattle.std.proofs.Common.{◌≡◌, ◌++◌, ◌∷◌, [], rules}
 use Rattle.std.specs.List.{flat_map}
 use Rattle.alarm_core.specs.Logs.{KeptLog}
-use Rattle.alarm_core.specs.Views.{record_to}
+use Rattle.alarm_core.specs.ViewSteps.{record_to}
 use Rattle.alarm_core.proofs.RecordedBy.{calls_more}
 use Rattle.alarm_core.proofs.logs.records_of_all.Goals as goal
 

@@ -2,7 +2,7 @@ use Rattle.std.proofs.Common.{◌≡◌, Vec, Global, map, take}
 use Rattle.std.specs.List.{flat_map}
 use Rattle.event_log.specs.History.{Call}
 use Rattle.alarm_core.specs.Logs.{KeptLog}
-use Rattle.alarm_core.specs.Views.{record_to}
+use Rattle.alarm_core.specs.ViewSteps.{record_to}
 use Rattle.alarm_core.proofs.logs.records_of_all.Given as goal
 
 abbrev pub invariant-loop-kept : goal.invariant-loop-kept

@@ -1,5 +1,5 @@
 use Rattle.std.proofs.Common.{◌≡◌, map, take}
-use Rattle.alarm_core.specs.Views.{moved_of}
+use Rattle.alarm_core.specs.ViewSteps.{moved_of}
 use Rattle.alarm_core.proofs.look.moves_of.Given as goal
 
 abbrev pub invariant-loop-transition : goal.invariant-loop-transition

@@ -4,7 +4,7 @@ use Rattle.std.specs.Option.{option_to_list}
 use Rattle.event_log.specs.History.{Call}
 use Rattle.alarm_core.specs.Evaluations.{site_zone}
 use Rattle.alarm_core.specs.Logs.{KeptLog}
-use Rattle.alarm_core.specs.Views.{SiteData, addressed_in, notes_to, record_to, transition_in}
+use Rattle.alarm_core.specs.ViewSteps.{SiteData, addressed_in, notes_to, record_to, transition_in}
 use Rattle.alarm_core.proofs.Moved.{at_site, moved_all}
 use Rattle.alarm_core.proofs.ToldBy.{all_notes, all_records}
 use Rattle.alarm_core.proofs.look.tell.Goals as goal

@@ -1,7 +1,7 @@
 use Rattle.std.proofs.Common.{◌≡◌, ◌∙◌, Some, ap, sym, rules}
 use Rattle.enrollment.specs.Enrollments.{site_of}
 use Rattle.alarm_core.specs.Notes.{told_flags}
-use Rattle.alarm_core.specs.Views.{transition_in}
+use Rattle.alarm_core.specs.ViewSteps.{transition_in}
 use Rattle.alarm_core.proofs.notifications.told_flags.Goals as goal
 
 pub returns-in-Some : goal.returns-in-Some

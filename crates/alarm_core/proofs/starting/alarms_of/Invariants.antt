@@ -1,5 +1,5 @@
 use Rattle.std.proofs.Common.{◌≡◌, filter, map, take}
-use Rattle.alarm_core.specs.Next.{first_with}
+use Rattle.alarm_core.specs.CoreSteps.{first_with}
 use Rattle.alarm_core.specs.Subjects.{ack_required_of, is_detecting}
 use Rattle.alarm_core.proofs.starting.alarms_of.Given as goal
 

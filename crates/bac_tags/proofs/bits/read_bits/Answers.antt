@@ -1,6 +1,6 @@
 use Rattle.std.proofs.Common.{arith}
 use Rattle.bac_tags.specs.Contents.{IsBits}
-use Rattle.bac_tags.specs.Reading.{bits_of, bits_at}
+use Rattle.bac_tags.specs.ReadingSteps.{bits_of, bits_at}
 use Rattle.bac_tags.proofs.Readers.{ReadsForm, reads_form}
 use Rattle.bac_tags.proofs.Numbers.{bits_forms}
 use Rattle.bac_tags.proofs.bits.read_bits.Goals as goal

@@ -1,6 +1,6 @@
 use Rattle.std.proofs.Common.{arith}
 use Rattle.bac_tags.specs.Contents.{IsObject}
-use Rattle.bac_tags.specs.Reading.{identifier_of, object_at}
+use Rattle.bac_tags.specs.ReadingSteps.{identifier_of, object_at}
 use Rattle.bac_tags.proofs.Readers.{Reads, reads}
 use Rattle.bac_tags.proofs.Numbers.{identifier_values}
 use Rattle.bac_tags.proofs.object.read_object.Goals as goal

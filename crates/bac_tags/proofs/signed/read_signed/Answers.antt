@@ -1,6 +1,6 @@
 use Rattle.std.proofs.Common.{arith}
 use Rattle.bac_tags.specs.Contents.{IsSigned}
-use Rattle.bac_tags.specs.Reading.{signed_of, signed_at}
+use Rattle.bac_tags.specs.ReadingSteps.{signed_of, signed_at}
 use Rattle.bac_tags.proofs.Readers.{Reads, reads}
 use Rattle.bac_tags.proofs.Numbers.{signed_values}
 use Rattle.bac_tags.proofs.signed.read_signed.Goals as goal

@@ -1,7 +1,7 @@
 use Rattle.std.proofs.Common.{◌≡◌, length, sym, ◌∙◌, arith}
 use Rattle.bac_tags.specs.declared.fault.TagFault.TheVariants.{Truncated}
 use Rattle.bac_tags.specs.Tags.{SpellsTag}
-use Rattle.bac_tags.specs.Reading.{tag_at}
+use Rattle.bac_tags.specs.ReadingSteps.{tag_at}
 use Rattle.bac_tags.proofs.Answered.{is_found, is_only, all_faults}
 use Rattle.bac_tags.proofs.TagLaws.{tag_found, tag_again}
 use Rattle.bac_tags.proofs.Cut.{tag_cut, tag_truncated}

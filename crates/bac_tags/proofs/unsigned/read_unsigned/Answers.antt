@@ -1,6 +1,6 @@
 use Rattle.std.proofs.Common.{arith}
 use Rattle.bac_tags.specs.Contents.{IsUnsigned}
-use Rattle.bac_tags.specs.Reading.{unsigned_of, unsigned_at}
+use Rattle.bac_tags.specs.ReadingSteps.{unsigned_of, unsigned_at}
 use Rattle.bac_tags.proofs.Readers.{Reads, reads}
 use Rattle.bac_tags.proofs.Numbers.{unsigned_values}
 use Rattle.bac_tags.proofs.unsigned.read_unsigned.Goals as goal

@@ -1,6 +1,6 @@
 use Rattle.std.proofs.Common.{sym, ap, subst, ◌∙◌}
 use Rattle.bac_values.specs.declared.value.Value.TheVariants as values
-use Rattle.bac_tags.specs.Reading.{IsText}
+use Rattle.bac_tags.specs.ReadingSteps.{IsText}
 use Rattle.bac_tags.proofs.Texts.{is_text, no_text}
 use Rattle.bac_tags.proofs.value.characters_in.Goals as goal
 

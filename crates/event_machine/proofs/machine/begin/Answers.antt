@@ -1,6 +1,6 @@
 use Rattle.std.proofs.Common.{ap, ◌∙◌}
 use Rattle.event_machine.specs.Given.{point_of}
-use Rattle.event_machine.specs.Next.{begins}
+use Rattle.event_machine.specs.AlarmSteps.{begins}
 use Rattle.event_machine.proofs.Keeping.{after_first}
 use Rattle.event_machine.proofs.machine.begin.Goals as goal
 

@@ -1,7 +1,7 @@
 use Rattle.std.proofs.Common.{◌++◌, ap, ◌∙◌}
 use Rattle.std.specs.Option.{option_to_list}
 use Rattle.event_machine.specs.Given.{point_of}
-use Rattle.event_machine.specs.Next.{fault_change, later_change}
+use Rattle.event_machine.specs.AlarmSteps.{fault_change, later_change}
 use Rattle.event_machine.proofs.Keeping.{after_look, moves_look}
 use Rattle.event_machine.proofs.machine.evaluate.Goals as goal
 

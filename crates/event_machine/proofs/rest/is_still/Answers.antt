@@ -1,6 +1,6 @@
 use Rattle.std.proofs.Common.{◌≡◌, subst, sym, IsTrue, ◌↔◌, [], ◌∷◌}
 use Rattle.event_machine.specs.Given.{point_of}
-use Rattle.event_machine.specs.Next.{next_look}
+use Rattle.event_machine.specs.AlarmSteps.{next_look}
 use Rattle.event_machine.specs.Points.{Looked}
 use Rattle.event_machine.specs.Detection.{moves_at}
 use Rattle.event_machine.proofs.Resting.{still, still_after}

@@ -1,9 +1,9 @@
 use Rattle.std.proofs.Common.{Err, ap, sym, ◌∙◌, inr}
 use Rattle.std.proofs.lemmas.Result.{err_from_is_err_and}
-use Rattle.bac_tags.specs.ParameterReading.{optional}
+use Rattle.bac_tags.specs.ParameterReadingSteps.{optional}
 use Rattle.event_services.specs.NoteTexts.{IsText, IsTextOfValues, HasText}
-use Rattle.event_services.specs.NoteReading.{text_at, values_at}
-use Rattle.event_services.specs.NoteService.{notification_of}
+use Rattle.event_services.specs.NoteReadingSteps.{text_at, values_at}
+use Rattle.event_services.specs.NoteServiceSteps.{notification_of}
 use Rattle.event_services.proofs.NoteChain.{Source, Kind, States, given, parts, note_whole, note_fails, passes_note, values_refused}
 use Rattle.event_services.proofs.read_note.notification_of.Goals as goal
 

@@ -1,5 +1,5 @@
 use Rattle.std.proofs.Common.{arith}
-use Rattle.event_services.specs.NoteService.{notification_of}
+use Rattle.event_services.specs.NoteServiceSteps.{notification_of}
 use Rattle.event_services.specs.NoteGrammar.{SpellsNotification}
 use Rattle.event_services.specs.NoteRefusals.{RefusesNotification}
 use Rattle.event_services.proofs.NoteChain.{answered, same_answer, refused, wanted_memory}

@@ -1,7 +1,7 @@
 use Rattle.std.proofs.Common.{Err, ap, sym, ◌∙◌, inl, inr, arith}
 use Rattle.std.proofs.lemmas.Result.{err_from_is_err_and}
 use Rattle.event_services.specs.NoteGrammar.{SpellsText, SpellsFlags}
-use Rattle.event_services.specs.NoteReading.{flags_at, text_at, changed_text_at}
+use Rattle.event_services.specs.NoteReadingSteps.{flags_at, text_at, changed_text_at}
 use Rattle.event_services.specs.NoteTexts.{IsAfter, IsText, IsTextOfChange}
 use Rattle.event_services.proofs.NoteReaders.{flags_reader, text_reader}
 use Rattle.event_services.proofs.TextPlaces.{read_ok, passes, after, changed_fails, alarm_fails}

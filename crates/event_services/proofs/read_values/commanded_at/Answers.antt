@@ -1,10 +1,10 @@
 use Rattle.std.proofs.Common.{Err, ap, sym, ◌∙◌, inl, inr, arith}
 use Rattle.std.proofs.lemmas.Result.{err_from_is_err_and}
 use Rattle.bac_tags.specs.Values.{SpellsValue}
-use Rattle.bac_tags.specs.Reading.{value_at}
+use Rattle.bac_tags.specs.ReadingSteps.{value_at}
 use Rattle.bac_tags.specs.EnclosingTags.{SpellsEnclosed, enclosed_at}
 use Rattle.event_services.specs.NoteGrammar.{SpellsFlags}
-use Rattle.event_services.specs.NoteReading.{flags_at, commanded_at}
+use Rattle.event_services.specs.NoteReadingSteps.{flags_at, commanded_at}
 use Rattle.event_services.specs.NoteTexts.{IsAfter, HoldsText, IsTextOfCommand}
 use Rattle.event_services.proofs.NoteReaders.{flags_reader}
 use Rattle.event_services.proofs.TextPlaces.{read_ok, passes, after, held_value, command_fails, feedback_fails}

@@ -1,7 +1,7 @@
 use Rattle.std.proofs.Common.{Err, ap, sym, ◌∙◌, arith}
 use Rattle.std.proofs.lemmas.Result.{err_from_is_err_and}
 use Rattle.event_services.specs.NoteGrammar.{SpellsReliability, SpellsFlags}
-use Rattle.event_services.specs.NoteReading.{flags_at, reliability_number_at, properties_at, reliability_at}
+use Rattle.event_services.specs.NoteReadingSteps.{flags_at, reliability_number_at, properties_at, reliability_at}
 use Rattle.event_services.specs.NoteTexts.{IsAfter, IsTextOfProperties, IsTextOfReliability}
 use Rattle.event_services.proofs.NoteReaders.{flags_reader}
 use Rattle.event_services.proofs.ToldReaders.{reliability_reader}

@@ -1,6 +1,6 @@
 use Rattle.std.proofs.Common.{Err, ap, sym, ◌∙◌, arith}
 use Rattle.std.proofs.lemmas.Result.{err_from_is_err_and}
-use Rattle.event_services.specs.NoteReading.{told_at, values_at}
+use Rattle.event_services.specs.NoteReadingSteps.{told_at, values_at}
 use Rattle.event_services.specs.NoteTexts.{IsInside, IsTextTold, IsTextOfValues}
 use Rattle.event_services.proofs.TextPlaces.{passes, inside, told_fails}
 use Rattle.event_services.proofs.read_values.values_at.Goals as goal

@@ -2,7 +2,7 @@ use Rattle.std.proofs.Common.{length, arith}
 use Rattle.bac_tags.specs.Refusals.{missing_parameter}
 use Rattle.property_services.specs.Requests.{SpellsReadRange}
 use Rattle.property_services.specs.Refusals.{RefusesReadRange}
-use Rattle.property_services.specs.Reading.{read_range_of}
+use Rattle.property_services.specs.ReadingSteps.{read_range_of}
 use Rattle.property_services.proofs.Missing.{missing_in_read_range, both}
 use Rattle.bac_tags.proofs.ParameterAnswers.{ReadsWhole, reads_whole}
 use Rattle.property_services.proofs.RangeLaws.{read_range_answers}

@@ -2,7 +2,7 @@ use Rattle.std.proofs.Common.{length, arith}
 use Rattle.bac_tags.specs.Refusals.{missing_parameter}
 use Rattle.property_services.specs.Requests.{SpellsReadProperty}
 use Rattle.property_services.specs.Refusals.{RefusesReadProperty}
-use Rattle.property_services.specs.Reading.{read_property_of}
+use Rattle.property_services.specs.ReadingSteps.{read_property_of}
 use Rattle.property_services.proofs.Missing.{missing_in_read_property, both}
 use Rattle.bac_tags.proofs.ParameterAnswers.{ReadsWhole, reads_whole}
 use Rattle.property_services.proofs.References.{read_property_answers}

@@ -2,7 +2,7 @@ use Rattle.std.proofs.Common.{length, arith}
 use Rattle.bac_tags.specs.Refusals.{missing_parameter}
 use Rattle.property_services.specs.Requests.{SpellsWhoIs}
 use Rattle.property_services.specs.Refusals.{RefusesWhoIs}
-use Rattle.property_services.specs.Reading.{who_is_of}
+use Rattle.property_services.specs.ReadingSteps.{who_is_of}
 use Rattle.property_services.proofs.Missing.{missing_in_who_is, both}
 use Rattle.bac_tags.proofs.ParameterAnswers.{ReadsWhole, reads_whole}
 use Rattle.property_services.proofs.Limits.{who_is_answers}

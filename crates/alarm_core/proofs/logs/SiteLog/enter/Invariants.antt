@@ -1,5 +1,5 @@
 use Rattle.std.proofs.Common.{◌≡◌}
-use Rattle.alarm_core.specs.Next.{after_calls}
+use Rattle.alarm_core.specs.CoreSteps.{after_calls}
 use Rattle.alarm_core.proofs.logs.SiteLog.enter.Given as goal
 
 abbrev pub invariant-loop-entry : goal.invariant-loop-entry

@@ -1,6 +1,6 @@
 use Rattle.std.proofs.Common.{◌≡◌, take}
 use Rattle.std.specs.List.{flat_map}
-use Rattle.alarm_core.specs.Views.{record_to}
+use Rattle.alarm_core.specs.ViewSteps.{record_to}
 use Rattle.alarm_core.proofs.logs.SiteLog.records_of.Given as goal
 
 abbrev pub invariant-loop-told : goal.invariant-loop-told

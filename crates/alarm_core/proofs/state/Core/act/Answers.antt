@@ -3,7 +3,7 @@ use Rattle.notify_class.specs.declared.destination.Destination.{Destination}
 use Rattle.outbox.specs.Outboxes.{pumped}
 use Rattle.alarm_core.specs.declared.event.Act.TheVariants.{Edit, Pump}
 use Rattle.alarm_core.specs.History.{event_at}
-use Rattle.alarm_core.specs.Next.{acted}
+use Rattle.alarm_core.specs.CoreSteps.{acted}
 use Rattle.alarm_core.proofs.Written.{answered_state, edited_state, on_ok, pumped_state}
 use Rattle.alarm_core.proofs.state.Core.act.Goals as goal
 

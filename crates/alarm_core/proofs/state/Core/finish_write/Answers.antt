@@ -5,7 +5,7 @@ use Rattle.outbox.specs.Outboxes.{AreKnown, queued}
 use Rattle.event_log.specs.declared.log_site.LogSite.{LogSite}
 use Rattle.alarm_core.specs.Evaluations.{site_moment}
 use Rattle.alarm_core.specs.Logs.{KeptLog, records_of}
-use Rattle.alarm_core.specs.Next.{evaluated_all, transitions_all}
+use Rattle.alarm_core.specs.CoreSteps.{evaluated_all, transitions_all}
 use Rattle.alarm_core.specs.Notes.{notes_of_transitions}
 use Rattle.alarm_core.specs.State.{DetectedObjectState, State}
 use Rattle.alarm_core.specs.Verdicts.{Answers, queue_verdict}

@@ -3,9 +3,9 @@ use Rattle.std.specs.List.{flat_map}
 use Rattle.event_log.specs.History.{Call}
 use Rattle.alarm_core.specs.History.{StateTransition, moved_by}
 use Rattle.alarm_core.specs.Logs.{KeptLog, records_of}
-use Rattle.alarm_core.specs.Next.{evaluated_all, transitions_by}
+use Rattle.alarm_core.specs.CoreSteps.{evaluated_all, transitions_by}
 use Rattle.alarm_core.specs.Notes.{notes_of_transitions}
-use Rattle.alarm_core.specs.Views.{SiteData, transition_in}
+use Rattle.alarm_core.specs.ViewSteps.{SiteData, transition_in}
 use Rattle.alarm_core.proofs.Looking.{all_seen, seen_after}
 use Rattle.alarm_core.proofs.Moved.{at_site}
 use Rattle.alarm_core.proofs.state.Core.look.Goals as goal

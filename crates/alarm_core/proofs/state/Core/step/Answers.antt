@@ -1,6 +1,6 @@
 use Rattle.std.proofs.Common.{◌≡◌, ◌∙◌, ◌+◌, ◌≤◌, ℕ, rules, arith}
 use Rattle.alarm_core.specs.History.{raised}
-use Rattle.alarm_core.specs.Next.{acted}
+use Rattle.alarm_core.specs.CoreSteps.{acted}
 use Rattle.alarm_core.specs.Sites.{IsSite}
 use Rattle.alarm_core.specs.State.{State}
 use Rattle.alarm_core.proofs.Acted.{stepped}

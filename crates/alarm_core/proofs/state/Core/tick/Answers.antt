@@ -4,7 +4,7 @@ use Rattle.outbox.specs.Outboxes.{AreKnown, queued}
 use Rattle.alarm_core.specs.Evaluations.{site_moment}
 use Rattle.alarm_core.specs.History.{moved_by, tick_at}
 use Rattle.alarm_core.specs.Logs.{KeptLog, records_of}
-use Rattle.alarm_core.specs.Next.{after_calls, evaluated_all, next_notes, transitions_all}
+use Rattle.alarm_core.specs.CoreSteps.{after_calls, evaluated_all, next_notes, transitions_all}
 use Rattle.alarm_core.specs.Notes.{notes_of_transition, notes_of_transitions}
 use Rattle.alarm_core.specs.State.{DetectedObjectState, State}
 use Rattle.alarm_core.specs.Verdicts.{Answers, queue_verdict}

@@ -3,7 +3,7 @@ use Rattle.outbox.specs.Outboxes.{AreKnown, queued}
 use Rattle.alarm_core.specs.Logs.{KeptLog, call_of_change, records_of}
 use Rattle.alarm_core.specs.Evaluations.{site_moment}
 use Rattle.alarm_core.specs.History.{moved_by}
-use Rattle.alarm_core.specs.Next.{after_calls, evaluated_all, transitions_all}
+use Rattle.alarm_core.specs.CoreSteps.{after_calls, evaluated_all, transitions_all}
 use Rattle.alarm_core.specs.Notes.{notes_of_transitions}
 use Rattle.alarm_core.specs.State.{State}
 use Rattle.alarm_core.specs.Values.{Values, written}

@@ -1,7 +1,7 @@
 use Rattle.std.proofs.Common.{sym, subst, ◌∷◌}
 use Rattle.event_machine.specs.Points.{Acknowledged}
 use Rattle.event_machine.specs.Summary.{AlarmState, IsAfter}
-use Rattle.event_machine.specs.Next.{acknowledged}
+use Rattle.event_machine.specs.AlarmSteps.{acknowledged}
 use Rattle.event_machine.proofs.Keeping.{after_acknowledgement}
 use Rattle.event_machine.proofs.alarm.Alarm.acknowledge.Goals as goal
 

@@ -1,5 +1,5 @@
 use Rattle.std.proofs.Common.{sym, subst, ◌∙◌, ap, take, drop, rules}
-use Rattle.held_timers.specs.Tournament.{HoldsTimers}
+use Rattle.held_timers.specs.TournamentSteps.{HoldsTimers}
 use Rattle.held_timers.proofs.Starting.{holds_none, shows_none}
 use Rattle.held_timers.proofs.timers.Timers.new.Goals as goal
 

@@ -1,5 +1,5 @@
 use Rattle.std.proofs.Common.{rules, ap, ◌∙◌}
-use Rattle.turnstile.specs.Views.{own_number, first_call, of_views}
+use Rattle.turnstile.specs.ViewSteps.{own_number, first_call, of_views}
 use Rattle.turnstile.proofs.Seats.{names, splits_named}
 use Rattle.turnstile.proofs.Showing.{seated, rest_of_seat, other_number}
 use Rattle.turnstile.proofs.turnstile.Turnstile.split.Goals as goal

@@ -1,6 +1,6 @@
 use Rattle.std.proofs.Common.{subst}
 use Rattle.turnstile.specs.Passes.{Sees}
-use Rattle.turnstile.specs.Views.{of_view}
+use Rattle.turnstile.specs.ViewSteps.{of_view}
 use Rattle.turnstile.proofs.Showing.{seated}
 use Rattle.turnstile.proofs.turnstile.Turnstile.take.Goals as goal
 

@@ -12,12 +12,12 @@ use Rattle.alarm_core.specs.declared.event.Event.{Event}
 use Rattle.alarm_core.specs.declared.event.StepFault.{StepFault}
 use Rattle.alarm_core.specs.declared.event.StepFault.TheVariants.{Full, NoMemory}
 use Rattle.alarm_core.specs.History.{StateTransition, moved_by, raised}
-use Rattle.alarm_core.specs.Next.{next_sends, next_state, next_transitions}
+use Rattle.alarm_core.specs.CoreSteps.{next_sends, next_state, next_transitions}
 use Rattle.alarm_core.specs.State.{State}
 use Rattle.alarm_core.specs.Verdicts.{step_verdict}
 use Rattle.service_desk.specs.declared.decision.Decision.{Decision}
 use Rattle.service_desk.specs.declared.decision.Decision.TheVariants.{Ignore, Idle, Refuse, Reply, Enter}
-use Rattle.service_desk.specs.Decisions.{decision_on}
+use Rattle.service_desk.specs.DecisionSteps.{decision_on}
 use Rattle.alarm_server.specs.Script.{spelled_in, refused_in}
 
 -- the text of a piece: its lines, one after the other

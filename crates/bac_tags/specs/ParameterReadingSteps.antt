@@ -3,7 +3,7 @@ use Rattle.std.specs.Prelude.{ℕ, ◌==◌, nat_lt, if◌then◌else◌, Option
 use Rattle.bac_tags.specs.declared.fault.TagFault.{TagFault}
 use Rattle.bac_tags.specs.declared.fault.TagFault.TheVariants.{Truncated, WrongTag, BadLength, NoMemory}
 use Rattle.bac_tags.specs.declared.malformed.Malformed.{Malformed}
-use Rattle.bac_tags.specs.Reading.{◌>>=◌}
+use Rattle.bac_tags.specs.ReadingSteps.{◌>>=◌}
 use Rattle.bac_tags.specs.Refusals.{invalid_tag, missing_parameter, too_many_arguments}
 
 -- what a reader of elements refuses is no parameter

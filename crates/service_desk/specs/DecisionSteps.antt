@@ -13,10 +13,10 @@ use Rattle.bac_values.specs.declared.input.SetFault.TheVariants.{WrongKind}
 use Rattle.bac_values.specs.declared.note.Send.{Send}
 use Rattle.bac_values.specs.declared.transition.Transition.{Transition}
 use Rattle.bvlc_npdu.specs.declared.reading.Incoming.{Incoming}
-use Rattle.bvlc_npdu.specs.Reading.{incoming_at}
+use Rattle.bvlc_npdu.specs.ReadingSteps.{incoming_at}
 use Rattle.apdu_frame.specs.declared.apdu.Apdu.{Apdu}
 use Rattle.apdu_frame.specs.declared.apdu.Apdu.TheVariants.{Request, Segmented, Unconfirmed, SimpleAck, Error as ErrorAnswer, Reject as RejectAnswer, Abort as AbortAnswer}
-use Rattle.apdu_frame.specs.Reading.{apdu_of}
+use Rattle.apdu_frame.specs.ReadingSteps.{apdu_of}
 use Rattle.apdu_frame.specs.Writing.{written_unconfirmed}
 use Rattle.bac_tags.specs.declared.malformed.Malformed.{Malformed}
 use Rattle.event_services.specs.declared.acknowledge.AckRequest.{AckRequest}
@@ -24,7 +24,7 @@ use Rattle.event_services.specs.Acknowledgements.{acknowledge_request_of}
 use Rattle.event_services.specs.Information.{information_request_of}
 use Rattle.property_services.specs.declared.requests.ReadRequest.{ReadRequest}
 use Rattle.property_services.specs.declared.requests.WriteRequest.{WriteRequest}
-use Rattle.property_services.specs.Reading.{read_property_of, who_is_of, write_property_of}
+use Rattle.property_services.specs.ReadingSteps.{read_property_of, who_is_of, write_property_of}
 use Rattle.property_services.specs.Writing.{written_i_am, written_read_ack}
 use Rattle.ack_alarm.specs.declared.verdict.Verdict.{Verdict}
 use Rattle.ack_alarm.specs.declared.verdict.Verdict.TheVariants.{Accept, Already, Error}
@@ -45,7 +45,7 @@ use Rattle.alarm_core.specs.Found.{device_object, found_in, has_object, is_other
 use Rattle.alarm_core.specs.History.{StateTransition, raised, tick_at}
 use Rattle.alarm_core.specs.Information.{has_more, summaries_of}
 use Rattle.alarm_core.specs.Logs.{log_in}
-use Rattle.alarm_core.specs.Next.{next_transitions}
+use Rattle.alarm_core.specs.CoreSteps.{next_transitions}
 use Rattle.alarm_core.specs.Reading.{read_of, write_of}
 use Rattle.alarm_core.specs.State.{State}
 use Rattle.service_desk.specs.declared.decision.Decision.{Decision}

@@ -3,13 +3,13 @@ use Rattle.std.specs.Prelude.{◌≡◌, ℕ, ◌⊎◌, Bool, Option, Some, Lis
 use Rattle.bac_values.specs.Identifier.{Identifier}
 use Rattle.bac_values.specs.declared.event_state.EventState.{EventState}
 use Rattle.bac_values.specs.declared.stamp.Stamp.{Stamp}
-use Rattle.bac_tags.specs.Reading.{unsigned_at, object_at, boolean_at, ◌>>=◌}
+use Rattle.bac_tags.specs.ReadingSteps.{unsigned_at, object_at, boolean_at, ◌>>=◌}
 use Rattle.bac_tags.specs.declared.malformed.Malformed.{Malformed}
-use Rattle.bac_tags.specs.ParameterReading.{required, optional, nothing_follows}
+use Rattle.bac_tags.specs.ParameterReadingSteps.{required, optional, nothing_follows}
 use Rattle.event_services.specs.declared.notification.Notification.{Notification}
 use Rattle.event_services.specs.declared.read_note.NoteFault.{NoteFault}
 use Rattle.event_services.specs.declared.read_note.NoteFault.TheVariants as faults
-use Rattle.event_services.specs.NoteReading.{octet_number_at, state_at, text_at, moment_at, values_at}
+use Rattle.event_services.specs.NoteReadingSteps.{octet_number_at, state_at, text_at, moment_at, values_at}
 
 -- [0] to [3]: process, device, object, time stamp
 unfoldable pub source_at : List ℕ → Result ((ℕ × Identifier × Identifier × Stamp) × ℕ) Malformed

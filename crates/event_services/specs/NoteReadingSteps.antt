@@ -14,7 +14,7 @@ use Rattle.bac_values.specs.declared.status_flags.StatusFlags.{StatusFlags}
 use Rattle.bac_values.specs.declared.value.Value.{Value}
 use Rattle.bac_tags.specs.declared.fault.TagFault.{TagFault}
 use Rattle.bac_tags.specs.declared.fault.TagFault.TheVariants.{WrongTag, BadLength, NoMemory}
-use Rattle.bac_tags.specs.Reading.{◌>>=◌, content_at, tag_at, unsigned_at, signed_at, bits_at, stamp_at, value_at}
+use Rattle.bac_tags.specs.ReadingSteps.{◌>>=◌, content_at, tag_at, unsigned_at, signed_at, bits_at, stamp_at, value_at}
 use Rattle.bac_tags.specs.EnclosingTags.{is_closing, opening_at, closing_at, enclosed_at}
 use Rattle.event_services.specs.declared.notification.EventValues.{EventValues}
 use Rattle.event_services.specs.declared.notification.EventValues.TheVariants.{Bitstring, State, Command, UnsignedRange, SignedOutOfRange, UnsignedOutOfRange, Characterstring, Reliability}

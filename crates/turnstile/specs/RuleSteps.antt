@@ -5,7 +5,7 @@ use mathlib.Core.Option.{Option, none, some}
 use lib.ListN.{get_elem?}
 use Rattle.atomic_table.specs.Table.{State}
 use Rattle.turnstile.specs.Histories.{StartsWith, entries_under, Accounts, times, among, Licensed}
-use Rattle.turnstile.specs.Views.{IsWithin}
+use Rattle.turnstile.specs.ViewSteps.{IsWithin}
 use Rattle.turnstile.specs.declared.view.View.{View}
 use Rattle.turnstile.specs.declared.view.Place.{Place}
 use Rattle.turnstile.specs.declared.view.Place.TheVariants.{Empty, Held, Given}

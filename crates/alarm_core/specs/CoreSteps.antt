@@ -5,7 +5,7 @@ use Rattle.bac_values.specs.Identifier.{Identifier}
 use Rattle.bac_values.specs.declared.transition.Transition.{Transition}
 use Rattle.algorithm_rules.specs.declared.table.Algorithm.{Algorithm}
 use Rattle.civil_stamp.specs.LocalTime.{ZonedMoment}
-use Rattle.event_machine.specs.Next.{Change, acknowledged, begun, next_look, stays}
+use Rattle.event_machine.specs.AlarmSteps.{Change, acknowledged, begun, next_look, stays}
 use Rattle.event_machine.specs.Points.{Point}
 use Rattle.event_machine.specs.Summary.{AlarmState}
 use Rattle.bac_values.specs.declared.note.Note.{Note}

@@ -8,9 +8,9 @@ use Rattle.bac_values.specs.declared.value.Foreign.TheVariants.{OtherType}
 use Rattle.bac_tags.specs.declared.fault.TagFault.{TagFault}
 use Rattle.bac_tags.specs.declared.tag.Shape.{Shape}
 use Rattle.bac_tags.specs.declared.tag.Shape.TheVariants.{Primitive, Opening, Closing}
-use Rattle.bac_tags.specs.Reading.{tag_at, unsigned_at, signed_at, object_at, stamp_at, value_at, ◌>>=◌}
+use Rattle.bac_tags.specs.ReadingSteps.{tag_at, unsigned_at, signed_at, object_at, stamp_at, value_at, ◌>>=◌}
 use Rattle.bac_tags.specs.declared.malformed.Malformed.{Malformed}
-use Rattle.bac_tags.specs.ParameterReading.{or_invalid, required, optional, whole}
+use Rattle.bac_tags.specs.ParameterReadingSteps.{or_invalid, required, optional, whole}
 use Rattle.bac_tags.specs.EnclosingTags.{closing_at}
 use Rattle.bac_tags.specs.Balanced.{elements_at}
 use Rattle.property_services.specs.declared.requests.ReadRequest.{ReadRequest}
