@@ -2,7 +2,7 @@
 use Rattle.std.proofs.Common.{◌≡◌, ◌↔◌, ◌⊎◌, ℕ, suc, zero, Bool, true, false, true≢false, Option, Some, None, Result, Ok, Err, IsOk, IsTrue, IsSomeAnd, if◌then◌else◌, inl, inr, refl, sym, ap, ◌∙◌, subst}
 use Rattle.std.specs.Prelude.{◌==◌, List}
 use Rattle.std.proofs.lemmas.Bool.{cases_Bool, eqb-true, eqb-false}
-use Rattle.bac_values.specs.Identifier.{Identifier}
+use Rattle.bac_values.specs.Identifier.{ObjectIdData}
 use Rattle.bac_values.specs.declared.input.SetFault.{SetFault}
 use Rattle.bac_values.specs.declared.input.SetFault.TheVariants.{ValueRange}
 use Rattle.bac_values.specs.declared.value.Foreign.TheVariants.{CharacterSet, TooLong}
@@ -31,11 +31,11 @@ use Rattle.alarm_core.specs.Allowed.{IsAllowed}
 use Rattle.alarm_core.specs.Contents.{other_content}
 use Rattle.alarm_core.specs.Laws.{AllowsWhatChecksAccept}
 use Rattle.property_values.specs.LogProperties.{log_content, log_write, property_of, writable_tag, write_with}
-use Rattle.alarm_core.specs.Logs.{KeptLog, kept_log, logs_after}
+use Rattle.alarm_core.specs.Logs.{kept_log, logs_after, SiteLogState}
 use Rattle.alarm_core.specs.Logs as logs
 use Rattle.alarm_core.specs.Reading.{denied, write_by, write_of}
 use Rattle.alarm_core.specs.Sites.{IsSite}
-use Rattle.alarm_core.specs.State.{State, state_of}
+use Rattle.alarm_core.specs.State.{state_of, CoreState}
 use Rattle.alarm_core.proofs.TypesApart.{HasNoValue, no_enrollment, no_log, no_row}
 
 -- ---- an event log
@@ -62,14 +62,14 @@ passed content number value true e h = refl
 passed (Err fault) number value false e h = cc
 passed (Ok content) number value false e h = absurd (value_fails (writable_tag number) value (ap (λ b. value_verdict (writable_tag number) b value) (sym e) ∙ h))
 
-log_fits : (kept : KeptLog) (number : ℕ) (value : Value) → IsTrue (logs.takes_value number value) → IsOk (log_write kept.site kept.log number None value)
+log_fits : (kept : SiteLogState) (number : ℕ) (value : Value) → IsTrue (logs.takes_value number value) → IsOk (log_write kept.site kept.log number None value)
 unfolding property_of
 log_fits kept number (Truth on) h = subst (λ n. IsOk (log_write kept.site kept.log n None (Truth on))) (sym (eqb-true number 133 h)) refl
 log_fits kept number (Unsigned zero) h = subst (λ n. IsOk (log_write kept.site kept.log n None (Unsigned 0))) (sym (eqb-true number 141 h)) refl
 log_fits kept number (Unsigned (suc count)) h = absurd (true≢false (sym h))
 log_fits kept number _ h = absurd (true≢false (sym h))
 
-log_takes : (kept : KeptLog) (number : ℕ) (value : Value) → IsTrue (logs.takes_value number value) ↔ IsOk (log_write kept.site kept.log number None value)
+log_takes : (kept : SiteLogState) (number : ℕ) (value : Value) → IsTrue (logs.takes_value number value) ↔ IsOk (log_write kept.site kept.log number None value)
 log_takes kept number value = (
   log_fits kept number value,
   λ h. passed (log_content kept.site kept.log number) number value (logs.takes_value number value) refl (ok_verdict (write_with (log_content kept.site kept.log number) number None value) (property_change kept.site.object number value) h),
@@ -81,22 +81,22 @@ never_denied : (content : Result Content ReadFault) → IsOk (denied content Non
 never_denied (Ok content) h = absurd (true≢false (sym h))
 never_denied (Err fault) h = absurd (true≢false (sym h))
 
-module _ (state : State) (object : Identifier) (number : ℕ) (value : Value) where
+module _ (state : CoreState) (object : ObjectIdData) (number : ℕ) (value : Value) where
   abbrev RowTakes : Option Row → Type 0
   RowTakes row = IsSomeAnd row (λ (r : Row). IsTrue (takes_value number value r.site))
 
   abbrev SiteTakes : Option EnrollmentSite → Type 0
   SiteTakes site = IsSomeAnd site (λ (s : EnrollmentSite). IsTrue (sites.takes_value number value))
 
-  abbrev LogTakes : Option KeptLog → Type 0
-  LogTakes kept = IsSomeAnd kept (λ (k : KeptLog). IsTrue (logs.takes_value number value))
+  abbrev LogTakes : Option SiteLogState → Type 0
+  LogTakes kept = IsSomeAnd kept (λ (k : SiteLogState). IsTrue (logs.takes_value number value))
 
   -- some of what is found takes the value
-  abbrev Takes : Option EnrollmentSite → Option Row → Option KeptLog → Type 0
+  abbrev Takes : Option EnrollmentSite → Option Row → Option SiteLogState → Type 0
   Takes site row kept = (RowTakes row ⊎ SiteTakes site) ⊎ LogTakes kept
 
   -- a write of it is answered with no error
-  abbrev Passes : Option EnrollmentSite → Option Row → Option KeptLog → Type 0
+  abbrev Passes : Option EnrollmentSite → Option Row → Option SiteLogState → Type 0
   Passes site row kept = IsOk (write_by state site row kept object number None value)
 
   nothing_passes : Passes None None None → ⊥
@@ -126,7 +126,7 @@ module _ (state : State) (object : Identifier) (number : ℕ) (value : Value) wh
   row_takes (Some row) law h = inl (inl (law h))
   row_takes None law h = absurd (nothing_passes h)
 
-  log_passes : (kept : Option KeptLog) → Takes None None kept → Passes None None kept
+  log_passes : (kept : Option SiteLogState) → Takes None None kept → Passes None None kept
   log_passes (Some kept) (inl (inl row)) = absurd row
   log_passes (Some kept) (inl (inr site)) = absurd site
   log_passes (Some kept) (inr takes) = (log_takes kept number value).0 takes
@@ -134,12 +134,12 @@ module _ (state : State) (object : Identifier) (number : ℕ) (value : Value) wh
   log_passes None (inl (inr site)) = absurd site
   log_passes None (inr takes) = absurd takes
 
-  log_passed : (kept : Option KeptLog) → Passes None None kept → Takes None None kept
+  log_passed : (kept : Option SiteLogState) → Passes None None kept → Takes None None kept
   log_passed (Some kept) h = inr ((log_takes kept number value).1 h)
   log_passed None h = absurd (nothing_passes h)
 
   -- the change is allowed exactly where the write is answered with no error
-  abbrev AllowsWrite : Option EnrollmentSite → Option Row → Option KeptLog → Type 0
+  abbrev AllowsWrite : Option EnrollmentSite → Option Row → Option SiteLogState → Type 0
   AllowsWrite site row kept = Takes site row kept ↔ Passes site row kept
 
   at_most_a_site : (site : Option EnrollmentSite) → site ≡ site_of object state.values.enrollments → AllowsWrite site None None
@@ -164,11 +164,11 @@ no_enrollment_value site h = absurd (true≢false (sym h))
 no_log_value : HasNoValue 25
 no_log_value site h = absurd (true≢false (sym h))
 
-module _ (site : Site) (is : IsSite site) (history : List Event) (object : Identifier) (number : ℕ) (value : Value) where
-  abbrev state : State
+module _ (site : Site) (is : IsSite site) (history : List Event) (object : ObjectIdData) (number : ℕ) (value : Value) where
+  abbrev state : CoreState
   state = state_of site history
 
-  allows : Option EnrollmentSite → Option Row → Option KeptLog → Type 0
+  allows : Option EnrollmentSite → Option Row → Option SiteLogState → Type 0
   allows listed row kept = AllowsWrite state object number value listed row kept
 
   row : Option Row
@@ -177,7 +177,7 @@ module _ (site : Site) (is : IsSite site) (history : List Event) (object : Ident
   listed : Option EnrollmentSite
   listed = site_of object state.values.enrollments
 
-  kept : Option KeptLog
+  kept : Option SiteLogState
   kept = kept_log object state.logs
 
   of_enrollment : object.number ≡ 9 → allows listed row kept
@@ -186,7 +186,7 @@ module _ (site : Site) (is : IsSite site) (history : List Event) (object : Ident
       let no_row_is = no_row site history object is.objects (subst HasNoValue (sym nine) no_enrollment_value) in
       let no_log_is = no_log site history object is.logs (λ same. let wrong : 9 ≡ 25 = sym nine ∙ same in cc) in
       subst (λ (r : Option Row). allows listed r kept) (sym no_row_is)
-      (subst (λ (k : Option KeptLog). allows listed None k) (sym no_log_is)
+      (subst (λ (k : Option SiteLogState). allows listed None k) (sym no_log_is)
       (at_most_a_site state object number value listed refl))
 
   of_log : (object.number ≡ 9 → ⊥) → object.number ≡ 25 → allows listed row kept
@@ -204,7 +204,7 @@ module _ (site : Site) (is : IsSite site) (history : List Event) (object : Ident
       let no_site_is = no_enrollment site history object is.enrollments other in
       let no_log_is = no_log site history object is.logs no_log_number in
       subst (λ (s : Option EnrollmentSite). allows s row kept) (sym no_site_is)
-      (subst (λ (k : Option KeptLog). allows None row k) (sym no_log_is)
+      (subst (λ (k : Option SiteLogState). allows None row k) (sym no_log_is)
       (at_most_a_row state object number value row refl))
 
   -- a number is another
@@ -223,16 +223,16 @@ module _ (site : Site) (is : IsSite site) (history : List Event) (object : Ident
 
 -- ---- what comes from the field
 
-module _ (object : Identifier) (reliability : ℕ) where
-  abbrev TakesFault : Option Row → Option EnrollmentSite → Option KeptLog → Type 0
+module _ (object : ObjectIdData) (reliability : ℕ) where
+  abbrev TakesFault : Option Row → Option EnrollmentSite → Option SiteLogState → Type 0
   TakesFault found site log =
-      (IsSomeAnd found (λ (r : Row). IsTrue (is_field_fault reliability)) ⊎ IsSomeAnd site (λ (s : EnrollmentSite). IsTrue false)) ⊎ IsSomeAnd log (λ (k : KeptLog). IsTrue false)
+      (IsSomeAnd found (λ (r : Row). IsTrue (is_field_fault reliability)) ⊎ IsSomeAnd site (λ (s : EnrollmentSite). IsTrue false)) ⊎ IsSomeAnd log (λ (k : SiteLogState). IsTrue false)
 
   no_site_fault : (site : Option EnrollmentSite) → IsSomeAnd site (λ (s : EnrollmentSite). IsTrue false) → ⊥
   no_site_fault (Some site) h = absurd (true≢false (sym h))
   no_site_fault None h = absurd h
 
-  no_log_fault : (log : Option KeptLog) → IsSomeAnd log (λ (k : KeptLog). IsTrue false) → ⊥
+  no_log_fault : (log : Option SiteLogState) → IsSomeAnd log (λ (k : SiteLogState). IsTrue false) → ⊥
   no_log_fault (Some log) h = absurd (true≢false (sym h))
   no_log_fault None h = absurd h
 
@@ -248,12 +248,12 @@ module _ (object : Identifier) (reliability : ℕ) where
   fault_taken (Some r) h = tested (is_field_fault reliability) h
   fault_taken None h = absurd (true≢false (sym h))
 
-  field_fault : (found : Option Row) (site : Option EnrollmentSite) (log : Option KeptLog) → TakesFault found site log → IsOk (fault_by_row found object reliability)
+  field_fault : (found : Option Row) (site : Option EnrollmentSite) (log : Option SiteLogState) → TakesFault found site log → IsOk (fault_by_row found object reliability)
   field_fault found site log (inl (inl h)) = fault_passes found h
   field_fault found site log (inl (inr h)) = absurd (no_site_fault site h)
   field_fault found site log (inr h) = absurd (no_log_fault log h)
 
-field_faults : (state : State) (object : Identifier) (reliability : ℕ) → IsAllowed state (Write (fault_change object reliability)) ↔ IsOk (fault_by_row (row_of object state.values.rows) object reliability)
+field_faults : (state : CoreState) (object : ObjectIdData) (reliability : ℕ) → IsAllowed state (Write (fault_change object reliability)) ↔ IsOk (fault_by_row (row_of object state.values.rows) object reliability)
 field_faults state object reliability = (
   field_fault object reliability (row_of object state.values.rows) (site_of object state.values.enrollments) (kept_log object state.logs),
   λ h. inl (inl (fault_taken object reliability (row_of object state.values.rows) h)),
@@ -263,7 +263,7 @@ ok_set : {Fault : Type 0} (verdict : Result (Unit {0}) Fault) (change : Change) 
 ok_set (Ok passed) change h = refl
 ok_set (Err fault) change h = absurd (true≢false (sym h))
 
-set_taken : (row : Option Row) (object : Identifier) (value : Value) → IsOk (set_by_row row object value) → IsSomeAnd row (λ (r : Row). IsTrue (takes_value 85 value r.site))
+set_taken : (row : Option Row) (object : ObjectIdData) (value : Value) → IsOk (set_by_row row object value) → IsSomeAnd row (λ (r : Row). IsTrue (takes_value 85 value r.site))
 set_taken (Some row) object value h = set_ok row.site value (ok_set (set_verdict (kind_in row.site) row.site value) (property_change object 85 value) h)
 set_taken None object value h = absurd (true≢false (sym h))
 

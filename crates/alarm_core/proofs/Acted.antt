@@ -4,16 +4,16 @@ use Rattle.notify_class.specs.declared.class.Class.{Class}
 use Rattle.outbox.specs.Outboxes.{OutboxState}
 use Rattle.alarm_core.specs.declared.event.Event.{Event}
 use Rattle.alarm_core.specs.declared.site.Site.{Site}
-use Rattle.alarm_core.specs.Logs.{KeptLog}
+use Rattle.alarm_core.specs.Logs.{SiteLogState}
 use Rattle.alarm_core.specs.CoreSteps.{acted, first_state, next_state}
-use Rattle.alarm_core.specs.State.{DetectedObjectState, State}
+use Rattle.alarm_core.specs.State.{DetectedObjectState, CoreState}
 use Rattle.alarm_core.specs.Values.{Values}
 
-pub stepped : (event : Event) (state after new : State) → after ≡ acted event state → new ≡ record after { events = after.events + 1; last_moment = event.moment } → new ≡ next_state event state
-stepped event state after new e n = n ∙ ap (λ (s : State). record s { events = s.events + 1; last_moment = event.moment }) e
+pub stepped : (event : Event) (state after new : CoreState) → after ≡ acted event state → new ≡ record after { events = after.events + 1; last_moment = event.moment } → new ≡ next_state event state
+stepped event state after new e n = n ∙ ap (λ (s : CoreState). record s { events = s.events + 1; last_moment = event.moment }) e
 
 -- the parts of a state at its start
-pub started : (site copy : Site) (values : Values) (alarms : List DetectedObjectState) (classes : List Class) (outbox : OutboxState) (logs : List KeptLog) →
+pub started : (site copy : Site) (values : Values) (alarms : List DetectedObjectState) (classes : List Class) (outbox : OutboxState) (logs : List SiteLogState) →
     copy ≡ site → values ≡ (first_state site).values → alarms ≡ (first_state site).alarms → classes ≡ (first_state site).classes → outbox ≡ (first_state site).outbox → logs ≡ (first_state site).logs →
     record { site = copy; events = 0; last_moment = site.device.start; values = values; alarms = alarms; classes = classes; outbox = outbox; logs = logs } ≡ first_state site
 started site copy values alarms classes outbox logs p q r s t u =

@@ -2,7 +2,7 @@
 use Rattle.std.proofs.Common.{◌≡◌, Some, Bool, true, false, true≢false, if◌then◌else◌, List, [], ◌∷◌, Some, map, refl, ap, ap₂, ◌∙◌, sym, subst, arith}
 use Rattle.std.specs.Prelude.{All}
 use Rattle.std.proofs.lemmas.List.Elements.{All-head, All-tail}
-use Rattle.bac_values.specs.Identifier.{Identifier, kind_of}
+use Rattle.bac_values.specs.Identifier.{kind_of, ObjectIdData}
 use Rattle.object_table.specs.declared.change.Change.{Change}
 use Rattle.object_table.specs.declared.object_site.ObjectSite.{ObjectSite}
 use Rattle.object_table.specs.declared.row.Row.{Row}
@@ -12,7 +12,7 @@ use Rattle.object_table.specs.Writes as row_writes
 use Rattle.enrollment.specs.declared.enrollment_site.EnrollmentSite.{EnrollmentSite}
 use Rattle.enrollment.specs.Enrollments.{IsEnrollment}
 use Rattle.enrollment.specs.Writes as site_writes
-use Rattle.alarm_core.specs.Logs.{KeptLog, kept_log}
+use Rattle.alarm_core.specs.Logs.{kept_log, SiteLogState}
 use Rattle.alarm_core.specs.Values.{Values, written}
 use Rattle.alarm_core.proofs.Parted.{same_object}
 use Rattle.alarm_core.proofs.Searches.{passes}
@@ -30,14 +30,14 @@ unchanged P test f never (x ∷ xs) all = ap₂ (λ y ys. y ∷ ys) (if_not (tes
 no_object : (site : ObjectSite) → IsObjectOf (kind_of 25) site → ⊥
 no_object site is = true≢false (sym is.value)
 
-no_row : (object : Identifier) → object.number ≡ 25 → (row : Row) → IsRow row → is_object object row.site.object ≡ true → ⊥
+no_row : (object : ObjectIdData) → object.number ≡ 25 → (row : Row) → IsRow row → is_object object row.site.object ≡ true → ⊥
 no_row object log row is same =
-    let number : row.site.object.number ≡ 25 = ap (λ (i : Identifier). i.number) (same_object object row.site.object same) ∙ log in
+    let number : row.site.object.number ≡ 25 = ap (λ (i : ObjectIdData). i.number) (same_object object row.site.object same) ∙ log in
     no_object row.site (subst (λ n. IsObjectOf (kind_of n) row.site) number is.site)
 
-no_enrollment : (object : Identifier) → object.number ≡ 25 → (site : EnrollmentSite) → IsEnrollment site → is_object object site.object ≡ true → ⊥
+no_enrollment : (object : ObjectIdData) → object.number ≡ 25 → (site : EnrollmentSite) → IsEnrollment site → is_object object site.object ≡ true → ⊥
 no_enrollment object log site is same =
-    let number : site.object.number ≡ 25 = ap (λ (i : Identifier). i.number) (same_object object site.object same) ∙ log in
+    let number : site.object.number ≡ 25 = ap (λ (i : ObjectIdData). i.number) (same_object object site.object same) ∙ log in
     absurd (omega (arith, sym number ∙ is.number))
 
 pub written_elsewhere : (change : Change) (values : Values) → change.object.number ≡ 25 → All IsRow values.rows → All IsEnrollment values.enrollments → written change values ≡ values
@@ -47,6 +47,6 @@ written_elsewhere change values log rows sites =
     λ k. record { rows = first k; enrollments = second k }
 
 -- an identifier under which there is a log is of the logs' type
-pub log_number : (object : Identifier) (logs : List KeptLog) (kept : KeptLog) → kept_log object logs ≡ Some kept → kept.site.object.number ≡ 25 → object.number ≡ 25
+pub log_number : (object : ObjectIdData) (logs : List SiteLogState) (kept : SiteLogState) → kept_log object logs ≡ Some kept → kept.site.object.number ≡ 25 → object.number ≡ 25
 log_number object logs kept found log =
-    ap (λ (i : Identifier). i.number) (sym (same_object object kept.site.object (passes (λ (k : KeptLog). is_object object k.site.object) kept logs found))) ∙ log
+    ap (λ (i : ObjectIdData). i.number) (sym (same_object object kept.site.object (passes (λ (k : SiteLogState). is_object object k.site.object) kept logs found))) ∙ log

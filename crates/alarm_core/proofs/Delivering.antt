@@ -3,14 +3,14 @@ use Rattle.std.proofs.Common.{◌≡◌, ℕ, List, [], ◌∷◌, map, refl, ap
 use Rattle.std.proofs.Math.Path.{fun_ext}
 use Rattle.std.specs.List.{All, flat_map}
 use Rattle.std.proofs.lemmas.List.Elements.{All-weaker}
-use Rattle.bac_values.specs.Address.{Address}
+use Rattle.bac_values.specs.Address.{PeerData}
 use Rattle.bac_values.specs.Orders.{is_among, peers_with}
 use Rattle.bac_values.specs.declared.note.Note.{Note}
 use Rattle.notify_class.specs.Edits.{peers_of}
 use Rattle.outbox.specs.Delivery.{delivery_after, sent_at}
 use Rattle.outbox.specs.Following.{StandsFor, no_operations}
 use Rattle.outbox.specs.Outboxes.{OutboxState, AreKnown, new_outbox, peers_of as peers_of_posts, sends_of}
-use Rattle.outbox.specs.Posts.{PostState, post_after}
+use Rattle.outbox.specs.Posts.{post_after, MailboxState}
 use Rattle.outbox.proofs.Learning.{learn_learns, known_addresses, with_all}
 use Rattle.outbox.proofs.Standing.{answer_follows, are_sent, new_stands, nothing_kept, pump_follows, queue_follows}
 use Rattle.alarm_core.specs.declared.event.Act.{Act}
@@ -24,15 +24,15 @@ use Rattle.alarm_core.specs.Known.{Knows}
 use Rattle.alarm_core.proofs.NotesGo.{notes_known}
 
 -- what is kept of a recipient
-abbrev pub kept : Site → List Event → Address → PostState
+abbrev pub kept : Site → List Event → PeerData → MailboxState
 kept site history peer = post_after (timing_at site) peer (operations_of site history peer)
 
-pub peers_kept : (site : Site) (history : List Event) (peers : List Address) → peers_of_posts (map (kept site history) peers) ≡ peers
+pub peers_kept : (site : Site) (history : List Event) (peers : List PeerData) → peers_of_posts (map (kept site history) peers) ≡ peers
 peers_kept site history [] = refl
 peers_kept site history (peer ∷ peers) = ap (λ ps. peer ∷ ps) (peers_kept site history peers)
 
 -- the outbox of a site with some posts
-as_outbox : Site → List PostState → OutboxState
+as_outbox : Site → List MailboxState → OutboxState
 as_outbox site posts = record { posts = posts; limit = site.device.outbox; timeout = site.device.apdu_timeout; retries = site.device.retries }
 
 pub are_known : (site : Site) (history : List Event) (notes : List Note) → All (λ (note : Note). Knows (known_peers_of site history) note.peer) notes → AreKnown notes (outbox_after site history).posts

@@ -12,7 +12,7 @@ use Rattle.bac_values.specs.declared.note.Note.{Note}
 use Rattle.event_machine.specs.declared.moves.Move.{Move}
 use Rattle.note_maker.specs.Notes.{note_to, notes_for}
 use Rattle.notify_class.specs.Chosen.{chosen_destinations}
-use Rattle.notify_class.specs.Recipients.{ListedRecipient}
+use Rattle.notify_class.specs.Recipients.{DestinationData}
 use Rattle.notify_class.specs.Windows.{is_in_window}
 use Rattle.notify_class.specs.declared.class.Class.{Class}
 use Rattle.alarm_core.specs.declared.event.Event.{Event}
@@ -48,7 +48,7 @@ module _ (site : Site) (classes : List Class) where
       let to = transition_to transition.to in
       let zone = site_zone site in
       let notes = notes_for facts class.destinations to transition.moment zone in
-      let in_window : ListedRecipient → Bool = λ recipient. is_in_window recipient to transition.moment zone in
+      let in_window : DestinationData → Bool = λ recipient. is_in_window recipient to transition.moment zone in
       let whole : length (notes ++ []) ≡ length notes = ap length (append-nil notes) in
       omega (arith, whole, length-map (chosen_destinations class.destinations to transition.moment zone) (note_to facts), length-filter in_window class.destinations, count_by-le-length in_window class.destinations)
 

@@ -2,12 +2,12 @@
 use Rattle.std.proofs.Common.{◌≡◌, Bool, true, false, ◌||◌, ◌==◌, IsTrue, if◌then◌else◌, List, [], ◌∷◌, ◌++◌, map, refl, sym, ap, ◌∙◌}
 use Rattle.std.specs.List.{All, flat_map}
 use Rattle.std.proofs.lemmas.List.Elements.{All-nil, All-cons, All-head, All-tail, All-map, All-weaker}
-use Rattle.bac_values.specs.Address.{Address}
+use Rattle.bac_values.specs.Address.{PeerData}
 use Rattle.bac_values.specs.Orders.{is_among, is_same, peers_with}
 use Rattle.bac_values.proofs.OrderLemmas.{same_is_equivalence}
 use Rattle.notify_class.specs.declared.class.Class.{Class}
 use Rattle.notify_class.specs.Edits.{peers_of}
-use Rattle.notify_class.specs.Recipients.{ListedRecipient}
+use Rattle.notify_class.specs.Recipients.{DestinationData}
 use Rattle.outbox.specs.Outboxes.{with_peers}
 use Rattle.outbox.specs.Posts.{empty_post}
 use Rattle.outbox.proofs.Learning.{known_addresses, known_with_all, with_all}
@@ -21,7 +21,7 @@ use Rattle.alarm_core.specs.Classes.{classes_after, classes_with, edited, first_
 
 -- ---- known peers
 
-pub known_more : (others known : List Address) (peer : Address) → is_among (peers_with others known) peer ≡ (is_among known peer || is_among others peer)
+pub known_more : (others known : List PeerData) (peer : PeerData) → is_among (peers_with others known) peer ≡ (is_among known peer || is_among others peer)
 known_more others known peer =
     let posts = map empty_post known in
     ap (λ ps. is_among (peers_with others ps) peer) (sym (peers_empty known))
@@ -34,16 +34,16 @@ or_right : (a b : Bool) → b ≡ true → (a || b) ≡ true
 or_right true b h = refl
 or_right false b h = h
 
-knows_still : (others known : List Address) (peer : Address) → Knows known peer → Knows (peers_with others known) peer
+knows_still : (others known : List PeerData) (peer : PeerData) → Knows known peer → Knows (peers_with others known) peer
 knows_still others known peer h = known_more others known peer ∙ ap (λ b. b || is_among others peer) h
 
-among_themselves : (peers : List Address) → All (λ peer. IsTrue (is_among peers peer)) peers
+among_themselves : (peers : List PeerData) → All (λ peer. IsTrue (is_among peers peer)) peers
 among_themselves [] = All-nil (λ peer. IsTrue (is_among [] peer))
 among_themselves (peer ∷ peers) =
     All-cons (λ other. IsTrue (is_among (peer ∷ peers) other)) peer peers (ap (λ b. b || is_among peers peer) (same_is_equivalence.refl peer))
     (All-weaker (λ other. IsTrue (is_among peers other)) (λ other. IsTrue (is_among (peer ∷ peers) other)) (λ other h. or_right (is_same peer other) (is_among peers other) h) peers (among_themselves peers))
 
-knows_new : (others known : List Address) → All (Knows (peers_with others known)) others
+knows_new : (others known : List PeerData) → All (Knows (peers_with others known)) others
 knows_new others known =
     All-weaker (λ peer. IsTrue (is_among others peer)) (Knows (peers_with others known)) (λ peer h. known_more others known peer ∙ or_right (is_among known peer) (is_among others peer) h) others (among_themselves others)
 
@@ -61,12 +61,12 @@ all_parts : {X Y : Type 0} (P : Y → Type 0) (f : X → List Y) (xs : List X) �
 all_parts P f [] h = All-nil (λ x. All P (f x))
 all_parts P f (x ∷ xs) h = All-cons (λ x. All P (f x)) x xs (front_all P (f x) (flat_map f xs) h) (all_parts P f xs (back_all P (f x) (flat_map f xs) h))
 
-edited_known : (b : Bool) (recipients : List ListedRecipient) (known : List Address) (class : Class) → KnowsClass known class →
+edited_known : (b : Bool) (recipients : List DestinationData) (known : List PeerData) (class : Class) → KnowsClass known class →
     KnowsClass (peers_with (peers_of recipients) known) (if b then record class { destinations = recipients } else class)
 edited_known true recipients known class h = knows_new (peers_of recipients) known
 edited_known false recipients known class h = All-weaker (Knows known) (Knows (peers_with (peers_of recipients) known)) (knows_still (peers_of recipients) known) (peers_of class.destinations) h
 
-pub known_by : (act : Act) (known : List Address) (classes : List Class) → All (KnowsClass known) classes → All (KnowsClass (learned_with act known)) (classes_with act classes)
+pub known_by : (act : Act) (known : List PeerData) (classes : List Class) → All (KnowsClass known) classes → All (KnowsClass (learned_with act known)) (classes_with act classes)
 known_by (Edit number recipients) known classes h =
     let now = peers_with (peers_of recipients) known in
     All-map (KnowsClass now) (edited number recipients) classes

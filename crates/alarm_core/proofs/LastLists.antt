@@ -3,9 +3,9 @@ use Rattle.std.proofs.Common.{◌≡◌, ℕ, ◌==◌, Bool, true, false, true�
 use Rattle.std.proofs.lemmas.Bool.{eqb-true}
 use Rattle.std.specs.List.{find, flat_map}
 use Rattle.std.specs.Option.{option_map}
-use Rattle.bac_values.specs.Identifier.{Identifier}
+use Rattle.bac_values.specs.Identifier.{ObjectIdData}
 use Rattle.notify_class.specs.declared.class.Class.{Class}
-use Rattle.notify_class.specs.Recipients.{ListedRecipient}
+use Rattle.notify_class.specs.Recipients.{DestinationData}
 use Rattle.object_table.specs.Rows.{is_object, row_of}
 use Rattle.alarm_core.specs.declared.event.Act.{Act}
 use Rattle.alarm_core.specs.declared.event.Act.TheVariants.{Edit}
@@ -34,19 +34,19 @@ both : (a b : Bool) → (a && b) ≡ true → (a ≡ true) × (b ≡ true)
 both true b e = (refl, e)
 both false b e = cc
 
-by_instance : (object : Identifier) (listed other : ClassSite) → is_object object (class_object listed) ≡ true →
+by_instance : (object : ObjectIdData) (listed other : ClassSite) → is_object object (class_object listed) ≡ true →
     is_object object (class_object other) ≡ (other.class.instance == listed.class.instance)
 by_instance object listed other is =
     let parts = both (15 == object.number) (listed.class.instance == object.instance) is in
     let instance : listed.class.instance ≡ object.instance = eqb-true listed.class.instance object.instance parts.1 in
     ap (λ b. b && (other.class.instance == object.instance)) parts.0 ∙ ap (λ n. other.class.instance == n) (sym instance)
 
-no_device : (object : Identifier) (site : Site) (listed : ClassSite) → is_object object (class_object listed) ≡ true → is_object object (device_object site) ≡ false
+no_device : (object : ObjectIdData) (site : Site) (listed : ClassSite) → is_object object (class_object listed) ≡ true → is_object object (device_object site) ≡ false
 no_device object site listed is =
     let parts = both (15 == object.number) (listed.class.instance == object.instance) is in
     ap (λ number. (8 == number) && (site.device.instance == object.instance)) (sym (eqb-true 15 object.number parts.0))
 
-found_instance : (object : Identifier) (listed : ClassSite) (classes : List ClassSite) → listed_class object classes ≡ Some listed →
+found_instance : (object : ObjectIdData) (listed : ClassSite) (classes : List ClassSite) → listed_class object classes ≡ Some listed →
     find (λ (other : ClassSite). other.class.instance == listed.class.instance) classes ≡ Some listed
 found_instance object listed classes e =
     let is = passes (λ (other : ClassSite). is_object object (class_object other)) listed classes e in
@@ -56,14 +56,14 @@ found_instance object listed classes e =
 abbrev class_of : ClassSite → Class
 class_of listed = listed.class
 
-first_class : (site : Site) (object : Identifier) (listed : ClassSite) → listed_class object site.classes ≡ Some listed → class_in listed.class.instance (first_classes site) ≡ Some listed.class
+first_class : (site : Site) (object : ObjectIdData) (listed : ClassSite) → listed_class object site.classes ≡ Some listed → class_in listed.class.instance (first_classes site) ≡ Some listed.class
 first_class site object listed e =
     find_map class_of (λ (class : Class). class.instance == listed.class.instance) site.classes ∙ ap (option_map class_of) (found_instance object listed site.classes e)
 
 -- ---- the class after a history
 
 -- a class with another list
-abbrev with_list : Class → List ListedRecipient → Class
+abbrev with_list : Class → List DestinationData → Class
 with_list class recipients = record class { destinations = recipients }
 
 stays : (class other : Class) → other.instance ≡ class.instance → (b : Bool) → (if b then other else class).instance ≡ class.instance
@@ -71,15 +71,15 @@ stays class other e true = e
 stays class other e false = refl
 
 -- an edit leaves the instance
-instance_stays : (number : ℕ) (recipients : List ListedRecipient) (class : Class) → (edited number recipients class).instance ≡ class.instance
+instance_stays : (number : ℕ) (recipients : List DestinationData) (class : Class) → (edited number recipients class).instance ≡ class.instance
 instance_stays number recipients class = stays class (with_list class recipients) refl (class.instance == number)
 
-one_list : (class : Class) (before after : List ListedRecipient) (b : Bool) →
+one_list : (class : Class) (before after : List DestinationData) (b : Bool) →
     (if b then with_list (with_list class before) after else with_list class before) ≡ with_list class (if b then after else before)
 one_list class before after true = refl
 one_list class before after false = refl
 
-class_with : (act : Act) (class : Class) (recipients : List ListedRecipient) (classes : List Class) → class_in class.instance classes ≡ Some (with_list class recipients) →
+class_with : (act : Act) (class : Class) (recipients : List DestinationData) (classes : List Class) → class_in class.instance classes ≡ Some (with_list class recipients) →
     class_in class.instance (classes_with act classes) ≡ Some (with_list class (list_with act class.instance recipients))
 class_with (Edit number others) class recipients classes e =
     find_map (edited number others) (λ (other : Class). other.instance == class.instance) classes
@@ -89,7 +89,7 @@ class_with (Edit number others) class recipients classes e =
     ∙ ap Some (one_list class recipients others (class.instance == number))
 class_with _ class recipients classes e = e
 
-class_after : (site : Site) (object : Identifier) (listed : ClassSite) → listed_class object site.classes ≡ Some listed → (history : List Event) →
+class_after : (site : Site) (object : ObjectIdData) (listed : ClassSite) → listed_class object site.classes ≡ Some listed → (history : List Event) →
     class_in listed.class.instance (classes_after site history) ≡ Some (with_list listed.class (last_list listed history))
 class_after site object listed e [] = first_class site object listed e
 class_after site object listed e (event ∷ older) = class_with event.act listed.class (last_list listed older) (classes_after site older) (class_after site object listed e older)
@@ -101,7 +101,7 @@ no_class_value site h = absurd (true≢false (sym h))
 
 -- ---- what is read
 
-module _ (site : Site) (keeps : IsSite site) (history : List Event) (object : Identifier) (listed : ClassSite) (found : listed_class object site.classes ≡ Some listed) where
+module _ (site : Site) (keeps : IsSite site) (history : List Event) (object : ObjectIdData) (listed : ClassSite) (found : listed_class object site.classes ≡ Some listed) where
   is_class : is_object object (class_object listed) ≡ true
   is_class = passes (λ (other : ClassSite). is_object object (class_object other)) listed site.classes found
 

@@ -5,16 +5,16 @@ use Rattle.std.proofs.lemmas.List.{append-nil, map-append}
 use Rattle.std.proofs.lemmas.List.Concat.{flat_map-append}
 use Rattle.std.proofs.lemmas.Simd.{map-map}
 use Rattle.bac_values.specs.declared.moved.Moved.{Moved}
-use Rattle.civil_stamp.specs.LocalTime.{ZonedMoment}
+use Rattle.civil_stamp.specs.LocalTime.{LocalMomentData}
 use Rattle.alarm_core.specs.declared.site.Site.{Site}
 use Rattle.alarm_core.specs.Evaluations.{site_moment, site_zone}
 use Rattle.alarm_core.specs.declared.transition.ObjectTransition.{ObjectTransition}
 use Rattle.alarm_core.specs.History.{StateTransition, joined, moved_by}
-use Rattle.alarm_core.specs.ViewSteps.{SiteData, moved_of, transition_in}
+use Rattle.alarm_core.specs.ViewSteps.{moved_of, transition_in, SiteViewData}
 use Rattle.alarm_core.proofs.Still.{map-none}
 
 -- those of one look
-pub moved_all : (seen : SiteData) (transitions : List ObjectTransition) → map moved_of transitions ≡ map moved_by (map (transition_in seen) transitions)
+pub moved_all : (seen : SiteViewData) (transitions : List ObjectTransition) → map moved_of transitions ≡ map moved_by (map (transition_in seen) transitions)
 moved_all seen transitions = sym (map-map moved_by (transition_in seen) transitions)
 
 -- of one look, and of two
@@ -39,5 +39,5 @@ none_moved f transitions = (
 )
 
 -- a moment in a site's zone
-pub at_site : (at : ZonedMoment) (site : Site) (moment : ℕ) → at.zone ≡ site_zone site → at.moment ≡ moment → at ≡ site_moment site moment
+pub at_site : (at : LocalMomentData) (site : Site) (moment : ℕ) → at.zone ≡ site_zone site → at.moment ≡ moment → at ≡ site_moment site moment
 at_site at site moment zone same = λ k. record { zone = zone k; moment = same k }

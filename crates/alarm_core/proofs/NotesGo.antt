@@ -4,18 +4,18 @@ use Rattle.std.specs.List.{All, find, flat_map}
 use Rattle.std.specs.Option.{IfSome, option_map, option_to_list}
 use Rattle.std.specs.Prelude.{◌==◌}
 use Rattle.std.proofs.lemmas.List.Elements.{All-nil, All-cons, All-head, All-tail, All-append, All-filter, All-map}
-use Rattle.bac_values.specs.Address.{Address}
+use Rattle.bac_values.specs.Address.{PeerData}
 use Rattle.bac_values.specs.EventStates.{transition_to}
 use Rattle.bac_values.specs.declared.event_state.EventState.{EventState}
 use Rattle.bac_values.specs.declared.note.Note.{Note}
 use Rattle.bac_values.specs.declared.transition.Transition.{Transition}
-use Rattle.civil_stamp.specs.LocalTime.{LocalZone}
+use Rattle.civil_stamp.specs.LocalTime.{ZoneData}
 use Rattle.event_services.specs.declared.notification.Notification.{Notification}
 use Rattle.note_maker.specs.Notes.{note_to, notes_for}
 use Rattle.note_maker.specs.Shapes.{acknowledgement_notification}
 use Rattle.notify_class.specs.Edits.{peers_of}
 use Rattle.notify_class.specs.Chosen.{chosen_destinations}
-use Rattle.notify_class.specs.Recipients.{ListedRecipient}
+use Rattle.notify_class.specs.Recipients.{DestinationData}
 use Rattle.notify_class.specs.Windows.{is_in_window}
 use Rattle.notify_class.specs.declared.class.Class.{Class}
 use Rattle.alarm_core.specs.declared.event.Act.{Act}
@@ -34,20 +34,20 @@ use Rattle.alarm_core.specs.Known.{Knows, KnowsClass}
 use Rattle.alarm_core.proofs.KnownPeers.{classes_known}
 
 -- a note goes to a known peer
-abbrev pub GoesTo : List Address → Note → Type 0
+abbrev pub GoesTo : List PeerData → Note → Type 0
 GoesTo known note = Knows known note.peer
 
-unmapped : (known : List Address) (recipients : List ListedRecipient) → All (Knows known) (peers_of recipients) → All (λ (recipient : ListedRecipient). Knows known recipient.peer) recipients
-unmapped known [] h = All-nil (λ (recipient : ListedRecipient). Knows known recipient.peer)
+unmapped : (known : List PeerData) (recipients : List DestinationData) → All (Knows known) (peers_of recipients) → All (λ (recipient : DestinationData). Knows known recipient.peer) recipients
+unmapped known [] h = All-nil (λ (recipient : DestinationData). Knows known recipient.peer)
 unmapped known (recipient ∷ recipients) h =
-    All-cons (λ (recipient : ListedRecipient). Knows known recipient.peer) recipient recipients (All-head (Knows known) recipient.peer (peers_of recipients) h)
+    All-cons (λ (recipient : DestinationData). Knows known recipient.peer) recipient recipients (All-head (Knows known) recipient.peer (peers_of recipients) h)
     (unmapped known recipients (All-tail (Knows known) recipient.peer (peers_of recipients) h))
 
-notes_go : (known : List Address) (facts : Notification) (recipients : List ListedRecipient) (transition : Transition) (moment : ℕ) (zone : LocalZone) →
+notes_go : (known : List PeerData) (facts : Notification) (recipients : List DestinationData) (transition : Transition) (moment : ℕ) (zone : ZoneData) →
     All (Knows known) (peers_of recipients) → All (GoesTo known) (notes_for facts recipients transition moment zone)
 notes_go known facts recipients transition moment zone h =
     All-map (GoesTo known) (note_to facts) (chosen_destinations recipients transition moment zone)
-    (All-filter (λ recipient. is_in_window recipient transition moment zone) (λ (recipient : ListedRecipient). Knows known recipient.peer) recipients (unmapped known recipients h))
+    (All-filter (λ recipient. is_in_window recipient transition moment zone) (λ (recipient : DestinationData). Knows known recipient.peer) recipients (unmapped known recipients h))
 
 found_by : {X : Type 0} (P : X → Type 0) (b : Bool) (x : X) (rest : Option X) → P x → IfSome rest P → IfSome (cond b (Some x) rest) P
 found_by P true x rest h k = h
@@ -57,28 +57,28 @@ pub found : {X : Type 0} (P : X → Type 0) (test : X → Bool) (xs : List X) �
 found P test [] h = tt
 found P test (x ∷ xs) h = found_by P (test x) x (find test xs) (All-head P x xs h) (found P test xs (All-tail P x xs h))
 
-class_known : (known : List Address) (classes : List Class) → All (KnowsClass known) classes → (number : Option ℕ) → IfSome (option_and_then (λ n. class_in n classes) number) (KnowsClass known)
+class_known : (known : List PeerData) (classes : List Class) → All (KnowsClass known) classes → (number : Option ℕ) → IfSome (option_and_then (λ n. class_in n classes) number) (KnowsClass known)
 class_known known classes h None = tt
 class_known known classes h (Some n) = found (KnowsClass known) (λ (class : Class). class.instance == n) classes h
 
 -- who is told, if anybody is, has a class whose recipients are known
-abbrev IsToldKnown : List Address → Option (Subject × Class) → Type 0
+abbrev IsToldKnown : List PeerData → Option (Subject × Class) → Type 0
 IsToldKnown known told = IfSome told (λ to. KnowsClass known to.1)
 
-known_as : (known : List Address) (subject : Subject) (class : Option Class) → IfSome class (KnowsClass known) → IsToldKnown known (option_map (λ class. (subject, class)) class)
+known_as : (known : List PeerData) (subject : Subject) (class : Option Class) → IfSome class (KnowsClass known) → IsToldKnown known (option_map (λ class. (subject, class)) class)
 known_as known subject None k = tt
 known_as known subject (Some class) k = k
 
-enabled_known : (known : List Address) (b : Bool) (told : Option (Subject × Class)) → IsToldKnown known told → IsToldKnown known (if b then told else None)
+enabled_known : (known : List PeerData) (b : Bool) (told : Option (Subject × Class)) → IsToldKnown known told → IsToldKnown known (if b then told else None)
 enabled_known known true told k = k
 enabled_known known false told k = tt
 
-told_go : (known : List Address) (make : Subject × Class → List Note) → ((to : Subject × Class) → KnowsClass known to.1 → All (GoesTo known) (make to)) →
+told_go : (known : List PeerData) (make : Subject × Class → List Note) → ((to : Subject × Class) → KnowsClass known to.1 → All (GoesTo known) (make to)) →
     (told : Option (Subject × Class)) → IsToldKnown known told → All (GoesTo known) (flat_map make (option_to_list told))
 told_go known make go None k = All-nil (GoesTo known)
 told_go known make go (Some to) k = All-append (GoesTo known) (make to) [] (go to k) (All-nil (GoesTo known))
 
-module _ (site : Site) (known : List Address) (classes : List Class) (h : All (KnowsClass known) classes) where
+module _ (site : Site) (known : List PeerData) (classes : List Class) (h : All (KnowsClass known) classes) where
   with_class_known : (subject : Subject) → IsToldKnown known (with_class classes subject)
   with_class_known subject = known_as known subject (class_for subject classes) (class_known known classes h subject.class)
 

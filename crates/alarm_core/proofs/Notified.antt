@@ -4,10 +4,10 @@ use Rattle.alarm_core.specs.declared.event.Event.{Event}
 use Rattle.alarm_core.specs.Allowed.{Comes, Represents}
 use Rattle.alarm_core.specs.Deliveries.{notifications_of}
 use Rattle.alarm_core.specs.CoreSteps.{next_notes}
-use Rattle.alarm_core.specs.State.{State}
+use Rattle.alarm_core.specs.State.{CoreState}
 use Rattle.alarm_core.proofs.Standing.{stands}
 
-pub notifications_after : (history : List Event) (old : State) (event : Event) → Comes old.site event history → Represents old history →
+pub notifications_after : (history : List Event) (old : CoreState) (event : Event) → Comes old.site event history → Represents old history →
     notifications_of old.site (event ∷ history) ≡ notifications_of old.site history ++ next_notes event old
 notifications_after history old event comes r =
-    stands.notifications old.site event history comes ∙ ap (λ (s : State). notifications_of old.site history ++ next_notes event s) (sym r.shows)
+    stands.notifications old.site event history comes ∙ ap (λ (s : CoreState). notifications_of old.site history ++ next_notes event s) (sym r.shows)

@@ -6,7 +6,7 @@ use Rattle.std.proofs.lemmas.Bool.{ne_eqb}
 use Rattle.std.proofs.lemmas.Bool.Decides.{nat_tests}
 use Rattle.std.proofs.lemmas.List.{get_or-map, length-map}
 use Rattle.std.proofs.lemmas.List.Elements.{All-append, All-filter, All-map}
-use Rattle.bac_values.specs.Identifier.{Identifier, kind_of}
+use Rattle.bac_values.specs.Identifier.{kind_of, ObjectIdData}
 use Rattle.object_table.specs.declared.object_site.ObjectSite.{ObjectSite}
 use Rattle.object_table.specs.declared.row.Row.{Row}
 use Rattle.object_table.specs.Objects.{IsObject}
@@ -32,10 +32,10 @@ pub record IsOwn (site : Site) (subject : Subject) : Type 0 where
 
 -- ---- what ascends is found by its identifier
 
-is_itself : (object : Identifier) → is_object object object ≡ true
+is_itself : (object : ObjectIdData) → is_object object object ≡ true
 is_itself object = grind (arith, nat_tests)
 
-module _ {X : Type 0} (object : X → Identifier) (xs : List X) (ascending : Ascends (map object xs)) where
+module _ {X : Type 0} (object : X → ObjectIdData) (xs : List X) (ascending : Ascends (map object xs)) where
   earlier_is_other : (j k : ℕ) (d : X) → j < k → k < length xs → is_object (object (get_or xs k d)) (object (get_or xs j d)) ≡ false
   earlier_is_other j k d before low =
       let in_range : k < length (map object xs) = rw (length-map xs object) low in
@@ -57,11 +57,11 @@ no_enrollment_value number site value is = let wrong : IsTrue false = subst (λ 
 pub is_other_kind : (site : ObjectSite) → IsObject site → site.object.number ≡ 9 → ⊥
 is_other_kind site allowed is = no_enrollment_value site.object.number site allowed.value is
 
-other_number : (object : Identifier) → (object.number ≡ 9 → ⊥) → (site : EnrollmentSite) → IsEnrollment site → is_object object site.object ≡ false
+other_number : (object : ObjectIdData) → (object.number ≡ 9 → ⊥) → (site : EnrollmentSite) → IsEnrollment site → is_object object site.object ≡ false
 other_number object other site allowed =
     ap (λ b. b && (site.object.instance == object.instance)) (ne_eqb site.object.number object.number (λ same. other (sym same ∙ allowed.number)))
 
-pub no_site : (object : Identifier) → (object.number ≡ 9 → ⊥) → (sites : List EnrollmentSite) → All IsEnrollment sites → site_of object sites ≡ None
+pub no_site : (object : ObjectIdData) → (object.number ≡ 9 → ⊥) → (sites : List EnrollmentSite) → All IsEnrollment sites → site_of object sites ≡ None
 no_site object other sites allowed =
     find_none (λ (site : EnrollmentSite). is_object object site.object) sites (λ k d low. other_number object other (get_or sites k d) (allowed k d low))
 

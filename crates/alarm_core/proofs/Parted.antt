@@ -2,7 +2,7 @@
 use Rattle.std.proofs.Common.{◌≡◌, Bool, true, false, true≢false, cond, if◌then◌else◌, Option, Some, None, List, [], ◌∷◌, map, refl, ap, ap₂, ◌∙◌, sym, subst, arith}
 use Rattle.std.specs.List.{find}
 use Rattle.std.proofs.lemmas.Bool.Decides.{nat_tests}
-use Rattle.bac_values.specs.Identifier.{Identifier, kind_of}
+use Rattle.bac_values.specs.Identifier.{kind_of, ObjectIdData}
 use Rattle.object_table.specs.declared.change.Change.{Change}
 use Rattle.object_table.specs.declared.object_site.ObjectSite.{ObjectSite}
 use Rattle.object_table.specs.declared.row.Row.{Row}
@@ -24,24 +24,24 @@ pub found_passes : {X : Type 0} (test : X → Bool) (xs : List X) (x : X) → fi
 found_passes test [] x e = absurd cc
 found_passes test (y ∷ ys) x e = picked test y x (find test ys) (λ f. found_passes test ys x f) (test y) refl e
 
-pub same_object : (object other : Identifier) → is_object object other ≡ true → other ≡ object
+pub same_object : (object other : ObjectIdData) → is_object object other ≡ true → other ≡ object
 same_object object other e = grind (arith, nat_tests)
 
 -- the row that is found has the identifier
-pub row_is_of : (object : Identifier) (rows : List Row) (row : Row) → row_of object rows ≡ Some row → row.site.object ≡ object
+pub row_is_of : (object : ObjectIdData) (rows : List Row) (row : Row) → row_of object rows ≡ Some row → row.site.object ≡ object
 row_is_of object rows row e = same_object object row.site.object (found_passes (λ (r : Row). is_object object r.site.object) rows row e)
 
-pub site_is_of : (object : Identifier) (sites : List EnrollmentSite) (site : EnrollmentSite) → site_of object sites ≡ Some site → site.object ≡ object
+pub site_is_of : (object : ObjectIdData) (sites : List EnrollmentSite) (site : EnrollmentSite) → site_of object sites ≡ Some site → site.object ≡ object
 site_is_of object sites site e = same_object object site.object (found_passes (λ (s : EnrollmentSite). is_object object s.object) sites site e)
 
 -- a value object isn't of the enrollments' type
 no_object : (site : ObjectSite) → IsObjectOf (kind_of 9) site → ⊥
 no_object site is = true≢false (sym is.value)
 
-pub apart : (object : Identifier) (rows : List Row) (row : Row) (sites : List EnrollmentSite) (site : EnrollmentSite) → row_of object rows ≡ Some row → site_of object sites ≡ Some site →
+pub apart : (object : ObjectIdData) (rows : List Row) (row : Row) (sites : List EnrollmentSite) (site : EnrollmentSite) → row_of object rows ≡ Some row → site_of object sites ≡ Some site →
     IsObject row.site → IsEnrollment site → ⊥
 apart object rows row sites site r s is it =
-    let number : row.site.object.number ≡ 9 = ap (λ (i : Identifier). i.number) (row_is_of object rows row r ∙ sym (site_is_of object sites site s)) ∙ it.number in
+    let number : row.site.object.number ≡ 9 = ap (λ (i : ObjectIdData). i.number) (row_is_of object rows row r ∙ sym (site_is_of object sites site s)) ∙ it.number in
     no_object row.site (subst (λ n. IsObjectOf (kind_of n) row.site) number is)
 
 -- a write of an object that isn't there changes nothing
@@ -79,6 +79,6 @@ pub undone_enrollments : (undo : Change) (values : Values) → row_of undo.objec
 undone_enrollments undo values e after a = λ k. record { rows = rows_stay undo values.rows e k; enrollments = a k }
 
 -- a value object's algorithm is that of its type
-pub own_algorithm : (object : Identifier) (sites : List EnrollmentSite) (rows : List Row) (row : Row) → site_of object sites ≡ None → row_of object rows ≡ Some row →
+pub own_algorithm : (object : ObjectIdData) (sites : List EnrollmentSite) (rows : List Row) (row : Row) → site_of object sites ≡ None → row_of object rows ≡ Some row →
     algorithm_for row.site.object ≡ algorithm_by_site (site_of object sites) object
 own_algorithm object sites rows row none e = ap algorithm_for (row_is_of object rows row e) ∙ ap (λ site. algorithm_by_site site object) (sym none)

@@ -4,8 +4,8 @@ use Rattle.std.specs.Result.{IsErrOf}
 use Rattle.std.proofs.lemmas.Bool.{cases_Bool, ltb-false, ltb-true}
 use Rattle.bac_values.specs.declared.note.Note.{Note}
 use Rattle.outbox.specs.Outboxes.{OutboxState, answered_by, peers_of, timing_of, unfinished_in, with_notes}
-use Rattle.bac_values.specs.Address.{Address}
-use Rattle.outbox.specs.Posts.{PostState, post_pumped}
+use Rattle.bac_values.specs.Address.{PeerData}
+use Rattle.outbox.specs.Posts.{post_pumped, MailboxState}
 use Rattle.outbox.specs.declared.answers.QueueFault.{QueueFault}
 use Rattle.outbox.specs.declared.answers.QueueFault.TheVariants as faults
 use Rattle.outbox.proofs.Standing.{answered_peer, peers_stay, pumped_peer}
@@ -62,11 +62,11 @@ refused_verdict notes outbox (faults.Full would limit back) full =
     ∙ (ap (λ n. Err (Full n outbox.limit)) (sym over.0) ∙ ap (λ n. Err (Full would n)) (sym over.1))
 refused_verdict notes outbox (faults.NoMemory back) full = tt
 
-pub queued_peers : (notes : List Note) (posts : List PostState) → peers_of (map (with_notes notes) posts) ≡ peers_of posts
+pub queued_peers : (notes : List Note) (posts : List MailboxState) → peers_of (map (with_notes notes) posts) ≡ peers_of posts
 queued_peers notes posts = peers_stay (with_notes notes) (λ post. refl) posts
 
 pub pumped_peers : (moment : ℕ) (outbox : OutboxState) → peers_of (map (post_pumped (timing_of outbox) moment) outbox.posts) ≡ peers_of outbox.posts
 pumped_peers moment outbox = peers_stay (post_pumped (timing_of outbox) moment) (pumped_peer (timing_of outbox) moment) outbox.posts
 
-pub answered_peers : (peer : Address) (invoke : ℕ) (posts : List PostState) → peers_of (map (answered_by peer invoke) posts) ≡ peers_of posts
+pub answered_peers : (peer : PeerData) (invoke : ℕ) (posts : List MailboxState) → peers_of (map (answered_by peer invoke) posts) ≡ peers_of posts
 answered_peers peer invoke posts = peers_stay (answered_by peer invoke) (answered_peer peer invoke) posts

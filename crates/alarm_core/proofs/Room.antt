@@ -8,9 +8,9 @@ use Rattle.std.proofs.lemmas.List.Folds.{fold-map}
 use Rattle.std.proofs.lemmas.List.Sums.{sum_by-append, sum_by-le-sum_by}
 use Rattle.std.proofs.lemmas.List.Filters.{sum_by-filter_both}
 use Rattle.std.proofs.lemmas.Simd.{map-map}
-use Rattle.bac_values.specs.Address.{Address}
+use Rattle.bac_values.specs.Address.{PeerData}
 use Rattle.notify_class.specs.Edits.{edit_verdict, known_with, most_destinations, most_peers, peers_of as peers_in_list}
-use Rattle.notify_class.specs.Recipients.{ListedRecipient}
+use Rattle.notify_class.specs.Recipients.{DestinationData}
 use Rattle.notify_class.specs.declared.class.Class.{Class}
 use Rattle.notify_class.specs.declared.edit.EditFault.{EditFault}
 use Rattle.notify_class.specs.declared.edit.EditFault.TheVariants.{TooMany, TooManyPeers, TooManyNotes}
@@ -40,7 +40,7 @@ use Rattle.alarm_core.proofs.Shares.{IsBelow, by_class, edit_within, instances, 
 
 -- ---- the instances stay
 
-edited_instance : (same : Bool) (recipients : List ListedRecipient) (class : Class) → (if same then record class { destinations = recipients } else class).instance ≡ class.instance
+edited_instance : (same : Bool) (recipients : List DestinationData) (class : Class) → (if same then record class { destinations = recipients } else class).instance ≡ class.instance
 edited_instance true recipients class = refl
 edited_instance false recipients class = refl
 
@@ -121,7 +121,7 @@ few_notes false true notes count known all e = absurd cc
 few_notes false false true count known all e = absurd cc
 few_notes false false false count known all e = refl
 
-edit_fits : (known : List Address) (recipients : List ListedRecipient) (members room : ℕ) → edit_verdict known recipients members room ≡ Ok tt → members * length recipients ≤ room
+edit_fits : (known : List PeerData) (recipients : List DestinationData) (members room : ℕ) → edit_verdict known recipients members room ≡ Ok tt → members * length recipients ≤ room
 edit_fits known recipients members room e =
     let count = length recipients in
     let peers = length (known_with known (peers_in_list recipients)) in
@@ -133,7 +133,7 @@ module _ (site : Site) (room : HasRoom site) where
   shares : List Class → ℕ
   shares classes = sum_by (share_of (state_of site [])) classes
 
-  shares_edited : (older : List Event) → shares (classes_after site older) ≤ site.device.outbox → (number : ℕ) (recipients : List ListedRecipient) →
+  shares_edited : (older : List Event) → shares (classes_after site older) ≤ site.device.outbox → (number : ℕ) (recipients : List DestinationData) →
       edit_verdict (peers_of (state_of site older).outbox.posts) recipients (members_of (state_of site older) number) (room_beside (state_of site older) number) ≡ Ok tt →
       shares (map (edited number recipients) (classes_after site older)) ≤ site.device.outbox
   unfolding shares

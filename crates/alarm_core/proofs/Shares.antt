@@ -7,7 +7,7 @@ use Rattle.std.proofs.lemmas.Bool.Decides.{nat_tests}
 use Rattle.std.proofs.lemmas.List.Elements.{All-head, All-tail}
 use Rattle.std.proofs.lemmas.List.Filters.{sum_by-filter_both}
 use Rattle.std.proofs.lemmas.List.Sums.{sum_by-cons}
-use Rattle.notify_class.specs.Recipients.{ListedRecipient}
+use Rattle.notify_class.specs.Recipients.{DestinationData}
 use Rattle.notify_class.specs.declared.class.Class.{Class}
 use Rattle.alarm_core.specs.Classes.{class_in, edited, is_member}
 use Rattle.alarm_core.specs.declared.subject.Subject.{Subject}
@@ -88,7 +88,7 @@ instances classes = map (λ (class : Class). class.instance) classes
 abbrev pub IsBelow : ℕ → ℕ → Type 0
 IsBelow earlier later = earlier < later
 
-module _ (members : ℕ → ℕ) (number : ℕ) (recipients : List ListedRecipient) where
+module _ (members : ℕ → ℕ) (number : ℕ) (recipients : List DestinationData) where
   share : Class → ℕ
   share class = members class.instance * length class.destinations
 

@@ -5,13 +5,12 @@ use Rattle.std.proofs.lemmas.List.{append-nil, length-append}
 use Rattle.std.specs.List.{flat_map}
 use Rattle.std.proofs.lemmas.Simd.{map-map}
 use Rattle.std.proofs.lemmas.List.Folds.{flat_map-map}
-use Rattle.bac_values.specs.Identifier.{Identifier}
+use Rattle.bac_values.specs.Identifier.{ObjectIdData}
 use Rattle.bac_values.specs.declared.transition.Transition.{Transition}
-use Rattle.event_machine.specs.Points.{Incident, Acknowledged, IsCourse}
+use Rattle.event_machine.specs.Points.{Incident, Acknowledged, IsCourse, Point}
 use Rattle.event_machine.specs.Summary.{AlarmState, alarm_of}
 use Rattle.event_machine.specs.AlarmSteps.{acknowledged}
 use Rattle.event_machine.proofs.Keeping.{keeps_course}
-use Rattle.event_machine.specs.Points.{Point}
 use Rattle.object_table.specs.Rows.{is_object}
 use Rattle.alarm_core.specs.declared.event.Act.{Act}
 use Rattle.alarm_core.specs.declared.event.Act.TheVariants.{Tick, Write, Ack, Pump, Answer, Edit}
@@ -25,8 +24,8 @@ use Rattle.alarm_core.specs.History.{Occurrence, AllEvaluated, OneAcknowledged, 
 use Rattle.outbox.specs.Outboxes.{OutboxState, unfinished_in}
 use Rattle.alarm_core.specs.Classes.{classes_after, classes_with}
 use Rattle.alarm_core.specs.Deliveries.{event_notes, notes_by, notifications_of, outbox_after}
-use Rattle.alarm_core.specs.Logs.{KeptLog, logs_after}
-use Rattle.alarm_core.specs.State.{State, DetectedObjectState, alarms_of, state_of, detected_object_of}
+use Rattle.alarm_core.specs.Logs.{logs_after, SiteLogState}
+use Rattle.alarm_core.specs.State.{DetectedObjectState, alarms_of, state_of, detected_object_of, CoreState}
 use Rattle.alarm_core.specs.Allowed.{Comes, IsAllowed, IsHistory, Represents}
 use Rattle.alarm_core.specs.CoreSteps.{acked, after_looks, alarms_with, change_by, evaluated, evaluated_all, first_detected, first_state, logs_with, next_looks, next_notes, next_state, next_transitions, outbox_with, state_of_detected, states_of, transitions_all, transitions_by, transitions_of_looks}
 use Rattle.alarm_core.specs.Laws.{StandsForItsHistory}
@@ -137,11 +136,11 @@ acked_by site subject transition w true =
     (keeps_course.acknowledges subject.algorithm (first_point site subject) (incidents_of site subject w) transition (detected_object_of site w subject).alarm refl)
 acked_by site subject transition w false = refl
 
-acked_one : (site : Site) (object : Identifier) (transition : Transition) (w : List Occurrence) (subject : Subject) →
+acked_one : (site : Site) (object : ObjectIdData) (transition : Transition) (w : List Occurrence) (subject : Subject) →
     acked object transition (detected_object_of site w subject) ≡ detected_object_of site (OneAcknowledged object transition ∷ w) subject
 acked_one site object transition w subject = acked_by site subject transition w (is_object object subject.object)
 
-acked_all : (site : Site) (object : Identifier) (transition : Transition) (w : List Occurrence) →
+acked_all : (site : Site) (object : ObjectIdData) (transition : Transition) (w : List Occurrence) →
     map (acked object transition) (alarms_of site w) ≡ alarms_of site (OneAcknowledged object transition ∷ w)
 acked_all site object transition w =
     map-map (acked object transition) (detected_object_of site w) (detecting_subjects site) ∙ ap (λ f. map f (detecting_subjects site)) (fun_ext (acked_one site object transition w))
@@ -173,7 +172,7 @@ pub same_notes : (site : Site) (event : Event) (history : List Event) → Comes 
 same_notes site event history comes = ap (λ looks. notes_by site (classes_after site history) (values_after site history) event.moment event.act (joined looks)) (same_looks site event history comes)
 
 -- a state with what an event changes
-with_parts : Site → Event → List Event → ℕ → List DetectedObjectState → OutboxState → List KeptLog → State
+with_parts : Site → Event → List Event → ℕ → List DetectedObjectState → OutboxState → List SiteLogState → CoreState
 with_parts site event history events alarms outbox logs = record {
   site = site;
   events = events;
@@ -214,7 +213,7 @@ first_one site subject = ap (detected_as site subject) (keeps_course.begins subj
 
 stands_start : (site : Site) → first_state site ≡ state_of site []
 stands_start site =
-    let with_all : List DetectedObjectState → OutboxState → List KeptLog → State = λ alarms outbox logs.
+    let with_all : List DetectedObjectState → OutboxState → List SiteLogState → CoreState = λ alarms outbox logs.
     record { site = site; events = 0; last_moment = site.device.start; values = values_after site []; alarms = alarms; classes = classes_after site []; outbox = outbox; logs = logs } in
     ap (λ f. with_all (map f (detecting_subjects site)) (first_state site).outbox (first_state site).logs) (fun_ext (first_one site))
     ∙ (ap (λ outbox. with_all (alarms_of site []) outbox (first_state site).logs) (first_outbox site)
@@ -244,34 +243,34 @@ stands = record {
 }
 
 -- an event comes after the history that a state represents
-pub comes_after : (history : List Event) (old : State) (event : Event) → IsSite old.site → old.last_moment ≤ event.moment → Represents old history → Comes old.site event history
+pub comes_after : (history : List Event) (old : CoreState) (event : Event) → IsSite old.site → old.last_moment ≤ event.moment → Represents old history → Comes old.site event history
 comes_after history old event is low r =
-    record { is_site = is; is_history = r.is_history; not_before = subst (λ (s : State). s.last_moment ≤ event.moment) r.shows low }
+    record { is_site = is; is_history = r.is_history; not_before = subst (λ (s : CoreState). s.last_moment ≤ event.moment) r.shows low }
 
 -- a state that represents a history represents the longer one after an event
-pub represents_after : (history : List Event) (old new : State) (event : Event) → IsSite old.site → Represents old history → new ≡ next_state event old →
+pub represents_after : (history : List Event) (old new : CoreState) (event : Event) → IsSite old.site → Represents old history → new ≡ next_state event old →
     old.last_moment ≤ event.moment → Rattle.bac_values.specs.Moments.IsMoment event.moment → IsAllowed old event.act → unfinished_in new.outbox.posts ≤ new.site.device.outbox → Represents new (event ∷ history)
 represents_after history old new event is r next low moment allowed fits =
     let site = old.site in
     let comes = comes_after history old event is low r in
     let longer : new ≡ state_of site (event ∷ history) = next ∙ (ap (next_state event) r.shows ∙ stands_state site event history comes) in
-    let same_site : new.site ≡ site = ap (λ (s : State). s.site) next in
+    let same_site : new.site ≡ site = ap (λ (s : CoreState). s.site) next in
     let fits_in : unfinished_in (outbox_after site (event ∷ history)).posts ≤ site.device.outbox =
-    subst (λ (s : State). unfinished_in s.outbox.posts ≤ s.site.device.outbox) longer fits in
-    let is_allowed : IsAllowed (state_of site history) event.act = subst (λ (s : State). IsAllowed s event.act) r.shows allowed in
+    subst (λ (s : CoreState). unfinished_in s.outbox.posts ≤ s.site.device.outbox) longer fits in
+    let is_allowed : IsAllowed (state_of site history) event.act = subst (λ (s : CoreState). IsAllowed s event.act) r.shows allowed in
     record {
       is_history = subst (λ (s : Site). IsHistory s (event ∷ history)) (sym same_site) (comes.not_before, moment, is_allowed, fits_in, r.is_history);
       shows = subst (λ (s : Site). new ≡ state_of s (event ∷ history)) (sym same_site) longer;
     }
 
-pub transitions_after : (history : List Event) (old : State) (event : Event) → Comes old.site event history → Represents old history →
+pub transitions_after : (history : List Event) (old : CoreState) (event : Event) → Comes old.site event history → Represents old history →
     transitions_of old.site (event ∷ history) ≡ transitions_of old.site history ++ next_transitions event old
 transitions_after history old event comes r =
-    stands_transitions old.site event history comes ∙ ap (λ (s : State). transitions_of old.site history ++ next_transitions event s) (sym r.shows)
+    stands_transitions old.site event history comes ∙ ap (λ (s : CoreState). transitions_of old.site history ++ next_transitions event s) (sym r.shows)
 
-pub represents_first : (site : Site) (state : State) → state ≡ first_state site → Represents state []
+pub represents_first : (site : Site) (state : CoreState) → state ≡ first_state site → Represents state []
 represents_first site state e =
-    let same_site : state.site ≡ site = ap (λ (s : State). s.site) e in
+    let same_site : state.site ≡ site = ap (λ (s : CoreState). s.site) e in
     record { is_history = tt; shows = subst (λ (s : Site). state ≡ state_of s []) (sym same_site) (e ∙ stands_start site) }
 
 add_none : {X : Type 0} (xs ys : List X) → xs ++ ys ≡ xs → ys ≡ []
@@ -279,7 +278,7 @@ add_none xs [] e = refl
 add_none xs (y ∷ ys) e = absurd (omega (arith, length-append xs (y ∷ ys), ap length e))
 
 -- no object moves at a tick exactly where it adds no transition
-pub idle-adds_none : (history : List Event) (state : State) (event : Event) (idle : Bool) → Comes state.site event history → Represents state history →
+pub idle-adds_none : (history : List Event) (state : CoreState) (event : Event) (idle : Bool) → Comes state.site event history → Represents state history →
     (IsTrue idle ↔ (next_transitions event state ≡ [])) →
     (IsTrue idle ↔ (transitions_of state.site (event ∷ history) ≡ transitions_of state.site history))
 idle-adds_none history state event idle comes r both =

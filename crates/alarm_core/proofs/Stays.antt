@@ -4,7 +4,7 @@ use Rattle.std.proofs.Math.Path.{fun_ext}
 use Rattle.std.specs.Option.{IfSome, option_and_then, option_map}
 use Rattle.std.proofs.lemmas.List.Elements.{All-map, All-weaker}
 use Rattle.std.proofs.lemmas.Simd.{map-map}
-use Rattle.bac_values.specs.Identifier.{Identifier}
+use Rattle.bac_values.specs.Identifier.{ObjectIdData}
 use Rattle.bac_values.specs.declared.value.Value.{Value}
 use Rattle.bac_values.specs.declared.value.Value.TheVariants.{Bool as Truth, Unsigned, Signed, Bits}
 use Rattle.object_table.specs.declared.change.Change.{Change}
@@ -78,14 +78,14 @@ written_keeps change row =
     ]
 
 -- so the row of an object is found behind it too
-pub row_of-written : (object : Identifier) (change : Change) (table : List Row) → row_of object (rows.written change table) ≡ option_map (written_row change) (row_of object table)
+pub row_of-written : (object : ObjectIdData) (change : Change) (table : List Row) → row_of object (rows.written change table) ≡ option_map (written_row change) (row_of object table)
 row_of-written object change table =
     find_map (written_row change) (λ (row : Row). is_object object row.site.object) table
     ∙ ap (option_map (written_row change))
     (find_same (λ row. is_object object (written_row change row).site.object) (λ (row : Row). is_object object row.site.object)
     (λ row. ap (is_object object) (written_keeps change row).object) table)
 
-row_there : (object : Identifier) (change : Change) (table : List Row) → is_some (row_of object (rows.written change table)) ≡ is_some (row_of object table)
+row_there : (object : ObjectIdData) (change : Change) (table : List Row) → is_some (row_of object (rows.written change table)) ≡ is_some (row_of object table)
 row_there object change table = ap is_some (row_of-written object change table) ∙ is_some-map (written_row change) (row_of object table)
 
 -- the rows stand for the same objects
@@ -128,7 +128,7 @@ written_keeps_site change site =
       | false ↦ same_site site
     ]
 
-pub site_of-written : (object : Identifier) (change : Change) (sites : List EnrollmentSite) →
+pub site_of-written : (object : ObjectIdData) (change : Change) (sites : List EnrollmentSite) →
     site_of object (enrollments.written change sites) ≡ option_map (written_site change) (site_of object sites)
 site_of-written object change sites =
     find_map (written_site change) (λ (site : EnrollmentSite). is_object object site.object) sites
@@ -139,16 +139,16 @@ site_of-written object change sites =
 pub site_objects : (change : Change) (sites : List EnrollmentSite) → map identifier_of (enrollments.written change sites) ≡ map identifier_of sites
 site_objects change sites = map-map identifier_of (written_site change) sites ∙ ap (λ f. map f sites) (fun_ext (λ site. (written_keeps_site change site).object))
 
-algorithm_by : (change : Change) (object : Identifier) (found : Option EnrollmentSite) → algorithm_by_site (option_map (written_site change) found) object ≡ algorithm_by_site found object
+algorithm_by : (change : Change) (object : ObjectIdData) (found : Option EnrollmentSite) → algorithm_by_site (option_map (written_site change) found) object ≡ algorithm_by_site found object
 algorithm_by change object None = refl
 algorithm_by change object (Some site) = (written_keeps_site change site).algorithm
 
-pub algorithm_stays : (object : Identifier) (change : Change) (sites : List EnrollmentSite) → algorithm_with object (enrollments.written change sites) ≡ algorithm_with object sites
+pub algorithm_stays : (object : ObjectIdData) (change : Change) (sites : List EnrollmentSite) → algorithm_with object (enrollments.written change sites) ≡ algorithm_with object sites
 algorithm_stays object change sites = ap (λ found. algorithm_by_site found object) (site_of-written object change sites) ∙ algorithm_by change object (site_of object sites)
 
 -- ---- the objects to which enrollments refer stay there
 
-feedback_there : (change : Change) (table : List Row) (before after : Option Identifier) → after ≡ before → IfSome before (λ feedback. IsSome (row_of feedback table)) → IfSome after (λ feedback. IsSome (row_of feedback (rows.written change table)))
+feedback_there : (change : Change) (table : List Row) (before after : Option ObjectIdData) → after ≡ before → IfSome before (λ feedback. IsSome (row_of feedback table)) → IfSome after (λ feedback. IsSome (row_of feedback (rows.written change table)))
 feedback_there change table before None same there = tt
 feedback_there change table None (Some feedback) same there = cc
 feedback_there change table (Some other) (Some feedback) same there =
@@ -175,7 +175,7 @@ sees site table =
     is_some-map (λ value. facts_of_enrollment value (option_and_then (value_in table) site.feedback) site) (value_in table site.monitored)
     ∙ is_some-map (λ (row : Row). row.site.value) (row_of site.monitored table)
 
-facts_by : (found : Option EnrollmentSite) (object : Identifier) (change : Change) (table : List Row) →
+facts_by : (found : Option EnrollmentSite) (object : ObjectIdData) (change : Change) (table : List Row) →
     is_some (facts_by_site (option_map (written_site change) found) object (rows.written change table)) ≡ is_some (facts_by_site found object table)
 facts_by None object change table =
     is_some-map (λ (row : Row). facts_of_object row.site) (row_of object (rows.written change table))
@@ -185,7 +185,7 @@ facts_by (Some site) object change table =
     ∙ (ap (λ referred. is_some (row_of referred (rows.written change table))) (written_keeps_site change site).monitored
     ∙ (row_there site.monitored change table ∙ sym (sees site table)))
 
-pub facts_stay : (object : Identifier) (change : Change) (values : Values) → is_some (facts_at object (written change values)) ≡ is_some (facts_at object values)
+pub facts_stay : (object : ObjectIdData) (change : Change) (values : Values) → is_some (facts_at object (written change values)) ≡ is_some (facts_at object values)
 facts_stay object change values =
     ap (λ found. is_some (facts_by_site found object (rows.written change values.rows))) (site_of-written object change values.enrollments)
     ∙ facts_by (site_of object values.enrollments) object change values.rows
@@ -201,14 +201,14 @@ class_by change (Some site) row = ap (λ number. Some (Some number)) (written_ke
 class_by change None (Some row) = ap Some (written_keeps change row).class
 class_by change None None = refl
 
-pub class_stays : (object : Identifier) (change : Change) (values : Values) → option_map class_of (subject_in object (written change values)) ≡ option_map class_of (subject_in object values)
+pub class_stays : (object : ObjectIdData) (change : Change) (values : Values) → option_map class_of (subject_in object (written change values)) ≡ option_map class_of (subject_in object values)
 class_stays object change values =
     ap (λ found. option_map class_of (subject_by found (row_of object (rows.written change values.rows)))) (site_of-written object change values.enrollments)
     ∙ (ap (λ row. option_map class_of (subject_by (option_map (written_site change) (site_of object values.enrollments)) row)) (row_of-written object change values.rows)
     ∙ class_by change (site_of object values.enrollments) (row_of object values.rows))
 
 -- a subject is found after a write exactly where it was before
-pub subject_stays : (object : Identifier) (change : Change) (values : Values) → is_some (subject_in object (written change values)) ≡ is_some (subject_in object values)
+pub subject_stays : (object : ObjectIdData) (change : Change) (values : Values) → is_some (subject_in object (written change values)) ≡ is_some (subject_in object values)
 subject_stays object change values =
     sym (is_some-map class_of (subject_in object (written change values))) ∙ (ap is_some (class_stays object change values) ∙ is_some-map class_of (subject_in object values))
 
@@ -228,14 +228,14 @@ module _ {X : Type 0} (f : Values → X) (stays : (change : Change) (values : Va
   same_after site [] = refl
   same_after site (event ∷ older) = same_with event.act (values_after site older) ∙ same_after site older
 
-pub facts_after : (site : Site) (object : Identifier) (history : List Event) → is_some (facts_at object (values_after site history)) ≡ is_some (facts_at object (first_values site))
+pub facts_after : (site : Site) (object : ObjectIdData) (history : List Event) → is_some (facts_at object (values_after site history)) ≡ is_some (facts_at object (first_values site))
 facts_after site object history = same_after (λ values. is_some (facts_at object values)) (facts_stay object) site history
 
-pub class_after : (site : Site) (object : Identifier) (history : List Event) →
+pub class_after : (site : Site) (object : ObjectIdData) (history : List Event) →
     option_map class_of (subject_in object (values_after site history)) ≡ option_map class_of (subject_in object (first_values site))
 class_after site object history = same_after (λ values. option_map class_of (subject_in object values)) (class_stays object) site history
 
-pub algorithm_after : (site : Site) (object : Identifier) (history : List Event) → algorithm_with object (values_after site history).enrollments ≡ algorithm_with object site.enrollments
+pub algorithm_after : (site : Site) (object : ObjectIdData) (history : List Event) → algorithm_with object (values_after site history).enrollments ≡ algorithm_with object site.enrollments
 algorithm_after site object history = same_after (λ values. algorithm_with object values.enrollments) (λ change values. algorithm_stays object change values.enrollments) site history
 
 pub row_objects_after : (site : Site) (history : List Event) → map object_in (values_after site history).rows ≡ map object_of site.objects

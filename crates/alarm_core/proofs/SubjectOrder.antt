@@ -6,7 +6,7 @@ use Rattle.std.proofs.lemmas.Bool.{ltb-false, ltb-true}
 use Rattle.std.proofs.lemmas.Bool.Decides.{nat_tests}
 use Rattle.std.proofs.lemmas.List.Elements.{All-append, All-cons, All-filter, All-head, All-map, All-nil, All-tail, All-weaker, filter_passes}
 use Rattle.std.proofs.lemmas.List.Kept.{AllPairs-cons, AllPairs-filter}
-use Rattle.bac_values.specs.Identifier.{Identifier}
+use Rattle.bac_values.specs.Identifier.{ObjectIdData}
 use Rattle.bac_values.specs.Orders.{identifier_order}
 use Rattle.object_table.specs.declared.object_site.ObjectSite.{ObjectSite}
 use Rattle.object_table.specs.Objects.{IsObject}
@@ -49,13 +49,13 @@ module _ {X : Type 0} (R : X → X → Type 0) where
 
 -- ---- by the numbers of the types
 
-abbrev IsBelow : Identifier → Identifier → Type 0
+abbrev IsBelow : ObjectIdData → ObjectIdData → Type 0
 IsBelow earlier later = identifier_order earlier later ≡ Less
 
 abbrev IsBelowSubject : Subject → Subject → Type 0
 IsBelowSubject earlier later = IsBelow earlier.object later.object
 
-less_number : (a b : Identifier) → a.number < b.number → IsBelow a b
+less_number : (a b : ObjectIdData) → a.number < b.number → IsBelow a b
 less_number a b low = grind (arith, nat_tests)
 
 abbrev AllNumbered : (ℕ → Type 0) → List Subject → Type 0

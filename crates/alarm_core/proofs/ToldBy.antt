@@ -1,13 +1,13 @@
 -- What is told of a move and of an acknowledgement, by what is found of the object's class.
 use Rattle.std.proofs.Common.{◌≡◌, ℕ, Bool, true, false, if◌then◌else◌, Option, Some, None, option_and_then, List, [], ◌∷◌, map, refl, sym, ap, ◌∙◌}
-use Rattle.civil_stamp.specs.LocalTime.{LocalZone, ZonedMoment}
+use Rattle.civil_stamp.specs.LocalTime.{ZoneData, LocalMomentData}
 use Rattle.std.specs.List.{find, flat_map}
 use Rattle.std.specs.Option.{option_map, option_to_list}
 use Rattle.std.proofs.lemmas.List.{append-nil}
 use Rattle.std.proofs.lemmas.List.Folds.{flat_map-map}
 use Rattle.std.proofs.Math.Path.{fun_ext}
 use Rattle.bac_values.specs.EventStates.{transition_to}
-use Rattle.bac_values.specs.Identifier.{Identifier}
+use Rattle.bac_values.specs.Identifier.{ObjectIdData}
 use Rattle.bac_values.specs.declared.event_state.EventState.{EventState}
 use Rattle.bac_values.specs.declared.event_state.EventState.TheVariants.{Normal}
 use Rattle.bac_values.specs.declared.note.Note.{Note}
@@ -39,9 +39,9 @@ use Rattle.alarm_core.specs.CoreSteps.{state_of_detected, states_of}
 use Rattle.alarm_core.specs.Notes.{addressed, class_for, is_enabled, move_of, notes_of_acknowledgement, notes_of_transition, notes_of_transitions, notification_of, source_of, told_flags, told_value, values_of, with_class}
 use Rattle.alarm_core.specs.Evaluations.{facts_at, reliability_at, site_moment, site_stamp, site_zone}
 use Rattle.alarm_core.specs.State.{DetectedObjectState}
-use Rattle.alarm_core.specs.Logs.{KeptLog, record_of_transition, records_of}
+use Rattle.alarm_core.specs.Logs.{record_of_transition, records_of, SiteLogState}
 use Rattle.alarm_core.specs.Subjects.{subject_in}
-use Rattle.alarm_core.specs.ViewSteps.{AddressedNotification, SiteData, addressed_in, notes_to, record_to, transition_in}
+use Rattle.alarm_core.specs.ViewSteps.{addressed_in, notes_to, record_to, transition_in, AddressedData, SiteViewData}
 use Rattle.alarm_core.proofs.Flattened.{flat_map-flat_map}
 
 -- what is made of each, where it is mapped before
@@ -59,7 +59,7 @@ either_state : (b : Bool) (detected : DetectedObjectState) (listed : Option Obje
 either_state true detected listed rest e = refl
 either_state false detected listed rest e = e
 
-pub state_is_shown : (object : Identifier) (alarms : List DetectedObjectState) → state_in object (states_of alarms) ≡ state_shown (detected_object_in object alarms)
+pub state_is_shown : (object : ObjectIdData) (alarms : List DetectedObjectState) → state_in object (states_of alarms) ≡ state_shown (detected_object_in object alarms)
 state_is_shown object [] = refl
 state_is_shown object (detected ∷ alarms) =
     either_state (is_object object detected.object) detected (find (λ (listed : ObjectState). is_object object listed.object) (states_of alarms)) (detected_object_in object alarms) (state_is_shown object alarms)
@@ -82,11 +82,11 @@ values_found transition facts algorithm reliability flags value values f a r g v
     e ∙ (told ∙ sym (ap (option_and_then (λ facts. values_at (algorithm_with transition.object transition.values.enrollments) facts (move_of transition) transition.cause (reliability_at transition.object transition.values) (told_flags listed transition) (told_value listed transition))) f))
 
 -- the notification of a transition with the class whose recipients are told
-abbrev as_told : SiteData → StateTransition → Option (Subject × Class) → Option AddressedNotification
+abbrev as_told : SiteViewData → StateTransition → Option (Subject × Class) → Option AddressedData
 as_told seen transition told = option_map (λ (to : Subject × Class). record { class = to.1; kind = transition_to transition.to; facts = notification_of seen.site transition to.0 to.1 }) told
 
 -- of what is found under its identifier
-abbrev found_as : SiteData → StateTransition → Option Subject → Option (Subject × Class)
+abbrev found_as : SiteViewData → StateTransition → Option Subject → Option (Subject × Class)
 found_as seen transition found = option_and_then (λ subject. if is_enabled (transition_to transition.to) subject then with_class seen.classes subject else None) found
 
 abbrev paired : Subject → Option Class → Option (Subject × Class)
@@ -96,7 +96,7 @@ either_none : (b : Bool) (told : Option (Subject × Class)) → told ≡ None �
 either_none true told e = e
 either_none false told e = refl
 
-module _ (seen : SiteData) (transition : StateTransition) where
+module _ (seen : SiteViewData) (transition : StateTransition) where
   pub told_nowhere : subject_in transition.object transition.values ≡ None → None ≡ addressed_in seen transition
   told_nowhere s = sym (ap (λ found. as_told seen transition (found_as seen transition found)) s)
 
@@ -126,20 +126,20 @@ module _ (seen : SiteData) (transition : StateTransition) where
   notified subject class source stamp told made p q r s = λ k. transition_notification (p k) class (s k) (q k) (r k)
 
   -- its notes, and its record in a log
-  pub notes_same : (at : ZonedMoment) → at ≡ site_moment seen.site transition.moment → flat_map (notes_to at) (option_to_list (addressed_in seen transition)) ≡ notes_of_transition seen.site seen.classes transition
+  pub notes_same : (at : LocalMomentData) → at ≡ site_moment seen.site transition.moment → flat_map (notes_to at) (option_to_list (addressed_in seen transition)) ≡ notes_of_transition seen.site seen.classes transition
   notes_same at e =
       ap (λ a. flat_map (notes_to a) (option_to_list (addressed_in seen transition))) e
       ∙ each_mapped (notes_to (site_moment seen.site transition.moment)) (λ (to : Subject × Class). record { class = to.1; kind = transition_to transition.to; facts = notification_of seen.site transition to.0 to.1 }) (addressed seen.classes transition)
 
-  pub record_same : (at : ZonedMoment) (listed : LogSite) → at ≡ site_moment seen.site transition.moment →
+  pub record_same : (at : LocalMomentData) (listed : LogSite) → at ≡ site_moment seen.site transition.moment →
       flat_map (record_to at listed) (option_to_list (addressed_in seen transition)) ≡ record_of_transition seen.site seen.classes listed transition
   record_same at listed e =
       ap (λ a. flat_map (record_to a listed) (option_to_list (addressed_in seen transition))) e
       ∙ each_mapped (record_to (site_moment seen.site transition.moment) listed) (λ (to : Subject × Class). record { class = to.1; kind = transition_to transition.to; facts = notification_of seen.site transition to.0 to.1 }) (addressed seen.classes transition)
 
 -- those of all transitions of a look
-module _ (seen : SiteData) (at : ZonedMoment) (here : at ≡ site_moment seen.site seen.moment) where
-  made_of_all : {A : Type 0} (f : AddressedNotification → List A) (g : StateTransition → List A) →
+module _ (seen : SiteViewData) (at : LocalMomentData) (here : at ≡ site_moment seen.site seen.moment) where
+  made_of_all : {A : Type 0} (f : AddressedData → List A) (g : StateTransition → List A) →
       ((transition : ObjectTransition) → flat_map f (option_to_list (addressed_in seen (transition_in seen transition))) ≡ g (transition_in seen transition)) →
       (transitions : List ObjectTransition) → flat_map f (flat_map (λ transition. option_to_list (addressed_in seen (transition_in seen transition))) transitions) ≡ flat_map g (map (transition_in seen) transitions)
   made_of_all f g same transitions =
@@ -147,18 +147,18 @@ module _ (seen : SiteData) (at : ZonedMoment) (here : at ≡ site_moment seen.si
       ∙ (ap (λ h. flat_map h transitions) (fun_ext same)
       ∙ sym (flat_map-map g (transition_in seen) transitions))
 
-  pub all_notes : (transitions : List ObjectTransition) (told : List AddressedNotification) (notes : List Note) →
+  pub all_notes : (transitions : List ObjectTransition) (told : List AddressedData) (notes : List Note) →
       told ≡ flat_map (λ transition. option_to_list (addressed_in seen (transition_in seen transition))) transitions → notes ≡ flat_map (notes_to at) told →
       notes ≡ notes_of_transitions seen.site seen.classes (map (transition_in seen) transitions)
   all_notes transitions told notes t e =
       e ∙ (ap (flat_map (notes_to at)) t
       ∙ made_of_all (notes_to at) (notes_of_transition seen.site seen.classes) (λ transition. notes_same seen (transition_in seen transition) at here) transitions)
 
-  pub all_records : (transitions : List ObjectTransition) (told : List AddressedNotification) (logs : List KeptLog) →
+  pub all_records : (transitions : List ObjectTransition) (told : List AddressedData) (logs : List SiteLogState) →
       told ≡ flat_map (λ transition. option_to_list (addressed_in seen (transition_in seen transition))) transitions →
-      map (λ (kept : KeptLog). flat_map (record_to at kept.site) told) logs ≡ map (λ (kept : KeptLog). records_of seen.site seen.classes kept.site (map (transition_in seen) transitions)) logs
+      map (λ (kept : SiteLogState). flat_map (record_to at kept.site) told) logs ≡ map (λ (kept : SiteLogState). records_of seen.site seen.classes kept.site (map (transition_in seen) transitions)) logs
   all_records transitions told logs t =
-      ap (λ f. map f logs) (fun_ext (λ (kept : KeptLog). ap (flat_map (record_to at kept.site)) t
+      ap (λ f. map f logs) (fun_ext (λ (kept : SiteLogState). ap (flat_map (record_to at kept.site)) t
       ∙ made_of_all (record_to at kept.site) (record_of_transition seen.site seen.classes kept.site) (λ transition. record_same seen (transition_in seen transition) at kept.site here) transitions))
 
 -- ---- of an acknowledgement
@@ -174,7 +174,7 @@ module _ (site : Site) (classes : List Class) (moment : ℕ) (transition : Trans
   pub acknowledged_classless : (found : Option Subject) (subject : Subject) → found ≡ Some subject → class_for subject classes ≡ None → [] ≡ notes_of_acknowledgement site classes moment found transition named
   acknowledged_classless found subject s e = sym (ap (λ f. acknowledged_to (option_and_then (with_class classes) f)) s ∙ ap (λ c. acknowledged_to (paired subject c)) e)
 
-  pub told_acknowledgement : (found : Option Subject) (subject : Subject) (class : Class) (source : Source) (stamp : Stamp) (zone : LocalZone) →
+  pub told_acknowledgement : (found : Option Subject) (subject : Subject) (class : Class) (source : Source) (stamp : Stamp) (zone : ZoneData) →
       found ≡ Some subject → class_for subject classes ≡ Some class → source ≡ source_of site subject → stamp ≡ site_stamp site moment → zone ≡ site_zone site →
       notes_for (acknowledgement_notification source class named stamp) class.destinations transition moment zone ≡ notes_of_acknowledgement site classes moment found transition named
   told_acknowledgement found subject class source stamp zone s f p q t =

@@ -2,12 +2,12 @@
 use Rattle.std.proofs.Common.{◌≡◌, ℕ, IsTrue, List, [], ◌++◌, ◌∙◌, sym, subst}
 use Rattle.std.specs.List.{All}
 use Rattle.std.proofs.lemmas.List.Elements.{All-append, All-weaker}
-use Rattle.bac_values.specs.Address.{Address}
+use Rattle.bac_values.specs.Address.{PeerData}
 use Rattle.bac_values.specs.Orders.{is_among}
 use Rattle.bac_values.specs.declared.note.Note.{Note}
 use Rattle.notify_class.specs.declared.class.Class.{Class}
 use Rattle.outbox.specs.Outboxes.{AreKnown, is_known, peers_of}
-use Rattle.outbox.specs.Posts.{PostState}
+use Rattle.outbox.specs.Posts.{MailboxState}
 use Rattle.outbox.proofs.Learning.{known_addresses}
 use Rattle.alarm_core.specs.declared.event.Act.{Act}
 use Rattle.alarm_core.specs.declared.event.Act.TheVariants.{Tick}
@@ -22,11 +22,11 @@ use Rattle.alarm_core.proofs.KnownPeers.{classes_known}
 use Rattle.alarm_core.proofs.NotesGo.{GoesTo, notes_go_by}
 
 -- the classes' recipients are the outbox's peers
-pub record KnowsAll (peers : List Address) (classes : List Class) (posts : List PostState) : Type 0 where
+pub record KnowsAll (peers : List PeerData) (classes : List Class) (posts : List MailboxState) : Type 0 where
   pub peers_are : peers ≡ peers_of posts
   pub knows : All (KnowsClass peers) classes
 
-module _ (site : Site) (classes : List Class) (peers : List Address) (posts : List PostState) (known : KnowsAll peers classes posts) where
+module _ (site : Site) (classes : List Class) (peers : List PeerData) (posts : List MailboxState) (known : KnowsAll peers classes posts) where
   pub told_known : (values : Values) (moment : ℕ) (act : Act) (transitions : List StateTransition) → AreKnown (notes_by site classes values moment act transitions) posts
   told_known values moment act transitions =
       All-weaker (GoesTo peers) (λ (note : Note). IsTrue (is_known note.peer posts))
@@ -40,6 +40,6 @@ module _ (site : Site) (classes : List Class) (peers : List Address) (posts : Li
   more_known values notes transitions h =
       All-append (λ (note : Note). IsTrue (is_known note.peer posts)) notes (notes_of_transitions site classes transitions) h (look_known values transitions)
 
-pub first_known : (site : Site) (peers : List Address) (classes : List Class) → peers ≡ known_peers_of site [] → classes ≡ first_classes site → All (KnowsClass peers) classes
+pub first_known : (site : Site) (peers : List PeerData) (classes : List Class) → peers ≡ known_peers_of site [] → classes ≡ first_classes site → All (KnowsClass peers) classes
 first_known site peers classes e f =
     subst (λ ps. All (KnowsClass ps) classes) (sym e) (subst (All (KnowsClass (known_peers_of site []))) (sym f) (classes_known site []))

@@ -4,7 +4,7 @@ use Rattle.std.proofs.lemmas.Bool.{ne_eqb}
 use Rattle.std.specs.List.{find}
 use Rattle.std.specs.Prelude.{◌==◌}
 use Rattle.std.specs.Option.{option_map}
-use Rattle.bac_values.specs.Identifier.{Identifier, kind_of}
+use Rattle.bac_values.specs.Identifier.{kind_of, ObjectIdData}
 use Rattle.object_table.specs.declared.object_site.ObjectSite.{ObjectSite}
 use Rattle.object_table.specs.Objects.{IsObject}
 use Rattle.object_table.specs.Rows.{is_object, object_in, object_of, row_of}
@@ -15,7 +15,7 @@ use Rattle.alarm_core.specs.declared.event.Event.{Event}
 use Rattle.event_log.specs.declared.log_site.LogSite.{LogSite}
 use Rattle.alarm_core.specs.declared.site.Site.{Site}
 use Rattle.alarm_core.specs.History.{values_after}
-use Rattle.alarm_core.specs.Logs.{KeptLog, kept_log, kept_log_of, logs_after}
+use Rattle.alarm_core.specs.Logs.{kept_log, kept_log_of, logs_after, SiteLogState}
 use Rattle.alarm_core.specs.Sites.{IsLogSite}
 use Rattle.alarm_core.proofs.OwnSubjects.{no_site}
 use Rattle.alarm_core.proofs.Searches.{find_map, is_none}
@@ -25,7 +25,7 @@ use Rattle.alarm_core.proofs.Stays.{row_objects_after, site_objects_after}
 abbrev pub HasNoValue : ℕ → Type 0
 HasNoValue number = (site : ObjectSite) → IsTrue (is_present_value (kind_of number) site site.value) → ⊥
 
-module _ (site : Site) (history : List Event) (object : Identifier) where
+module _ (site : Site) (history : List Event) (object : ObjectIdData) where
   other_object : HasNoValue object.number → (listed : ObjectSite) → IsObject listed → is_object object listed.object ≡ false
   other_object none listed is =
       ap (λ b. b && (listed.object.instance == object.instance))
@@ -53,6 +53,6 @@ module _ (site : Site) (history : List Event) (object : Identifier) where
 
   pub no_log : All IsLogSite site.logs → (object.number ≡ 25 → ⊥) → kept_log object (logs_after site history) ≡ None
   no_log allowed other =
-      find_map (kept_log_of site history) (λ (kept : KeptLog). is_object object kept.site.object) site.logs
+      find_map (kept_log_of site history) (λ (kept : SiteLogState). is_object object kept.site.object) site.logs
       ∙ ap (option_map (kept_log_of site history))
       (find_none (λ (listed : LogSite). is_object object listed.object) site.logs (λ k d low. other_log other (get_or site.logs k d) (allowed k d low)))

@@ -3,7 +3,7 @@ use Rattle.std.proofs.Common.{◌≡◌, ℕ, Result, Ok, Err, List, [], ◌∷�
 use Rattle.std.proofs.Math.Path.{fun_ext}
 use Rattle.std.proofs.lemmas.List.{append-nil}
 use Rattle.std.specs.Prelude.{IfOk, OnOk}
-use Rattle.bac_values.specs.Identifier.{Identifier}
+use Rattle.bac_values.specs.Identifier.{ObjectIdData}
 use Rattle.bac_values.specs.declared.event_state.EventState.{EventState}
 use Rattle.bac_values.specs.declared.note.Note.{Note}
 use Rattle.bac_values.specs.declared.moved.Moved.{Moved}
@@ -17,11 +17,11 @@ use Rattle.alarm_core.specs.declared.event.Act.TheVariants.{Tick, Write, Ack, Pu
 use Rattle.alarm_core.specs.Classes.{edited}
 use Rattle.alarm_core.specs.Evaluations.{site_moment}
 use Rattle.alarm_core.specs.History.{StateTransition, event_at, moved_by, tick_at}
-use Rattle.alarm_core.specs.Logs.{KeptLog, call_of_change, calls_by, records_of}
+use Rattle.alarm_core.specs.Logs.{call_of_change, calls_by, records_of, SiteLogState}
 use Rattle.alarm_core.specs.Notes.{notes_of_transition, notes_of_transitions}
 use Rattle.alarm_core.specs.CoreSteps.{acked, acted, after_calls, evaluated_all, next_notes, next_transitions, transitions_all}
 use Rattle.alarm_core.specs.declared.state.Done.{Done}
-use Rattle.alarm_core.specs.State.{State, DetectedObjectState}
+use Rattle.alarm_core.specs.State.{DetectedObjectState, CoreState}
 use Rattle.alarm_core.specs.Values.{Values, written}
 use Rattle.alarm_core.specs.Verdicts.{queue_verdict, step_verdict}
 use Rattle.alarm_core.proofs.Moved.{each_of_one_look, each_of_two_looks, of_two_looks}
@@ -42,45 +42,45 @@ if_ok_same (Ok done) some all e p = p ∙ e
 if_ok_same (Err fault) some all e p = p
 
 -- logs with no calls stay as they are
-no_calls : (logs : List KeptLog) → logs ≡ map (λ (kept : KeptLog). record kept { log = after_calls [] kept.log }) logs
+no_calls : (logs : List SiteLogState) → logs ≡ map (λ (kept : SiteLogState). record kept { log = after_calls [] kept.log }) logs
 no_calls [] = refl
 no_calls (kept ∷ logs) = ap (λ later. kept ∷ later) (no_calls logs)
 
-module _ (old : State) (moment : ℕ) where
-  pub ticked : (new : State) (alarms : List DetectedObjectState) (notes : List Note) (outbox : OutboxState) (logs : List KeptLog) → new ≡ record old { alarms = alarms; outbox = outbox; logs = logs } →
+module _ (old : CoreState) (moment : ℕ) where
+  pub ticked : (new : CoreState) (alarms : List DetectedObjectState) (notes : List Note) (outbox : OutboxState) (logs : List SiteLogState) → new ≡ record old { alarms = alarms; outbox = outbox; logs = logs } →
       let look = site_moment old.site moment in
       alarms ≡ evaluated_all look old.values old.alarms → outbox ≡ queued notes old.outbox →
       notes ≡ notes_of_transitions old.site old.classes (transitions_all look old.values old.alarms) →
-      logs ≡ map (λ (kept : KeptLog). record kept { log = after_calls (records_of old.site old.classes kept.site (transitions_all look old.values old.alarms)) kept.log }) old.logs →
+      logs ≡ map (λ (kept : SiteLogState). record kept { log = after_calls (records_of old.site old.classes kept.site (transitions_all look old.values old.alarms)) kept.log }) old.logs →
       new ≡ acted (tick_at moment) old
   ticked new alarms notes outbox logs n a o t l =
       let transitions = transitions_all (site_moment old.site moment) old.values old.alarms in
       let told = t ∙ each_of_one_look (notes_of_transition old.site old.classes) transitions in
-      let recorded = λ (kept : KeptLog). record kept { log = after_calls (records_of old.site old.classes kept.site transitions) kept.log } in
-      let called = λ (kept : KeptLog). record kept { log = after_calls (calls_by old.site old.classes kept.site Tick (transitions ∷ [])) kept.log } in
+      let recorded = λ (kept : SiteLogState). record kept { log = after_calls (records_of old.site old.classes kept.site transitions) kept.log } in
+      let called = λ (kept : SiteLogState). record kept { log = after_calls (calls_by old.site old.classes kept.site Tick (transitions ∷ [])) kept.log } in
       let same : recorded ≡ called =
-      fun_ext (λ (kept : KeptLog). ap (λ calls. record kept { log = after_calls calls kept.log }) (sym (append-nil (records_of old.site old.classes kept.site transitions)))) in
+      fun_ext (λ (kept : SiteLogState). ap (λ calls. record kept { log = after_calls calls kept.log }) (sym (append-nil (records_of old.site old.classes kept.site transitions)))) in
       n ∙ (λ k. record old { alarms = a k; outbox = (o ∙ ap (λ ns. queued ns old.outbox) told) k; logs = (l ∙ ap (λ f. map f old.logs) same) k })
 
-  pub pumped_state : (new : State) → new ≡ record old { outbox = pumped moment old.outbox } → new ≡ acted (event_at moment Pump) old
+  pub pumped_state : (new : CoreState) → new ≡ record old { outbox = pumped moment old.outbox } → new ≡ acted (event_at moment Pump) old
   pumped_state new n = n ∙ (λ k. record old { outbox = pumped moment old.outbox; logs = no_calls old.logs k })
 
-  pub answered_state : (peer : Peer) (invoke kind : ℕ) (new : State) → new ≡ record old { outbox = answered peer invoke old.outbox } → new ≡ acted (event_at moment (Answer peer invoke kind)) old
+  pub answered_state : (peer : Peer) (invoke kind : ℕ) (new : CoreState) → new ≡ record old { outbox = answered peer invoke old.outbox } → new ≡ acted (event_at moment (Answer peer invoke kind)) old
   answered_state peer invoke kind new n = n ∙ (λ k. record old { outbox = answered peer invoke old.outbox; logs = no_calls old.logs k })
 
-  pub edited_state : (class : ℕ) (destinations : List Destination) (new : State) →
+  pub edited_state : (class : ℕ) (destinations : List Destination) (new : CoreState) →
       new ≡ record old { classes = map (edited class destinations) old.classes; outbox = learned (peers_of destinations) old.outbox } → new ≡ acted (event_at moment (Edit class destinations)) old
   edited_state class destinations new n =
       n ∙ (λ k. record old { classes = map (edited class destinations) old.classes; outbox = learned (peers_of destinations) old.outbox; logs = no_calls old.logs k })
 
-  pub acknowledged_state : (object : Identifier) (transition : Transition) (named : EventState) (new : State) (alarms : List DetectedObjectState) (notes : List Note) (outbox : OutboxState) →
+  pub acknowledged_state : (object : ObjectIdData) (transition : Transition) (named : EventState) (new : CoreState) (alarms : List DetectedObjectState) (notes : List Note) (outbox : OutboxState) →
       new ≡ record old { alarms = alarms; outbox = outbox } → alarms ≡ map (acked object transition) old.alarms → outbox ≡ queued notes old.outbox →
       notes ≡ next_notes (event_at moment (Ack object transition named)) old → new ≡ acted (event_at moment (Ack object transition named)) old
   acknowledged_state object transition named new alarms notes outbox n a o t =
       n ∙ (λ k. record old { alarms = a k; outbox = (o ∙ ap (λ ns. queued ns old.outbox) t) k; logs = no_calls old.logs k })
 
   -- after the second look of a write
-  pub finished : (before : List DetectedObjectState) (first : List Note) (new : State) (alarms : List DetectedObjectState) (notes : List Note) (outbox : OutboxState) (logs : List KeptLog) →
+  pub finished : (before : List DetectedObjectState) (first : List Note) (new : CoreState) (alarms : List DetectedObjectState) (notes : List Note) (outbox : OutboxState) (logs : List SiteLogState) →
       new ≡ record old { alarms = alarms; outbox = outbox; logs = logs } →
       let look = site_moment old.site moment in
       alarms ≡ evaluated_all look old.values before → outbox ≡ queued notes old.outbox → notes ≡ first ++ notes_of_transitions old.site old.classes (transitions_all look old.values before) →
@@ -92,7 +92,7 @@ module _ (old : State) (moment : ℕ) where
   finished before first new alarms notes outbox logs n a o t = n ∙ (λ k. record old { alarms = a k; outbox = (o ∙ ap (λ ns. queued ns old.outbox) t) k; logs = logs })
 
 -- a write of an object, or of a log, which leaves the objects' properties as they are
-module _ (old : State) (moment : ℕ) (change : Change) (values : Values) (values_are : values ≡ written change old.values)
+module _ (old : CoreState) (moment : ℕ) (change : Change) (values : Values) (values_are : values ≡ written change old.values)
     (before : List DetectedObjectState) (before_is : before ≡ evaluated_all (site_moment old.site moment) old.values old.alarms)
     (notes : List Note) (notes_are : notes ≡ notes_of_transitions old.site old.classes (transitions_all (site_moment old.site moment) old.values old.alarms)) where
   -- the transitions of the first look, and of the second
@@ -105,12 +105,12 @@ module _ (old : State) (moment : ℕ) (change : Change) (values : Values) (value
   all_notes : Values → List DetectedObjectState → List Note → List Note
   all_notes now alarms first = first ++ notes_of_transitions old.site old.classes (second_ones now alarms)
 
-  after_both : Values → List DetectedObjectState → List Note → List KeptLog → State
+  after_both : Values → List DetectedObjectState → List Note → List SiteLogState → CoreState
   after_both now alarms first logs = record old { values = now; alarms = evaluated_all (site_moment old.site moment) now alarms; outbox = queued first old.outbox; logs = logs }
 
   -- the records of the first look, the change, and the records of the second
-  all_logs : List StateTransition → List KeptLog
-  all_logs second = map (λ (kept : KeptLog). record kept {
+  all_logs : List StateTransition → List SiteLogState
+  all_logs second = map (λ (kept : SiteLogState). record kept {
     log = after_calls (records_of old.site old.classes kept.site first_ones ++ (call_of_change kept.site change ++ records_of old.site old.classes kept.site second)) kept.log;
   }) old.logs
 
@@ -126,7 +126,7 @@ module _ (old : State) (moment : ℕ) (change : Change) (values : Values) (value
       let after = evaluated_all (site_moment old.site moment) old.values old.alarms in
       (λ k. all_logs (second_ones (values_are k) (before_is k))) ∙ ap all_logs (sym (append-nil (second_ones (written change old.values) after)))
 
-  pub written_state : (new : State) (logs : List KeptLog) →
+  pub written_state : (new : CoreState) (logs : List SiteLogState) →
       let look = site_moment old.site moment in
       new ≡ record old {
         values = values;
@@ -134,7 +134,7 @@ module _ (old : State) (moment : ℕ) (change : Change) (values : Values) (value
         outbox = queued (notes ++ notes_of_transitions old.site old.classes (transitions_all look values before)) old.outbox;
         logs = logs;
       } →
-      logs ≡ map (λ (kept : KeptLog). record kept {
+      logs ≡ map (λ (kept : SiteLogState). record kept {
         log = after_calls (records_of old.site old.classes kept.site (transitions_all look old.values old.alarms)
             ++ (call_of_change kept.site change ++ records_of old.site old.classes kept.site (transitions_all look values before))) kept.log;
       }) old.logs →

@@ -15,7 +15,7 @@ use Rattle.alarm_core.specs.declared.site.Site.{Site}
 use Rattle.alarm_core.specs.Classes.{class_in, is_member}
 use Rattle.alarm_core.specs.Deliveries.{outbox_after}
 use Rattle.alarm_core.specs.History.{last_moment_of}
-use Rattle.alarm_core.specs.State.{State, state_of}
+use Rattle.alarm_core.specs.State.{state_of, CoreState}
 use Rattle.alarm_core.specs.Found.{found_in}
 use Rattle.alarm_core.specs.Logs.{IsTakenByLog}
 use Rattle.alarm_core.specs.Sites.{IsSite}
@@ -26,20 +26,20 @@ abbrev pub IsAnswer : ℕ → Type 0
 IsAnswer kind = IsTrue (kind == simple_ack_pdu || (kind == error_pdu || (kind == reject_pdu || kind == abort_pdu)))
 
 -- how many objects have a class
-abbrev pub members_of : State → ℕ → ℕ
+abbrev pub members_of : CoreState → ℕ → ℕ
 members_of state number =
     count_by (λ (row : Row). is_member row.site.class number) state.values.rows + count_by (λ (enrollment : EnrollmentSite). enrollment.class == number) state.site.enrollments
 
 -- how many notifications one transition of each of its objects gives at most
-abbrev pub share_of : State → Class → ℕ
+abbrev pub share_of : CoreState → Class → ℕ
 share_of state class = members_of state class.instance * length class.destinations
 
 -- what the other classes leave of the outbox
-abbrev pub room_beside : State → ℕ → ℕ
+abbrev pub room_beside : CoreState → ℕ → ℕ
 room_beside state number = state.site.device.outbox - sum_by (share_of state) (filter (λ (class : Class). not (class.instance == number)) state.classes)
 
 -- a write that the properties or a log take; an acknowledgement of a transition that came and isn't acknowledged; an answer to a notification in flight; and an edit of a class that keeps to the limits
-abbrev pub IsAllowed : State → Act → Type 0
+abbrev pub IsAllowed : CoreState → Act → Type 0
 IsAllowed state Tick = Unit {0}
 IsAllowed state (Write change) = IsTaken change state.values ⊎ IsTakenByLog change state.logs
 IsAllowed state (Ack object transition named) = MayAcknowledge (found_in state object) transition named
@@ -63,6 +63,6 @@ pub record Comes (site : Site) (event : Event) (history : List Event) : Type 0 w
   pub not_before : last_moment_of site history ≤ event.moment
 
 -- a state is the one that a history leaves
-pub record Represents (state : State) (history : List Event) : Type 0 where
+pub record Represents (state : CoreState) (history : List Event) : Type 0 where
   pub is_history : IsHistory state.site history
   pub shows : state ≡ state_of state.site history

@@ -1,17 +1,17 @@
 -- What one event makes of a state, without looking back over the history.
 use Rattle.std.specs.Prelude.{ℕ, ◌+◌, Bool, if◌then◌else◌, Option, Some, None, List, [], ◌∷◌, ◌++◌, map}
 use Rattle.std.specs.List.{flat_map}
-use Rattle.bac_values.specs.Identifier.{Identifier}
+use Rattle.bac_values.specs.Identifier.{ObjectIdData}
 use Rattle.bac_values.specs.declared.transition.Transition.{Transition}
 use Rattle.algorithm_rules.specs.declared.table.Algorithm.{Algorithm}
-use Rattle.civil_stamp.specs.LocalTime.{ZonedMoment}
+use Rattle.civil_stamp.specs.LocalTime.{LocalMomentData}
 use Rattle.event_machine.specs.AlarmSteps.{Change, acknowledged, begun, next_look, stays}
 use Rattle.event_machine.specs.Points.{Point}
 use Rattle.event_machine.specs.Summary.{AlarmState}
 use Rattle.bac_values.specs.declared.note.Note.{Note}
 use Rattle.bac_values.specs.declared.note.Send.{Send}
 use Rattle.event_log.specs.History.{Call, next_log}
-use Rattle.event_log.specs.Log.{Log}
+use Rattle.event_log.specs.Log.{EventLogState}
 use Rattle.notify_class.specs.declared.class.Class.{Class}
 use Rattle.notify_class.specs.Edits.{peers_of}
 use Rattle.outbox.specs.Outboxes.{OutboxState, answered, learned, new_outbox, pumped, queued, sends_of}
@@ -29,22 +29,22 @@ use Rattle.alarm_core.specs.Values.{Values, first_values}
 use Rattle.alarm_core.specs.History.{ObjectState, StateTransition, joined, looks_of, object_transition, transition_of, values_with}
 use Rattle.alarm_core.specs.Classes.{classes_with, first_classes, known_peers_of}
 use Rattle.alarm_core.specs.Deliveries.{notes_by}
-use Rattle.alarm_core.specs.Logs.{KeptLog, calls_by, first_log}
-use Rattle.alarm_core.specs.State.{DetectedObjectState, State}
+use Rattle.alarm_core.specs.Logs.{calls_by, first_log, SiteLogState}
+use Rattle.alarm_core.specs.State.{DetectedObjectState, CoreState}
 
 -- one object is evaluated, if it is there
 abbrev pub change_by : Algorithm → Option Point → AlarmState → Change
 change_by algorithm None alarm = stays alarm
 change_by algorithm (Some point) alarm = next_look algorithm point alarm
 
-abbrev pub change_at : ZonedMoment → Values → DetectedObjectState → Change
+abbrev pub change_at : LocalMomentData → Values → DetectedObjectState → Change
 change_at at values detected = change_by detected.algorithm (point_in at detected.ack_required detected.object values) detected.alarm
 
-abbrev pub evaluated : ZonedMoment → Values → DetectedObjectState → DetectedObjectState
+abbrev pub evaluated : LocalMomentData → Values → DetectedObjectState → DetectedObjectState
 evaluated at values detected = record detected { alarm = (change_at at values detected).alarm }
 
 -- its transitions then
-abbrev pub transitions_by : ZonedMoment → Values → DetectedObjectState → List ObjectTransition
+abbrev pub transitions_by : LocalMomentData → Values → DetectedObjectState → List ObjectTransition
 transitions_by at values detected = map (object_transition detected.object detected.alarm.cause) (change_at at values detected).moves
 
 -- the event states of the objects
@@ -55,38 +55,38 @@ abbrev pub states_of : List DetectedObjectState → List ObjectState
 states_of alarms = map state_of_detected alarms
 
 -- one more look, at which all objects are evaluated, and its transitions
-abbrev pub evaluated_all : ZonedMoment → Values → List DetectedObjectState → List DetectedObjectState
+abbrev pub evaluated_all : LocalMomentData → Values → List DetectedObjectState → List DetectedObjectState
 evaluated_all at values alarms = map (evaluated at values) alarms
 
-abbrev pub transitions_all : ZonedMoment → Values → List DetectedObjectState → List StateTransition
+abbrev pub transitions_all : LocalMomentData → Values → List DetectedObjectState → List StateTransition
 transitions_all at values alarms = map (transition_of at.moment values (states_of (evaluated_all at values alarms))) (flat_map (transitions_by at values) alarms)
 
 -- some looks, one after the other, and the transitions of each of them
-abbrev pub after_looks : ZonedMoment → List Values → List DetectedObjectState → List DetectedObjectState
+abbrev pub after_looks : LocalMomentData → List Values → List DetectedObjectState → List DetectedObjectState
 after_looks at [] alarms = alarms
 after_looks at (values ∷ later) alarms = after_looks at later (evaluated_all at values alarms)
 
-abbrev pub transitions_of_looks : ZonedMoment → List Values → List DetectedObjectState → List (List StateTransition)
+abbrev pub transitions_of_looks : LocalMomentData → List Values → List DetectedObjectState → List (List StateTransition)
 transitions_of_looks at [] alarms = []
 transitions_of_looks at (values ∷ later) alarms = transitions_all at values alarms ∷ transitions_of_looks at later (evaluated_all at values alarms)
 
-abbrev pub acked : Identifier → Transition → DetectedObjectState → DetectedObjectState
+abbrev pub acked : ObjectIdData → Transition → DetectedObjectState → DetectedObjectState
 acked object transition detected = if is_object object detected.object then record detected { alarm = acknowledged transition detected.alarm } else detected
 
 -- an acknowledgement, or the looks of an act
-abbrev pub alarms_with : ZonedMoment → Act → Values → List DetectedObjectState → List DetectedObjectState
+abbrev pub alarms_with : LocalMomentData → Act → Values → List DetectedObjectState → List DetectedObjectState
 alarms_with at (Ack object transition state) values alarms = map (acked object transition) alarms
 alarms_with at act values alarms = after_looks at (looks_of act values) alarms
 
 -- the event-state transitions of each look that an event makes, and those of all its looks
-abbrev pub next_looks : Event → State → List (List StateTransition)
+abbrev pub next_looks : Event → CoreState → List (List StateTransition)
 next_looks event state = transitions_of_looks (site_moment state.site event.moment) (looks_of event.act state.values) state.alarms
 
-abbrev pub next_transitions : Event → State → List StateTransition
+abbrev pub next_transitions : Event → CoreState → List StateTransition
 next_transitions event state = joined (next_looks event state)
 
 -- its notifications
-abbrev pub next_notes : Event → State → List Note
+abbrev pub next_notes : Event → CoreState → List Note
 next_notes event state = notes_by state.site state.classes state.values event.moment event.act (next_transitions event state)
 
 -- what waits for each recipient after an act with these notifications
@@ -101,20 +101,20 @@ abbrev pub sends_with : ℕ → Act → OutboxState → List Send
 sends_with moment Pump outbox = sends_of moment outbox
 sends_with moment act outbox = []
 
-abbrev pub next_sends : Event → State → List Send
+abbrev pub next_sends : Event → CoreState → List Send
 next_sends event state = sends_with event.moment event.act state.outbox
 
 -- a log after some calls, one after the other
-abbrev pub after_calls : List Call → Log → Log
+abbrev pub after_calls : List Call → EventLogState → EventLogState
 after_calls [] log = log
 after_calls (call ∷ later) log = after_calls later (next_log call log)
 
 -- the logs after an act, by the transitions of each of its looks
-abbrev pub logs_with : Site → List Class → Act → List (List StateTransition) → List KeptLog → List KeptLog
-logs_with site classes act looks logs = map (λ (kept : KeptLog). record kept { log = after_calls (calls_by site classes kept.site act looks) kept.log }) logs
+abbrev pub logs_with : Site → List Class → Act → List (List StateTransition) → List SiteLogState → List SiteLogState
+logs_with site classes act looks logs = map (λ (kept : SiteLogState). record kept { log = after_calls (calls_by site classes kept.site act looks) kept.log }) logs
 
 -- what an event makes of a state, but for the count of events and the last moment
-abbrev pub acted : Event → State → State
+abbrev pub acted : Event → CoreState → CoreState
 acted event state = record state {
   values = values_with event.act state.values;
   alarms = alarms_with (site_moment state.site event.moment) event.act state.values state.alarms;
@@ -124,11 +124,11 @@ acted event state = record state {
 }
 
 -- the state after an event, whose moment isn't before the last one
-abbrev pub next_state : Event → State → State
+abbrev pub next_state : Event → CoreState → CoreState
 next_state event state = record (acted event state) { events = state.events + 1; last_moment = event.moment }
 
 -- an object at the start, where its class wants these transitions acknowledged
-abbrev pub first_with : ZonedMoment → List Bool → Values → Subject → DetectedObjectState
+abbrev pub first_with : LocalMomentData → List Bool → Values → Subject → DetectedObjectState
 first_with at ack_required values subject = record {
   object = subject.object;
   algorithm = subject.algorithm;
@@ -140,10 +140,10 @@ abbrev pub first_detected : Site → Subject → DetectedObjectState
 first_detected site subject = first_with (site_moment site site.device.start) (ack_required_of site subject) (first_values site) subject
 
 -- a log of a site at the start
-abbrev pub first_kept : LogSite → KeptLog
+abbrev pub first_kept : LogSite → SiteLogState
 first_kept listed = record { site = listed; log = first_log listed }
 
-abbrev pub first_state : Site → State
+abbrev pub first_state : Site → CoreState
 first_state site = record {
   site = site;
   events = 0;

@@ -1,7 +1,7 @@
 -- The notifications of a history, and their delivery to each recipient (ANSI/ASHRAE 135-2020, 13.8 and 13.9).
 use Rattle.std.specs.Prelude.{ℕ, List, [], ◌∷◌, ◌++◌, map}
 use Rattle.std.specs.List.{flat_map}
-use Rattle.bac_values.specs.Address.{Address}
+use Rattle.bac_values.specs.Address.{PeerData}
 use Rattle.bac_values.specs.declared.note.Note.{Note}
 use Rattle.bac_values.specs.declared.note.Send.{Send}
 use Rattle.notify_class.specs.declared.class.Class.{Class}
@@ -59,7 +59,7 @@ outbox_after site history = record {
 }
 
 -- what an act sends: a pump what each recipient is to be sent, in the order of the recipients
-abbrev pub sends_by : Site → ℕ → Act → Operations → List Address → List Send
+abbrev pub sends_by : Site → ℕ → Act → Operations → List PeerData → List Send
 sends_by site moment Pump operations known = flat_map (λ peer. sent_at (timing_at site) moment peer (delivery_after (timing_at site) (operations peer))) known
 sends_by site moment act operations known = []
 

@@ -1,12 +1,12 @@
 -- What the event-state detection of an object sees (ANSI/ASHRAE 135-2020, 13.2 and 13.3).
 use Rattle.std.specs.Prelude.{ℕ, Bool, false, pos, Option, Some, None, List, []}
 use Rattle.std.specs.Option.{option_map}
-use Rattle.bac_values.specs.Identifier.{Identifier}
+use Rattle.bac_values.specs.Identifier.{ObjectIdData}
 use Rattle.bac_values.specs.declared.reliability.Reliability.{Reliability}
 use Rattle.bac_values.specs.declared.stamp.Stamp.{Stamp}
 use Rattle.bac_values.specs.declared.value.Value.TheVariants.{Null}
 use Rattle.algorithm_rules.specs.Facts.{Facts}
-use Rattle.civil_stamp.specs.LocalTime.{LocalZone, ZonedMoment, fixed_zone, local_stamp}
+use Rattle.civil_stamp.specs.LocalTime.{fixed_zone, local_stamp, ZoneData, LocalMomentData}
 use Rattle.event_machine.specs.Points.{Point}
 use Rattle.enrollment.specs.Reliabilities.{reliability_with}
 use Rattle.enrollment.specs.Snapshots.{facts_with}
@@ -20,23 +20,23 @@ inhibit_of (Some subject) = subject.inhibit
 inhibit_of None = false
 
 -- Event_Algorithm_Inhibit of an object
-abbrev pub is_inhibited : Identifier → Values → Bool
+abbrev pub is_inhibited : ObjectIdData → Values → Bool
 is_inhibited object values = inhibit_of (subject_in object values)
 
 -- its reliability: an enrollment's is that of what it refers to
-abbrev pub reliability_at : Identifier → Values → Reliability
+abbrev pub reliability_at : ObjectIdData → Values → Reliability
 reliability_at object values = reliability_with object values.enrollments values.rows
 
 -- what its event algorithm looks at, if it is there
-abbrev pub facts_at : Identifier → Values → Option Facts
+abbrev pub facts_at : ObjectIdData → Values → Option Facts
 facts_at object values = facts_with object values.enrollments values.rows
 
 -- the local date and time of a moment in its zone
-abbrev pub stamp_at : ZonedMoment → Stamp
+abbrev pub stamp_at : LocalMomentData → Stamp
 stamp_at at = local_stamp at.zone at.moment
 
 -- the point of an object that sees these facts, where its class wants these transitions acknowledged
-abbrev pub point_with : ZonedMoment → List Bool → Identifier → Values → Facts → Point
+abbrev pub point_with : LocalMomentData → List Bool → ObjectIdData → Values → Facts → Point
 point_with at ack_required object values facts = record {
   moment = at.moment;
   stamp = stamp_at at;
@@ -47,11 +47,11 @@ point_with at ack_required object values facts = record {
 }
 
 -- the point of an object, if it is there
-abbrev pub point_in : ZonedMoment → List Bool → Identifier → Values → Option Point
+abbrev pub point_in : LocalMomentData → List Bool → ObjectIdData → Values → Option Point
 point_in at ack_required object values = option_map (point_with at ack_required object values) (facts_at object values)
 
 -- the zone of a site
-abbrev pub site_zone : Site → LocalZone
+abbrev pub site_zone : Site → ZoneData
 site_zone site = fixed_zone site.device.zone_minutes
 
 -- the local date and time of a moment at a site
@@ -59,7 +59,7 @@ abbrev pub site_stamp : Site → ℕ → Stamp
 site_stamp site moment = local_stamp (site_zone site) moment
 
 -- a moment at a site
-abbrev pub site_moment : Site → ℕ → ZonedMoment
+abbrev pub site_moment : Site → ℕ → LocalMomentData
 site_moment site moment = record { zone = site_zone site; moment = moment }
 
 -- the point of a subject of a site
@@ -88,7 +88,7 @@ facts_or_none (Some facts) = facts
 facts_or_none None = no_facts
 
 -- the point of an object at the start
-abbrev pub start_point : ZonedMoment → List Bool → Identifier → Values → Point
+abbrev pub start_point : LocalMomentData → List Bool → ObjectIdData → Values → Point
 start_point at ack_required object values = point_with at ack_required object values (facts_or_none (facts_at object values))
 
 abbrev pub first_point : Site → Subject → Point

@@ -1,7 +1,7 @@
 -- A history is a list of events, the newest first; and what it says of each object.
 use Rattle.std.specs.Prelude.{ℕ, max, Bool, if◌then◌else◌, Option, Some, None, List, [], ◌∷◌, ◌++◌, map, find}
 use Rattle.std.specs.List.{flat_map}
-use Rattle.bac_values.specs.Identifier.{Identifier}
+use Rattle.bac_values.specs.Identifier.{ObjectIdData}
 use Rattle.bac_values.specs.declared.event_state.EventState.{EventState}
 use Rattle.bac_values.specs.declared.event_state.EventState.TheVariants.{Normal}
 use Rattle.bac_values.specs.declared.moved.Moved.{Moved}
@@ -53,7 +53,7 @@ looks_of act values = []
 -- at a look all objects are evaluated, at a moment and with the properties of that moment; or a transition of one is acknowledged
 pub data Occurrence : Type 0 where
   AllEvaluated : ℕ → Values → Occurrence
-  OneAcknowledged : Identifier → Transition → Occurrence
+  OneAcknowledged : ObjectIdData → Transition → Occurrence
 
 -- some looks at a moment, one after the other, behind older ones
 abbrev pub looks_over : ℕ → List Values → List Occurrence → List Occurrence
@@ -88,7 +88,7 @@ detection_of site subject occurrences = detection_at subject.algorithm (first_po
 
 -- the event state of an object
 pub record ObjectState : Type 0 where
-  pub object : Identifier
+  pub object : ObjectIdData
   pub state : EventState
 
 abbrev pub state_over : Site → List Occurrence → Subject → ObjectState
@@ -103,13 +103,13 @@ state_found (Some found) = found.state
 state_found None = Normal
 
 -- the event state of an object, which is NORMAL where its detection isn't enabled
-abbrev pub state_in : Identifier → List ObjectState → EventState
+abbrev pub state_in : ObjectIdData → List ObjectState → EventState
 state_in object states = state_found (find (λ (listed : ObjectState). is_object object listed.object) states)
 
 -- An event-state transition: when, of which object, from which state to which, whether its reliability made it, the cause of the state that it left, and the properties and event states of all objects after the whole point.
 pub record StateTransition : Type 0 where
   pub moment : ℕ
-  pub object : Identifier
+  pub object : ObjectIdData
   pub from : EventState
   pub to : EventState
   pub by_fault : Bool
@@ -118,7 +118,7 @@ pub record StateTransition : Type 0 where
   pub states : List ObjectState
 
 -- a transition of an object, by the cause of the state that it left and how it moved
-abbrev pub object_transition : Identifier → Option ℕ → Move → ObjectTransition
+abbrev pub object_transition : ObjectIdData → Option ℕ → Move → ObjectTransition
 object_transition object cause made = record { object = object; cause = cause; made = made }
 
 -- a transition of an object at a point with these properties, after which these are the event states

@@ -3,13 +3,13 @@ use Rattle.std.specs.Prelude.{ℕ, ◌/◌, nat_lt, ◌&&◌, ◌||◌, Bool, tr
 use Rattle.std.specs.List.{list_any}
 use Rattle.std.specs.Option.{option_and_then}
 use Rattle.std.specs.Ordering.{is_lt}
-use Rattle.bac_values.specs.Identifier.{Identifier}
+use Rattle.bac_values.specs.Identifier.{ObjectIdData}
 use Rattle.bac_values.specs.Orders.{identifier_order}
 use Rattle.event_machine.specs.Detection.{is_normal}
 use Rattle.event_services.specs.declared.information.EventSummary.{EventSummary}
 use Rattle.notify_class.specs.declared.class.Class.{Class}
 use Rattle.alarm_core.specs.Notes.{class_for}
-use Rattle.alarm_core.specs.State.{State, DetectedObjectState}
+use Rattle.alarm_core.specs.State.{DetectedObjectState, CoreState}
 use Rattle.alarm_core.specs.declared.subject.Subject.{Subject}
 use Rattle.alarm_core.specs.Subjects.{subject_in}
 
@@ -18,15 +18,15 @@ abbrev pub is_active : DetectedObjectState → Bool
 is_active detected = not (is_normal detected.alarm.state) || list_any not detected.alarm.acked
 
 -- whether an object is behind the last one that was received, if one was
-abbrev pub is_behind : Option Identifier → Identifier → Bool
+abbrev pub is_behind : Option ObjectIdData → ObjectIdData → Bool
 is_behind None object = true
 is_behind (Some last) object = is_lt (identifier_order last object)
 
-abbrev pub is_told : Option Identifier → DetectedObjectState → Bool
+abbrev pub is_told : Option ObjectIdData → DetectedObjectState → Bool
 is_told last detected = is_behind last detected.object && is_active detected
 
 -- the active objects behind it, by ascending identifier
-abbrev pub active_behind : Option Identifier → State → List DetectedObjectState
+abbrev pub active_behind : Option ObjectIdData → CoreState → List DetectedObjectState
 active_behind last state = filter (is_told last) state.alarms
 
 abbrev pub notify_of : Option Subject → ℕ
@@ -42,7 +42,7 @@ priority_of (Some class) = class.priority
 priority_of None = replicate 3 0
 
 -- a BACnetEventSummary: what the object's alarm shows, with Notify_Type and Event_Enable of the object and Priority of its notification class
-abbrev pub summary_by : State → DetectedObjectState → Option Subject → EventSummary
+abbrev pub summary_by : CoreState → DetectedObjectState → Option Subject → EventSummary
 summary_by state detected subject = record {
   object = detected.object;
   state = detected.alarm.state;
@@ -53,7 +53,7 @@ summary_by state detected subject = record {
   priority = priority_of (option_and_then (λ s. class_for s state.classes) subject);
 }
 
-abbrev pub summary_of : State → DetectedObjectState → EventSummary
+abbrev pub summary_of : CoreState → DetectedObjectState → EventSummary
 summary_of state detected = summary_by state detected (subject_in detected.object state.values)
 
 -- a summary has 61 octets
@@ -61,9 +61,9 @@ abbrev pub most_summaries : ℕ → ℕ
 most_summaries room = room / 61
 
 -- the first of them, as many as a room of octets holds
-abbrev pub summaries_of : Option Identifier → ℕ → State → List EventSummary
+abbrev pub summaries_of : Option ObjectIdData → ℕ → CoreState → List EventSummary
 summaries_of last room state = map (summary_of state) (take (most_summaries room) (active_behind last state))
 
 -- whether more remain
-abbrev pub has_more : Option Identifier → ℕ → State → Bool
+abbrev pub has_more : Option ObjectIdData → ℕ → CoreState → Bool
 has_more last room state = nat_lt (most_summaries room) (length (active_behind last state))

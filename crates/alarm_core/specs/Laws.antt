@@ -1,7 +1,7 @@
 -- What makes the definitions believable: the next state is that of the longer history, and the run starts are in it; when a tick is never refused; which number a refusal tells; which peers are known; and which changes are allowed.
 use Rattle.std.specs.Prelude.{◌≡◌, ◌↔◌, ◌<◌, ℕ, ◌+◌, Bool, true, false, IsTrue, IsOk, None, List, [], ◌∷◌, ◌++◌, length, map, Contains, Ok, Err}
-use Rattle.bac_values.specs.Address.{Address}
-use Rattle.bac_values.specs.Identifier.{Identifier}
+use Rattle.bac_values.specs.Address.{PeerData}
+use Rattle.bac_values.specs.Identifier.{ObjectIdData}
 use Rattle.bac_values.specs.Orders.{IsAscending}
 use Rattle.bac_values.specs.Properties.{present_value_property}
 use Rattle.bac_values.specs.declared.value.Value.{Value}
@@ -15,7 +15,7 @@ use Rattle.alarm_core.specs.declared.event.StepFault.TheVariants.{Full}
 use Rattle.alarm_core.specs.declared.site.Site.{Site}
 use Rattle.alarm_core.specs.declared.subject.Subject.{Subject}
 use Rattle.alarm_core.specs.History.{tick_at, transitions_of}
-use Rattle.alarm_core.specs.State.{State, state_of}
+use Rattle.alarm_core.specs.State.{state_of, CoreState}
 use Rattle.alarm_core.specs.Allowed.{Comes, IsAllowed, IsHistory}
 use Rattle.alarm_core.specs.Classes.{known_peers_of, listed_peers}
 use Rattle.alarm_core.specs.Deliveries.{event_sends, notifications_of, outbox_after}
@@ -28,7 +28,7 @@ use Rattle.alarm_core.specs.Subjects.{subjects_of}
 use Rattle.alarm_core.specs.Verdicts.{step_verdict}
 
 -- an object by its settings
-abbrev pub object_of : Subject → Identifier
+abbrev pub object_of : Subject → ObjectIdData
 object_of subject = subject.object
 
 -- going on from event to event, as they come, is looking back over the whole history
@@ -65,13 +65,13 @@ pub record CountsTheLongerHistory : Type 0 where
 
 -- the peers that are known after a history are those of the site's lists and of every edit, and each stands there once
 pub record KnowsListedPeers : Type 0 where
-  pub known : (site : Site) (history : List Event) (peer : Address) → Contains (known_peers_of site history) peer ↔ Contains (listed_peers site history) peer
+  pub known : (site : Site) (history : List Event) (peer : PeerData) → Contains (known_peers_of site history) peer ↔ Contains (listed_peers site history) peer
   pub ascending : (site : Site) (history : List Event) → IsAscending (known_peers_of site history)
 
 -- a change of a property is allowed exactly where a write of it, without an index, is answered with no error; a fault from the field where its check accepts it; and a present value from the field where its check does
 pub record AllowsWhatChecksAccept : Type 0 where
-  pub writes : (site : Site) → IsSite site → (history : List Event) (object : Identifier) (number : ℕ) (value : Value) →
+  pub writes : (site : Site) → IsSite site → (history : List Event) (object : ObjectIdData) (number : ℕ) (value : Value) →
       IsAllowed (state_of site history) (Write (property_change object number value)) ↔ IsOk (write_of (state_of site history) object number None value)
-  pub field_faults : (state : State) (object : Identifier) (reliability : ℕ) →
+  pub field_faults : (state : CoreState) (object : ObjectIdData) (reliability : ℕ) →
       IsAllowed state (Write (fault_change object reliability)) ↔ IsOk (checked_fault state.values.rows object reliability)
-  pub sets : (state : State) (object : Identifier) (value : Value) → IsOk (checked_set state.values.rows object value) → IsAllowed state (Write (property_change object present_value_property value))
+  pub sets : (state : CoreState) (object : ObjectIdData) (value : Value) → IsOk (checked_set state.values.rows object value) → IsAllowed state (Write (property_change object present_value_property value))

@@ -1,13 +1,13 @@
 -- The event logs of a site after a history (ANSI/ASHRAE 135-2020, 12.27).
-use Rattle.std.specs.Prelude.{ℕ, zero, ◌==◌, Bool, IsTrue, IsSomeAnd, if◌then◌else◌, Option, Some, None, List, [], ◌∷◌, ◌++◌, map, find}
+use Rattle.std.specs.Prelude.{ℕ, zero, ◌/◌, ◌==◌, Bool, IsTrue, IsSomeAnd, if◌then◌else◌, Option, Some, None, List, [], ◌∷◌, ◌++◌, map, find}
 use Rattle.std.specs.List.{flat_map, list_any}
 use Rattle.std.specs.Option.{option_map, option_to_list}
-use Rattle.bac_values.specs.Identifier.{Identifier}
+use Rattle.bac_values.specs.Identifier.{ObjectIdData}
 use Rattle.bac_values.specs.Properties.{enable_property, record_count_property}
 use Rattle.bac_values.specs.declared.value.Value.{Value}
 use Rattle.bac_values.specs.declared.value.Value.TheVariants.{Bool as Truth, Unsigned}
 use Rattle.event_log.specs.History.{Call, Cleared, Recorded, Switched, log_after}
-use Rattle.event_log.specs.Log.{Log, new_log}
+use Rattle.event_log.specs.Log.{new_log, EventLogState}
 use Rattle.event_services.specs.Notifications.{written_notification}
 use Rattle.notify_class.specs.declared.class.Class.{Class}
 use Rattle.object_table.specs.declared.change.Change.{Change}
@@ -27,12 +27,12 @@ use Rattle.alarm_core.specs.Notes.{addressed, notification_of}
 use Rattle.alarm_core.specs.Evaluations.{site_stamp}
 
 -- a log of a site, and what it holds
-pub record KeptLog : Type 0 where
+pub record SiteLogState : Type 0 where
   pub site : LogSite
-  pub log : Log
+  pub log : EventLogState
 
 -- a log at the start
-abbrev pub first_log : LogSite → Log
+abbrev pub first_log : LogSite → EventLogState
 first_log listed = new_log listed.size listed.stop_when_full listed.enable
 
 -- ---- what is recorded
@@ -41,10 +41,10 @@ first_log listed = new_log listed.size listed.stop_when_full listed.enable
 abbrev pub records_class : LogSite → Class → Bool
 records_class listed class = list_any (λ instance. instance == class.instance) listed.classes
 
--- the record of a transition, if the log records the class whose recipients are told: the notification with process identifier 0, at the local date and time of its point
+-- the record of a transition, if the log records the class whose recipients are told: the notification with process identifier 0, at the local date and time of its point, and its moment in hundredths rounded down
 abbrev pub record_of_transition : Site → List Class → LogSite → StateTransition → List Call
 record_of_transition site classes listed transition =
-    flat_map (λ (to : Subject × Class). if records_class listed to.1 then Recorded (record { stamp = site_stamp site transition.moment; body = written_notification (notification_of site transition to.0 to.1) }) ∷ [] else [])
+    flat_map (λ (to : Subject × Class). if records_class listed to.1 then Recorded (record { stamp = site_stamp site transition.moment; hundredths = transition.moment / 10; body = written_notification (notification_of site transition to.0 to.1) }) ∷ [] else [])
     (option_to_list (addressed classes transition))
 
 -- those of some transitions, in their order
@@ -90,25 +90,25 @@ calls_of site listed [] = []
 calls_of site listed (event ∷ older) =
     behind (calls_by site (classes_after site older) listed event.act (event_looks site event older)) (calls_of site listed older)
 
-abbrev pub kept_log_of : Site → List Event → LogSite → KeptLog
+abbrev pub kept_log_of : Site → List Event → LogSite → SiteLogState
 kept_log_of site history listed = record { site = listed; log = log_after (first_log listed) (calls_of site listed history) }
 
 -- the logs of a history
-abbrev pub logs_after : Site → List Event → List KeptLog
+abbrev pub logs_after : Site → List Event → List SiteLogState
 logs_after site history = map (kept_log_of site history) site.logs
 
 -- ---- one log
 
 -- the log with an identifier
-abbrev pub kept_log : Identifier → List KeptLog → Option KeptLog
-kept_log object logs = find (λ (kept : KeptLog). is_object object kept.site.object) logs
+abbrev pub kept_log : ObjectIdData → List SiteLogState → Option SiteLogState
+kept_log object logs = find (λ (kept : SiteLogState). is_object object kept.site.object) logs
 
-abbrev pub log_of : KeptLog → Log
+abbrev pub log_of : SiteLogState → EventLogState
 log_of kept = kept.log
 
-abbrev pub log_in : Identifier → List KeptLog → Option Log
+abbrev pub log_in : ObjectIdData → List SiteLogState → Option EventLogState
 log_in object logs = option_map log_of (kept_log object logs)
 
 -- there is the log, and it takes the change
-abbrev pub IsTakenByLog : Change → List KeptLog → Type 0
+abbrev pub IsTakenByLog : Change → List SiteLogState → Type 0
 IsTakenByLog change logs = IsSomeAnd (kept_log change.object logs) (λ kept. IsTrue (takes change.what))

@@ -3,7 +3,7 @@ use Rattle.std.specs.Prelude.{ℕ, ◌≤◌, length, Bool, false, if◌then◌e
 use Rattle.std.specs.List.{flat_map}
 use Rattle.std.specs.Option.{option_and_then, option_map, option_to_list}
 use Rattle.bac_values.specs.EventStates.{place_of_transition, transition_to}
-use Rattle.bac_values.specs.Identifier.{Identifier}
+use Rattle.bac_values.specs.Identifier.{ObjectIdData}
 use Rattle.bac_values.specs.declared.event_state.EventState.{EventState}
 use Rattle.bac_values.specs.declared.note.Note.{Note}
 use Rattle.bac_values.specs.declared.status_flags.StatusFlags.{StatusFlags}
@@ -59,7 +59,7 @@ out_of_service_in (Some row) = row.site.out_of_service
 out_of_service_in None = false
 
 -- Status_Flags of a value object in an event state
-abbrev pub flags_at : EventState → Identifier → List Row → StatusFlags
+abbrev pub flags_at : EventState → ObjectIdData → List Row → StatusFlags
 flags_at state object rows = flags_in state (reliability_in object rows) (out_of_service_in (row_of object rows))
 
 -- The flags that are told: of a value object those of the state that it enters. An enrollment tells those of its monitored object after the whole point; where its own reliability made the transition it tells its own.

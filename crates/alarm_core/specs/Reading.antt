@@ -1,6 +1,6 @@
 -- How reads and writes of properties are answered: the first error that applies (ANSI/ASHRAE 135-2020, 15.5, 15.9 and clause 18).
 use Rattle.std.specs.Prelude.{◌≡◌, ℕ, ◌⊎◌, Option, Some, None, Result, Ok, Err, List}
-use Rattle.bac_values.specs.Identifier.{Identifier}
+use Rattle.bac_values.specs.Identifier.{ObjectIdData}
 use Rattle.bac_values.specs.declared.value.Value.{Value}
 use Rattle.object_table.specs.declared.change.Change.{Change}
 use Rattle.object_table.specs.declared.faults.WriteFault.{WriteFault}
@@ -17,11 +17,11 @@ use Rattle.property_values.specs.LogProperties.{log_write}
 use Rattle.property_values.specs.Properties.{as_write_fault}
 use Rattle.property_values.specs.Reading.{part_in, size_of}
 use Rattle.alarm_core.specs.Contents.{content_of, other_content}
-use Rattle.alarm_core.specs.Logs.{KeptLog, kept_log}
-use Rattle.alarm_core.specs.State.{State}
+use Rattle.alarm_core.specs.Logs.{kept_log, SiteLogState}
+use Rattle.alarm_core.specs.State.{CoreState}
 
 -- the octets of a property: no such object, no such property, an index where there is no array, and one above its length
-abbrev pub read_of : State → Identifier → ℕ → Option ℕ → Result (List ℕ) ReadFault
+abbrev pub read_of : CoreState → ObjectIdData → ℕ → Option ℕ → Result (List ℕ) ReadFault
 read_of state object number index = part_in (content_of state object number) index
 
 -- no property of such an object can be written
@@ -33,14 +33,14 @@ abbrev pub denied : Result Content ReadFault → Option ℕ → Result Change Wr
 denied (Err fault) index = Err (as_write_fault fault)
 denied (Ok content) index = denied_by (index_verdict (size_of content) index)
 
-abbrev pub write_by : State → Option EnrollmentSite → Option Row → Option KeptLog → Identifier → ℕ → Option ℕ → Value → Result Change WriteFault
+abbrev pub write_by : CoreState → Option EnrollmentSite → Option Row → Option SiteLogState → ObjectIdData → ℕ → Option ℕ → Value → Result Change WriteFault
 write_by state (Some site) row kept object number index value = write_by_site (Some site) object number index value
 write_by state None (Some row) kept object number index value = write_by_row (Some row) object number index value
 write_by state None None (Some kept) object number index value = log_write kept.site kept.log number index value
 write_by state None None None object number index value = denied (other_content state.site state.classes object number) index
 
 -- the change that a write of a property makes, or the first error that applies to it
-abbrev pub write_of : State → Identifier → ℕ → Option ℕ → Value → Result Change WriteFault
+abbrev pub write_of : CoreState → ObjectIdData → ℕ → Option ℕ → Value → Result Change WriteFault
 write_of state object number index value = write_by state (site_of object state.values.enrollments) (row_of object state.values.rows) (kept_log object state.logs) object number index value
 
 -- the answer is that one, unless memory is refused

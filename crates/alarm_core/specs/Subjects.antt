@@ -1,7 +1,7 @@
 -- The objects that have event detection: value objects with a notification class, and event enrollments (ANSI/ASHRAE 135-2020, 12.12 and 13.2).
 use Rattle.std.specs.Prelude.{ℕ, ◌==◌, nat_lt, ◌&&◌, Bool, not, replicate, false, Option, Some, None, is_some, List, ◌++◌, map, filter, find}
 use Rattle.std.specs.Option.{option_and_then}
-use Rattle.bac_values.specs.Identifier.{Identifier, number_of_kind}
+use Rattle.bac_values.specs.Identifier.{number_of_kind, ObjectIdData}
 use Rattle.bac_values.specs.declared.object_kind.ObjectKind.TheVariants.{EventEnrollment}
 use Rattle.object_table.specs.declared.object_site.ObjectSite.{ObjectSite}
 use Rattle.object_table.specs.declared.row.Row.{Row}
@@ -43,7 +43,7 @@ subject_by (Some site) row = Some (subject_of_enrollment site)
 subject_by None (Some row) = Some (subject_of_object row.site)
 subject_by None None = None
 
-abbrev pub subject_in : Identifier → Values → Option Subject
+abbrev pub subject_in : ObjectIdData → Values → Option Subject
 subject_in object values = subject_by (site_of object values.enrollments) (row_of object values.rows)
 
 -- whether an object's type has a lower number than that of enrollments

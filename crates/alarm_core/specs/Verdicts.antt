@@ -8,7 +8,7 @@ use Rattle.alarm_core.specs.declared.event.Event.{Event}
 use Rattle.alarm_core.specs.declared.event.StepFault.{StepFault}
 use Rattle.alarm_core.specs.declared.event.StepFault.TheVariants.{Full, NoMemory}
 use Rattle.alarm_core.specs.CoreSteps.{next_notes}
-use Rattle.alarm_core.specs.State.{State}
+use Rattle.alarm_core.specs.State.{CoreState}
 
 -- notifications are added, and more would then wait than there may
 abbrev pub queue_verdict : List Note → OutboxState → Result (Unit {0}) StepFault
@@ -22,7 +22,7 @@ refusal_of (faults.Full would limit notes) = Full would limit
 refusal_of (faults.NoMemory notes) = NoMemory
 
 -- an event that is entered gives notifications by its act alone
-abbrev pub step_verdict : Event → State → Result (Unit {0}) StepFault
+abbrev pub step_verdict : Event → CoreState → Result (Unit {0}) StepFault
 step_verdict event state = queue_verdict (next_notes event state) state.outbox
 
 -- an answer is as the verdict says, unless memory is refused

@@ -6,7 +6,7 @@ ghost use Rattle.bac_values.specs.Identifier.{number_of_kind};
 ghost use Rattle.bac_values.specs.declared.object_kind.ObjectKind.TheVariants.{EventLog as Logging};
 ghost use Rattle.event_log.specs.History.{Call};
 ghost use Rattle.object_table.specs.Rows.{is_object};
-ghost use Rattle.alarm_core.specs.Logs.{KeptLog, call_of_change, call_of_value, call_of_what, kept_log, records_class};
+ghost use Rattle.alarm_core.specs.Logs.{call_of_change, call_of_value, call_of_what, kept_log, records_class, SiteLogState};
 ghost use Rattle.alarm_core.specs.CoreSteps.{after_calls, first_kept};
 ghost use Rattle.alarm_core.specs.Sites.{IsLogSite};
 ghost use Rattle.alarm_core.specs.ViewSteps.{record_to};
@@ -23,10 +23,12 @@ use std::alloc::Global;
 use std::marker::Model;
 use std::vec::IntoIter;
 
-/// A record that a log is to be given: its local date and time, and the octets of the notification.
+/// A record that a log is to be given: its local date and time, its hundredths of a second since 1970 at UTC, and the octets
+/// of the notification.
 #[derive(Drop)]
 pub(crate) struct Entry {
     pub(crate) stamp: Stamp,
+    pub(crate) hundredths: u64,
     pub(crate) body: Vec<u8>,
 }
 
@@ -35,7 +37,7 @@ impl Model for Entry {
 
     ghost Value = { Call };
 
-    ghost view = { λ entry. Recorded (record { stamp = entry.stamp; body = entry.body.items }) };
+    ghost view = { λ entry. Recorded (record { stamp = entry.stamp; hundredths = entry.hundredths; body = entry.body.items }) };
 }
 
 // Whether the instance of a class is among some.
@@ -56,9 +58,9 @@ impl Model for SiteLog {
     ghost use Rattle.std.specs.Prelude.{◌≡◌};
     ghost use Rattle.bac_values.specs.Identifier.{number_of_kind};
     ghost use Rattle.bac_values.specs.declared.object_kind.ObjectKind.TheVariants.{EventLog as Logging};
-    ghost use Rattle.alarm_core.specs.Logs.{KeptLog};
+    ghost use Rattle.alarm_core.specs.Logs.{SiteLogState};
 
-    ghost Value = { KeptLog };
+    ghost Value = { SiteLogState };
 
     ghost view = { λ kept. record { site = kept.site; log = kept.log } };
 
@@ -114,6 +116,7 @@ impl SiteLog {
         let body = write_notification(alloc, &addressed.facts)?;
         Ok(Some(Entry {
             stamp: at.stamp(),
+            hundredths: at.moment() / 10,
             body,
         }))
     }
@@ -140,7 +143,7 @@ impl SiteLog {
         ensures log { self.new ≡ record self.old { log = after_calls entries.items self.old.log } }
     {
         for entry in entries {
-            self.log.record(entry.stamp, entry.body);
+            self.log.record(entry.stamp, entry.hundredths, entry.body);
         }
     }
 
@@ -215,7 +218,7 @@ pub(crate) fn records_of_all(
     addressed: &[Addressed<'_>],
     at: &LocalMoment,
 ) -> Result<Vec<Vec<Entry>>, NoMemory>
-    ensures records { IfOk result (λ lists. map (λ list. list.items) lists.items ≡ map (λ (kept : KeptLog). flat_map (record_to at.now kept.site) addressed.now) logs.now) }
+    ensures records { IfOk result (λ lists. map (λ list. list.items) lists.items ≡ map (λ (kept : SiteLogState). flat_map (record_to at.now kept.site) addressed.now) logs.now) }
 {
     let mut lists = Vec::new(alloc);
     for kept in logs {
@@ -237,8 +240,8 @@ fn enter_next(kept: &mut SiteLog, lists: &mut IntoIter<Vec<Entry>>)
 
 /// Each log takes its records. No memory is taken.
 pub(crate) fn enter_all(logs: &mut Vec<SiteLog>, entries: Vec<Vec<Entry>>)
-    ensures logs { (calls : KeptLog → List Call) → map (λ list. list.items) entries.items ≡ map calls logs.old.items →
-        logs.new.items ≡ map (λ (kept : KeptLog). record kept { log = after_calls (calls kept) kept.log }) logs.old.items }
+    ensures logs { (calls : SiteLogState → List Call) → map (λ list. list.items) entries.items ≡ map calls logs.old.items →
+        logs.new.items ≡ map (λ (kept : SiteLogState). record kept { log = after_calls (calls kept) kept.log }) logs.old.items }
 {
     let mut lists = entries.into_iter();
     for kept in logs.iter_mut() {
@@ -248,7 +251,7 @@ pub(crate) fn enter_all(logs: &mut Vec<SiteLog>, entries: Vec<Vec<Entry>>)
 
 /// A change comes to each log.
 pub(crate) fn change_all(logs: &mut Vec<SiteLog>, change: &Change)
-    ensures logs { logs.new.items ≡ map (λ (kept : KeptLog). record kept { log = after_calls (call_of_change kept.site change.now) kept.log }) logs.old.items }
+    ensures logs { logs.new.items ≡ map (λ (kept : SiteLogState). record kept { log = after_calls (call_of_change kept.site change.now) kept.log }) logs.old.items }
 {
     for kept in logs.iter_mut() {
         kept.change(change);

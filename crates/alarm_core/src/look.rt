@@ -1,6 +1,6 @@
 ghost use Rattle.std.specs.Prelude.{◌≡◌, ◌++◌, All, IfOk, OnOk, map};
 ghost use Rattle.alarm_core.specs.History.{moved_by};
-ghost use Rattle.alarm_core.specs.Logs.{KeptLog, records_of};
+ghost use Rattle.alarm_core.specs.Logs.{records_of, SiteLogState};
 ghost use Rattle.alarm_core.specs.Notes.{IsShort, notes_of_transitions};
 ghost use Rattle.alarm_core.specs.ViewSteps.{moved_of, transition_in};
 
@@ -67,7 +67,7 @@ pub(crate) fn tell(
     ensures moves { IfOk result (λ told. told.moves.items ≡ map moved_by (map (transition_in view.now) transitions.now)) }
     ensures notes { IfOk result (λ told. told.notes.items ≡ notes_of_transitions view.now.site view.now.classes (map (transition_in view.now) transitions.now)) }
     ensures records { IfOk result (λ told. map (λ list. list.items) told.records.items
-        ≡ map (λ (kept : KeptLog). records_of view.now.site view.now.classes kept.site (map (transition_in view.now) transitions.now)) logs.now) }
+        ≡ map (λ (kept : SiteLogState). records_of view.now.site view.now.classes kept.site (map (transition_in view.now) transitions.now)) logs.now) }
     ensures short { IfOk result (λ told. All IsShort told.notes.items) }
 {
     let addressed = addressed_notifications(alloc, view, transitions)?;

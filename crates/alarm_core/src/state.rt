@@ -13,7 +13,7 @@ ghost use Rattle.event_log.specs.declared.log_site.LogSite.{LogSite as LogPlace}
 ghost use Rattle.event_log.specs.History.{Call};
 ghost use Rattle.alarm_core.specs.Found.{alarm_in, device_object, found_in, has_object, is_other_object};
 ghost use Rattle.alarm_core.specs.History.{event_at, moved_by, raised, tick_at, transitions_of};
-ghost use Rattle.alarm_core.specs.Logs.{KeptLog, call_of_change, kept_log, log_in, records_of};
+ghost use Rattle.alarm_core.specs.Logs.{call_of_change, kept_log, log_in, records_of, SiteLogState};
 ghost use Rattle.alarm_core.specs.CoreSteps.{acted, after_calls, evaluated_all, first_state, next_notes, next_sends, next_state, next_transitions, sends_with, states_of, transitions_all};
 ghost use Rattle.alarm_core.specs.Notes.{IsShort, notes_of_transitions};
 ghost use Rattle.alarm_core.specs.Room.{HasRoom};
@@ -74,9 +74,9 @@ impl Model for Core {
     ghost use Rattle.alarm_core.specs.Known.{KnowsClass};
     ghost use Rattle.alarm_core.specs.Evaluations.{site_moment, site_zone};
     ghost use Rattle.alarm_core.specs.Sites.{IsSite};
-    ghost use Rattle.alarm_core.specs.State.{State};
+    ghost use Rattle.alarm_core.specs.State.{CoreState};
 
-    ghost Value = { State };
+    ghost Value = { CoreState };
 
     ghost view = { λ core. record {
       site = core.site;
@@ -303,7 +303,7 @@ impl Core {
         ensures notes { IfOk result (λ look. look.told.notes.items
             ≡ notes_of_transitions self.now.site self.now.classes (transitions_all (site_moment self.now.site at.now.moment) self.now.values alarms.now)) }
         ensures records { IfOk result (λ look. map (λ list. list.items) look.told.records.items
-            ≡ map (λ (kept : KeptLog). records_of self.now.site self.now.classes kept.site (transitions_all (site_moment self.now.site at.now.moment) self.now.values alarms.now)) self.now.logs) }
+            ≡ map (λ (kept : SiteLogState). records_of self.now.site self.now.classes kept.site (transitions_all (site_moment self.now.site at.now.moment) self.now.values alarms.now)) self.now.logs) }
         ensures short { IfOk result (λ look. All IsShort look.told.notes.items) }
     {
         let Evaluation {
@@ -352,8 +352,8 @@ impl Core {
           logs = self.new.logs;
         }) }
         ensures logs { let look = site_moment self.old.site at.now.moment in
-            (first : LogPlace → List Call) → map (λ list. list.items) before.told.records.items ≡ map (λ (kept : KeptLog). first kept.site) self.old.logs →
-            OnOk result (self.new.logs ≡ map (λ (kept : KeptLog). record kept {
+            (first : LogPlace → List Call) → map (λ list. list.items) before.told.records.items ≡ map (λ (kept : SiteLogState). first kept.site) self.old.logs →
+            OnOk result (self.new.logs ≡ map (λ (kept : SiteLogState). record kept {
               log = after_calls (first kept.site ++ (call_of_change kept.site change.now
                   ++ records_of self.old.site self.old.classes kept.site (transitions_all look self.old.values before.alarms.items))) kept.log;
             }) self.old.logs) }
@@ -398,8 +398,8 @@ impl Core {
           logs = self.new.logs;
         }) }
         ensures logs { let look = site_moment self.old.site at.now.moment in
-            (first : LogPlace → List Call) → map (λ list. list.items) before.told.records.items ≡ map (λ (kept : KeptLog). first kept.site) self.old.logs →
-            OnOk result (self.new.logs ≡ map (λ (kept : KeptLog). record kept {
+            (first : LogPlace → List Call) → map (λ list. list.items) before.told.records.items ≡ map (λ (kept : SiteLogState). first kept.site) self.old.logs →
+            OnOk result (self.new.logs ≡ map (λ (kept : SiteLogState). record kept {
               log = after_calls (first kept.site ++ (call_of_change kept.site change.now
                   ++ records_of self.old.site self.old.classes kept.site (transitions_all look (written change.now self.old.values) before.alarms.items))) kept.log;
             }) self.old.logs) }

@@ -23,9 +23,9 @@ impl<'a> Model for SiteView<'a> {
     ghost use Rattle.alarm_core.specs.Evaluations.{site_zone};
     ghost use Rattle.alarm_core.specs.CoreSteps.{states_of};
     ghost use Rattle.alarm_core.specs.Sites.{IsSite};
-    ghost use Rattle.alarm_core.specs.ViewSteps.{SiteData};
+    ghost use Rattle.alarm_core.specs.ViewSteps.{SiteViewData};
 
-    ghost Value = { SiteData };
+    ghost Value = { SiteViewData };
 
     ghost view = { λ view. record {
       site = view.site.now;
@@ -51,9 +51,9 @@ pub(crate) struct Addressed<'a> {
 
 impl<'a> Model for Addressed<'a> {
     ghost use Rattle.event_services.specs.Notifications.{IsTold};
-    ghost use Rattle.alarm_core.specs.ViewSteps.{AddressedNotification};
+    ghost use Rattle.alarm_core.specs.ViewSteps.{AddressedData};
 
-    ghost Value = { AddressedNotification };
+    ghost Value = { AddressedData };
 
     ghost view = { λ told. record { class = told.class.now; kind = told.kind; facts = told.facts } };
 

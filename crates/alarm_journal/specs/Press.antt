@@ -13,7 +13,7 @@ use Rattle.alarm_journal.specs.declared.open_fault.OpenFault.{OpenFault}
 use Rattle.alarm_journal.specs.declared.open_fault.OpenFault.TheVariants.{DiskFault, NoMemory, SmallDevice}
 
 -- a press: its ground, and where its journal lies
-pub record Standing (G : Type 0) : Type 0 where
+pub record PressState (G : Type 0) : Type 0 where
   pub device : G
   pub layout : Layout
 

@@ -33,9 +33,9 @@ pub struct Press<G: Ground> {
 }
 
 impl<G: Ground> Model for Press<G> {
-    ghost use Rattle.alarm_journal.specs.Press.{Standing, IsSound};
+    ghost use Rattle.alarm_journal.specs.Press.{IsSound, PressState};
 
-    ghost Value = { Standing G };
+    ghost Value = { PressState G };
 
     ghost view = { λ press. record { device = press.device; layout = press.layout } };
 

@@ -20,11 +20,11 @@ use Rattle.alarm_core.specs.Verdicts.{step_verdict}
 use Rattle.alarm_core.proofs.Counting.{counts_the_longer_history}
 use Rattle.service_desk.specs.declared.decision.Decision.{Decision}
 use Rattle.service_desk.specs.declared.decision.Decision.TheVariants.{Ignore, Idle, Refuse, Reply, Enter}
-use Rattle.service_desk.specs.DecisionSteps.{EntersAllowed}
+use Rattle.service_desk.specs.Decisions.{EntersAllowed}
 use Rattle.service_desk.proofs.AllowedEvents.{decision_enters}
 use Rattle.alarm_server.specs.Report.{history_by}
 use Rattle.alarm_server.specs.Script.{spelled_by, spelled_in}
-use Rattle.alarm_server.specs.SessionSteps.{decision_for, entered_by, event_in}
+use Rattle.alarm_server.specs.Pieces.{decision_for, entered_by, event_in}
 use Rattle.alarm_server.proofs.Spelled.{spelled-first, spelled-none}
 
 -- ---- the lines of a session are at moments in range

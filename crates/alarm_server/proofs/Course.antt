@@ -4,7 +4,7 @@ use Rattle.script_lines.specs.Report.{report_text}
 use Rattle.std.proofs.lemmas.List.{append-nil}
 use Rattle.bac_values.specs.declared.input.Input.{Input}
 use Rattle.bac_values.specs.declared.input.Input.TheVariants.{Tick, Pump, Set, Fault, Datagram}
-use Rattle.bac_values.specs.Identifier.{Identifier}
+use Rattle.bac_values.specs.Identifier.{ObjectIdData}
 use Rattle.bac_values.specs.declared.value.Value.{Value}
 use Rattle.bac_values.specs.declared.value.Value.TheVariants.{Signed}
 use Rattle.bac_values.specs.declared.report.ReportLine.{ReportLine}
@@ -17,7 +17,7 @@ use Rattle.alarm_server.specs.declared.emission.Unsent.{Unsent}
 use Rattle.alarm_server.specs.Looks.{point_at, seen_again, seen_with, looks_given, looks_after}
 use Rattle.alarm_server.specs.Emission.{Sends}
 use Rattle.alarm_server.specs.Trial.{looks_over, newest_moves, transitions_of, SendsTransitions}
-use Rattle.alarm_server.specs.Watched.{Watched, HasSeen}
+use Rattle.alarm_server.specs.Watched.{HasSeen, WatchState}
 use Rattle.alarm_server.proofs.Sending.{front_more, sends_then}
 
 transitions_of-next : (first : Point) (incident : Incident) (older : List Incident) → transitions_of first (incident ∷ older) ≡ transitions_of first older ++ newest_moves first (incident ∷ older)
@@ -29,7 +29,7 @@ unfolding transitions_of
 transitions_of-none first = refl
 
 -- a look at the value of the last one, at a moment or later, is the newest point, seen again
-pub again_is : (first : Point) (later : List Incident) (watched : Watched) (moment raised : ℕ) (value : ℤ) → HasSeen first later watched → raised ≡ max moment watched.moment → value ≡ watched.value →
+pub again_is : (first : Point) (later : List Incident) (watched : WatchState) (moment raised : ℕ) (value : ℤ) → HasSeen first later watched → raised ≡ max moment watched.moment → value ≡ watched.value →
     point_at watched.settings raised (Signed value) ≡ seen_again moment (newest_of first later)
 again_is first later watched moment raised value seen same_moment same_value =
     ap (λ m. point_at watched.settings m (Signed value)) same_moment
@@ -45,7 +45,7 @@ changed_is settings settings' moment last value value' point is same_settings sa
     ∙ ap (seen_with (Signed value)) is)
 
 -- what is known after a look is known after a look at the same point
-pub seen_on : (first : Point) (later : List Incident) (seen point : Point) (watched : Watched) → seen ≡ point → HasSeen first (Looked seen ∷ later) watched → HasSeen first (Looked point ∷ later) watched
+pub seen_on : (first : Point) (later : List Incident) (seen point : Point) (watched : WatchState) → seen ≡ point → HasSeen first (Looked seen ∷ later) watched → HasSeen first (Looked point ∷ later) watched
 seen_on first later seen point watched same known = subst (λ p. HasSeen first (Looked p ∷ later) watched) same known
 
 -- the moves at one more look
@@ -118,7 +118,7 @@ transitions_over_more (line ∷ lines) first later =
     )
 
 -- a line of a trial that writes nothing is a tick
-pub tick_only : (input : Input) → IsTrialInput input → ((object : Identifier) (value : Value) → input ≡ Set object value → ⊥) → input ≡ Tick
+pub tick_only : (input : Input) → IsTrialInput input → ((object : ObjectIdData) (value : Value) → input ≡ Set object value → ⊥) → input ≡ Tick
 tick_only Tick h never = refl
 tick_only (Set object value) h never = absurd (never object value refl)
 tick_only Pump h never = absurd h

@@ -10,7 +10,7 @@ use Rattle.alarm_server.specs.declared.status.Status.TheVariants.{Done, Usage, S
 use Rattle.alarm_server.specs.Emission.{Ends}
 use Rattle.alarm_server.specs.OnFile.{EndsOnFile, EndsOnSite, RefusesFile}
 use Rattle.alarm_server.specs.Report.{report_of}
-use Rattle.alarm_server.specs.SessionSteps.{piece_text}
+use Rattle.alarm_server.specs.Pieces.{piece_text}
 use Rattle.alarm_server.specs.Status.{IsSiteFault, of_site_fault}
 use Rattle.alarm_server.specs.Text.{most_octets}
 use Rattle.alarm_server.proofs.Sending.{adds_nothing}

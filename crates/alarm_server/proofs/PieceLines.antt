@@ -9,8 +9,8 @@ use Rattle.alarm_core.specs.declared.event.Event.{Event}
 use Rattle.alarm_core.specs.declared.event.StepFault.{StepFault}
 use Rattle.alarm_core.specs.History.{moved_by}
 use Rattle.alarm_core.specs.CoreSteps.{next_sends, next_transitions}
-use Rattle.alarm_core.specs.State.{State}
-use Rattle.alarm_server.specs.SessionSteps.{enter_piece, entered_piece, reply_lines, send_line}
+use Rattle.alarm_core.specs.State.{CoreState}
+use Rattle.alarm_server.specs.Pieces.{enter_piece, entered_piece, reply_lines, send_line}
 
 -- the lines in the order in which they are put together
 abbrev put_together : ℕ → ℕ → ℕ → List Moved → List Send → Option Send → List ReportLine
@@ -21,7 +21,7 @@ abbrev in_order : ℕ → ℕ → ℕ → List Moved → List Send → Option Se
 in_order number events moment moves sends reply =
     Entered number events moment ∷ (map (λ moved. Change number moved) moves ++ (map (send_line number) sends ++ reply_lines number reply))
 
-entered_is : (number : ℕ) (state : State) (event : Event) (reply : Option Send) (moves : List Moved) (sends : List Send) (events moment : ℕ) →
+entered_is : (number : ℕ) (state : CoreState) (event : Event) (reply : Option Send) (moves : List Moved) (sends : List Send) (events moment : ℕ) →
     events ≡ state.events + 1 → moment ≡ event.moment → moves ≡ map moved_by (next_transitions event state) → sends ≡ next_sends event state →
     put_together number events moment moves sends reply ≡ entered_piece number state event reply
 entered_is number state event reply moves sends events moment same_events same_moment same_moves same_sends =
@@ -34,7 +34,7 @@ entered_is number state event reply moves sends events moment same_events same_m
     ∙ ap (λ lines. Entered number (state.events + 1) event.moment ∷ (lines ++ rest)) (map-map (λ moved. Change number moved) moved_by (next_transitions event state))))))
 
 -- where the notifications fit
-pub fits_is : (number : ℕ) (state : State) (event : Event) (reply full : Option Send) (verdict : Result (Unit {0}) StepFault) (moves : List Moved) (sends : List Send) (events moment : ℕ) →
+pub fits_is : (number : ℕ) (state : CoreState) (event : Event) (reply full : Option Send) (verdict : Result (Unit {0}) StepFault) (moves : List Moved) (sends : List Send) (events moment : ℕ) →
     verdict ≡ Ok tt → events ≡ state.events + 1 → moment ≡ event.moment → moves ≡ map moved_by (next_transitions event state) → sends ≡ next_sends event state →
     put_together number events moment moves sends reply ≡ enter_piece number state event reply full verdict
 fits_is number state event reply full verdict moves sends events moment fits same_events same_moment same_moves same_sends =

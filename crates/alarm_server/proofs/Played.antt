@@ -7,37 +7,38 @@ use Rattle.alarm_core.specs.declared.event.Event.{Event}
 use Rattle.alarm_core.specs.declared.site.Site.{Site}
 use Rattle.alarm_core.specs.Allowed.{Comes, IsHistory}
 use Rattle.alarm_core.specs.Sites.{IsSite}
-use Rattle.alarm_core.specs.State.{State, state_of}
+use Rattle.alarm_core.specs.State.{state_of, CoreState}
 use Rattle.alarm_core.proofs.Standing.{stands}
 use Rattle.alarm_server.specs.Script.{spelled_in, refused_in}
-use Rattle.alarm_server.specs.SessionSteps.{decision_for, event_in, open_piece, piece_of, pieces_over, session_end, session_over, state_by, state_over, state_with}
+use Rattle.alarm_server.specs.SessionSteps.{pieces_over, session_over, state_by, state_over, state_with}
+use Rattle.alarm_server.specs.Pieces.{decision_for, event_in, open_piece, piece_of, session_end}
 use Rattle.alarm_server.specs.Report.{front_pieces, history_by, history_over, history_with, pieces_of, report_of}
 use Rattle.alarm_server.proofs.Comings.{InRange, line_goes, spelled_in_range}
 
-pub states-none : (state : State) → state_over state [] ≡ state
+pub states-none : (state : CoreState) → state_over state [] ≡ state
 unfolding state_over
 states-none state = refl
 
-pub states-first : (state : State) (line : Line) (lines : List Line) → state_over state (line ∷ lines) ≡ state_over (state_with state line) lines
+pub states-first : (state : CoreState) (line : Line) (lines : List Line) → state_over state (line ∷ lines) ≡ state_over (state_with state line) lines
 unfolding state_over
 states-first state line lines = refl
 
-pub pieces-none : (state : State) → pieces_over state [] ≡ []
+pub pieces-none : (state : CoreState) → pieces_over state [] ≡ []
 unfolding pieces_over
 pieces-none state = refl
 
-pub pieces-first : (state : State) (line : Line) (lines : List Line) → pieces_over state (line ∷ lines) ≡ piece_of state line ∷ pieces_over (state_with state line) lines
+pub pieces-first : (state : CoreState) (line : Line) (lines : List Line) → pieces_over state (line ∷ lines) ≡ piece_of state line ∷ pieces_over (state_with state line) lines
 unfolding pieces_over
 pieces-first state line lines = refl
 
 -- lines and then others
-pub states-append : (lines others : List Line) (state : State) → state_over state (lines ++ others) ≡ state_over (state_over state lines) others
+pub states-append : (lines others : List Line) (state : CoreState) → state_over state (lines ++ others) ≡ state_over (state_over state lines) others
 states-append [] others state = ap (λ s. state_over s others) (sym (states-none state))
 states-append (line ∷ lines) others state =
     states-first state line (lines ++ others)
     ∙ (states-append lines others (state_with state line) ∙ ap (λ s. state_over s others) (sym (states-first state line lines)))
 
-pub pieces-append : (lines others : List Line) (state : State) → pieces_over state (lines ++ others) ≡ pieces_over state lines ++ pieces_over (state_over state lines) others
+pub pieces-append : (lines others : List Line) (state : CoreState) → pieces_over state (lines ++ others) ≡ pieces_over state lines ++ pieces_over (state_over state lines) others
 pieces-append [] others state =
     ap (λ s. pieces_over s others) (sym (states-none state)) ∙ ap (λ ps. ps ++ pieces_over (state_over state []) others) (sym (pieces-none state))
 pieces-append (line ∷ lines) others state =
@@ -47,11 +48,11 @@ pieces-append (line ∷ lines) others state =
     ∙ ap (λ ps. ps ++ pieces_over (state_over state (line ∷ lines)) others) (sym (pieces-first state line lines))))
 
 -- one more line
-pub states-next : (lines : List Line) (line : Line) (state : State) → state_over state (lines ++ line ∷ []) ≡ state_with (state_over state lines) line
+pub states-next : (lines : List Line) (line : Line) (state : CoreState) → state_over state (lines ++ line ∷ []) ≡ state_with (state_over state lines) line
 states-next lines line state =
     states-append lines (line ∷ []) state ∙ (states-first (state_over state lines) line [] ∙ states-none (state_with (state_over state lines) line))
 
-pub pieces-next : (lines : List Line) (line : Line) (state : State) → pieces_over state (lines ++ line ∷ []) ≡ pieces_over state lines ++ piece_of (state_over state lines) line ∷ []
+pub pieces-next : (lines : List Line) (line : Line) (state : CoreState) → pieces_over state (lines ++ line ∷ []) ≡ pieces_over state lines ++ piece_of (state_over state lines) line ∷ []
 pieces-next lines line state =
     pieces-append lines (line ∷ []) state
     ∙ ap (λ ps. pieces_over state lines ++ ps) (pieces-first (state_over state lines) line [] ∙ ap (λ ps. piece_of (state_over state lines) line ∷ ps) (pieces-none (state_with (state_over state lines) line)))

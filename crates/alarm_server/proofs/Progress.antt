@@ -19,7 +19,7 @@ use Rattle.alarm_server.specs.declared.emission.Unsent.TheVariants as unsent
 use Rattle.alarm_server.specs.declared.status.Status.TheVariants as status
 use Rattle.event_machine.specs.Points.{Incident}
 use Rattle.alarm_server.specs.Looks.{looks_after}
-use Rattle.alarm_server.specs.Watched.{Watched, HasSeen}
+use Rattle.alarm_server.specs.Watched.{HasSeen, WatchState}
 use Rattle.alarm_server.specs.Emission.{sent, SendsUpTo, Ends}
 use Rattle.alarm_server.specs.Status.{of_line_fault, of_unsent}
 use Rattle.alarm_server.specs.Script.{spelled_in, refused_in, refused_line}
@@ -36,7 +36,7 @@ pub record Remains (lines : List Line) (number : ℕ) (script octets : List ℕ)
   pub count : length (lines_of script) ≡ number + length (lines_of octets)
 
 -- these lines were taken, the object is at their last point, and the moves over them went out
-pub record Progress (settings : Settings) (text come : Option (List ℕ)) (old new : Option Told) (number : ℕ) (ended : Bool) (watched : Watched) : Type 0 where
+pub record Progress (settings : Settings) (text come : Option (List ℕ)) (old new : Option Told) (number : ℕ) (ended : Bool) (watched : WatchState) : Type 0 where
   pub lines : List Line
   pub later : List Incident
   pub points : later ≡ looks_over (first_point settings) [] lines
@@ -61,7 +61,7 @@ takes_none None = tt
 takes_none (Some script) = record { taken = []; whole = inl refl; front = refl; count = omega arith }
 
 -- at the beginning
-pub begins : (settings : Settings) (text : Option (List ℕ)) (told : Option Told) (watched : Watched) → HasSeen (first_point settings) [] watched → Progress settings text (prepend_known [] text) told told 0 false watched
+pub begins : (settings : Settings) (text : Option (List ℕ)) (told : Option Told) (watched : WatchState) → HasSeen (first_point settings) [] watched → Progress settings text (prepend_known [] text) told told 0 false watched
 begins settings text told watched first = record {
   lines = [];
   later = [];
@@ -106,7 +106,7 @@ ends_at_once settings None told = tt
 ends_at_once settings (Some script) told = ([], report_over settings (lines_of script), refl, adds_nothing told)
 
 -- a fault while a line is read
-pub ends_at_line : (settings : Settings) (text come come' : Option (List ℕ)) (old new : Option Told) (number number' : ℕ) (ended : Bool) (watched : Watched) (fault : LineFault) → Progress settings text come old new number ended watched → WhereTold come come' (ReadsLine Trial number number' (Err fault)) → IfSome text (λ t. Ends report_text (of_line_fault fault) (report_over settings (lines_of t)) old new)
+pub ends_at_line : (settings : Settings) (text come come' : Option (List ℕ)) (old new : Option Told) (number number' : ℕ) (ended : Bool) (watched : WatchState) (fault : LineFault) → Progress settings text come old new number ended watched → WhereTold come come' (ReadsLine Trial number number' (Err fault)) → IfSome text (λ t. Ends report_text (of_line_fault fault) (report_over settings (lines_of t)) old new)
 ends_at_line settings None come come' old new number number' ended watched fault p read = tt
 ends_at_line settings (Some t) None come' old new number number' ended watched fault p read = absurd p.remains
 ends_at_line settings (Some t) (Some octets) None old new number number' ended watched fault p read = absurd read
@@ -124,7 +124,7 @@ ends_at_line settings (Some t) (Some octets) (Some rest) old new number number' 
     (transitions_of (first_point settings) p.later, front.0, front.1, p.out)
 
 -- the line that is refused is the first outside the grammar
-pub refused_first : (settings : Settings) (text come come' : Option (List ℕ)) (old new : Option Told) (number number' : ℕ) (ended : Bool) (watched : Watched) (line : ℕ) → Progress settings text come old new number ended watched → WhereTold come come' (ReadsLine Trial number number' (Err (Grammar line))) → IfSome text (λ t. refused_line Trial t ≡ Some line)
+pub refused_first : (settings : Settings) (text come come' : Option (List ℕ)) (old new : Option Told) (number number' : ℕ) (ended : Bool) (watched : WatchState) (line : ℕ) → Progress settings text come old new number ended watched → WhereTold come come' (ReadsLine Trial number number' (Err (Grammar line))) → IfSome text (λ t. refused_line Trial t ≡ Some line)
 refused_first settings None come come' old new number number' ended watched line p read = tt
 refused_first settings (Some t) None come' old new number number' ended watched line p read = absurd p.remains
 refused_first settings (Some t) (Some octets) None old new number number' ended watched line p read = absurd read
@@ -157,7 +157,7 @@ remains_next lines number number' line script octets rest r (next, is) =
     }
 
 -- a fault while the moves of a line go out
-pub ends_at_event : (settings : Settings) (text come come' : Option (List ℕ)) (old new new' : Option Told) (number number' : ℕ) (ended : Bool) (watched : Watched) (line : Line) (fault : Unsent) → Progress settings text come old new number ended watched → WhereTold come come' (ReadsLine Trial number number' (Ok (Some line))) → ((later : List Incident) → HasSeen (first_point settings) later watched → SendsTransitions {A = Unit {0}} (Err fault) (first_point settings) later (looks_after line.moment line.input (first_point settings) later) new new') → IfSome text (λ t. Ends report_text (of_unsent fault) (report_over settings (lines_of t)) old new')
+pub ends_at_event : (settings : Settings) (text come come' : Option (List ℕ)) (old new new' : Option Told) (number number' : ℕ) (ended : Bool) (watched : WatchState) (line : Line) (fault : Unsent) → Progress settings text come old new number ended watched → WhereTold come come' (ReadsLine Trial number number' (Ok (Some line))) → ((later : List Incident) → HasSeen (first_point settings) later watched → SendsTransitions {A = Unit {0}} (Err fault) (first_point settings) later (looks_after line.moment line.input (first_point settings) later) new new') → IfSome text (λ t. Ends report_text (of_unsent fault) (report_over settings (lines_of t)) old new')
 ends_at_event settings None come come' old new new' number number' ended watched line fault p read sends = tt
 ends_at_event settings (Some t) None come' old new new' number number' ended watched line fault p read sends = absurd p.remains
 ends_at_event settings (Some t) (Some octets) None old new new' number number' ended watched line fault p read sends = absurd read
@@ -174,7 +174,7 @@ ends_at_event settings (Some t) (Some octets) (Some rest) old new new' number nu
     (front_more report_text fault old new' (before ++ event.0) front.0 (front_then report_text fault old new new' before event.0 p.out event.2)))
 
 -- one more line
-pub goes_on : (settings : Settings) (text come come' : Option (List ℕ)) (old new new' : Option Told) (number number' : ℕ) (ended ended' : Bool) (watched watched' : Watched) (line : Line) → Progress settings text come old new number ended watched → WhereTold come come' (ReadsLine Trial number number' (Ok (Some line))) → (ended' ≡ false → ended ≡ false) → (ended' ≡ false → WhereTold come come' (TakesLines number number')) → ((later : List Incident) → HasSeen (first_point settings) later watched → HasSeen (first_point settings) (looks_after line.moment line.input (first_point settings) later) watched') → ((later : List Incident) → HasSeen (first_point settings) later watched → SendsTransitions {A = Unit {0}} (Ok tt) (first_point settings) later (looks_after line.moment line.input (first_point settings) later) new new') → Progress settings text come' old new' number' ended' watched'
+pub goes_on : (settings : Settings) (text come come' : Option (List ℕ)) (old new new' : Option Told) (number number' : ℕ) (ended ended' : Bool) (watched watched' : WatchState) (line : Line) → Progress settings text come old new number ended watched → WhereTold come come' (ReadsLine Trial number number' (Ok (Some line))) → (ended' ≡ false → ended ≡ false) → (ended' ≡ false → WhereTold come come' (TakesLines number number')) → ((later : List Incident) → HasSeen (first_point settings) later watched → HasSeen (first_point settings) (looks_after line.moment line.input (first_point settings) later) watched') → ((later : List Incident) → HasSeen (first_point settings) later watched → SendsTransitions {A = Unit {0}} (Ok tt) (first_point settings) later (looks_after line.moment line.input (first_point settings) later) new new') → Progress settings text come' old new' number' ended' watched'
 goes_on settings text come come' old new new' number number' ended ended' watched watched' line p read stays taken seen sends =
     let first = first_point settings in
     let event = sends p.later p.seen in
@@ -200,7 +200,7 @@ report_end settings octets script number number' lines later points r next =
     ∙ (ap (λ o. moves ++ end_by o (number + length (lines_of octets))) h.refused ∙ ap (λ n. moves ++ TrialEnd n ∷ []) h.count)
 
 -- the script's end
-pub ends : (settings : Settings) (text come come' : Option (List ℕ)) (old new new' : Option Told) (number number' : ℕ) (ended : Bool) (watched : Watched) → Progress settings text come old new number ended watched → WhereTold come come' (ReadsLine Trial number number' (Ok None)) → Adds new new' (sent report_text (TrialEnd number' ∷ [])) → IfSome text (λ t. Ends report_text status.Done (report_over settings (lines_of t)) old new')
+pub ends : (settings : Settings) (text come come' : Option (List ℕ)) (old new new' : Option Told) (number number' : ℕ) (ended : Bool) (watched : WatchState) → Progress settings text come old new number ended watched → WhereTold come come' (ReadsLine Trial number number' (Ok None)) → Adds new new' (sent report_text (TrialEnd number' ∷ [])) → IfSome text (λ t. Ends report_text status.Done (report_over settings (lines_of t)) old new')
 ends settings None come come' old new new' number number' ended watched p read last = tt
 ends settings (Some t) None come' old new new' number number' ended watched p read last = absurd p.remains
 ends settings (Some t) (Some octets) None old new new' number number' ended watched p read last = absurd read
@@ -209,7 +209,7 @@ ends settings (Some t) (Some octets) (Some rest) old new new' number number' end
     subst (λ lines. Adds old new' (sent report_text lines)) (sym all) (sent_then report_text old new new' (transitions_of (first_point settings) p.later) (TrialEnd number' ∷ []) p.out last)
 
 -- at its end, every line of the script is in the grammar
-pub accepts : (settings : Settings) (text come come' : Option (List ℕ)) (old new : Option Told) (number number' : ℕ) (ended : Bool) (watched : Watched) → Progress settings text come old new number ended watched → WhereTold come come' (ReadsLine Trial number number' (Ok None)) → IfSome text (λ t. refused_line Trial t ≡ None)
+pub accepts : (settings : Settings) (text come come' : Option (List ℕ)) (old new : Option Told) (number number' : ℕ) (ended : Bool) (watched : WatchState) → Progress settings text come old new number ended watched → WhereTold come come' (ReadsLine Trial number number' (Ok None)) → IfSome text (λ t. refused_line Trial t ≡ None)
 accepts settings None come come' old new number number' ended watched p read = tt
 accepts settings (Some t) None come' old new number number' ended watched p read = absurd p.remains
 accepts settings (Some t) (Some octets) None old new number number' ended watched p read = absurd read
@@ -217,7 +217,7 @@ accepts settings (Some t) (Some octets) (Some rest) old new number number' ended
     p.remains.refused ∙ (spells_none Trial (lines_of octets) number number' read.0).refused
 
 -- a fault while the last line goes out
-pub ends_at_end : (settings : Settings) (text come come' : Option (List ℕ)) (old new new' : Option Told) (number number' : ℕ) (ended : Bool) (watched : Watched) (fault : Unsent) → Progress settings text come old new number ended watched → WhereTold come come' (ReadsLine Trial number number' (Ok None)) → SendsUpTo report_text fault (TrialEnd number' ∷ []) new new' → IfSome text (λ t. Ends report_text (of_unsent fault) (report_over settings (lines_of t)) old new')
+pub ends_at_end : (settings : Settings) (text come come' : Option (List ℕ)) (old new new' : Option Told) (number number' : ℕ) (ended : Bool) (watched : WatchState) (fault : Unsent) → Progress settings text come old new number ended watched → WhereTold come come' (ReadsLine Trial number number' (Ok None)) → SendsUpTo report_text fault (TrialEnd number' ∷ []) new new' → IfSome text (λ t. Ends report_text (of_unsent fault) (report_over settings (lines_of t)) old new')
 ends_at_end settings None come come' old new new' number number' ended watched fault p read last = tt
 ends_at_end settings (Some t) None come' old new new' number number' ended watched fault p read last = absurd p.remains
 ends_at_end settings (Some t) (Some octets) None old new new' number number' ended watched fault p read last = absurd read
@@ -247,7 +247,7 @@ stops_where settings t octets rest pending old new number number' lines later po
       emitted = subst (λ lines. Adds old new (sent report_text lines)) moves out;
     }
 
-pub stops_reading : (settings : Settings) (text come left : Option (List ℕ)) (pending : List ℕ) (old new : Option Told) (number number' : ℕ) (ended ended' : Bool) (watched : Watched) → Progress settings text come old new number ended watched → WhereTold come (prepend_known pending left) (ReadsLine Trial number number' (Err Read)) → (ended' ≡ false → ended ≡ false) → (ended' ≡ false → WhereTold come (prepend_known pending left) (TakesLines number number')) → (ended' ≡ false) × (position is_line_feed pending ≡ None) → WhereTold text left (λ t rest. StopsReading report_text (front_transitions settings) Trial t rest old new)
+pub stops_reading : (settings : Settings) (text come left : Option (List ℕ)) (pending : List ℕ) (old new : Option Told) (number number' : ℕ) (ended ended' : Bool) (watched : WatchState) → Progress settings text come old new number ended watched → WhereTold come (prepend_known pending left) (ReadsLine Trial number number' (Err Read)) → (ended' ≡ false → ended ≡ false) → (ended' ≡ false → WhereTold come (prepend_known pending left) (TakesLines number number')) → (ended' ≡ false) × (position is_line_feed pending ≡ None) → WhereTold text left (λ t rest. StopsReading report_text (front_transitions settings) Trial t rest old new)
 stops_reading settings None come left pending old new number number' ended ended' watched p read stays taken waits = tt
 stops_reading settings (Some t) None left pending old new number number' ended ended' watched p read stays taken waits = absurd p.remains
 stops_reading settings (Some t) (Some octets) None pending old new number number' ended ended' watched p read stays taken waits = absurd read

@@ -1,7 +1,7 @@
 -- Emissions one after the other.
 use Rattle.std.proofs.Common.{◌≡◌, ℕ, Option, Some, None, Result, Ok, Err, List, [], ◌∷◌, ◌++◌, refl, ap, ◌∙◌, sym, append_assoc}
 use Rattle.std.proofs.lemmas.List.{map-append, append-nil}
-use Rattle.bac_values.specs.Address.{Address, console}
+use Rattle.bac_values.specs.Address.{console, PeerData}
 use Rattle.ground_io.specs.declared.entry.Entry.{Entry}
 use Rattle.ground_io.specs.declared.entry.Entry.TheVariants as entry
 use Rattle.ground_io.specs.Trace.{Told, Adds}
@@ -27,7 +27,7 @@ pub sent_then : {X : Type 0} (text : X → List ℕ) (a b c : Option Told) (xs y
 sent_then text a b c xs ys first second = rw (sent-append text xs ys) (adds_then a b c (sent text xs) (sent text ys) first second)
 
 -- one line that was lost
-pub loses_line : {X : Type 0} (text : X → List ℕ) (line : X) (peer : Address) (octets : List ℕ) (a b : Option Told) → peer ≡ console → octets ≡ text line → Adds a b (entry.Lost peer octets ∷ []) → LosesNext text (line ∷ []) a b
+pub loses_line : {X : Type 0} (text : X → List ℕ) (line : X) (peer : PeerData) (octets : List ℕ) (a b : Option Told) → peer ≡ console → octets ≡ text line → Adds a b (entry.Lost peer octets ∷ []) → LosesNext text (line ∷ []) a b
 loses_line text line peer octets a b to_console same adds = ([], line, [], refl, rw (← to_console, ← same) adds)
 
 -- lines that all went out, and then a front of others

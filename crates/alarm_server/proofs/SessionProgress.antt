@@ -10,7 +10,7 @@ use Rattle.script_lines.specs.declared.line.Line.{Line}
 use Rattle.script_lines.specs.declared.lines.LineFault.{LineFault}
 use Rattle.script_lines.specs.declared.lines.LineFault.TheVariants.{Grammar, Read, NoMemory}
 use Rattle.script_lines.specs.Script.{AtEnd, is_line_feed, next_in, lines_of, ReadsLine, TakesLines}
-use Rattle.alarm_core.specs.State.{State}
+use Rattle.alarm_core.specs.State.{CoreState}
 use Rattle.alarm_server.specs.declared.emission.Unsent.{Unsent}
 use Rattle.alarm_server.specs.declared.emission.Unsent.TheVariants as unsent
 use Rattle.alarm_server.specs.declared.status.Status.{Status}
@@ -21,7 +21,8 @@ use Rattle.alarm_server.specs.Stopping.{StopsReading}
 use Rattle.alarm_server.specs.declared.tally.Tally.{Tally}
 use Rattle.alarm_server.specs.Tallies.{no_tally, tally_of, tally_with}
 use Rattle.alarm_server.specs.Script.{spelled_in, refused_in, refused_line}
-use Rattle.alarm_server.specs.SessionSteps.{end_piece, open_piece, piece_of, piece_text, pieces_over, session_end, session_over, state_front, state_over, state_with}
+use Rattle.alarm_server.specs.SessionSteps.{pieces_over, session_over, state_front, state_over, state_with}
+use Rattle.alarm_server.specs.Pieces.{end_piece, open_piece, piece_of, piece_text, session_end}
 use Rattle.alarm_server.proofs.Sending.{adds_nothing, sent_then, front_then, front_more}
 use Rattle.alarm_server.proofs.Spelled.{spelled_gives, spells_none, spells_refused, spells_same}
 use Rattle.alarm_server.proofs.Fronts.{front_accepted, front_lines, lines_of-whole, takes_then}
@@ -35,11 +36,11 @@ pub record Remains (lines : List Line) (number : ℕ) (script octets : List ℕ)
   pub count : length (lines_of script) ≡ number + length (lines_of octets)
 
 -- the pieces of a session so far
-abbrev pub front : State → List Line → List (List ReportLine)
+abbrev pub front : CoreState → List Line → List (List ReportLine)
 front start lines = open_piece start ∷ pieces_over start lines
 
 -- these lines were taken, the core is in their state, and their pieces went out and were counted
-pub record Progress (start : State) (text come : Option (List ℕ)) (old new : Option Told) (number : ℕ) (ended : Bool) (state : State) (tally : Tally) : Type 0 where
+pub record Progress (start : CoreState) (text come : Option (List ℕ)) (old new : Option Told) (number : ℕ) (ended : Bool) (state : CoreState) (tally : Tally) : Type 0 where
   pub lines : List Line
   pub reached : state ≡ state_over start lines
   pub out : Adds old new (sent piece_text (front start lines))
@@ -63,7 +64,7 @@ takes_none None = tt
 takes_none (Some script) = record { taken = []; whole = inl refl; front = refl; count = omega arith }
 
 -- behind the first piece
-pub begins : (start : State) (text : Option (List ℕ)) (old new : Option Told) (tally : Tally) → tally ≡ no_tally → Adds old new (sent piece_text (open_piece start ∷ [])) → Progress start text (prepend_known [] text) old new 0 false start tally
+pub begins : (start : CoreState) (text : Option (List ℕ)) (old new : Option Told) (tally : Tally) → tally ≡ no_tally → Adds old new (sent piece_text (open_piece start ∷ [])) → Progress start text (prepend_known [] text) old new 0 false start tally
 begins start text old new tally none opened = record {
   lines = [];
   reached = sym (states-none start);
@@ -74,15 +75,15 @@ begins start text old new tally none opened = record {
 }
 
 -- what is left to report behind these lines
-abbrev rest_of : State → List Line → ℕ → List ℕ → List (List ReportLine)
+abbrev rest_of : CoreState → List Line → ℕ → List ℕ → List (List ReportLine)
 rest_of start lines number octets =
     let behind = spelled_in Session number (lines_of octets) in
     pieces_over (state_over start lines) behind ++ session_end (refused_in Session number (lines_of octets)) (number + length (lines_of octets)) (state_over (state_over start lines) behind)
 
-after : (start : State) (lines : List Line) (number : ℕ) (script octets : List ℕ) → Remains lines number script octets → session_over start (lines_of script) ≡ front start lines ++ rest_of start lines number octets
+after : (start : CoreState) (lines : List Line) (number : ℕ) (script octets : List ℕ) → Remains lines number script octets → session_over start (lines_of script) ≡ front start lines ++ rest_of start lines number octets
 after start lines number script octets r =
     let behind = spelled_in Session number (lines_of octets) in
-    let end = λ (refused : Option ℕ) (count : ℕ) (state : State). session_end refused count state in
+    let end = λ (refused : Option ℕ) (count : ℕ) (state : CoreState). session_end refused count state in
     let whole = λ (ls : List Line) (refused : Option ℕ) (count : ℕ). (open_piece start ∷ pieces_over start ls) ++ end refused count (state_over start ls) in
     ap (λ ls. whole ls (refused_in Session 0 (lines_of script)) (length (lines_of script))) r.spelled
     ∙ (ap (λ o. whole (lines ++ behind) o (length (lines_of script))) r.refused
@@ -92,7 +93,7 @@ after start lines number script octets r =
     ∙ append_assoc (front start lines) (pieces_over (state_over start lines) behind) (end (refused_in Session number (lines_of octets)) (number + length (lines_of octets)) (state_over (state_over start lines) behind))))))
 
 -- behind the last line nothing but the end is left
-report_all : (start : State) (lines : List Line) (number : ℕ) (script octets : List ℕ) → Remains lines number script octets → spelled_in Session number (lines_of octets) ≡ [] →
+report_all : (start : CoreState) (lines : List Line) (number : ℕ) (script octets : List ℕ) → Remains lines number script octets → spelled_in Session number (lines_of octets) ≡ [] →
     session_over start (lines_of script) ≡ front start lines ++ session_end (refused_in Session number (lines_of octets)) (number + length (lines_of octets)) (state_over start lines)
 report_all start lines number script octets r none =
     let reached = state_over start lines in
@@ -103,7 +104,7 @@ report_all start lines number script octets r none =
     ∙ ap (λ s. front start lines ++ end s) (states-none reached)))
 
 -- nothing has gone out
-pub ends_at_once : (start : State) (text : Option (List ℕ)) (told : Option Told) → IfSome text (λ t. Ends piece_text status.NoMemory (session_over start (lines_of t)) told told)
+pub ends_at_once : (start : CoreState) (text : Option (List ℕ)) (told : Option Told) → IfSome text (λ t. Ends piece_text status.NoMemory (session_over start (lines_of t)) told told)
 ends_at_once start None told = tt
 ends_at_once start (Some script) told = ([], session_over start (lines_of script), refl, adds_nothing told)
 
@@ -112,7 +113,7 @@ ends_front unsent.Lost pieces old new h = h
 ends_front unsent.NoMemory pieces old new h = h
 
 -- the first piece is in the way
-pub ends_at_first : (start : State) (text : Option (List ℕ)) (old new : Option Told) (fault : Unsent) → SendsUpTo piece_text fault (open_piece start ∷ []) old new →
+pub ends_at_first : (start : CoreState) (text : Option (List ℕ)) (old new : Option Told) (fault : Unsent) → SendsUpTo piece_text fault (open_piece start ∷ []) old new →
     IfSome text (λ t. Ends piece_text (of_unsent fault) (session_over start (lines_of t)) old new)
 ends_at_first start None old new fault sends = tt
 ends_at_first start (Some t) old new fault sends =
@@ -122,7 +123,7 @@ ends_at_first start (Some t) old new fault sends =
     (front_more piece_text fault old new (open_piece start ∷ []) (pieces_over start lines ++ session_end (refused_in Session 0 texts) (length texts) (state_over start lines)) sends)
 
 -- a fault while a line is read
-pub ends_at_line : (start : State) (text come come' : Option (List ℕ)) (old new : Option Told) (number number' : ℕ) (ended : Bool) (state : State) (tally : Tally) (fault : LineFault) → Progress start text come old new number ended state tally → WhereTold come come' (ReadsLine Session number number' (Err fault)) →
+pub ends_at_line : (start : CoreState) (text come come' : Option (List ℕ)) (old new : Option Told) (number number' : ℕ) (ended : Bool) (state : CoreState) (tally : Tally) (fault : LineFault) → Progress start text come old new number ended state tally → WhereTold come come' (ReadsLine Session number number' (Err fault)) →
     IfSome text (λ t. Ends piece_text (of_line_fault fault) (session_over start (lines_of t)) old new)
 ends_at_line start None come come' old new number number' ended state tally fault p read = tt
 ends_at_line start (Some t) None come' old new number number' ended state tally fault p read = absurd p.remains
@@ -138,7 +139,7 @@ ends_at_line start (Some t) (Some octets) (Some rest) old new number number' end
     (front start p.lines, rest_of start p.lines number octets, after start p.lines number t octets p.remains, p.out)
 
 -- want of memory behind these lines
-pub ends_between : (start : State) (text come : Option (List ℕ)) (old new : Option Told) (number : ℕ) (ended : Bool) (state : State) (tally : Tally) → Progress start text come old new number ended state tally →
+pub ends_between : (start : CoreState) (text come : Option (List ℕ)) (old new : Option Told) (number : ℕ) (ended : Bool) (state : CoreState) (tally : Tally) → Progress start text come old new number ended state tally →
     IfSome text (λ t. Ends piece_text status.NoMemory (session_over start (lines_of t)) old new)
 ends_between start None come old new number ended state tally p = tt
 ends_between start (Some t) None old new number ended state tally p = absurd p.remains
@@ -146,7 +147,7 @@ ends_between start (Some t) (Some octets) old new number ended state tally p =
     (front start p.lines, rest_of start p.lines number octets, after start p.lines number t octets p.remains, p.out)
 
 -- the line that is refused is the first outside the grammar
-pub refused_first : (start : State) (text come come' : Option (List ℕ)) (old new : Option Told) (number number' : ℕ) (ended : Bool) (state : State) (tally : Tally) (line : ℕ) → Progress start text come old new number ended state tally → WhereTold come come' (ReadsLine Session number number' (Err (Grammar line))) →
+pub refused_first : (start : CoreState) (text come come' : Option (List ℕ)) (old new : Option Told) (number number' : ℕ) (ended : Bool) (state : CoreState) (tally : Tally) (line : ℕ) → Progress start text come old new number ended state tally → WhereTold come come' (ReadsLine Session number number' (Err (Grammar line))) →
     IfSome text (λ t. refused_line Session t ≡ Some line)
 refused_first start None come come' old new number number' ended state tally line p read = tt
 refused_first start (Some t) None come' old new number number' ended state tally line p read = absurd p.remains
@@ -166,12 +167,12 @@ remains_next lines number number' line script octets rest r (next, is) =
     }
 
 -- the pieces with one more
-front-next : (start : State) (lines : List Line) (line : Line) (state : State) → state ≡ state_over start lines → front start (lines ++ line ∷ []) ≡ front start lines ++ piece_of state line ∷ []
+front-next : (start : CoreState) (lines : List Line) (line : Line) (state : CoreState) → state ≡ state_over start lines → front start (lines ++ line ∷ []) ≡ front start lines ++ piece_of state line ∷ []
 front-next start lines line state reached =
     ap (λ ps. open_piece start ∷ ps) (pieces-next lines line start) ∙ ap (λ s. front start lines ++ piece_of s line ∷ []) (sym reached)
 
 -- a fault while the piece of a line goes out
-pub ends_at_piece : (start : State) (text come come' : Option (List ℕ)) (old new new' : Option Told) (number number' : ℕ) (ended : Bool) (state : State) (tally : Tally) (line : Line) (piece : List ReportLine) (fault : Unsent) → Progress start text come old new number ended state tally → WhereTold come come' (ReadsLine Session number number' (Ok (Some line))) →
+pub ends_at_piece : (start : CoreState) (text come come' : Option (List ℕ)) (old new new' : Option Told) (number number' : ℕ) (ended : Bool) (state : CoreState) (tally : Tally) (line : Line) (piece : List ReportLine) (fault : Unsent) → Progress start text come old new number ended state tally → WhereTold come come' (ReadsLine Session number number' (Ok (Some line))) →
     piece ≡ piece_of state line → SendsUpTo piece_text fault (piece ∷ []) new new' → IfSome text (λ t. Ends piece_text (of_unsent fault) (session_over start (lines_of t)) old new')
 ends_at_piece start None come come' old new new' number number' ended state tally line piece fault p read same sends = tt
 ends_at_piece start (Some t) None come' old new new' number number' ended state tally line piece fault p read same sends = absurd p.remains
@@ -186,7 +187,7 @@ ends_at_piece start (Some t) (Some octets) (Some rest) old new new' number numbe
     (front_more piece_text fault old new' (front start p.lines ++ piece ∷ []) more (front_then piece_text fault old new new' (front start p.lines) (piece ∷ []) p.out sends)))
 
 -- one more line
-pub goes_on : (start : State) (text come come' : Option (List ℕ)) (old new new' : Option Told) (number number' : ℕ) (ended ended' : Bool) (state state' : State) (tally tally' : Tally) (line : Line) (piece : List ReportLine) → Progress start text come old new number ended state tally → WhereTold come come' (ReadsLine Session number number' (Ok (Some line))) →
+pub goes_on : (start : CoreState) (text come come' : Option (List ℕ)) (old new new' : Option Told) (number number' : ℕ) (ended ended' : Bool) (state state' : CoreState) (tally tally' : Tally) (line : Line) (piece : List ReportLine) → Progress start text come old new number ended state tally → WhereTold come come' (ReadsLine Session number number' (Ok (Some line))) →
     (ended' ≡ false → ended ≡ false) → (ended' ≡ false → WhereTold come come' (TakesLines number number')) → state' ≡ state_with state line → piece ≡ piece_of state line → tally' ≡ tally_with piece tally → Adds new new' (sent piece_text (piece ∷ [])) → Progress start text come' old new' number' ended' state' tally'
 goes_on start text come come' old new new' number number' ended ended' state state' tally tally' line piece p read stays taken moved same counts sends =
     let pieces = front-next start p.lines line state p.reached ∙ ap (λ x. front start p.lines ++ x ∷ []) (sym same) in
@@ -202,7 +203,7 @@ goes_on start text come come' old new new' number number' ended ended' state sta
     }
 
 -- behind the last line, the end is all that is left to report
-report_end : (start : State) (octets script : List ℕ) (number number' : ℕ) (lines : List Line) (state : State) → state ≡ state_over start lines → Remains lines number script octets → next_in Session number (lines_of octets) ≡ AtEnd number' →
+report_end : (start : CoreState) (octets script : List ℕ) (number number' : ℕ) (lines : List Line) (state : CoreState) → state ≡ state_over start lines → Remains lines number script octets → next_in Session number (lines_of octets) ≡ AtEnd number' →
     session_over start (lines_of script) ≡ front start lines ++ end_piece number' state ∷ []
 report_end start octets script number number' lines state reached r next =
     let h = spells_none Session (lines_of octets) number number' next in
@@ -212,7 +213,7 @@ report_end start octets script number number' lines state reached r next =
     ∙ ap (λ s. front start lines ++ end_piece number' s ∷ []) (sym reached)))
 
 -- the script's end
-pub ends : (start : State) (text come come' : Option (List ℕ)) (old new new' : Option Told) (number number' : ℕ) (ended : Bool) (state : State) (tally : Tally) (piece : List ReportLine) → Progress start text come old new number ended state tally → WhereTold come come' (ReadsLine Session number number' (Ok None)) →
+pub ends : (start : CoreState) (text come come' : Option (List ℕ)) (old new new' : Option Told) (number number' : ℕ) (ended : Bool) (state : CoreState) (tally : Tally) (piece : List ReportLine) → Progress start text come old new number ended state tally → WhereTold come come' (ReadsLine Session number number' (Ok None)) →
     piece ≡ end_piece number' state → Adds new new' (sent piece_text (piece ∷ [])) → IfSome text (λ t. Ends piece_text status.Done (session_over start (lines_of t)) old new')
 ends start None come come' old new new' number number' ended state tally piece p read same last = tt
 ends start (Some t) None come' old new new' number number' ended state tally piece p read same last = absurd p.remains
@@ -222,7 +223,7 @@ ends start (Some t) (Some octets) (Some rest) old new new' number number' ended 
     subst (λ ps. Adds old new' (sent piece_text ps)) (sym all) (sent_then piece_text old new new' (front start p.lines) (piece ∷ []) p.out last)
 
 -- at the script's end, the tally is that of the whole report
-pub tallies : (start : State) (text come come' : Option (List ℕ)) (old new : Option Told) (number number' : ℕ) (ended : Bool) (state : State) (tally : Tally) → Progress start text come old new number ended state tally → WhereTold come come' (ReadsLine Session number number' (Ok None)) →
+pub tallies : (start : CoreState) (text come come' : Option (List ℕ)) (old new : Option Told) (number number' : ℕ) (ended : Bool) (state : CoreState) (tally : Tally) → Progress start text come old new number ended state tally → WhereTold come come' (ReadsLine Session number number' (Ok None)) →
     IfSome text (λ t. tally ≡ tally_of (session_over start (lines_of t)))
 tallies start None come come' old new number number' ended state tally p read = tt
 tallies start (Some t) None come' old new number number' ended state tally p read = absurd p.remains
@@ -232,7 +233,7 @@ tallies start (Some t) (Some octets) (Some rest) old new number number' ended st
     ∙ (sym (tally-end (front start p.lines) number' state) ∙ ap tally_of (sym (report_end start octets t number number' p.lines state p.reached p.remains read.0)))
 
 -- and the state is that of all its lines
-pub reaches : (start : State) (text come come' : Option (List ℕ)) (old new : Option Told) (number number' : ℕ) (ended : Bool) (state : State) (tally : Tally) → Progress start text come old new number ended state tally → WhereTold come come' (ReadsLine Session number number' (Ok None)) →
+pub reaches : (start : CoreState) (text come come' : Option (List ℕ)) (old new : Option Told) (number number' : ℕ) (ended : Bool) (state : CoreState) (tally : Tally) → Progress start text come old new number ended state tally → WhereTold come come' (ReadsLine Session number number' (Ok None)) →
     IfSome text (λ t. state ≡ state_over start (spelled_in Session 0 (lines_of t)))
 reaches start None come come' old new number number' ended state tally p read = tt
 reaches start (Some t) None come' old new number number' ended state tally p read = absurd p.remains
@@ -242,7 +243,7 @@ reaches start (Some t) (Some octets) (Some rest) old new number number' ended st
     p.reached ∙ ap (state_over start) (sym (p.remains.spelled ∙ (ap (λ l. p.lines ++ l) none ∙ append-nil p.lines)))
 
 -- at its end, every line of the script is in the grammar
-pub accepts : (start : State) (text come come' : Option (List ℕ)) (old new : Option Told) (number number' : ℕ) (ended : Bool) (state : State) (tally : Tally) → Progress start text come old new number ended state tally → WhereTold come come' (ReadsLine Session number number' (Ok None)) → IfSome text (λ t. refused_line Session t ≡ None)
+pub accepts : (start : CoreState) (text come come' : Option (List ℕ)) (old new : Option Told) (number number' : ℕ) (ended : Bool) (state : CoreState) (tally : Tally) → Progress start text come old new number ended state tally → WhereTold come come' (ReadsLine Session number number' (Ok None)) → IfSome text (λ t. refused_line Session t ≡ None)
 accepts start None come come' old new number number' ended state tally p read = tt
 accepts start (Some t) None come' old new number number' ended state tally p read = absurd p.remains
 accepts start (Some t) (Some octets) None old new number number' ended state tally p read = absurd read
@@ -250,7 +251,7 @@ accepts start (Some t) (Some octets) (Some rest) old new number number' ended st
     p.remains.refused ∙ (spells_none Session (lines_of octets) number number' read.0).refused
 
 -- a fault while the last piece goes out
-pub ends_at_end : (start : State) (text come come' : Option (List ℕ)) (old new new' : Option Told) (number number' : ℕ) (ended : Bool) (state : State) (tally : Tally) (piece : List ReportLine) (fault : Unsent) → Progress start text come old new number ended state tally → WhereTold come come' (ReadsLine Session number number' (Ok None)) →
+pub ends_at_end : (start : CoreState) (text come come' : Option (List ℕ)) (old new new' : Option Told) (number number' : ℕ) (ended : Bool) (state : CoreState) (tally : Tally) (piece : List ReportLine) (fault : Unsent) → Progress start text come old new number ended state tally → WhereTold come come' (ReadsLine Session number number' (Ok None)) →
     piece ≡ end_piece number' state → SendsUpTo piece_text fault (piece ∷ []) new new' → IfSome text (λ t. Ends piece_text (of_unsent fault) (session_over start (lines_of t)) old new')
 ends_at_end start None come come' old new new' number number' ended state tally piece fault p read same last = tt
 ends_at_end start (Some t) None come' old new new' number number' ended state tally piece fault p read same last = absurd p.remains
@@ -261,7 +262,7 @@ ends_at_end start (Some t) (Some octets) (Some rest) old new new' number number'
     (subst (λ ps. SendsUpTo piece_text fault ps old new') (sym all) (front_then piece_text fault old new new' (front start p.lines) (piece ∷ []) p.out last))
 
 -- the source failed: the lines that were taken are those of the whole lines that were read
-stops_where : (start : State) (t octets rest pending : List ℕ) (old new : Option Told) (number number' : ℕ) (lines : List Line) → Adds old new (sent piece_text (front start lines)) → Remains lines number t octets → next_in Session number' (lines_of (pending ++ rest)) ≡ next_in Session number (lines_of octets) → TakesLines 0 number' t (pending ++ rest) → position is_line_feed pending ≡ None →
+stops_where : (start : CoreState) (t octets rest pending : List ℕ) (old new : Option Told) (number number' : ℕ) (lines : List Line) → Adds old new (sent piece_text (front start lines)) → Remains lines number t octets → next_in Session number' (lines_of (pending ++ rest)) ≡ next_in Session number (lines_of octets) → TakesLines 0 number' t (pending ++ rest) → position is_line_feed pending ≡ None →
     StopsReading piece_text (state_front start) Session t rest old new
 stops_where start t octets rest pending old new number number' lines out r next taken no_feed =
     let h = spells_same Session number' number (lines_of (pending ++ rest)) (lines_of octets) next in
@@ -281,7 +282,7 @@ stops_where start t octets rest pending old new number number' lines out r next 
       emitted = subst (λ ls. Adds old new (sent piece_text (front start ls))) same out;
     }
 
-pub stops_reading : (start : State) (text come left : Option (List ℕ)) (pending : List ℕ) (old new : Option Told) (number number' : ℕ) (ended ended' : Bool) (state : State) (tally : Tally) → Progress start text come old new number ended state tally → WhereTold come (prepend_known pending left) (ReadsLine Session number number' (Err Read)) →
+pub stops_reading : (start : CoreState) (text come left : Option (List ℕ)) (pending : List ℕ) (old new : Option Told) (number number' : ℕ) (ended ended' : Bool) (state : CoreState) (tally : Tally) → Progress start text come old new number ended state tally → WhereTold come (prepend_known pending left) (ReadsLine Session number number' (Err Read)) →
     (ended' ≡ false → ended ≡ false) → (ended' ≡ false → WhereTold come (prepend_known pending left) (TakesLines number number')) → (ended' ≡ false) × (position is_line_feed pending ≡ None) →
     WhereTold text left (λ t rest. StopsReading piece_text (state_front start) Session t rest old new)
 stops_reading start None come left pending old new number number' ended ended' state tally p read stays taken waits = tt

@@ -4,9 +4,9 @@ use Rattle.std.specs.List.{count_by, flat_map}
 use Rattle.std.proofs.lemmas.Grind.{flat_map-append}
 use Rattle.std.proofs.lemmas.List.Sums.{sum_by-append}
 use Rattle.bac_values.specs.declared.report.ReportLine.{ReportLine}
-use Rattle.alarm_core.specs.State.{State}
+use Rattle.alarm_core.specs.State.{CoreState}
 use Rattle.alarm_server.specs.declared.tally.Tally.{Tally}
-use Rattle.alarm_server.specs.SessionSteps.{end_piece, open_piece}
+use Rattle.alarm_server.specs.Pieces.{end_piece, open_piece}
 use Rattle.alarm_server.specs.Tallies.{is_change, is_entered, is_full, is_sent, no_tally, tally_of, tally_with}
 
 abbrev made : ℕ → ℕ → ℕ → ℕ → Tally
@@ -33,11 +33,11 @@ tally-next pieces piece =
     ∙ tally-append lines piece no_tally
 
 -- the first piece and the last one have no line that is counted
-pub tally-open : (state : State) → tally_of (open_piece state ∷ []) ≡ no_tally
+pub tally-open : (state : CoreState) → tally_of (open_piece state ∷ []) ≡ no_tally
 tally-open state = refl
 
-ends_with : (lines : ℕ) (state : State) (tally : Tally) → tally_with (end_piece lines state) tally ≡ tally
+ends_with : (lines : ℕ) (state : CoreState) (tally : Tally) → tally_with (end_piece lines state) tally ≡ tally
 ends_with lines state tally = same_made _ _ _ _ _ _ _ _ (omega arith) (omega arith) (omega arith) (omega arith)
 
-pub tally-end : (pieces : List (List ReportLine)) (lines : ℕ) (state : State) → tally_of (pieces ++ end_piece lines state ∷ []) ≡ tally_of pieces
+pub tally-end : (pieces : List (List ReportLine)) (lines : ℕ) (state : CoreState) → tally_of (pieces ++ end_piece lines state ∷ []) ≡ tally_of pieces
 tally-end pieces lines state = tally-next pieces (end_piece lines state) ∙ ends_with lines state (tally_of pieces)

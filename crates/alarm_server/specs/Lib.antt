@@ -16,3 +16,4 @@ pub mod Outcomes
 pub mod Script
 pub mod Trial
 pub mod Paths
+pub mod Pieces

@@ -11,7 +11,7 @@ use Rattle.alarm_server.specs.declared.status.Status.TheVariants.{SiteRefused, R
 use Rattle.alarm_server.specs.Emission.{Ends}
 use Rattle.alarm_server.specs.Report.{front_pieces, report_of}
 use Rattle.alarm_server.specs.Script.{refused_line}
-use Rattle.alarm_server.specs.SessionSteps.{piece_text}
+use Rattle.alarm_server.specs.Pieces.{piece_text}
 use Rattle.alarm_server.specs.Stopping.{StopsReading}
 
 -- What went out, by the site that the file's text is: its report from no event on. Where the text is no site nothing went out, and the session ended with the text's fault, or before it was found.

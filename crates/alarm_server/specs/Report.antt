@@ -8,7 +8,7 @@ use Rattle.alarm_core.specs.declared.event.Event.{Event}
 use Rattle.alarm_core.specs.declared.site.Site.{Site}
 use Rattle.alarm_core.specs.State.{state_of}
 use Rattle.alarm_server.specs.Script.{spelled_in, refused_in}
-use Rattle.alarm_server.specs.SessionSteps.{decision_for, event_in, open_piece, piece_of, session_end}
+use Rattle.alarm_server.specs.Pieces.{decision_for, event_in, open_piece, piece_of, session_end}
 
 abbrev pub history_by : List Event → Option Event → List Event
 history_by history None = history

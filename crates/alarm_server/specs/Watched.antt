@@ -8,14 +8,14 @@ use Rattle.alarm_server.specs.declared.settings.Settings.{Settings}
 use Rattle.alarm_server.specs.Looks.{point_at}
 
 -- its settings, the moment and the value of the last look, and its alarm
-pub record Watched : Type 0 where
+pub record WatchState : Type 0 where
   pub settings : Settings
   pub moment : ℕ
   pub value : ℤ
   pub alarm : AlarmState
 
 -- This is known after a course, in which each point follows the one before it: the last look was at its newest point, and the alarm is the one that looking back over it gives.
-pub record HasSeen (first : Point) (later : List Incident) (watched : Watched) : Type 0 where
+pub record HasSeen (first : Point) (later : List Incident) (watched : WatchState) : Type 0 where
   pub newest : newest_of first later ≡ point_at watched.settings watched.moment (Signed watched.value)
   pub course : IsCourse first later
   pub after : IsAfter SignedOutOfRange first later watched.alarm

@@ -11,7 +11,7 @@ ghost use Rattle.alarm_server.specs.Emission.{Ends};
 ghost use Rattle.alarm_server.specs.OnFile.{AcceptsOnFile, EndsOnFile, RefusesFile, StopsOnFile};
 ghost use Rattle.alarm_server.specs.Report.{front_pieces, report_of};
 ghost use Rattle.alarm_server.specs.Script.{refused_line};
-ghost use Rattle.alarm_server.specs.SessionSteps.{piece_text};
+ghost use Rattle.alarm_server.specs.Pieces.{piece_text};
 ghost use Rattle.alarm_server.specs.Status.{IsFault, IsPlayFault, IsSiteFault, status_of};
 ghost use Rattle.alarm_server.specs.Stopping.{StopsReading};
 ghost use Rattle.alarm_server.specs.Tallies.{tally_of};

@@ -1,7 +1,7 @@
 ghost use Rattle.std.specs.Prelude.{◌≡◌, ◌∷◌, [], IfOk, IsErrOf};
 ghost use Rattle.ground_io.specs.Counts.{HasCause};
 ghost use Rattle.alarm_server.specs.Emission.{Sends};
-ghost use Rattle.alarm_server.specs.SessionSteps.{piece_text};
+ghost use Rattle.alarm_server.specs.Pieces.{piece_text};
 
 use crate::emission::Unsent;
 use bac_values::{NoMemory, Peer, ReportLine};

@@ -11,7 +11,8 @@ ghost use Rattle.alarm_core.specs.CoreSteps.{next_sends, next_state, next_transi
 ghost use Rattle.alarm_core.specs.Verdicts.{Answers, step_verdict};
 ghost use Rattle.alarm_server.specs.Emission.{Ends, Sends};
 ghost use Rattle.alarm_server.specs.Script.{refused_line, spelled_in};
-ghost use Rattle.alarm_server.specs.SessionSteps.{end_piece, event_in, open_piece, piece_by, piece_of, piece_text, reply_lines, send_line, session_over, state_by, state_front, state_over, state_with};
+ghost use Rattle.alarm_server.specs.SessionSteps.{session_over, state_by, state_front, state_over, state_with};
+ghost use Rattle.alarm_server.specs.Pieces.{end_piece, event_in, open_piece, piece_by, piece_of, piece_text, reply_lines, send_line};
 ghost use Rattle.alarm_server.specs.Status.{IsPlayFault, status_of};
 ghost use Rattle.alarm_server.specs.Stopping.{StopsReading};
 ghost use Rattle.alarm_server.specs.Tallies.{tally_of, tally_with};

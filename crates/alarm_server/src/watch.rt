@@ -29,9 +29,9 @@ pub struct Watch {
 
 impl Model for Watch {
     ghost use Rattle.bac_values.specs.Moments.{IsMoment};
-    ghost use Rattle.alarm_server.specs.Watched.{Watched};
+    ghost use Rattle.alarm_server.specs.Watched.{WatchState};
 
-    ghost Value = { Watched };
+    ghost Value = { WatchState };
 
     ghost view = { λ watch. record {
       settings = watch.settings;

@@ -2,7 +2,7 @@
 use Rattle.std.specs.Prelude.{ℕ, Bool, false, ℤ, Option, List, slice_index_or}
 use Rattle.std.specs.Option.{option_copied}
 use Rattle.bac_values.specs.declared.value.Value.{Value}
-use Rattle.bac_values.specs.BitString.{BitString}
+use Rattle.bac_values.specs.BitString.{BitsData}
 use Rattle.algorithm_rules.specs.declared.snapshot.Snapshot.{Snapshot}
 
 -- an object's values at one moment, and its settings
@@ -11,7 +11,7 @@ pub record Facts : Type 0 where
   pub feedback : Option Value
   pub alarm_value : Option Value
   pub alarm_values : List Value
-  pub mask : Option BitString
+  pub mask : Option BitsData
   pub low : ℤ
   pub high : ℤ
   pub low_enabled : Bool

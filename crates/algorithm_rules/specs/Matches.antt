@@ -5,7 +5,7 @@ use Rattle.std.specs.List.{starts_with}
 use Rattle.std.specs.Ordering.{int_eq}
 use Rattle.bac_values.specs.declared.value.Value.{Value}
 use Rattle.bac_values.specs.declared.value.Value.TheVariants.{Bool as Truth, Unsigned, Signed, Enumerated, Bits, Text}
-use Rattle.bac_values.specs.BitString.{BitString}
+use Rattle.bac_values.specs.BitString.{BitsData}
 use Rattle.algorithm_rules.specs.Facts.{Facts}
 
 -- a text occurs in another that begins with it, and in one behind whose first octet it occurs
@@ -20,12 +20,12 @@ matches_text [] (octet ∷ octets) = false
 matches_text (octet ∷ octets) value = occurs_in (octet ∷ octets) value
 
 -- strings of bits match where they have one length, and equal bits where the mask has them; without a mask all bits count
-abbrev pub matches_bits : Option BitString → BitString → BitString → Bool
+abbrev pub matches_bits : Option BitsData → BitsData → BitsData → Bool
 matches_bits None alarm value = alarm.size == value.size && alarm.bits == value.bits
 matches_bits (Some mask) alarm value = alarm.size == value.size && bit_and alarm.bits mask.bits == bit_and value.bits mask.bits
 
 -- whether an alarm value matches a value; numbers, enumerations and truth values match where they are equal
-abbrev pub matches : Option BitString → Value → Value → Bool
+abbrev pub matches : Option BitsData → Value → Value → Bool
 matches mask (Truth alarm) (Truth value) = beq alarm value
 matches mask (Unsigned alarm) (Unsigned value) = alarm == value
 matches mask (Signed alarm) (Signed value) = int_eq alarm value

@@ -12,7 +12,8 @@ use Rattle.bac_tags.specs.ReadingSteps.{tag_at}
 use Rattle.bac_tags.proofs.Standing.{IsBytes, Stands, Stands-then, Stands-nil, Stands-front, Stands-back, Stands-within}
 use Rattle.bac_tags.proofs.TagLaws.{tag_found, tag_again}
 use Rattle.bac_tags.specs.EnclosingTags.{opening, closing}
-use Rattle.bac_tags.specs.Balanced.{content_size, AreElements, none, primitive, enclosed, rest_behind, behind_tag, at_tag, closes_within, elements_end}
+use Rattle.bac_tags.specs.Balanced.{content_size, AreElements, none, primitive, enclosed}
+use Rattle.bac_tags.specs.BalancedSteps.{rest_behind, behind_tag, at_tag, closes_within, elements_end}
 
 -- a tag that is read is behind the place, and begins within the octets
 tag_behind : (input : List ℕ) (place : ℕ) (tag : Tag) (after : ℕ) → IsBytes input → tag_at input place ≡ Ok (tag, after) → (place < after) × (place < length input)

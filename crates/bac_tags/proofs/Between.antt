@@ -9,8 +9,10 @@ use Rattle.bac_tags.specs.ReadingSteps.{◌>>=◌}
 use Rattle.bac_tags.proofs.Standing.{IsBytes, Stands, Stands-from, Stands-then, Stands-front, Stands-back, Stands-within}
 use Rattle.bac_tags.proofs.Steps.{bind_ok, ok_is}
 use Rattle.bac_tags.proofs.ElementLaws.{some_ok}
-use Rattle.bac_tags.specs.EnclosingTags.{opening, SpellsOnly, SpellsEnclosed, opening_at}
-use Rattle.bac_tags.specs.Balanced.{SpellsElements, elements_end, elements_at}
+use Rattle.bac_tags.specs.EnclosingTags.{opening, SpellsOnly, SpellsEnclosed}
+use Rattle.bac_tags.specs.EnclosingSteps.{opening_at}
+use Rattle.bac_tags.specs.Balanced.{SpellsElements}
+use Rattle.bac_tags.specs.BalancedSteps.{elements_end, elements_at}
 use Rattle.bac_tags.proofs.TagReaders.{reads_opening}
 use Rattle.bac_tags.proofs.Balance.{closes_found, closes_again}
 

@@ -7,7 +7,7 @@ use Rattle.std.proofs.lemmas.Nat.{pow-add}
 use Rattle.std.proofs.lemmas.Nat.Bits.{bit_at-suc, bit_at_cat_low, bit_at_cat_high}
 use Rattle.byteorder.specs.Endian.{big_number}
 use Rattle.byteorder.specs.Numbers.{big_from-cons, big_from-lt}
-use Rattle.bac_values.specs.BitString.{BitString}
+use Rattle.bac_values.specs.BitString.{BitsData}
 use Rattle.bac_tags.specs.Contents.{IsBits, mirrored}
 use Rattle.bac_tags.proofs.Standing.{IsBytes}
 use Rattle.bac_tags.proofs.Mirror.{mirrored_small, pow256}
@@ -60,7 +60,7 @@ number_bit (first ∷ octets) (suc place) low bytes lt small =
     ∙ bit_at_cat_low first (8 * size) rest (8 * (size - 1 - place) + low) (omega arith)
     ∙ number_bit octets place low (λ i. bytes (suc i)) (omega arith) small
 
-pub bits_in_order : (unused : ℕ) (octets : List ℕ) (string : BitString) → IsBytes octets → IsBits (unused ∷ octets) string → (i : ℕ) → i < string.size → bit_at string.bits i ≡ bit_at (get_or octets (i / 8) 0) (7 - i % 8)
+pub bits_in_order : (unused : ℕ) (octets : List ℕ) (string : BitsData) → IsBytes octets → IsBits (unused ∷ octets) string → (i : ℕ) → i < string.size → bit_at string.bits i ≡ bit_at (get_or octets (i / 8) 0) (7 - i % 8)
 bits_in_order unused octets string bytes h i lt =
     let number = big_number (length octets) octets in
     let place : unused + (string.size - 1 - i) ≡ 8 * (length octets - 1 - i / 8) + (7 - i % 8) = omega (arith, h.1) in

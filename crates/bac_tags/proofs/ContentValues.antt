@@ -9,8 +9,8 @@ use Rattle.bac_values.specs.declared.value.Value.{Value}
 use Rattle.bac_values.specs.declared.value.Value.TheVariants as values
 use Rattle.bac_values.specs.declared.value.Foreign.{Foreign}
 use Rattle.bac_values.specs.declared.value.Foreign.TheVariants.{OtherType, CharacterSet, NotUtf8, TooLong, OutOfRange}
-use Rattle.bac_values.specs.Identifier.{Identifier}
-use Rattle.bac_values.specs.BitString.{BitString}
+use Rattle.bac_values.specs.Identifier.{ObjectIdData}
+use Rattle.bac_values.specs.BitString.{BitsData}
 use Rattle.bac_tags.specs.Values.{has_length, IsOtherType, IsForeign, IsValue}
 use Rattle.bac_tags.specs.ReadingSteps.{unsigned_of, signed_of, identifier_of, string_of, bits_of, number_in, characters_in, text_in, string_in, value_in}
 use Rattle.bac_tags.proofs.Steps.{chosen}
@@ -180,14 +180,14 @@ string_takes : (content : List ℕ) (v : Value) → 1 ≤ length content → str
 unfolding value_in
 string_takes content v least e = (e, le-leb 1 (length content) least, λ bad. omega arith)
 
-short_string : (content : List ℕ) (string : BitString) → length content ≤ 9 → bits_of content ≡ Some string → string_in content ≡ Some (values.Bits string)
+short_string : (content : List ℕ) (string : BitsData) → length content ≤ 9 → bits_of content ≡ Some string → string_in content ≡ Some (values.Bits string)
 short_string [] string le e = absurd cc
 short_string (unused ∷ octets) string le e =
     elim (chosen (ltb 7 unused || ltb (8 * length octets) unused) None (Some (string_of unused octets)) (Some string) e) [
       | inl h ↦ absurd (let bad = h.1 in cc)
       | inr h ↦
           let same : string_of unused octets ≡ string = let some = h.1 in cc in
-          rw (h.0, le-ltb 8 (length octets) (omega arith)) (ap (λ (s : BitString). Some (values.Bits s)) same)
+          rw (h.0, le-ltb 8 (length octets) (omega arith)) (ap (λ (s : BitsData). Some (values.Bits s)) same)
     ]
 
 long_string : (unused : ℕ) (octets : List ℕ) → unused ≤ 7 → 8 < length octets → string_in (unused ∷ octets) ≡ Some (values.Opaque 8 OutOfRange)
@@ -195,9 +195,9 @@ long_string unused octets few long =
     let fine : (ltb 7 unused || ltb (8 * length octets) unused) ≡ false = or_from _ _ (le-ltb 7 unused few) (le-ltb (8 * length octets) unused (omega arith)) in
     rw (fine, lt-ltb 8 (length octets) long) refl
 
-object_takes : (content : List ℕ) (id : Identifier) → length content ≡ 4 → identifier_of content ≡ id → Takes 12 content (values.Object id)
+object_takes : (content : List ℕ) (id : ObjectIdData) → length content ≡ 4 → identifier_of content ≡ id → Takes 12 content (values.Object id)
 unfolding value_in
-object_takes content id four e = (ap (λ (i : Identifier). Some (values.Object i)) e, eq-eqb (length content) 4 four, λ bad. omega arith)
+object_takes content id four e = (ap (λ (i : ObjectIdData). Some (values.Object i)) e, eq-eqb (length content) 4 four, λ bad. omega arith)
 
 other_takes : (type : ℕ) (content : List ℕ) → IsOtherType type → has_length type (length content) ≡ true → Takes type content (values.Opaque type OtherType)
 unfolding value_in

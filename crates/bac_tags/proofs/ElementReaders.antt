@@ -17,7 +17,8 @@ use Rattle.bac_tags.proofs.Readers.{Values, reads, reads_form, value_again, form
 use Rattle.bac_tags.proofs.Numbers.{unsigned_values, signed_values, identifier_values, bits_forms}
 use Rattle.bac_tags.proofs.Booleans.{boolean_forms}
 use Rattle.bac_tags.proofs.StampLaws.{reads_stamp, stamp_again}
-use Rattle.bac_tags.specs.EnclosingTags.{opening, closing, SpellsEnclosed, IsOctets, SpellsOctets, opening_at, closing_at, enclosed_at}
+use Rattle.bac_tags.specs.EnclosingTags.{opening, closing, SpellsEnclosed, IsOctets, SpellsOctets}
+use Rattle.bac_tags.specs.EnclosingSteps.{opening_at, closing_at, enclosed_at}
 use Rattle.bac_tags.proofs.TagReaders.{StandsTag, is_opening_tag, is_closing_tag, tests_opening, tests_closing, one_tag_found, one_tag_again}
 
 pub record Reader {X : Type 0} (Spells : List ℕ → X → Type 0) (read : List ℕ → ℕ → Result (X × ℕ) TagFault) : Type 0 where

@@ -7,10 +7,10 @@ use Rattle.std.proofs.lemmas.Int.{ints}
 use Rattle.std.proofs.Math.Nat.{pow-le-pow_right}
 use Rattle.byteorder.specs.Endian.{big_number, twos_complement}
 use Rattle.byteorder.specs.Numbers.{big_from-lt}
-use Rattle.bac_values.specs.Identifier.{Identifier}
+use Rattle.bac_values.specs.Identifier.{ObjectIdData}
 use Rattle.bac_tags.specs.Contents.{IsUnsigned, IsSigned, IsObject, IsBits, mirrored}
 use Rattle.bac_tags.specs.Elements.{IsBetween}
-use Rattle.bac_values.specs.BitString.{BitString}
+use Rattle.bac_values.specs.BitString.{BitsData}
 use Rattle.bac_tags.specs.ReadingSteps.{unsigned_of, signed_of, identifier_of, string_of, bits_of}
 use Rattle.bac_tags.proofs.Standing.{IsBytes}
 use Rattle.bac_tags.proofs.Steps.{chosen}
@@ -64,7 +64,7 @@ unsigned_values = record { is = λ content bytes right. (right, refl); right = �
 pub signed_values : Values 1 4 signed_of IsSigned
 signed_values = record { is = λ content bytes right. (right, refl); right = λ content x h. h.0; one = λ content x h. sym h.1 }
 
-abbrev made : ℕ → ℕ → Identifier
+abbrev made : ℕ → ℕ → ObjectIdData
 made number instance = record { number = number; instance = instance }
 
 pub identifier_values : Values 4 4 identifier_of IsObject
@@ -83,7 +83,7 @@ identifier_values = record {
 -- ---- contents that may have another form
 
 -- the number of unused bits and the octets behind it
-pub bits_is : (content : List ℕ) (x : BitString) → length content ≤ 9 → bits_of content ≡ Some x → IsBits content x
+pub bits_is : (content : List ℕ) (x : BitsData) → length content ≤ 9 → bits_of content ≡ Some x → IsBits content x
 bits_is [] x short e = absurd cc
 bits_is (unused ∷ octets) x short e =
     elim (chosen (ltb 7 unused || ltb (8 * length octets) unused) None (Some (string_of unused octets)) (Some x) e) [
@@ -96,14 +96,14 @@ bits_is (unused ∷ octets) x short e =
           subst (IsBits (unused ∷ octets)) same (few, omega (arith, there), omega (arith, short), refl)
     ]
 
-pub bits_right : (content : List ℕ) (x : BitString) → IsBits content x → IsBetween 1 9 (length content)
+pub bits_right : (content : List ℕ) (x : BitsData) → IsBits content x → IsBetween 1 9 (length content)
 bits_right [] x h = absurd h
 bits_right (unused ∷ octets) x h = (omega arith, omega (arith, h.0, h.1, h.2))
 
-abbrev string : ℕ → ℕ → BitString
+abbrev string : ℕ → ℕ → BitsData
 string size bits = record { size = size; bits = bits }
 
-pub bits_one : (content : List ℕ) (x : BitString) → IsBits content x → bits_of content ≡ Some x
+pub bits_one : (content : List ℕ) (x : BitsData) → IsBits content x → bits_of content ≡ Some x
 bits_one [] x h = absurd h
 bits_one (unused ∷ octets) x h =
     let few : ltb 7 unused ≡ false = le-ltb 7 unused h.0 in

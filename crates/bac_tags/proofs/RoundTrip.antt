@@ -3,8 +3,8 @@ use Rattle.std.proofs.Common.{◌≡◌, ℕ, ℤ, ◌+◌, ◌^◌, ◌<◌, �
 use Rattle.std.specs.Prelude.{FitsSigned}
 use Rattle.std.specs.Int.{w32}
 use Rattle.std.proofs.lemmas.List.{length-append, drop_at}
-use Rattle.bac_values.specs.Identifier.{Identifier, IsIdentifier}
-use Rattle.bac_values.specs.BitString.{BitString, IsBitString}
+use Rattle.bac_values.specs.Identifier.{IsIdentifier, ObjectIdData}
+use Rattle.bac_values.specs.BitString.{IsBitString, BitsData}
 use Rattle.bac_values.specs.declared.stamp.Stamp.{Stamp}
 use Rattle.bac_values.specs.declared.value.Value.{Value}
 use Rattle.bac_tags.specs.declared.tag.Tag.{Tag}
@@ -46,7 +46,7 @@ signed_back before rest context z fits =
     let octets = written_signed context z in
     content_again 3 context 1 4 signed_of IsSigned signed_values (before ++ octets ++ rest) (length before) (within before octets rest) octets z (length before + length octets) (signed_written context z fits) (between before octets rest)
 
-pub object_back : (before rest : List ℕ) (context : Option ℕ) (id : Identifier) → IsIdentifier id.number id.instance → object_at (before ++ written_object context id ++ rest) (length before) context ≡ Ok (id, length before + length (written_object context id))
+pub object_back : (before rest : List ℕ) (context : Option ℕ) (id : ObjectIdData) → IsIdentifier id.number id.instance → object_at (before ++ written_object context id ++ rest) (length before) context ≡ Ok (id, length before + length (written_object context id))
 unfolding object_at
 object_back before rest context id fits =
     let octets = written_object context id in
@@ -61,7 +61,7 @@ boolean_back before rest (Some number) b =
     let octets = written_boolean (Some number) b in
     form_again 1 (Some number) 1 1 boolean_of IsBoolean boolean_forms (before ++ octets ++ rest) (length before) (within before octets rest) octets b (length before + length octets) (boolean_written (Some number) b) (between before octets rest)
 
-pub bits_back : (before rest : List ℕ) (context : Option ℕ) (string : BitString) → IsBitString string.size string.bits → bits_at (before ++ written_bits context string ++ rest) (length before) context ≡ Ok (string, length before + length (written_bits context string))
+pub bits_back : (before rest : List ℕ) (context : Option ℕ) (string : BitsData) → IsBitString string.size string.bits → bits_at (before ++ written_bits context string ++ rest) (length before) context ≡ Ok (string, length before + length (written_bits context string))
 unfolding bits_at
 bits_back before rest context string fits =
     let octets = written_bits context string in

@@ -14,7 +14,8 @@ use Rattle.bac_tags.proofs.Steps.{bind_ok, bind_err, chosen, ok_is}
 use Rattle.bac_tags.proofs.Standing.{IsBytes, Stands, Stands-from}
 use Rattle.bac_tags.proofs.TagLaws.{tag_found, tag_again}
 use Rattle.bac_tags.proofs.Cut.{tag_cut, tag_truncated}
-use Rattle.bac_tags.specs.EnclosingTags.{opening, closing, SpellsOnly, IsOtherTag, is_opening, is_closing, opening_at, closing_at}
+use Rattle.bac_tags.specs.EnclosingTags.{opening, closing, SpellsOnly, IsOtherTag}
+use Rattle.bac_tags.specs.EnclosingSteps.{is_opening, is_closing, opening_at, closing_at}
 
 -- one tag, and the place after it
 abbrev pub one_tag : (Tag → Bool) → List ℕ → ℕ → Result ℕ TagFault

@@ -9,8 +9,8 @@ use Rattle.std.proofs.lemmas.List.{append-nil, length-take, length-drop, take-ap
 use Rattle.std.proofs.Math.Nat.{pow-le-pow_right, mod-eq_of_lt}
 use Rattle.byteorder.specs.Endian.{big_number, big_bytes, twos_complement}
 use Rattle.byteorder.specs.Numbers.{big_number-reads_back, length-bytes_high_first}
-use Rattle.bac_values.specs.Identifier.{Identifier, IsIdentifier}
-use Rattle.bac_values.specs.BitString.{BitString, IsBitString}
+use Rattle.bac_values.specs.Identifier.{IsIdentifier, ObjectIdData}
+use Rattle.bac_values.specs.BitString.{IsBitString, BitsData}
 use Rattle.bac_values.specs.declared.stamp.Stamp.{Stamp}
 use Rattle.bac_tags.specs.Tags.{FitsShape}
 use Rattle.bac_tags.specs.Elements.{element_tag, SpellsElement}
@@ -132,7 +132,7 @@ signed_written context z fits =
 
 -- ---- the others
 
-pub object_written : (context : Option ℕ) (id : Identifier) → IsIdentifier id.number id.instance → SpellsObject context (written_object context id) id
+pub object_written : (context : Option ℕ) (id : ObjectIdData) → IsIdentifier id.number id.instance → SpellsObject context (written_object context id) id
 object_written context id h =
     let x = id.number * 4194304 + id.instance in
     element_written 12 context IsObject (big_bytes 4 x) id (omega arith) (refl, sym (read_back 4 x (omega (arith, h.0, h.1))), h)
@@ -142,7 +142,7 @@ boolean_written None true = tag_written (element_tag 1 None 1) (omega arith)
 boolean_written None false = tag_written (element_tag 1 None 0) (omega arith)
 boolean_written (Some number) b = element_written 1 (Some number) IsBoolean (from_bool b ∷ []) b (omega arith) refl
 
-bits_is : (string : BitString) → IsBitString string.size string.bits → IsBits (unused_of_bits string.size ∷ big_bytes (octets_of_bits string.size) (mirrored string.size string.bits * 2 ^ unused_of_bits string.size)) string
+bits_is : (string : BitsData) → IsBitString string.size string.bits → IsBits (unused_of_bits string.size ∷ big_bytes (octets_of_bits string.size) (mirrored string.size string.bits * 2 ^ unused_of_bits string.size)) string
 bits_is string h =
     let size = string.size in
     let count = octets_of_bits size in
@@ -156,7 +156,7 @@ bits_is string h =
     let same : string.bits ≡ mirrored size (big_number (length (big_bytes count x)) (big_bytes count x) / 2 ^ unused) = sym (ap (λ (k : ℕ). mirrored size (k / 2 ^ unused)) back ∙ ap (mirrored size) used ∙ mirrored-mirrored size string.bits h.1) in
     (omega arith, whole ∙ ap (λ (k : ℕ). 8 * k) (sym long), h.0, same)
 
-pub bits_written : (context : Option ℕ) (string : BitString) → IsBitString string.size string.bits → SpellsBits context (written_bits context string) string
+pub bits_written : (context : Option ℕ) (string : BitsData) → IsBitString string.size string.bits → SpellsBits context (written_bits context string) string
 bits_written context string h =
     let count = octets_of_bits string.size in
     let x = mirrored string.size string.bits * 2 ^ unused_of_bits string.size in

@@ -3,8 +3,8 @@ use Rattle.std.specs.Prelude.{◌≡◌, ℕ, zero, suc, ◌+◌, ◌*◌, ◌/�
 use Rattle.std.specs.Int.{from_bool}
 use Rattle.byteorder.specs.Endian.{big_number, twos_complement}
 use Rattle.bac_values.specs.ApplicationTags.{boolean_tag, unsigned_tag, signed_tag, bit_string_tag, enumerated_tag, object_identifier_tag}
-use Rattle.bac_values.specs.Identifier.{Identifier, IsIdentifier}
-use Rattle.bac_values.specs.BitString.{BitString}
+use Rattle.bac_values.specs.Identifier.{IsIdentifier, ObjectIdData}
+use Rattle.bac_values.specs.BitString.{BitsData}
 use Rattle.bac_tags.specs.Tags.{SpellsTag, EndsInTag}
 use Rattle.bac_tags.specs.Elements.{element_tag, SpellsElement, IsBetween, EndsInElement, HasOtherLength, HasOtherForm}
 
@@ -17,7 +17,7 @@ abbrev pub IsSigned : List ℕ → ℤ → Type 0
 IsSigned content number = IsBetween 1 4 (length content) × (number ≡ twos_complement (length content) (big_number (length content) content))
 
 -- an ObjectIdentifier (20.2.14): ten bits of the type's number, twenty-two of the instance
-abbrev pub IsObject : List ℕ → Identifier → Type 0
+abbrev pub IsObject : List ℕ → ObjectIdData → Type 0
 IsObject content id = (length content ≡ 4) × (id.number * 4194304 + id.instance ≡ big_number 4 content) × IsIdentifier id.number id.instance
 
 -- whole elements, with the number of their type (20.2.1.4) or one in a context
@@ -30,7 +30,7 @@ SpellsSigned context = SpellsElement signed_tag context IsSigned
 abbrev pub SpellsEnumerated : Option ℕ → List ℕ → ℕ → Type 0
 SpellsEnumerated context = SpellsElement enumerated_tag context IsUnsigned
 
-abbrev pub SpellsObject : Option ℕ → List ℕ → Identifier → Type 0
+abbrev pub SpellsObject : Option ℕ → List ℕ → ObjectIdData → Type 0
 SpellsObject context = SpellsElement object_identifier_tag context IsObject
 
 -- a Boolean in a context (20.2.3): one octet, 0 or 1
@@ -57,10 +57,10 @@ mirrored zero n = 0
 mirrored (suc size) n = n % 2 * 2 ^ size + mirrored size (n / 2)
 
 -- a BitString (20.2.10) of at most 64 bits: the number of unused bits, and the octets that end with them. The highest bit of the first octet is the first of the string, which is the lowest of the number that stands for it
-abbrev pub IsBits : List ℕ → BitString → Type 0
+abbrev pub IsBits : List ℕ → BitsData → Type 0
 IsBits [] string = ⊥
 IsBits (unused ∷ octets) string =
     (unused ≤ 7) × (string.size + unused ≡ 8 * length octets) × (string.size ≤ 64) × (string.bits ≡ mirrored string.size (big_number (length octets) octets / 2 ^ unused))
 
-abbrev pub SpellsBits : Option ℕ → List ℕ → BitString → Type 0
+abbrev pub SpellsBits : Option ℕ → List ℕ → BitsData → Type 0
 SpellsBits context = SpellsElement bit_string_tag context IsBits

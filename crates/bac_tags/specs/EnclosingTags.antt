@@ -1,13 +1,10 @@
 -- Tags that open and close the elements of a parameter, and contents that are looked at no further (ANSI/ASHRAE 135-2020, 20.2.1).
-use Rattle.std.specs.Prelude.{◌≡◌, ◌≢◌, ℕ, ◌==◌, ◌&&◌, if◌then◌else◌, Some, Bool, true, false, List, ◌++◌, length, Result, Ok, Err}
-use Rattle.bac_tags.specs.declared.fault.TagFault.{TagFault}
-use Rattle.bac_tags.specs.declared.fault.TagFault.TheVariants.{WrongTag}
+use Rattle.std.specs.Prelude.{◌≡◌, ◌≢◌, ℕ, Some, true, List, ◌++◌, length}
 use Rattle.bac_tags.specs.declared.tag.Tag.{Tag}
 use Rattle.bac_tags.specs.declared.tag.Shape.{Shape}
-use Rattle.bac_tags.specs.declared.tag.Shape.TheVariants.{Primitive, Opening, Closing}
+use Rattle.bac_tags.specs.declared.tag.Shape.TheVariants.{Opening, Closing}
 use Rattle.bac_tags.specs.Tags.{SpellsTag}
 use Rattle.bac_tags.specs.Elements.{SpellsElement, IsBetween}
-use Rattle.bac_tags.specs.ReadingSteps.{◌>>=◌, tag_at}
 
 abbrev pub in_context : ℕ → Shape → Tag
 in_context number shape = record { number = number; context = true; shape = shape }
@@ -47,26 +44,3 @@ IsOctets least most content octets = IsBetween least most (length content) × (o
 
 abbrev pub SpellsOctets : ℕ → ℕ → ℕ → List ℕ → List ℕ → Type 0
 SpellsOctets number least most = SpellsElement 0 (Some number) (IsOctets least most)
-
--- ---- reading
-
-abbrev pub is_opening : Shape → Bool
-is_opening (Primitive n) = false
-is_opening Opening = true
-is_opening Closing = false
-
-abbrev pub is_closing : Shape → Bool
-is_closing (Primitive n) = false
-is_closing Opening = false
-is_closing Closing = true
-
--- the place after the tag
-unfoldable pub opening_at : List ℕ → ℕ → ℕ → Result ℕ TagFault
-opening_at input place number = tag_at input place >>= λ tag. if is_opening tag.0.shape && tag.0.context && tag.0.number == number then Ok tag.1 else Err (WrongTag place)
-
-unfoldable pub closing_at : List ℕ → ℕ → ℕ → Result ℕ TagFault
-closing_at input place number = tag_at input place >>= λ tag. if is_closing tag.0.shape && tag.0.context && tag.0.number == number then Ok tag.1 else Err (WrongTag place)
-
--- the value between the tags of a number, by its reader
-abbrev pub enclosed_at : {X : Type 0} → (List ℕ → ℕ → Result (X × ℕ) TagFault) → ℕ → List ℕ → ℕ → Result (X × ℕ) TagFault
-enclosed_at read number input place = opening_at input place number >>= λ start. read input start >>= λ x. closing_at input x.1 number >>= λ end. Ok (x.0, end)

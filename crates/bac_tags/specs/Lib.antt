@@ -12,3 +12,5 @@ pub mod Parameters
 pub mod Refusals
 pub mod ParameterReadingSteps
 pub mod ParameterWriting
+pub mod BalancedSteps
+pub mod EnclosingSteps

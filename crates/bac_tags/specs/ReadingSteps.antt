@@ -5,8 +5,8 @@ use Rattle.std.specs.Bool.{beq}
 use Rattle.std.specs.Str.{is_utf8}
 use Rattle.byteorder.specs.Endian.{big_number, twos_complement}
 use Rattle.bac_values.specs.ApplicationTags.{null_tag, boolean_tag, unsigned_tag, signed_tag, character_string_tag, bit_string_tag, enumerated_tag, date_tag, time_tag, object_identifier_tag}
-use Rattle.bac_values.specs.Identifier.{Identifier}
-use Rattle.bac_values.specs.BitString.{BitString}
+use Rattle.bac_values.specs.Identifier.{ObjectIdData}
+use Rattle.bac_values.specs.BitString.{BitsData}
 use Rattle.bac_values.specs.declared.stamp.Stamp.{Stamp}
 use Rattle.bac_values.specs.declared.value.Value.{Value}
 use Rattle.bac_values.specs.declared.value.Value.TheVariants as values
@@ -90,7 +90,7 @@ unsigned_of content = big_number (length content) content
 abbrev pub signed_of : List ℕ → ℤ
 signed_of content = twos_complement (length content) (big_number (length content) content)
 
-abbrev pub identifier_of : List ℕ → Identifier
+abbrev pub identifier_of : List ℕ → ObjectIdData
 identifier_of content = record { number = big_number 4 content / 4194304; instance = big_number 4 content % 4194304 }
 
 unfoldable pub unsigned_at : List ℕ → ℕ → Option ℕ → Result (ℕ × ℕ) TagFault
@@ -99,7 +99,7 @@ unsigned_at input place context = valued unsigned_of (content_at input place uns
 unfoldable pub signed_at : List ℕ → ℕ → Option ℕ → Result (ℤ × ℕ) TagFault
 signed_at input place context = valued signed_of (content_at input place signed_tag context 1 4)
 
-unfoldable pub object_at : List ℕ → ℕ → Option ℕ → Result (Identifier × ℕ) TagFault
+unfoldable pub object_at : List ℕ → ℕ → Option ℕ → Result (ObjectIdData × ℕ) TagFault
 object_at input place context = valued identifier_of (content_at input place object_identifier_tag context 4 4)
 
 -- the value of a content of its form
@@ -119,19 +119,19 @@ unfoldable pub boolean_at : List ℕ → ℕ → Option ℕ → Result (Bool × 
 boolean_at input place None = header_at input place boolean_tag None >>= λ header. ok_or (boolean_in header.0) (BadLength place) >>= λ value. Ok (value, header.1)
 boolean_at input place (Some number) = formed boolean_of place (content_at input place boolean_tag (Some number) 1 1)
 
-abbrev pub string_of : ℕ → List ℕ → BitString
+abbrev pub string_of : ℕ → List ℕ → BitsData
 string_of unused octets =
     record {
       size = 8 * length octets - unused;
       bits = mirrored (8 * length octets - unused) (big_number (length octets) octets / 2 ^ unused);
     }
 
-abbrev pub bits_of : List ℕ → Option BitString
+abbrev pub bits_of : List ℕ → Option BitsData
 bits_of [] = None
 bits_of (unused ∷ octets) =
     if nat_lt 7 unused || nat_lt (8 * length octets) unused then None else Some (string_of unused octets)
 
-unfoldable pub bits_at : List ℕ → ℕ → Option ℕ → Result (BitString × ℕ) TagFault
+unfoldable pub bits_at : List ℕ → ℕ → Option ℕ → Result (BitsData × ℕ) TagFault
 bits_at input place context = formed bits_of place (content_at input place bit_string_tag context 1 9)
 
 unfoldable pub stamp_at : List ℕ → ℕ → Result (Stamp × ℕ) TagFault

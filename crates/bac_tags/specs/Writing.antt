@@ -3,8 +3,8 @@ use Rattle.std.specs.Prelude.{ℕ, ◌+◌, ◌-◌, ◌*◌, ◌/◌, ◌^◌, 
 use Rattle.std.specs.Int.{w32, cast_unsigned, from_bool}
 use Rattle.byteorder.specs.Endian.{big_bytes}
 use Rattle.bac_values.specs.ApplicationTags.{null_tag, boolean_tag, unsigned_tag, signed_tag, character_string_tag, bit_string_tag, enumerated_tag, date_tag, time_tag, object_identifier_tag}
-use Rattle.bac_values.specs.Identifier.{Identifier}
-use Rattle.bac_values.specs.BitString.{BitString}
+use Rattle.bac_values.specs.Identifier.{ObjectIdData}
+use Rattle.bac_values.specs.BitString.{BitsData}
 use Rattle.bac_values.specs.declared.stamp.Stamp.{Stamp}
 use Rattle.bac_values.specs.declared.value.Value.{Value}
 use Rattle.bac_values.specs.declared.value.Value.TheVariants as values
@@ -68,7 +68,7 @@ written_enumerated context n = written_element enumerated_tag context (big_bytes
 abbrev pub written_signed : Option ℕ → ℤ → List ℕ
 written_signed context z = written_element signed_tag context (big_bytes (signed_size z) (cast_unsigned w32 z))
 
-abbrev pub written_object : Option ℕ → Identifier → List ℕ
+abbrev pub written_object : Option ℕ → ObjectIdData → List ℕ
 written_object context id = written_element object_identifier_tag context (big_bytes 4 (id.number * 4194304 + id.instance))
 
 abbrev pub written_boolean : Option ℕ → Bool → List ℕ
@@ -82,7 +82,7 @@ octets_of_bits size = (size + 7) / 8
 abbrev pub unused_of_bits : ℕ → ℕ
 unused_of_bits size = 8 * octets_of_bits size - size
 
-abbrev pub written_bits : Option ℕ → BitString → List ℕ
+abbrev pub written_bits : Option ℕ → BitsData → List ℕ
 written_bits context string =
     written_element bit_string_tag context (unused_of_bits string.size ∷ big_bytes (octets_of_bits string.size) (mirrored string.size string.bits * 2 ^ unused_of_bits string.size))
 

@@ -1,7 +1,8 @@
 ghost use Rattle.std.specs.Prelude.{◌≡◌, ℕ, ◌+◌, ◌<◌, ◌≤◌, List, length, slice_range, IfSome, IfOk, IsOkAnd};
 ghost use Rattle.bac_tags.specs.Places.{IsSpelledAt};
 ghost use Rattle.bac_tags.specs.EnclosingTags.{SpellsEnclosed};
-ghost use Rattle.bac_tags.specs.Balanced.{SpellsElements, content_size, elements_end, elements_at};
+ghost use Rattle.bac_tags.specs.Balanced.{SpellsElements, content_size};
+ghost use Rattle.bac_tags.specs.BalancedSteps.{elements_end, elements_at};
 
 use crate::element::BOOLEAN;
 use crate::enclosing_tags::read_opening;
@@ -53,7 +54,7 @@ fn elements_end(input: &[u8], at: usize, number: u8) -> Option<(usize, usize)>
 }
 
 /// Where the elements between the tags with that number stand, and the place after them.
-#[tactic(auto, unfolding(crate::specs::Balanced::elements_at))]
+#[tactic(auto, unfolding(crate::specs::BalancedSteps::elements_at))]
 fn elements_at(input: &[u8], at: usize, number: u8) -> Result<((usize, usize), usize), TagFault>
     requires { at ≤ length input.now }
     ensures exact { result ≡ elements_at input.now at number }

@@ -1,5 +1,5 @@
 ghost use Rattle.std.specs.Prelude.{◌≡◌, ◌↔◌, ◌⊎◌, ℕ, ◌*◌, ◌<◌, ◌≤◌, ◌^◌, ◌++◌, length, drop, IfOk, OnOk, OnErr};
-ghost use Rattle.bac_values.specs.BitString.{BitString};
+ghost use Rattle.bac_values.specs.BitString.{BitsData};
 ghost use Rattle.bac_values.specs.ApplicationTags.{bit_string_tag};
 ghost use Rattle.bac_tags.specs.Places.{IsSpelledAt};
 ghost use Rattle.bac_tags.specs.Elements.{EndsInElement, HasOtherTag, HasOtherLength, HasOtherForm};
@@ -88,7 +88,7 @@ fn bits_at(input: &[u8], at: usize, context: Option<u8>) -> Result<(Bits, usize)
 pub fn read_bits(input: &[u8], at: usize, context: Option<u8>) -> Result<(Bits, usize), TagFault>
     requires { at ≤ length input.now }
     ensures found { IfOk result (λ x. IsSpelledAt (SpellsBits context) input.now at x.0 x.1) }
-    ensures only { (string : BitString) (end : ℕ) → IsSpelledAt (SpellsBits context) input.now at string end → result ≡ Ok (string, end) }
+    ensures only { (string : BitsData) (end : ℕ) → IsSpelledAt (SpellsBits context) input.now at string end → result ≡ Ok (string, end) }
 
     ensures truncated { (result ≡ Err (TagFault.Truncated (length input.now))) ↔ EndsInElement bit_string_tag context 1 9 (drop at input.now) }
     ensures wrong_tag { (result ≡ Err (TagFault.WrongTag at)) ↔ HasOtherTag bit_string_tag context (drop at input.now) }

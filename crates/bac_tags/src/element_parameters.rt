@@ -1,5 +1,5 @@
 ghost use Rattle.std.specs.Prelude.{◌≡◌, ◌↔◌, ℕ, ◌<◌, ◌≤◌, Option, Some, length, drop, IfOk};
-ghost use Rattle.bac_values.specs.Identifier.{Identifier};
+ghost use Rattle.bac_values.specs.Identifier.{ObjectIdData};
 ghost use Rattle.bac_tags.specs.Places.{IsSpelledAt};
 ghost use Rattle.bac_tags.specs.Contents.{SpellsUnsigned, SpellsObject};
 ghost use Rattle.bac_tags.specs.ReadingSteps.{unsigned_at, object_at};
@@ -32,7 +32,7 @@ pub fn required_unsigned(input: &[u8], at: usize, number: u8) -> Result<(u32, us
 pub fn required_object(input: &[u8], at: usize, number: u8) -> Result<(ObjectId, usize), Malformed>
     requires { at ≤ length input.now }
     ensures found { IfOk result (λ x. IsSpelledAt (SpellsObject (Some number)) input.now at x.0 x.1) }
-    ensures only { (value : Identifier) (end : ℕ) → IsSpelledAt (SpellsObject (Some number)) input.now at value end → result ≡ Ok (value, end) }
+    ensures only { (value : ObjectIdData) (end : ℕ) → IsSpelledAt (SpellsObject (Some number)) input.now at value end → result ≡ Ok (value, end) }
 
     ensures missing { (result ≡ Err (missing_parameter (length input.now))) ↔ (at ≡ length input.now) }
     ensures invalid { (result ≡ Err (invalid_tag at)) ↔ ((at < length input.now) × ¬ IsThere (SpellsObject (Some number)) input.now at) }
@@ -70,7 +70,7 @@ pub fn optional_object(
 ) -> Result<(Option<ObjectId>, usize), Malformed>
     requires { at ≤ length input.now }
     ensures found { IfOk result (λ x. IsOptionalAt (SpellsObject (Some number)) number input.now at x.0 x.1) }
-    ensures only { (value : Option Identifier) (end : ℕ) → IsOptionalAt (SpellsObject (Some number)) number input.now at value end → result ≡ Ok (value, end) }
+    ensures only { (value : Option ObjectIdData) (end : ℕ) → IsOptionalAt (SpellsObject (Some number)) number input.now at value end → result ≡ Ok (value, end) }
 
     ensures invalid { (result ≡ Err (invalid_tag at)) ↔ (¬ IsAbsent number input.now at × ¬ IsThere (SpellsObject (Some number)) input.now at) }
 

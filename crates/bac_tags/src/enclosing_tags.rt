@@ -3,14 +3,15 @@ ghost use Rattle.bac_tags.specs.Places.{IsSpelledAt};
 ghost use Rattle.bac_tags.specs.Tags.{EndsInTag};
 ghost use Rattle.bac_tags.specs.ReadingSteps.{Gives, content_at};
 ghost use Rattle.bac_tags.specs.Writing.{written_tag};
-ghost use Rattle.bac_tags.specs.EnclosingTags.{in_context, opening, closing, SpellsOnly, IsOtherTag, opening_at, closing_at};
+ghost use Rattle.bac_tags.specs.EnclosingTags.{in_context, opening, closing, SpellsOnly, IsOtherTag};
+ghost use Rattle.bac_tags.specs.EnclosingSteps.{opening_at, closing_at};
 
 use crate::element::{NULL, content_at};
 use crate::{Shape, Tag, TagFault, read_tag, write_tag};
 use bac_values::NoMemory;
 
 /// The place after an opening tag with that number.
-#[tactic(auto, unfolding(crate::specs::EnclosingTags::opening_at))]
+#[tactic(auto, unfolding(crate::specs::EnclosingSteps::opening_at))]
 fn opening_at(input: &[u8], at: usize, number: u8) -> Result<usize, TagFault>
     requires { at ≤ length input.now }
     ensures exact { result ≡ opening_at input.now at number }
@@ -38,7 +39,7 @@ pub fn read_opening(input: &[u8], at: usize, number: u8) -> Result<usize, TagFau
 }
 
 /// The place after a closing tag with that number.
-#[tactic(auto, unfolding(crate::specs::EnclosingTags::closing_at))]
+#[tactic(auto, unfolding(crate::specs::EnclosingSteps::closing_at))]
 fn closing_at(input: &[u8], at: usize, number: u8) -> Result<usize, TagFault>
     requires { at ≤ length input.now }
     ensures exact { result ≡ closing_at input.now at number }

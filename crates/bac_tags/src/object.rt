@@ -1,5 +1,5 @@
 ghost use Rattle.std.specs.Prelude.{◌≡◌, ◌↔◌, ℕ, ◌<◌, ◌≤◌, ◌++◌, length, drop, IfOk, OnOk, OnErr};
-ghost use Rattle.bac_values.specs.Identifier.{Identifier};
+ghost use Rattle.bac_values.specs.Identifier.{ObjectIdData};
 ghost use Rattle.bac_values.specs.ApplicationTags.{object_identifier_tag};
 ghost use Rattle.bac_tags.specs.Places.{IsSpelledAt};
 ghost use Rattle.bac_tags.specs.Elements.{EndsInElement, HasOtherTag, HasOtherLength};
@@ -44,7 +44,7 @@ pub fn read_object(
 ) -> Result<(ObjectId, usize), TagFault>
     requires { at ≤ length input.now }
     ensures found { IfOk result (λ x. IsSpelledAt (SpellsObject context) input.now at x.0 x.1) }
-    ensures only { (id : Identifier) (end : ℕ) → IsSpelledAt (SpellsObject context) input.now at id end → result ≡ Ok (id, end) }
+    ensures only { (id : ObjectIdData) (end : ℕ) → IsSpelledAt (SpellsObject context) input.now at id end → result ≡ Ok (id, end) }
 
     ensures truncated { (result ≡ Err (TagFault.Truncated (length input.now))) ↔ EndsInElement object_identifier_tag context 4 4 (drop at input.now) }
     ensures wrong_tag { (result ≡ Err (TagFault.WrongTag at)) ↔ HasOtherTag object_identifier_tag context (drop at input.now) }

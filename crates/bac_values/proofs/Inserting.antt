@@ -10,31 +10,31 @@ use Rattle.std.proofs.lemmas.Bool.{cases_Bool}
 use Rattle.std.proofs.lemmas.List.Elements.{All-append, All-cons, filter_passes, All-weaker}
 use Rattle.std.proofs.lemmas.List.Kept.{AllPairs-cons, AllPairs-filter}
 use Rattle.std.proofs.lemmas.List.Folds.{list_any_none, list_any_at}
-use Rattle.bac_values.specs.Address.{Address}
+use Rattle.bac_values.specs.Address.{PeerData}
 use Rattle.bac_values.specs.Orders.{peer_order, is_same, is_among, IsAscending, peer_with, peers_with}
 use Rattle.bac_values.proofs.OrderLemmas.{peers_are_total}
 use Rattle.bac_values.proofs.Placing.{StandsAt, IsGap, here, nowhere, inserted}
 
-abbrev pub itself : Address → Address
+abbrev pub itself : PeerData → PeerData
 itself peer = peer
 
-abbrev is_below : Address → Address → Bool
+abbrev is_below : PeerData → PeerData → Bool
 is_below peer other = is_lt (peer_order other peer)
 
-abbrev is_above : Address → Address → Bool
+abbrev is_above : PeerData → PeerData → Bool
 is_above peer other = is_lt (peer_order peer other)
 
-abbrev Rises : Address → Address → Type 0
+abbrev Rises : PeerData → PeerData → Type 0
 Rises a b = peer_order a b ≡ Less
 
 -- a peer that is among them changes nothing
-pub known_same : (peer : Address) (known : List Address) → is_among known peer ≡ true → peer_with peer known ≡ known
+pub known_same : (peer : PeerData) (known : List PeerData) → is_among known peer ≡ true → peer_with peer known ≡ known
 known_same peer known h = rw h refl
 
-pub at_place : (peer : Address) (known : List Address) (place : ℕ) → StandsAt itself peer known place → known ≡ peer_with peer known
+pub at_place : (peer : PeerData) (known : List PeerData) (place : ℕ) → StandsAt itself peer known place → known ≡ peer_with peer known
 at_place peer known place there = sym (known_same peer known (list_any_at (λ other. is_same other peer) known place peer there.0 (here itself peer known place there peer)))
 
-pub at_gap : (peer : Address) (known : List Address) (place : ℕ) → IsGap itself peer known place → insert known place peer ≡ peer_with peer known
+pub at_gap : (peer : PeerData) (known : List PeerData) (place : ℕ) → IsGap itself peer known place → insert known place peer ≡ peer_with peer known
 at_gap peer known place gap =
     let unknown : is_among known peer ≡ false = list_any_none (λ other. is_same other peer) known (λ j d within. nowhere itself peer known place gap j d within) in
     rw unknown (inserted itself peer known place peer gap)
@@ -50,7 +50,7 @@ all_pairs_append R (x ∷ xs) ys front back cross =
     AllPairs-cons R x (xs ++ ys) (All-append (R x) xs ys (λ k d within. front 0 (suc k) d (omega arith) (omega (arith, within))) (cross 0 x (omega arith)))
     (all_pairs_append R xs ys (λ i j d low within. front (suc i) (suc j) d (omega (arith, low)) (omega (arith, within))) back (λ k d within. cross (suc k) d (omega (arith, within))))
 
-pub ascends_with : (peer : Address) (known : List Address) → IsAscending known → IsAscending (peer_with peer known)
+pub ascends_with : (peer : PeerData) (known : List PeerData) → IsAscending known → IsAscending (peer_with peer known)
 ascends_with peer known ascending = elim (cases_Bool (is_among known peer)) [
   | inl there ↦ subst IsAscending (sym (known_same peer known there)) ascending
   | inr unknown ↦
@@ -66,12 +66,12 @@ ascends_with peer known ascending = elim (cases_Bool (is_among known peer)) [
       rw unknown whole
 ]
 
-pub ascends_with_all : (others known : List Address) → IsAscending known → IsAscending (peers_with others known)
+pub ascends_with_all : (others known : List PeerData) → IsAscending known → IsAscending (peers_with others known)
 ascends_with_all [] known ascending = ascending
 ascends_with_all (peer ∷ others) known ascending = ascends_with_all others (peer_with peer known) (ascends_with peer known ascending)
 
 -- what a binary search finds is among them
-pub found_by_search : (known : List Address) (peer : Address) (answer : Result ℕ ℕ) → MatchResult answer (StandsAt itself peer known) (IsGap itself peer known) → is_ok answer ≡ is_among known peer
+pub found_by_search : (known : List PeerData) (peer : PeerData) (answer : Result ℕ ℕ) → MatchResult answer (StandsAt itself peer known) (IsGap itself peer known) → is_ok answer ≡ is_among known peer
 found_by_search known peer (Ok k) there = sym (list_any_at (λ other. is_same other peer) known k peer there.0 (here itself peer known k there peer))
 found_by_search known peer (Err k) gap = sym (list_any_none (λ other. is_same other peer) known (λ j d within. nowhere itself peer known k gap j d within))
 

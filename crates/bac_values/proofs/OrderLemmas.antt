@@ -5,7 +5,7 @@ use Rattle.std.specs.Ordering.{eq_by_cmp, is_eq, ordering_index}
 use Rattle.std.specs.declared.cmp.Ordering.{Ordering}
 use Rattle.std.specs.declared.cmp.Ordering.TheVariants.{Less, Equal, Greater}
 use Rattle.std.proofs.lemmas.Cmp.{alike_right, tied_itself}
-use Rattle.bac_values.specs.Address.{Address}
+use Rattle.bac_values.specs.Address.{PeerData}
 use Rattle.bac_values.specs.Orders.{identifier_order, peer_order, is_same}
 use Rattle.bac_values.specs.contracts.object_id.ObjectIdOrd.TheImpl.Laws as object_laws
 use Rattle.bac_values.specs.contracts.peer.PeerOrd.TheImpl.Laws as order_laws
@@ -22,10 +22,10 @@ pub same_is_equivalence : IsEquivalence is_same
 same_is_equivalence = subst IsEquivalence (λ i first second. compared first second i) equality_laws.laws-law
 
 -- peers that are the same are equal
-pub tied : (a b : Address) → is_same a b ≡ true → a ≡ b
+pub tied : (a b : PeerData) → is_same a b ≡ true → a ≡ b
 tied a b = (one a b).0
 
-pub same_by_order : (a b : Address) → is_same a b ≡ eq_by_cmp peer_order a b
+pub same_by_order : (a b : PeerData) → is_same a b ≡ eq_by_cmp peer_order a b
 same_by_order a b = sym (compared a b) ∙ (order_laws.matches_eq-law a b ∙ ap is_eq (peers a b))
 
 at_most_two : (o : Ordering) → ordering_index o ≤ 2

@@ -11,8 +11,8 @@ use Rattle.std.specs.Ordering.{nat_cmp, ordering_then}
 use Rattle.std.specs.declared.cmp.Ordering.{Ordering}
 use Rattle.std.specs.declared.cmp.Ordering.TheVariants.{Less, Equal, Greater}
 use Rattle.std.proofs.lemmas.Cmp.{tied_itself, nat_list_cmp_total}
-use Rattle.bac_values.specs.Address.{Address, padded}
-use Rattle.bac_values.specs.Identifier.{Identifier}
+use Rattle.bac_values.specs.Address.{padded, PeerData}
+use Rattle.bac_values.specs.Identifier.{ObjectIdData}
 use Rattle.bac_values.specs.Orders.{identifier_order, station_order, peer_order, is_same}
 use Rattle.bac_values.specs.contracts.object_id.ObjectIdOrd.TheImpl as object_ord
 use Rattle.bac_values.specs.contracts.mac.MacOrd.TheImpl as station_ord
@@ -22,7 +22,7 @@ use Rattle.bac_values.specs.contracts.peer.PeerOrd.TheImpl as peer_ord
 use Rattle.bac_values.specs.contracts.peer.PeerPartialEq.TheImpl as peer_eq
 use Rattle.bac_values.specs.contracts.peer.PeerEq.TheImpl.Laws as peer_eq_laws
 
-pub identifiers : (first second : Identifier) → (object_ord.ghosts).cmp first second ≡ identifier_order first second
+pub identifiers : (first second : ObjectIdData) → (object_ord.ghosts).cmp first second ≡ identifier_order first second
 identifiers first second = refl
 
 -- octets that stand behind both don't count
@@ -49,7 +49,7 @@ stations first second = by_size (nat_cmp (length first) (length second)) refl
     by_size Equal e = same_padding first second (same_numbers _ _ e)
     by_size Greater e = refl
 
-pub peers : (first second : Address) → (peer_ord.ghosts).cmp first second ≡ peer_order first second
+pub peers : (first second : PeerData) → (peer_ord.ghosts).cmp first second ≡ peer_order first second
 peers first second =
     ap (λ o. ordering_then (nat_cmp first.ip second.ip) (ordering_then (nat_cmp first.port second.port) (ordering_then (nat_cmp first.net second.net) o))) (stations first.mac second.mac)
 
@@ -73,11 +73,11 @@ same_stations first second = both_ways _ _ in_places in_list
     in_list : bytes_eq first second ≡ true → (station_eq.ghosts).eq first second ≡ true
     in_list h = ap ((station_eq.ghosts).eq first) (sym ((bytes_decides first second).0 h)) ∙ station_eq_laws.laws-law.refl first
 
-pub compared : (first second : Address) → (peer_eq.ghosts).eq first second ≡ is_same first second
+pub compared : (first second : PeerData) → (peer_eq.ghosts).eq first second ≡ is_same first second
 compared first second =
     ap (λ b. first.ip == second.ip && (first.port == second.port && (first.net == second.net && b))) (same_stations first.mac second.mac)
 
-fields_are_equal : (first second : Address) → is_same first second ≡ true → first ≡ second
+fields_are_equal : (first second : PeerData) → is_same first second ≡ true → first ≡ second
 fields_are_equal first second h =
     let ip = both _ _ h in
     let port = both _ _ ip.1 in
@@ -88,8 +88,8 @@ fields_are_equal first second h =
     let same_mac = (bytes_decides first.mac second.mac).0 net.1 in
     λ i. record { ip = same_ip i; port = same_port i; net = same_net i; mac = same_mac i }
 
-same_itself : (peer : Address) → is_same peer peer ≡ true
+same_itself : (peer : PeerData) → is_same peer peer ≡ true
 same_itself peer = sym (compared peer peer) ∙ peer_eq_laws.laws-law.refl peer
 
-pub one : (first second : Address) → IsTrue (is_same first second) ↔ first ≡ second
+pub one : (first second : PeerData) → IsTrue (is_same first second) ↔ first ≡ second
 one first second = (fields_are_equal first second, λ same. ap (is_same first) (sym same) ∙ same_itself first)

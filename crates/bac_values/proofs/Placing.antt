@@ -8,7 +8,7 @@ use Rattle.std.specs.declared.cmp.Ordering.{Ordering}
 use Rattle.std.specs.declared.cmp.Ordering.TheVariants.{Less, Greater}
 use Rattle.std.proofs.lemmas.Bool.{cases_lt}
 use Rattle.std.proofs.lemmas.Bool.Decides.{leb_tells}
-use Rattle.bac_values.specs.Address.{Address}
+use Rattle.bac_values.specs.Address.{PeerData}
 use Rattle.bac_values.specs.Orders.{peer_order, is_same}
 use Rattle.bac_values.specs.contracts.peer.PeerOrd.TheImpl as peer_ord
 use Rattle.bac_values.proofs.Orders.{peers}
@@ -17,10 +17,10 @@ use Rattle.bac_values.proofs.OrderLemmas.{peers_are_total, same_by_order, tied, 
 no_more : (m n : ℕ) → m ≡ n → m ≤ n
 no_more m n e = omega arith
 
-pub turned : (a b : Address) (o : Ordering) → peer_order a b ≡ o → peer_order b a ≡ ordering_reverse o
+pub turned : (a b : PeerData) (o : Ordering) → peer_order a b ≡ o → peer_order b a ≡ ordering_reverse o
 turned a b o e = peers_are_total.antisymm b a ∙ ap ordering_reverse e
 
-module _ {X : Type 0} (peer_of : X → Address) (peer : Address) where
+module _ {X : Type 0} (peer_of : X → PeerData) (peer : PeerData) where
   abbrev pub is_below : X → Bool
   is_below it = is_lt (peer_order (peer_of it) peer)
 

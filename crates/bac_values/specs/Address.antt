@@ -12,7 +12,7 @@ pub record IsPadded (size : ℕ) (octets : List ℕ) : Type 0 where
   pub padding : octets ≡ padded (take size octets)
 
 -- an address of BACnet/IP, and the network and the station there of a peer behind a router; network 0 is the local one, which has no stations of its own
-pub record Address : Type 0 where
+pub record PeerData : Type 0 where
   pub ip : ℕ
   pub port : ℕ
   pub net : ℕ
@@ -23,5 +23,5 @@ abbrev pub IsAddress : ℕ → List ℕ → Type 0
 IsAddress net mac = net ≡ 0 → mac ≡ []
 
 -- the console
-abbrev pub console : Address
+abbrev pub console : PeerData
 console = record { ip = 0; port = 0; net = 0; mac = [] }

@@ -4,7 +4,7 @@ use Rattle.bac_values.specs.declared.object_kind.ObjectKind.{ObjectKind}
 use Rattle.bac_values.specs.declared.object_kind.ObjectKind.TheVariants.{BinaryValue, Device, EventEnrollment, NotificationClass, MultiStateValue, EventLog, BitStringValue, CharacterStringValue, IntegerValue, PositiveIntegerValue}
 
 -- the number of an object's type, and its instance
-pub record Identifier : Type 0 where
+pub record ObjectIdData : Type 0 where
   pub number : ℕ
   pub instance : ℕ
 

@@ -11,9 +11,9 @@ pub struct Bits {
 }
 
 impl Model for Bits {
-    ghost use Rattle.bac_values.specs.BitString.{BitString, IsBitString};
+    ghost use Rattle.bac_values.specs.BitString.{IsBitString, BitsData};
 
-    ghost Value = { BitString };
+    ghost Value = { BitsData };
 
     ghost view = { λ string. record { size = string.size; bits = string.bits } };
 

@@ -13,9 +13,9 @@ pub struct ObjectId {
 
 impl Model for ObjectId {
     ghost use Rattle.std.specs.Prelude.{◌≤◌};
-    ghost use Rattle.bac_values.specs.Identifier.{Identifier, IsIdentifier};
+    ghost use Rattle.bac_values.specs.Identifier.{IsIdentifier, ObjectIdData};
 
-    ghost Value = { Identifier };
+    ghost Value = { ObjectIdData };
 
     ghost view = { λ id. record { number = id.number; instance = id.instance } };
 

@@ -20,9 +20,9 @@ pub struct Peer {
 }
 
 impl Model for Peer {
-    ghost use Rattle.bac_values.specs.Address.{Address, IsAddress};
+    ghost use Rattle.bac_values.specs.Address.{IsAddress, PeerData};
 
-    ghost Value = { Address };
+    ghost Value = { PeerData };
 
     ghost view = { λ peer. record { ip = peer.ip; port = peer.port; net = peer.net; mac = peer.mac } };
 

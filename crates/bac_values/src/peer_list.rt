@@ -13,10 +13,10 @@ pub struct PeerList {
 
 impl Model for PeerList {
     ghost use Rattle.std.specs.Prelude.{List};
-    ghost use Rattle.bac_values.specs.Address.{Address};
+    ghost use Rattle.bac_values.specs.Address.{PeerData};
     ghost use Rattle.bac_values.specs.Orders.{IsAscending};
 
-    ghost Value = { List Address };
+    ghost Value = { List PeerData };
 
     ghost view = { λ list. list.peers.items };
 

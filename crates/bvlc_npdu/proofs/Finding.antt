@@ -6,7 +6,7 @@ use Rattle.std.proofs.lemmas.Bool.{eq-eqb, ne_eqb, le-ltb}
 use Rattle.std.proofs.lemmas.List.{append_assoc, take_at, drop_at, length-append}
 use Rattle.byteorder.specs.Endian.{big_number}
 use Rattle.byteorder.specs.Numbers.{big_number-reads_back}
-use Rattle.bac_values.specs.Address.{Address}
+use Rattle.bac_values.specs.Address.{PeerData}
 use Rattle.bvlc_npdu.specs.Frame.{has_bit, IsMessage, IsCarried, IsGlobalBroadcast, IsStation, IsNpdu, IsFrame}
 use Rattle.bvlc_npdu.specs.ReadingSteps.{◌>>=◌, past, message_at, forwarded_at, origin_at, after_global_broadcast, after_destination, station_at, source_at, after_hop_count, addressed_at, npdu_at, frame_at}
 
@@ -28,7 +28,7 @@ forwarded_found ip port npdu fits_ip fits_port =
     let long : ltb (length (bytes_high_first 4 ip ++ (bytes_high_first 2 port ++ npdu))) 6 ≡ false = le-ltb _ _ (omega arith) in
     rw (long, big_number-reads_back 4 ip (bytes_high_first 2 port ++ npdu) fits_ip, big_number-reads_back 2 port npdu fits_port) refl
 
-origin_found : (sender : Address) (function : ℕ) (content : List ℕ) (origin : Address) (npdu : List ℕ) → IsCarried sender function content origin npdu → origin_at sender function content ≡ Some (origin, npdu)
+origin_found : (sender : PeerData) (function : ℕ) (content : List ℕ) (origin : PeerData) (npdu : List ℕ) → IsCarried sender function content origin npdu → origin_at sender function content ≡ Some (origin, npdu)
 unfolding origin_at
 origin_found sender function content origin npdu (inl o) =
     elim o.named [
@@ -37,9 +37,9 @@ origin_found sender function content origin npdu (inl o) =
     ]
 origin_found sender function content origin npdu (inr f) =
     let found = forwarded_found origin.ip origin.port npdu f.fits.0 f.fits.1 in
-    let address : ℕ → List ℕ → Address = λ net mac. record { ip = origin.ip; port = origin.port; net = net; mac = mac } in
+    let address : ℕ → List ℕ → PeerData = λ net mac. record { ip = origin.ip; port = origin.port; net = net; mac = mac } in
     let named : address 0 [] ≡ address origin.net origin.mac = ap (λ (net : ℕ). address net []) (sym f.local.0) ∙ ap (λ (mac : List ℕ). address origin.net mac) (sym f.local.1) in
-    rw (f.named, f.spelled, found) (ap (λ (o : Address). Some (o, npdu)) named)
+    rw (f.named, f.spelled, found) (ap (λ (o : PeerData). Some (o, npdu)) named)
 
 past_found : (front rest : List ℕ) (count : ℕ) → length front ≡ count → past count (front ++ rest) ≡ Some rest
 past_found front rest count len =
@@ -66,19 +66,19 @@ station_spelled net mac rest remote fits some short =
     let whole : ltb (length (mac ++ rest)) (length mac) ≡ false = le-ltb _ _ (omega (arith, length-append mac rest)) in
     rw (long, big_number-reads_back 2 net (length mac ∷ mac ++ rest) fits, not_local, not_empty, at_most, whole, take_at mac rest (length mac) refl, drop_at mac rest (length mac) refl) refl
 
-source_found : (b : Bool) (source : List ℕ) (origin peer : Address) (rest : List ℕ)
+source_found : (b : Bool) (source : List ℕ) (origin peer : PeerData) (rest : List ℕ)
     → MatchBool b ((net : ℕ) × (mac : List ℕ) × IsStation source net mac × (peer ≡ record origin { net = net; mac = mac })) ((source ≡ []) × (peer ≡ origin))
-    → cond b (◌>>=◌ {B = Address × List ℕ} (station_at (source ++ rest)) (λ s. Some (record origin { net = s.0; mac = s.1 }, s.2))) (Some (origin, source ++ rest)) ≡ Some (peer, rest)
+    → cond b (◌>>=◌ {B = PeerData × List ℕ} (station_at (source ++ rest)) (λ s. Some (record origin { net = s.0; mac = s.1 }, s.2))) (Some (origin, source ++ rest)) ≡ Some (peer, rest)
 source_found true source origin peer rest (net, mac, station, same) =
     let found : station_at (source ++ rest) ≡ Some (net, mac, rest) = ap (λ (s : List ℕ). station_at (s ++ rest)) station.spelled ∙ station_spelled net mac rest station.remote.0 station.remote.1 station.short.0 station.short.1 in
-    rw found (ap (λ (p : Address). Some (p, rest)) (sym same))
+    rw found (ap (λ (p : PeerData). Some (p, rest)) (sym same))
 source_found false source origin peer rest (none, same) = rw (none, same) refl
 
 hop_count_found : (b : Bool) (hops rest : List ℕ) → MatchBool b (length hops ≡ 1) (hops ≡ []) → cond b (past 1 (hops ++ rest)) (Some (hops ++ rest)) ≡ Some rest
 hop_count_found true hops rest one = past_found hops rest 1 one
 hop_count_found false hops rest none = ap (λ (h : List ℕ). Some (h ++ rest)) none
 
-npdu_found : (origin peer : Address) (octets apdu : List ℕ) → IsNpdu octets origin peer apdu → npdu_at origin octets ≡ Some (peer, apdu)
+npdu_found : (origin peer : PeerData) (octets apdu : List ℕ) → IsNpdu octets origin peer apdu → npdu_at origin octets ≡ Some (peer, apdu)
 unfolding npdu_at addressed_at after_destination source_at after_hop_count
 npdu_found origin peer octets apdu n =
     let behind = n.source ++ (n.hops ++ apdu) in
@@ -89,7 +89,7 @@ npdu_found origin peer octets apdu n =
     rw (n.spelled, long, n.carries_apdu, d, s, h) refl
 
 -- a frame is found
-pub frame_found : (sender : Address) (octets : List ℕ) (peer : Address) (apdu : List ℕ) → IsFrame sender octets peer apdu → frame_at sender octets ≡ Some (peer, apdu)
+pub frame_found : (sender : PeerData) (octets : List ℕ) (peer : PeerData) (apdu : List ℕ) → IsFrame sender octets peer apdu → frame_at sender octets ≡ Some (peer, apdu)
 unfolding frame_at
 frame_found sender octets peer apdu f =
     let m = message_found octets f.function f.content f.message in
@@ -115,11 +115,11 @@ drop-EndsWith octets rest e =
     let len : length e.front ≡ length octets - length rest = omega (arith, ap length e.parts, length-append e.front rest) in
     ap (λ (o : List ℕ). drop (length octets - length rest) o) e.parts ∙ drop_at e.front rest (length octets - length rest) len
 
-npdu_ends : (sender : Address) (function : ℕ) (content : List ℕ) (origin : Address) (npdu : List ℕ) → IsCarried sender function content origin npdu → EndsWith content npdu
+npdu_ends : (sender : PeerData) (function : ℕ) (content : List ℕ) (origin : PeerData) (npdu : List ℕ) → IsCarried sender function content origin npdu → EndsWith content npdu
 npdu_ends sender function content origin npdu (inl o) = record { front = []; parts = o.spelled }
 npdu_ends sender function content origin npdu (inr f) = record { front = bytes_high_first 4 origin.ip ++ bytes_high_first 2 origin.port; parts = f.spelled }
 
-pub apdu_ends : (sender : Address) (octets : List ℕ) (peer : Address) (apdu : List ℕ) → IsFrame sender octets peer apdu → EndsWith octets apdu
+pub apdu_ends : (sender : PeerData) (octets : List ℕ) (peer : PeerData) (apdu : List ℕ) → IsFrame sender octets peer apdu → EndsWith octets apdu
 apdu_ends sender octets peer apdu f =
     let n = f.network in
     let content : EndsWith octets f.content = record { front = 0x81 ∷ f.function ∷ bytes_high_first 2 (length octets); parts = f.message.spelled } in

@@ -6,7 +6,7 @@ use Rattle.std.proofs.lemmas.Bool.{and_parts, eqb-true, eqb-false, ltb-false, no
 use Rattle.std.proofs.lemmas.List.{take-append-drop, length-take-le}
 use Rattle.std.proofs.lemmas.Option.{same_Some}
 use Rattle.byteorder.specs.Endian.{big_number}
-use Rattle.bac_values.specs.Address.{Address}
+use Rattle.bac_values.specs.Address.{PeerData}
 use Rattle.bvlc_npdu.specs.Frame.{has_bit, IsMessage, IsCarried, IsForwarded, IsGlobalBroadcast, IsStation, IsDestination, IsSource, IsHopCount, IsNpdu, IsFrame}
 use Rattle.bvlc_npdu.specs.ReadingSteps.{◌>>=◌, past, message_at, forwarded_at, origin_at, after_global_broadcast, after_destination, station_at, source_at, after_hop_count, addressed_at, npdu_at, frame_at}
 use Rattle.bvlc_npdu.proofs.Steps.{bind_some, guard_some, test_some, branch_taken}
@@ -31,7 +31,7 @@ message_takes (a ∷ b ∷ c ∷ d ∷ rest) message fits e =
       fits = omega (arith, fits 2, fits 3);
     })
 
-forwarded_takes : (function : ℕ) (content : List ℕ) (carried : Address × List ℕ) → AreOctets content → function ≡ 0x04 → forwarded_at content ≡ Some carried → IsForwarded function content carried.0 carried.1
+forwarded_takes : (function : ℕ) (content : List ℕ) (carried : PeerData × List ℕ) → AreOctets content → function ≡ 0x04 → forwarded_at content ≡ Some carried → IsForwarded function content carried.0 carried.1
 unfolding forwarded_at
 forwarded_takes function [] carried fits named e = absurd cc
 forwarded_takes function (a ∷ []) carried fits named e = absurd cc
@@ -44,18 +44,18 @@ forwarded_takes function (a ∷ b ∷ c ∷ d ∷ x ∷ y ∷ npdu) carried fits
     let guard = guard_some (ltb (length content) 6) _ carried e in
     let ip : a ∷ b ∷ c ∷ d ∷ [] ≡ bytes_high_first 4 (big_number 4 content) = octets_of_four a b c d (big_number 4 content) (x ∷ y ∷ npdu) (fits 0) (fits 1) (fits 2) (fits 3) refl in
     let port : x ∷ y ∷ [] ≡ bytes_high_first 2 (big_number 2 (x ∷ y ∷ npdu)) = octets_of_two x y (big_number 2 (x ∷ y ∷ npdu)) npdu (fits 4) (fits 5) refl in
-    subst (λ (s : Address × List ℕ). IsForwarded function content s.0 s.1) (same_Some _ _ guard.1) (record {
+    subst (λ (s : PeerData × List ℕ). IsForwarded function content s.0 s.1) (same_Some _ _ guard.1) (record {
       named = named;
       local = (refl, refl);
       spelled = ap (λ (n : List ℕ). n ++ (x ∷ y ∷ npdu)) ip ∙ ap (λ (n : List ℕ). bytes_high_first 4 (big_number 4 content) ++ (n ++ npdu)) port;
       fits = (omega (arith, fits 0, fits 1, fits 2, fits 3), omega (arith, fits 4, fits 5));
     })
 
-origin_takes : (sender : Address) (function : ℕ) (content : List ℕ) (carried : Address × List ℕ) → AreOctets content → origin_at sender function content ≡ Some carried → IsCarried sender function content carried.0 carried.1
+origin_takes : (sender : PeerData) (function : ℕ) (content : List ℕ) (carried : PeerData × List ℕ) → AreOctets content → origin_at sender function content ≡ Some carried → IsCarried sender function content carried.0 carried.1
 unfolding origin_at
 origin_takes sender function content carried fits e =
     let original : (function ≡ 0x0a) ⊎ (function ≡ 0x0b) → Some (sender, content) ≡ Some carried → IsCarried sender function content carried.0 carried.1 =
-    λ named same. subst (λ (s : Address × List ℕ). IsCarried sender function content s.0 s.1) (same_Some _ _ same) (inl (record { named = named; from = refl; spelled = refl })) in
+    λ named same. subst (λ (s : PeerData × List ℕ). IsCarried sender function content s.0 s.1) (same_Some _ _ same) (inl (record { named = named; from = refl; spelled = refl })) in
     elim (branch_taken (eqb function 10) _ _ _ e) [
       | inl unicast ↦ original (inl (eqb-true _ _ unicast.0)) unicast.1
       | inr others ↦ elim (branch_taken (eqb function 11) _ _ _ others.1) [
@@ -115,17 +115,17 @@ station_takes (a ∷ b ∷ size ∷ more) station fits e =
       ap (λ (r : List ℕ). a ∷ b ∷ size ∷ r) (sym (take-append-drop size more)),
     )
 
-source_takes : (b : Bool) (origin : Address) (octets : List ℕ) (found : Address × List ℕ) → AreOctets octets
+source_takes : (b : Bool) (origin : PeerData) (octets : List ℕ) (found : PeerData × List ℕ) → AreOctets octets
     → cond b (station_at octets >>= λ s. Some (record origin { net = s.0; mac = s.1 }, s.2)) (Some (origin, octets)) ≡ Some found
     → (source : List ℕ) × MatchBool b ((net : ℕ) × (mac : List ℕ) × IsStation source net mac × (found.0 ≡ record origin { net = net; mac = mac })) ((source ≡ []) × (found.0 ≡ origin)) × (octets ≡ source ++ found.1)
 source_takes true origin octets found fits e =
     let station = bind_some (station_at octets) (λ s. Some (record origin { net = s.0; mac = s.1 }, s.2)) found e in
     let taken = station_takes octets station.0 fits station.1 in
     let same = same_Some _ _ station.2 in
-    (taken.0, (station.0.0, station.0.1, taken.1, ap (λ (s : Address × List ℕ). s.0) (sym same)), taken.2 ∙ ap (λ (s : Address × List ℕ). taken.0 ++ s.1) same)
+    (taken.0, (station.0.0, station.0.1, taken.1, ap (λ (s : PeerData × List ℕ). s.0) (sym same)), taken.2 ∙ ap (λ (s : PeerData × List ℕ). taken.0 ++ s.1) same)
 source_takes false origin octets found fits e =
     let same = same_Some _ _ e in
-    ([], (refl, ap (λ (s : Address × List ℕ). s.0) (sym same)), ap (λ (s : Address × List ℕ). s.1) same)
+    ([], (refl, ap (λ (s : PeerData × List ℕ). s.0) (sym same)), ap (λ (s : PeerData × List ℕ). s.1) same)
 
 hop_count_takes : (b : Bool) (octets rest : List ℕ) → cond b (past 1 octets) (Some octets) ≡ Some rest → (hops : List ℕ) × MatchBool b (length hops ≡ 1) (hops ≡ []) × (octets ≡ hops ++ rest)
 hop_count_takes true octets rest e =
@@ -134,7 +134,7 @@ hop_count_takes true octets rest e =
 hop_count_takes false octets rest e = ([], refl, same_Some _ _ e)
 
 -- the parts behind the control octet, one after the other, make an NPDU
-parts_taken : (control : ℕ) (origin peer : Address) (octets destination after source behind hops apdu : List ℕ) → has_bit control 7 ≡ false
+parts_taken : (control : ℕ) (origin peer : PeerData) (octets destination after source behind hops apdu : List ℕ) → has_bit control 7 ≡ false
     → IsDestination control destination → octets ≡ destination ++ after
     → IsSource control source origin peer → after ≡ source ++ behind
     → IsHopCount control hops → behind ≡ hops ++ apdu
@@ -151,7 +151,7 @@ parts_taken control origin peer octets destination after source behind hops apdu
   counts = h;
 }
 
-addressed_takes : (origin : Address) (control : ℕ) (octets : List ℕ) (found : Address × List ℕ) → AreOctets octets → has_bit control 7 ≡ false → addressed_at origin control octets ≡ Some found
+addressed_takes : (origin : PeerData) (control : ℕ) (octets : List ℕ) (found : PeerData × List ℕ) → AreOctets octets → has_bit control 7 ≡ false → addressed_at origin control octets ≡ Some found
     → IsNpdu (1 ∷ control ∷ octets) origin found.0 found.1
 unfolding addressed_at after_destination source_at after_hop_count
 addressed_takes origin control octets found fits plain e =
@@ -161,10 +161,10 @@ addressed_takes origin control octets found fits plain e =
     let d = destination_takes (has_bit control 5) octets after.0 fits after.1 in
     let s = source_takes (has_bit control 3) origin after.0 from.0 (AreOctets-behind d.0 after.0 (subst AreOctets d.2 fits)) from.1 in
     let h = hop_count_takes (has_bit control 5) from.0.1 last.0 last.1 in
-    subst (λ (f : Address × List ℕ). IsNpdu (1 ∷ control ∷ octets) origin f.0 f.1) (same_Some _ _ last.2)
+    subst (λ (f : PeerData × List ℕ). IsNpdu (1 ∷ control ∷ octets) origin f.0 f.1) (same_Some _ _ last.2)
     (parts_taken control origin from.0.0 octets d.0 after.0 s.0 from.0.1 h.0 last.0 plain d.1 d.2 s.1 s.2 h.1 h.2)
 
-npdu_takes : (origin : Address) (octets : List ℕ) (found : Address × List ℕ) → AreOctets octets → npdu_at origin octets ≡ Some found → IsNpdu octets origin found.0 found.1
+npdu_takes : (origin : PeerData) (octets : List ℕ) (found : PeerData × List ℕ) → AreOctets octets → npdu_at origin octets ≡ Some found → IsNpdu octets origin found.0 found.1
 unfolding npdu_at
 npdu_takes origin [] found fits e = absurd cc
 npdu_takes origin (a ∷ []) found fits e = absurd cc
@@ -179,12 +179,12 @@ npdu_takes origin (version ∷ control ∷ rest) found fits e =
 content_fits : (octets : List ℕ) (function : ℕ) (content : List ℕ) → AreOctets octets → IsMessage octets function content → AreOctets content
 content_fits octets function content fits m = AreOctets-behind (0x81 ∷ function ∷ bytes_high_first 2 (length octets)) content (subst AreOctets m.spelled fits)
 
-npdu_fits : (sender : Address) (function : ℕ) (content : List ℕ) (origin : Address) (npdu : List ℕ) → AreOctets content → IsCarried sender function content origin npdu → AreOctets npdu
+npdu_fits : (sender : PeerData) (function : ℕ) (content : List ℕ) (origin : PeerData) (npdu : List ℕ) → AreOctets content → IsCarried sender function content origin npdu → AreOctets npdu
 npdu_fits sender function content origin npdu fits (inl o) = subst AreOctets o.spelled fits
 npdu_fits sender function content origin npdu fits (inr f) = AreOctets-behind (bytes_high_first 4 origin.ip ++ bytes_high_first 2 origin.port) npdu (subst AreOctets f.spelled fits)
 
 -- what is read is a frame
-pub frame_takes : (sender : Address) (octets : List ℕ) (found : Address × List ℕ) → AreOctets octets → frame_at sender octets ≡ Some found → IsFrame sender octets found.0 found.1
+pub frame_takes : (sender : PeerData) (octets : List ℕ) (found : PeerData × List ℕ) → AreOctets octets → frame_at sender octets ≡ Some found → IsFrame sender octets found.0 found.1
 unfolding frame_at
 frame_takes sender octets found fits e =
     let message = bind_some (message_at octets) (λ m. origin_at sender m.0 m.1 >>= λ c. npdu_at c.0 c.1 >>= λ f. cond (eqb f.0.port 0) None (Some f)) found e in
@@ -196,7 +196,7 @@ frame_takes sender octets found fits e =
     let c = origin_takes sender message.0.0 message.0.1 carried.0 content carried.1 in
     let n = npdu_takes carried.0.0 carried.0.1 last.0 (npdu_fits sender message.0.0 message.0.1 carried.0.0 carried.0.1 content c) last.1 in
     let not_zero : last.0.0.port ≡ 0 → ⊥ = eqb-false _ _ answered.0 in
-    subst (λ (f : Address × List ℕ). IsFrame sender octets f.0 f.1) (same_Some _ _ answered.1) (record {
+    subst (λ (f : PeerData × List ℕ). IsFrame sender octets f.0 f.1) (same_Some _ _ answered.1) (record {
       function = message.0.0;
       content = message.0.1;
       origin = carried.0.0;

@@ -1,7 +1,7 @@
 -- Reading a datagram from left to right: a step answers what it read and the octets behind it.
 use Rattle.std.specs.Prelude.{◌≡◌, ℕ, ◌-◌, List, [], length, drop, take, slice_index, not, ◌&&◌, Option, Some, None, nat_lt, ◌==◌, if◌then◌else◌}
 use Rattle.byteorder.specs.Endian.{big_number}
-use Rattle.bac_values.specs.Address.{Address}
+use Rattle.bac_values.specs.Address.{PeerData}
 use Rattle.bvlc_npdu.specs.declared.reading.Incoming.{Incoming}
 use Rattle.bvlc_npdu.specs.Frame.{has_bit}
 
@@ -27,13 +27,13 @@ message_at octets =
     else None
 
 -- the device that a Forwarded-NPDU names, and the NPDU
-unfoldable pub forwarded_at : List ℕ → Option (Address × List ℕ)
+unfoldable pub forwarded_at : List ℕ → Option (PeerData × List ℕ)
 forwarded_at content =
     if nat_lt (length content) 6 then None
     else Some (record { ip = big_number 4 content; port = big_number 2 (drop 4 content); net = 0; mac = [] }, drop 6 content)
 
 -- the device from which the NPDU comes, and the NPDU
-unfoldable pub origin_at : Address → ℕ → List ℕ → Option (Address × List ℕ)
+unfoldable pub origin_at : PeerData → ℕ → List ℕ → Option (PeerData × List ℕ)
 origin_at sender function content =
     if function == 0x0a then Some (sender, content)
     else if function == 0x0b then Some (sender, content)
@@ -65,7 +65,7 @@ station_at octets =
     else Some (net, take size (drop 3 octets), drop size (drop 3 octets))
 
 -- the peer: the device itself, or the station behind it
-unfoldable pub source_at : ℕ → Address → List ℕ → Option (Address × List ℕ)
+unfoldable pub source_at : ℕ → PeerData → List ℕ → Option (PeerData × List ℕ)
 source_at control origin octets =
     if has_bit control 3 then (station_at octets >>= λ s. Some (record origin { net = s.0; mac = s.1 }, s.2))
     else Some (origin, octets)
@@ -75,7 +75,7 @@ unfoldable pub after_hop_count : ℕ → List ℕ → Option (List ℕ)
 after_hop_count control octets = if has_bit control 5 then past 1 octets else Some octets
 
 -- the peer and the APDU, behind the control octet
-unfoldable pub addressed_at : Address → ℕ → List ℕ → Option (Address × List ℕ)
+unfoldable pub addressed_at : PeerData → ℕ → List ℕ → Option (PeerData × List ℕ)
 addressed_at origin control octets = do
   rest ← after_destination control octets
   source ← source_at control origin rest
@@ -83,14 +83,14 @@ addressed_at origin control octets = do
   Some (source.0, apdu)
 
 -- the peer and the APDU of an NPDU
-unfoldable pub npdu_at : Address → List ℕ → Option (Address × List ℕ)
+unfoldable pub npdu_at : PeerData → List ℕ → Option (PeerData × List ℕ)
 npdu_at origin octets =
     if nat_lt (length octets) 2 then None
     else if slice_index octets 0 == 1 && not (has_bit (slice_index octets 1) 7) then addressed_at origin (slice_index octets 1) (drop 2 octets)
     else None
 
 -- the peer and the APDU of a datagram
-unfoldable pub frame_at : Address → List ℕ → Option (Address × List ℕ)
+unfoldable pub frame_at : PeerData → List ℕ → Option (PeerData × List ℕ)
 frame_at sender octets = do
   message ← message_at octets
   carried ← origin_at sender message.0 message.1
@@ -98,5 +98,5 @@ frame_at sender octets = do
   if found.0.port == 0 then None else Some found
 
 -- the peer, and where the APDU begins
-abbrev pub incoming_at : Address → List ℕ → Option Incoming
+abbrev pub incoming_at : PeerData → List ℕ → Option Incoming
 incoming_at sender octets = frame_at sender octets >>= λ found. Some (record { peer = found.0; start = length octets - length found.1 })

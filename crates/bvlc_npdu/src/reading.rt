@@ -1,9 +1,7 @@
 ghost use Rattle.std.specs.Prelude.{◌≡◌, ◌≢◌, ◌≤◌, List, ℕ, drop, length, IfSome, IsSomeAnd};
-ghost use Rattle.bac_values.specs.Address.{Address};
+ghost use Rattle.bac_values.specs.Address.{PeerData};
 ghost use Rattle.bvlc_npdu.specs.Frame.{IsFrame};
-ghost use Rattle.bvlc_npdu.specs.ReadingSteps.{Answers, past, message_at, forwarded_at, origin_at};
-ghost use Rattle.bvlc_npdu.specs.ReadingSteps.{after_global_broadcast, after_destination, station_at, source_at};
-ghost use Rattle.bvlc_npdu.specs.ReadingSteps.{after_hop_count, addressed_at, npdu_at, frame_at, incoming_at};
+ghost use Rattle.bvlc_npdu.specs.ReadingSteps.{Answers, past, message_at, forwarded_at, origin_at, after_global_broadcast, after_destination, station_at, source_at, after_hop_count, addressed_at, npdu_at, frame_at, incoming_at};
 
 use crate::layout::{
     ALL_NETWORKS, BVLL_OF_IP, FORWARDED, HAS_DESTINATION, HAS_SOURCE, IS_NETWORK_MESSAGE,
@@ -200,7 +198,7 @@ pub fn unwrap(sender: Peer, bytes: &[u8]) -> Option<Incoming>
     ensures within { IfSome result (λ incoming. incoming.start ≤ length bytes.now) }
     ensures found { IfSome result (λ incoming.
         IsFrame sender bytes.now incoming.peer (drop incoming.start bytes.now)) }
-    ensures only { (peer : Address) (apdu : List ℕ) → IsFrame sender bytes.now peer apdu
+    ensures only { (peer : PeerData) (apdu : List ℕ) → IsFrame sender bytes.now peer apdu
         → IsSomeAnd result (λ incoming. (incoming.peer ≡ peer) × (drop incoming.start bytes.now ≡ apdu)) }
 {
     let Some(found) = read_frame(sender, bytes) else {

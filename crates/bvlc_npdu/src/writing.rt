@@ -1,5 +1,5 @@
 ghost use Rattle.std.specs.Prelude.{◌≡◌, ◌+◌, ◌≤◌, ◌<◌, ◌++◌, length, IfOk, OnOk};
-ghost use Rattle.bac_values.specs.Address.{Address};
+ghost use Rattle.bac_values.specs.Address.{PeerData};
 ghost use Rattle.bac_values.specs.Services.{longest_apdu};
 ghost use Rattle.bvlc_npdu.specs.Frame.{IsFrame};
 ghost use Rattle.bvlc_npdu.specs.Writing.{written_control, written_destination, written_frame};
@@ -65,7 +65,7 @@ pub fn wrap(
     ensures text { IfOk result (λ octets. octets.items ≡ written_frame peer.now expects_reply apdu.now) }
 
     // To a peer of the local network it is a frame with this APDU, from whoever sends it.
-    ensures read_back { peer.now.net ≡ 0 → (sender : Address) → 0 < sender.port
+    ensures read_back { peer.now.net ≡ 0 → (sender : PeerData) → 0 < sender.port
         → IfOk result (λ octets. IsFrame sender octets.items sender apdu.now) }
 {
     let len = frame_len(peer, apdu);

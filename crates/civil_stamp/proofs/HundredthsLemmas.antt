@@ -16,7 +16,7 @@ use Rattle.jiff_core.proofs.DateTimeLemmas.{civil_nanos-parts, time_nanos_bound}
 use Rattle.jiff_core.proofs.SignedLemmas.{signed_arith}
 use Rattle.civil_stamp.specs.CivilStamp.{IsDateAndTime, IsDateTimeOf}
 use Rattle.civil_stamp.specs.ZoneRules.{seconds_ahead, seconds_shown}
-use Rattle.civil_stamp.specs.LocalTime.{IsCivilTime, IsLocalStamp, LocalZone, fixed_zone, hundredths_in, is_civil_time, shown_hundredths, stamp_day, stamp_epoch_day, stamp_hour, stamp_hundredth, stamp_minute, stamp_month, stamp_second, stamp_year, utc_hundredths}
+use Rattle.civil_stamp.specs.LocalTime.{IsCivilTime, IsLocalStamp, fixed_zone, hundredths_in, is_civil_time, shown_hundredths, stamp_day, stamp_epoch_day, stamp_hour, stamp_hundredth, stamp_minute, stamp_month, stamp_second, stamp_year, utc_hundredths, ZoneData}
 
 -- what jiff takes for a date and a time is a civil time
 pub civil_to_jiff : (stamp : Stamp) → IsDateAndTime stamp ↔ IsCivilTime stamp
@@ -99,18 +99,18 @@ fixed_hundredths minutes moment stamp is =
     let count = is.count in
     omega (arith, signed_arith)
 
-pub of_moment : (zone : LocalZone) (minutes : ℤ) (moment : ℕ) (stamp : Stamp) → zone ≡ fixed_zone minutes → IsLocalStamp zone moment stamp → utc_hundredths zone stamp ≡ pos (moment / 10)
+pub of_moment : (zone : ZoneData) (minutes : ℤ) (moment : ℕ) (stamp : Stamp) → zone ≡ fixed_zone minutes → IsLocalStamp zone moment stamp → utc_hundredths zone stamp ≡ pos (moment / 10)
 of_moment zone minutes moment stamp same shows = subst (λ z. IsLocalStamp z moment stamp → utc_hundredths z stamp ≡ pos (moment / 10)) (sym same) (fixed_hundredths minutes moment stamp) shows
 
 -- the hundredths of jiff's instant are those of the definition
-pub utc_is : (zone : LocalZone) (stamp : Stamp) (shown : DateTime) (seconds nanos : ℤ) → IsDateTimeOf stamp shown → nanos ≡ civil_nanos shown -ℤ nanos_of_seconds seconds → seconds ≡ seconds_shown zone shown.date.year (civil_nanos shown) →
+pub utc_is : (zone : ZoneData) (stamp : Stamp) (shown : DateTime) (seconds nanos : ℤ) → IsDateTimeOf stamp shown → nanos ≡ civil_nanos shown -ℤ nanos_of_seconds seconds → seconds ≡ seconds_shown zone shown.date.year (civil_nanos shown) →
     int_div_euclid (int_div nanos (pos 1_000_000)) (pos 10) ≡ utc_hundredths zone stamp
 utc_is zone stamp shown seconds nanos is e picked =
     let told = shown-nanos stamp shown is in
     let same : seconds ≡ seconds_shown zone (stamp_year stamp) (shown_hundredths stamp *ℤ pos 10_000_000) = picked ∙ ap (λ year. seconds_shown zone year (civil_nanos shown)) is.year ∙ ap (seconds_shown zone (stamp_year stamp)) told in
     instant-hundredths nanos (shown_hundredths stamp) seconds (e ∙ ap (λ n. n -ℤ nanos_of_seconds seconds) told) ∙ ap (λ s. shown_hundredths stamp -ℤ s *ℤ pos 100) same
 
-pub hundredths-some : (zone : LocalZone) (stamp : Stamp) → IsCivilTime stamp → hundredths_in zone stamp ≡ Some (utc_hundredths zone stamp)
+pub hundredths-some : (zone : ZoneData) (stamp : Stamp) → IsCivilTime stamp → hundredths_in zone stamp ≡ Some (utc_hundredths zone stamp)
 hundredths-some zone stamp is = rw (civil_time-true stamp is) refl
 
 all_eight : (a b c d e f g h : Bool) → (a && b && c && d && e && f && g && h) ≡ true → (a ≡ true) × (b ≡ true) × (c ≡ true) × (d ≡ true) × (e ≡ true) × (f ≡ true) × (g ≡ true) × (h ≡ true)
@@ -133,9 +133,9 @@ civil_time-told stamp octet e =
       time = record { hour = ltb-true _ _ tests.4; minute = ltb-true _ _ tests.5; second = ltb-true _ _ tests.6; hundredth = ltb-true _ _ tests.7 };
     }
 
-none_by : (test : Bool) (zone : LocalZone) (stamp : Stamp) → slice_index stamp.octets 0 < 2 ^ 8 → ¬ (IsCivilTime stamp) → is_civil_time stamp ≡ test → hundredths_in zone stamp ≡ None
+none_by : (test : Bool) (zone : ZoneData) (stamp : Stamp) → slice_index stamp.octets 0 < 2 ^ 8 → ¬ (IsCivilTime stamp) → is_civil_time stamp ≡ test → hundredths_in zone stamp ≡ None
 none_by true zone stamp octet never e = absurd (never (civil_time-told stamp octet e))
 none_by false zone stamp octet never e = rw e refl
 
-pub hundredths-none : (zone : LocalZone) (stamp : Stamp) → slice_index stamp.octets 0 < 2 ^ 8 → ¬ (IsCivilTime stamp) → hundredths_in zone stamp ≡ None
+pub hundredths-none : (zone : ZoneData) (stamp : Stamp) → slice_index stamp.octets 0 < 2 ^ 8 → ¬ (IsCivilTime stamp) → hundredths_in zone stamp ≡ None
 hundredths-none zone stamp octet never = none_by _ zone stamp octet never refl

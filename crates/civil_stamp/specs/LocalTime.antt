@@ -9,32 +9,32 @@ use Rattle.bac_values.specs.declared.stamp.Stamp.{Stamp}
 use Rattle.civil_stamp.specs.ZoneRules.{ClockRule, clock_rule, seconds_ahead, seconds_shown}
 
 -- what is seen of a zone: what its rule says of the clock. Only the next five definitions say what it is made of
-abbrev pub LocalZone : Type 0
-LocalZone = ClockRule
+abbrev pub ZoneData : Type 0
+ZoneData = ClockRule
 
 -- a zone that stands these minutes ahead of UTC, at most fourteen hours from it
 abbrev pub IsZone : ℤ → Type 0
 IsZone minutes = IsBetween (neg_ℤ (pos 840)) (pos 840) minutes
 
 -- the zone that stands these minutes ahead of UTC all year
-abbrev pub fixed_zone : ℤ → LocalZone
+abbrev pub fixed_zone : ℤ → ZoneData
 fixed_zone minutes = record { standard = minutes *ℤ pos 60; daylight = None }
 
 -- the zone of a rule's text, where jiff takes it for a rule
-abbrev pub rule_zone : List ℕ → Option LocalZone
+abbrev pub rule_zone : List ℕ → Option ZoneData
 rule_zone text = option_map clock_rule (read_whole text)
 
 -- how many milliseconds the clock of the zone stands ahead of UTC at the moment
-abbrev pub milliseconds_ahead : LocalZone → ℕ → ℤ
+abbrev pub milliseconds_ahead : ZoneData → ℕ → ℤ
 milliseconds_ahead zone moment = seconds_ahead zone (pos moment *ℤ pos 1_000_000) *ℤ pos 1_000
 
 -- how many hundredths of a second the clock of the zone stands ahead of UTC that shows these hundredths since
 -- 1970-01-01T00:00:00 in the year; in a fold or a gap, how many it stood before
-abbrev pub hundredths_ahead : LocalZone → ℤ → ℤ → ℤ
+abbrev pub hundredths_ahead : ZoneData → ℤ → ℤ → ℤ
 hundredths_ahead zone year shown = seconds_shown zone year (shown *ℤ pos 10_000_000) *ℤ pos 100
 
 -- the hundredths of a second since 1970-01-01T00:00:00 on the clock of the zone, rounded down
-abbrev pub local_hundredths : LocalZone → ℕ → ℤ
+abbrev pub local_hundredths : ZoneData → ℕ → ℤ
 local_hundredths zone moment = int_div_euclid (pos moment +ℤ milliseconds_ahead zone moment) (pos 10)
 
 -- the parts of a stamp: the year is kept less 1900, and Monday is 1
@@ -81,7 +81,7 @@ pub record IsTimeOfDay (stamp : Stamp) : Type 0 where
 
 -- the stamp is what the clock of the zone shows at the moment: a day of the calendar and a time of that day, which
 -- together count the clock's hundredths, and the weekday of that day
-pub record IsLocalStamp (zone : LocalZone) (moment : ℕ) (stamp : Stamp) : Type 0 where
+pub record IsLocalStamp (zone : ZoneData) (moment : ℕ) (stamp : Stamp) : Type 0 where
   pub size : length stamp.octets ≡ 8
   pub date : IsCivilDate (stamp_year stamp) (stamp_month stamp) (stamp_day stamp)
   pub time : IsTimeOfDay stamp
@@ -109,17 +109,17 @@ shown_hundredths stamp = stamp_epoch_day stamp *ℤ pos 8_640_000 +ℤ pos (stam
 
 -- the hundredths of a second since 1970-01-01T00:00:00 at UTC when the clock of the zone shows the stamp: of two times in a
 -- fold the earlier one, and in a gap by the offset before it
-abbrev pub utc_hundredths : LocalZone → Stamp → ℤ
+abbrev pub utc_hundredths : ZoneData → Stamp → ℤ
 utc_hundredths zone stamp =
     shown_hundredths stamp -ℤ hundredths_ahead zone (stamp_year stamp) (shown_hundredths stamp)
 
 -- these, where the stamp is a civil time
-abbrev pub hundredths_in : LocalZone → Stamp → Option ℤ
+abbrev pub hundredths_in : ZoneData → Stamp → Option ℤ
 hundredths_in zone stamp = if is_civil_time stamp then Some (utc_hundredths zone stamp) else None
 
 -- a moment, and the zone in which its local date and time are told
-pub record ZonedMoment : Type 0 where
-  pub zone : LocalZone
+pub record LocalMomentData : Type 0 where
+  pub zone : ZoneData
   pub moment : ℕ
 
 -- How the stamp is computed.
@@ -147,7 +147,7 @@ octets_of_day_and_time day time =
     ∷ (time / 360_000) ∷ (time / 6_000 % 60) ∷ (time / 100 % 60) ∷ (time % 100) ∷ []
 
 -- the stamp that the clock of the zone shows at the moment
-unfoldable pub local_stamp : LocalZone → ℕ → Stamp
+unfoldable pub local_stamp : ZoneData → ℕ → Stamp
 local_stamp zone moment =
     record {
       octets = octets_of_day_and_time (int_div_euclid (local_hundredths zone moment) (pos 8_640_000))
@@ -155,7 +155,7 @@ local_stamp zone moment =
     }
 
 -- a moment in range, and the stamp that the clock of the zone shows at it
-pub record IsZonedStamp (zone : LocalZone) (moment : ℕ) (stamp : Stamp) : Type 0 where
+pub record IsZonedStamp (zone : ZoneData) (moment : ℕ) (stamp : Stamp) : Type 0 where
   pub within : IsMoment moment
   pub shows : IsLocalStamp zone moment stamp
   pub computed : stamp ≡ local_stamp zone moment

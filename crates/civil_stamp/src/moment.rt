@@ -16,9 +16,9 @@ pub struct LocalMoment {
 }
 
 impl Model for LocalMoment {
-    ghost use Rattle.civil_stamp.specs.LocalTime.{IsZonedStamp, ZonedMoment, local_stamp};
+    ghost use Rattle.civil_stamp.specs.LocalTime.{IsZonedStamp, local_stamp, LocalMomentData};
 
-    ghost Value = { ZonedMoment };
+    ghost Value = { LocalMomentData };
 
     ghost view = { λ at. record { zone = at.zone; moment = at.moment } };
 

@@ -25,9 +25,9 @@ pub struct Zone {
 
 impl Model for Zone {
     ghost use Rattle.civil_stamp.specs.ZoneRules.{IsClockRule};
-    ghost use Rattle.civil_stamp.specs.LocalTime.{LocalZone};
+    ghost use Rattle.civil_stamp.specs.LocalTime.{ZoneData};
 
-    ghost Value = { LocalZone };
+    ghost Value = { ZoneData };
 
     ghost view = { λ zone. record { standard = zone.standard; daylight = zone.daylight } };
 

@@ -7,7 +7,7 @@ use Rattle.std.proofs.lemmas.Bool.Decides.{leb_tells, nat_tests}
 use Rattle.std.proofs.lemmas.List.{drop-map, take-map}
 use Rattle.std.proofs.lemmas.List.Elements.{filter_agree}
 use Rattle.std.proofs.lemmas.List.Sorted.{ranks_by, sorted_far}
-use Rattle.bac_values.specs.Identifier.{Identifier}
+use Rattle.bac_values.specs.Identifier.{ObjectIdData}
 use Rattle.bac_values.specs.Orders.{identifier_order}
 use Rattle.bac_values.proofs.OrderLemmas.{identifiers_are_total}
 use Rattle.object_table.specs.Rows.{is_object}
@@ -15,11 +15,11 @@ use Rattle.enrollment.specs.declared.references.Reference.{Reference}
 use Rattle.enrollment.specs.References.{is_below, is_to, is_up_to, referred_by, watcher_of, watchers_in}
 
 -- identifiers of which neither is below the other are one
-ties_are_one : (a b : Identifier) → (not (is_lt (identifier_order a b)) && not (is_lt (identifier_order b a))) ≡ is_object a b
+ties_are_one : (a b : ObjectIdData) → (not (is_lt (identifier_order a b)) && not (is_lt (identifier_order b a))) ≡ is_object a b
 ties_are_one a b = grind (arith, nat_tests)
 
 -- a stable sort leaves those that refer to an object as they were
-pub sorted_watchers : (object : Identifier) (xs ys : List Reference) → IsStableByKey referred_by identifier_order xs ys → watchers_in object ys ≡ watchers_in object xs
+pub sorted_watchers : (object : ObjectIdData) (xs ys : List Reference) → IsStableByKey referred_by identifier_order xs ys → watchers_in object ys ≡ watchers_in object xs
 sorted_watchers object xs ys stable =
     let one : Reference = record { referred = object; watcher = object } in
     ap (map watcher_of)
@@ -28,13 +28,13 @@ sorted_watchers object xs ys stable =
     ∙ filter_agree (ties (λ x y. is_lt (identifier_order (referred_by x) (referred_by y))) one) (is_to object) (λ r. ties_are_one object r.referred) xs))
 
 -- what isn't above an identifier is below whatever this one is below
-below_down : (a b object : Identifier) → is_lt (identifier_order b a) ≡ false → is_lt (identifier_order b object) ≡ true → is_lt (identifier_order a object) ≡ true
+below_down : (a b object : ObjectIdData) → is_lt (identifier_order b a) ≡ false → is_lt (identifier_order b object) ≡ true → is_lt (identifier_order a object) ≡ true
 below_down a b object h below = grind (arith, nat_tests)
 
-up_to_down : (a b object : Identifier) → is_lt (identifier_order b a) ≡ false → is_le (identifier_order b object) ≡ true → is_le (identifier_order a object) ≡ true
+up_to_down : (a b object : ObjectIdData) → is_lt (identifier_order b a) ≡ false → is_le (identifier_order b object) ≡ true → is_le (identifier_order a object) ≡ true
 up_to_down a b object h below = grind (arith, nat_tests)
 
-module _ (object : Identifier) (references : List Reference) (ascending : IsSortedByKey referred_by identifier_order references) where
+module _ (object : ObjectIdData) (references : List Reference) (ascending : IsSortedByKey referred_by identifier_order references) where
   pub parted_below : IsPartitionedBy (is_below object) references
   parted_below i j d le high below =
       below_down _ _ object (sorted_far (λ x y. is_lt (identifier_order (referred_by x) (referred_by y))) (ranks_by identifiers_are_total referred_by) references ascending i j d le high) below
@@ -72,19 +72,19 @@ filter_range p (x ∷ xs) (suc start) (suc end) order within before here after =
     let rest = filter_range p xs start end (omega (arith, order)) (omega (arith, within)) (λ k d low. before (suc k) d (omega arith)) (λ k d high low. here (suc k) d (omega arith) (omega arith)) (λ k d high low. after (suc k) d (omega arith) (omega arith)) in
     rw (first, e) rest
 
-below_is_up_to : (a object : Identifier) → is_lt (identifier_order a object) ≡ true → is_le (identifier_order a object) ≡ true
+below_is_up_to : (a object : ObjectIdData) → is_lt (identifier_order a object) ≡ true → is_le (identifier_order a object) ≡ true
 below_is_up_to a object h = grind (arith, nat_tests)
 
-below_is_other : (a object : Identifier) → is_lt (identifier_order a object) ≡ true → is_object object a ≡ false
+below_is_other : (a object : ObjectIdData) → is_lt (identifier_order a object) ≡ true → is_object object a ≡ false
 below_is_other a object h = grind (arith, nat_tests)
 
-between_is_one : (a object : Identifier) → is_lt (identifier_order a object) ≡ false → is_le (identifier_order a object) ≡ true → is_object object a ≡ true
+between_is_one : (a object : ObjectIdData) → is_lt (identifier_order a object) ≡ false → is_le (identifier_order a object) ≡ true → is_object object a ≡ true
 between_is_one a object h g = grind (arith, nat_tests)
 
-above_is_other : (a object : Identifier) → is_le (identifier_order a object) ≡ false → is_object object a ≡ false
+above_is_other : (a object : ObjectIdData) → is_le (identifier_order a object) ≡ false → is_object object a ≡ false
 above_is_other a object h = grind (arith, nat_tests)
 
-module _ (object : Identifier) (references : List Reference) (start end : ℕ)
+module _ (object : ObjectIdData) (references : List Reference) (start end : ℕ)
     (from : IsPartitionPoint (λ r. is_below object r ≡ true) (λ r. is_below object r ≡ false) references start)
     (upto : IsPartitionPoint (λ r. is_up_to object r ≡ true) (λ r. is_up_to object r ≡ false) references end)
     (within_start : start ≤ length references) (within_end : end ≤ length references) where
@@ -106,14 +106,14 @@ module _ (object : Identifier) (references : List Reference) (start end : ℕ)
       (λ k d high low. above_is_other _ object (upto.1 k d high low))
 
 -- the watchers of a stretch of references are a stretch of the watchers
-pub watchers_of_stretch : (object : Identifier) (references : List Reference) (watchers : List Identifier) (start end : ℕ) → watchers ≡ map watcher_of references → filter (is_to object) references ≡ take (end - start) (drop start references) → take (end - start) (drop start watchers) ≡ watchers_in object references
+pub watchers_of_stretch : (object : ObjectIdData) (references : List Reference) (watchers : List ObjectIdData) (start end : ℕ) → watchers ≡ map watcher_of references → filter (is_to object) references ≡ take (end - start) (drop start references) → take (end - start) (drop start watchers) ≡ watchers_in object references
 watchers_of_stretch object references watchers start end all is =
     ap (λ ws. take (end - start) (drop start ws)) all
     ∙ (ap (take (end - start)) (drop-map watcher_of start references)
     ∙ (take-map watcher_of (end - start) (drop start references)
     ∙ ap (map watcher_of) (sym is)))
 
-pub as_many : (references : List Reference) (watchers : List Identifier) → watchers ≡ map watcher_of references → length watchers ≡ length references
+pub as_many : (references : List Reference) (watchers : List ObjectIdData) → watchers ≡ map watcher_of references → length watchers ≡ length references
 as_many references watchers all = ap length all ∙ sizes references
   where
     sizes : (rs : List Reference) → length (map watcher_of rs) ≡ length rs

@@ -10,7 +10,7 @@ use Rattle.std.proofs.lemmas.List.Elements.{All-set}
 use Rattle.std.proofs.lemmas.List.Kept.{AllPairs-filter}
 use Rattle.std.proofs.Math.Seq.{map-set_same}
 use Rattle.std.proofs.lemmas.Cmp.{alike_right}
-use Rattle.bac_values.specs.Identifier.{Identifier}
+use Rattle.bac_values.specs.Identifier.{ObjectIdData}
 use Rattle.bac_values.specs.Orders.{identifier_order}
 use Rattle.bac_values.proofs.OrderLemmas.{identifiers_are_total, rises}
 use Rattle.object_table.specs.declared.change.Change.{Change}
@@ -40,7 +40,7 @@ no_more : (m n : ℕ) → m ≡ n → m ≤ n
 no_more m n e = omega arith
 
 -- what a binary search among ascending enrollments says
-pub searched : (object : Identifier) (sites : List EnrollmentSite) (answer : Result ℕ ℕ) → AscendById sites → IsSearchInRange answer (length sites) → IsBinarySearchResult (λ site. identifier_order site.object object) sites answer → record { found : IfOk answer (StandsAt object sites); absent : OnErr answer (site_of object sites ≡ None) }
+pub searched : (object : ObjectIdData) (sites : List EnrollmentSite) (answer : Result ℕ ℕ) → AscendById sites → IsSearchInRange answer (length sites) → IsBinarySearchResult (λ site. identifier_order site.object object) sites answer → record { found : IfOk answer (StandsAt object sites); absent : OnErr answer (site_of object sites ≡ None) }
 searched object sites (Ok place) ascending within equal = record {
   found = record {
     within = within;
@@ -53,10 +53,10 @@ searched object sites (Ok place) ascending within equal = record {
   absent = tt;
 }
   where
-    other_side : (a b : Identifier) → identifier_order a b ≡ Less → identifier_order b object ≡ Equal → identifier_order a object ≡ Less
+    other_side : (a b : ObjectIdData) → identifier_order a b ≡ Less → identifier_order b object ≡ Equal → identifier_order a object ≡ Less
     other_side a b lt same = sym (alike_right identifiers_are_total b object a same) ∙ lt
 
-    this_side : (a b : Identifier) → identifier_order a b ≡ Less → identifier_order a object ≡ Equal → identifier_order b object ≡ Greater
+    this_side : (a b : ObjectIdData) → identifier_order a b ≡ Less → identifier_order a object ≡ Equal → identifier_order b object ≡ Greater
     this_side a b lt same = sym (alike_right identifiers_are_total a object b same) ∙ above a b lt
 searched object sites (Err place) ascending within parted =
     let point = parted (λ i j d low high. elim (leb_tells (suc i) j) [
@@ -72,11 +72,11 @@ searched object sites (Err place) ascending within parted =
     }
 
 -- the enrollment at the object's place is the object's
-pub site_at : (object : Identifier) (sites : List EnrollmentSite) (place : ℕ) (d : EnrollmentSite) → StandsAt object sites place → site_of object sites ≡ Some (get_or sites place d)
+pub site_at : (object : ObjectIdData) (sites : List EnrollmentSite) (place : ℕ) (d : EnrollmentSite) → StandsAt object sites place → site_of object sites ≡ Some (get_or sites place d)
 site_at object sites place d h = find_at (λ site. is_object object site.object) sites place d h.within (h.here d) (λ k low. h.others k d (omega (arith, h.within)) (λ same. omega arith))
 
 -- where no enrollment is the object's, a write changes nothing
-unwritten : (object : Identifier) (f : EnrollmentSite → EnrollmentSite) (sites : List EnrollmentSite) → ((k : ℕ) (d : EnrollmentSite) → k < length sites → is_object object (get_or sites k d).object ≡ false) → map (λ site. if is_object object site.object then f site else site) sites ≡ sites
+unwritten : (object : ObjectIdData) (f : EnrollmentSite → EnrollmentSite) (sites : List EnrollmentSite) → ((k : ℕ) (d : EnrollmentSite) → k < length sites → is_object object (get_or sites k d).object ≡ false) → map (λ site. if is_object object site.object then f site else site) sites ≡ sites
 unwritten object f [] h = refl
 unwritten object f (site ∷ sites) h =
     let first : is_object object site.object ≡ false = h 0 site (omega arith) in
@@ -84,7 +84,7 @@ unwritten object f (site ∷ sites) h =
     rw (first, rest) refl
 
 -- a write of an object is one at its place
-written_at : (object : Identifier) (f : EnrollmentSite → EnrollmentSite) (sites : List EnrollmentSite) (place : ℕ) (d : EnrollmentSite) → StandsAt object sites place → map (λ site. if is_object object site.object then f site else site) sites ≡ set sites place (f (get_or sites place d))
+written_at : (object : ObjectIdData) (f : EnrollmentSite → EnrollmentSite) (sites : List EnrollmentSite) (place : ℕ) (d : EnrollmentSite) → StandsAt object sites place → map (λ site. if is_object object site.object then f site else site) sites ≡ set sites place (f (get_or sites place d))
 written_at object f [] place d h = absurd (omega (arith, h.within))
 written_at object f (site ∷ sites) zero d h =
     let first : is_object object site.object ≡ true = h.here d in
@@ -105,7 +105,7 @@ pub record SameReferences (site new : EnrollmentSite) : Type 0 where
   pub monitored : new.monitored ≡ site.monitored
   pub feedback : new.feedback ≡ site.feedback
 
-refers_alike : (object : Identifier) (site new : EnrollmentSite) → SameReferences site new → refers_to object new ≡ refers_to object site
+refers_alike : (object : ObjectIdData) (site new : EnrollmentSite) → SameReferences site new → refers_to object new ≡ refers_to object site
 refers_alike object site new same = ap₂ (λ m f. is_object object m || is_feedback object f) same.monitored same.feedback
 
 kept_alike : (refers : Bool) (xs : List EnrollmentSite) (site new : EnrollmentSite) → new.object ≡ site.object → map identifier_of (cond refers (new ∷ xs) xs) ≡ map identifier_of (cond refers (site ∷ xs) xs)
@@ -148,7 +148,7 @@ behind true first xs ys e = ap (λ os. first.object ∷ os) e
 behind false first xs ys e = e
 
 -- the same enrollments refer to an object
-watched_after : (object : Identifier) (sites : List EnrollmentSite) (place : ℕ) (site new : EnrollmentSite) → site ≡ get_or sites place site → SameReferences site new → watchers object (set sites place new) ≡ watchers object sites
+watched_after : (object : ObjectIdData) (sites : List EnrollmentSite) (place : ℕ) (site new : EnrollmentSite) → site ≡ get_or sites place site → SameReferences site new → watchers object (set sites place new) ≡ watchers object sites
 watched_after object [] place site new same alike = refl
 watched_after object (first ∷ sites) zero site new same alike =
     rw (refers_alike object site new alike, ← same) (kept_alike (refers_to object site) (filter (refers_to object) sites) site new alike.object)

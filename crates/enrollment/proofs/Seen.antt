@@ -3,7 +3,7 @@ use Rattle.std.proofs.Common.{arith, ◌≡◌, ◌↔◌, suc, Bool, true, fals
 use Rattle.std.specs.List.{All, find}
 use Rattle.std.specs.Option.{option_map}
 use Rattle.algorithm_rules.specs.Facts.{Facts}
-use Rattle.bac_values.specs.Identifier.{Identifier}
+use Rattle.bac_values.specs.Identifier.{ObjectIdData}
 use Rattle.object_table.specs.declared.row.Row.{Row}
 use Rattle.object_table.specs.Rows.{is_object, row_of}
 use Rattle.enrollment.specs.declared.enrollment_site.EnrollmentSite.{EnrollmentSite}
@@ -27,7 +27,7 @@ map_some f (Some x) = refl
 sees : (site : EnrollmentSite) (rows : List Row) → is_some (facts_of_site site rows) ≡ is_some (row_of site.monitored rows)
 sees site rows = map_some _ (value_in rows site.monitored) ∙ map_some _ (row_of site.monitored rows)
 
-pub absent_site : {X : Type 0} (result : Option X) (f : X → Facts) (object : Identifier) (sites : List EnrollmentSite) (rows : List Row) (site : EnrollmentSite) → Some site ≡ site_of object sites → option_map f result ≡ facts_of_site site rows →
+pub absent_site : {X : Type 0} (result : Option X) (f : X → Facts) (object : ObjectIdData) (sites : List EnrollmentSite) (rows : List Row) (site : EnrollmentSite) → Some site ≡ site_of object sites → option_map f result ≡ facts_of_site site rows →
     Holds rows sites → (IsNone result ↔ ((site_of object sites ≡ None) × (row_of object rows ≡ None)))
 absent_site result f object sites rows site found facts holds = (
   λ none. absurd (true≢false (sym there ∙ sym (sees site rows) ∙ sym (ap is_some facts) ∙ map_some f result ∙ none)),

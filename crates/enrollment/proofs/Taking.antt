@@ -4,7 +4,7 @@ use Rattle.std.specs.Prelude.{if◌then◌else◌, ◌==◌}
 use Rattle.bac_values.specs.declared.value.Foreign.TheVariants.{CharacterSet, TooLong}
 use Rattle.bac_values.specs.declared.value.Value.{Value}
 use Rattle.bac_values.specs.declared.value.Value.TheVariants.{Bool as Truth, Bits, Opaque}
-use Rattle.bac_values.specs.Identifier.{Identifier}
+use Rattle.bac_values.specs.Identifier.{ObjectIdData}
 use Rattle.object_table.specs.declared.change.Change.{Change}
 use Rattle.object_table.specs.declared.faults.WriteFault.{WriteFault}
 use Rattle.object_table.specs.Values.{are_flags, is_truth}
@@ -67,7 +67,7 @@ known_passes : (property : Option EnrollmentProperty) (value : Value) → IsTrue
 known_passes None value h = absurd (true≢false (sym h))
 known_passes (Some property) value h = possible_passes property value h
 
-passes_by_site : (site : Option EnrollmentSite) (object : Identifier) (number : ℕ) (value : Value) → IsSomeAnd site (λ (s : EnrollmentSite). IsTrue (takes_value number value)) → IsOk (write_by_site site object number None value)
+passes_by_site : (site : Option EnrollmentSite) (object : ObjectIdData) (number : ℕ) (value : Value) → IsSomeAnd site (λ (s : EnrollmentSite). IsTrue (takes_value number value)) → IsOk (write_by_site site object number None value)
 passes_by_site (Some site) object number value h = rw (known_passes (property_of number) value h) refl
 passes_by_site None object number value h = absurd h
 
@@ -75,7 +75,7 @@ ok_verdict : (verdict : Result (Unit {0}) WriteFault) (change : Change) → IsOk
 ok_verdict (Ok passed) change h = refl
 ok_verdict (Err fault) change h = absurd (true≢false (sym h))
 
-taken_by_site : (site : Option EnrollmentSite) (object : Identifier) (number : ℕ) (value : Value) → IsOk (write_by_site site object number None value) → IsSomeAnd site (λ (s : EnrollmentSite). IsTrue (takes_value number value))
+taken_by_site : (site : Option EnrollmentSite) (object : ObjectIdData) (number : ℕ) (value : Value) → IsOk (write_by_site site object number None value) → IsSomeAnd site (λ (s : EnrollmentSite). IsTrue (takes_value number value))
 taken_by_site (Some site) object number value h = write_ok number None value (ok_verdict (write_verdict number None value) (property_change object number value) h)
 taken_by_site None object number value h = absurd (true≢false (sym h))
 

@@ -5,7 +5,7 @@ use Rattle.std.proofs.lemmas.Bool.Decides.{nat_tests}
 use Rattle.std.proofs.lemmas.List.{map-append}
 use Rattle.std.proofs.lemmas.List.Concat.{flat_map-cons}
 use Rattle.std.proofs.lemmas.List.Elements.{filter-append}
-use Rattle.bac_values.specs.Identifier.{Identifier}
+use Rattle.bac_values.specs.Identifier.{ObjectIdData}
 use Rattle.object_table.specs.Rows.{is_object}
 use Rattle.enrollment.specs.declared.enrollment_site.EnrollmentSite.{EnrollmentSite}
 use Rattle.enrollment.specs.declared.references.Reference.{Reference}
@@ -14,16 +14,16 @@ use Rattle.enrollment.specs.References.{feedback_references, reference_to, refer
 use Rattle.enrollment.specs.Watchers.{is_feedback, refers_to, watchers}
 
 -- the enrollment itself, where it refers to the object
-abbrev watcher_if : Bool → EnrollmentSite → List Identifier
+abbrev watcher_if : Bool → EnrollmentSite → List ObjectIdData
 watcher_if refers site = if refers then site.object ∷ [] else []
 
-same_one : (object m f : Identifier) (a b : Bool) → is_object object f ≡ a → is_object object m ≡ b → is_object f m ≡ true → a ≡ b
+same_one : (object m f : ObjectIdData) (a b : Bool) → is_object object f ≡ a → is_object object m ≡ b → is_object f m ≡ true → a ≡ b
 same_one object m f a b ea eb same = grind (arith, nat_tests)
 
-two_objects : (object m f : Identifier) → is_object object f ≡ true → is_object object m ≡ true → is_object f m ≡ false → ⊥
+two_objects : (object m f : ObjectIdData) → is_object object f ≡ true → is_object object m ≡ true → is_object f m ≡ false → ⊥
 two_objects object m f ea eb other = grind (arith, nat_tests)
 
-by_answers : (object f : Identifier) (site : EnrollmentSite) (a b c : Bool) → is_object object f ≡ a → is_object object site.monitored ≡ b → is_object f site.monitored ≡ c →
+by_answers : (object f : ObjectIdData) (site : EnrollmentSite) (a b c : Bool) → is_object object f ≡ a → is_object object site.monitored ≡ b → is_object f site.monitored ≡ c →
     watchers_in object (reference_to site.monitored site ∷ feedback_references (Some f) site) ≡ watcher_if (is_object object site.monitored || is_feedback object (Some f)) site
 by_answers object f site true true true ea eb ec = rw (ea, eb, ec) refl
 by_answers object f site false false true ea eb ec = rw (ea, eb, ec) refl
@@ -34,18 +34,18 @@ by_answers object f site true false false ea eb ec = rw (ea, eb, ec) (rw ea refl
 by_answers object f site false true false ea eb ec = rw (ea, eb, ec) (rw ea refl)
 by_answers object f site false false false ea eb ec = rw (ea, eb, ec) (rw ea refl)
 
-by_monitored : (object : Identifier) (site : EnrollmentSite) (b : Bool) → is_object object site.monitored ≡ b →
+by_monitored : (object : ObjectIdData) (site : EnrollmentSite) (b : Bool) → is_object object site.monitored ≡ b →
     watchers_in object (reference_to site.monitored site ∷ []) ≡ watcher_if (is_object object site.monitored || false) site
 by_monitored object site true eb = rw eb refl
 by_monitored object site false eb = rw eb refl
 
-by_feedback : (object : Identifier) (site : EnrollmentSite) (feedback : Option Identifier) →
+by_feedback : (object : ObjectIdData) (site : EnrollmentSite) (feedback : Option ObjectIdData) →
     watchers_in object (reference_to site.monitored site ∷ feedback_references feedback site) ≡ watcher_if (is_object object site.monitored || is_feedback object feedback) site
 by_feedback object site None = by_monitored object site (is_object object site.monitored) refl
 by_feedback object site (Some f) = by_answers object f site (is_object object f) (is_object object site.monitored) (is_object f site.monitored) refl refl refl
 
 -- an enrollment's references to an object are one, or none
-one_watched : (object : Identifier) (site : EnrollmentSite) → watchers_in object (references_of site) ≡ watcher_if (refers_to object site) site
+one_watched : (object : ObjectIdData) (site : EnrollmentSite) → watchers_in object (references_of site) ≡ watcher_if (refers_to object site) site
 one_watched object site = by_feedback object site site.feedback
 
 kept : (refers : Bool) (site : EnrollmentSite) (sites : List EnrollmentSite) → watcher_if refers site ++ map identifier_of sites ≡ map identifier_of (cond refers (site ∷ sites) sites)
@@ -53,7 +53,7 @@ kept true site sites = refl
 kept false site sites = refl
 
 -- the references of all enrollments
-pub all_watched : (object : Identifier) (sites : List EnrollmentSite) → watchers_in object (flat_map references_of sites) ≡ watchers object sites
+pub all_watched : (object : ObjectIdData) (sites : List EnrollmentSite) → watchers_in object (flat_map references_of sites) ≡ watchers object sites
 all_watched object [] = refl
 all_watched object (site ∷ sites) =
     let to : Reference → Bool = λ r. is_object object r.referred in

@@ -3,7 +3,7 @@ use Rattle.std.specs.Prelude.{◌≡◌, ℕ, ◌<◌, ◌≤◌, ◌≢◌, Boo
 use Rattle.bac_values.specs.EventTypes.{event_notify_type}
 use Rattle.bac_values.specs.declared.object_kind.ObjectKind.{ObjectKind}
 use Rattle.bac_values.specs.declared.object_kind.ObjectKind.TheVariants.{BinaryValue, EventEnrollment, MultiStateValue, BitStringValue, CharacterStringValue, IntegerValue, PositiveIntegerValue}
-use Rattle.bac_values.specs.Identifier.{Identifier, kind_of, number_of_kind}
+use Rattle.bac_values.specs.Identifier.{kind_of, number_of_kind, ObjectIdData}
 use Rattle.algorithm_rules.specs.declared.table.Algorithm.{Algorithm}
 use Rattle.algorithm_rules.specs.declared.table.Algorithm.TheVariants.{CommandFailure, UnsignedRange}
 use Rattle.object_table.specs.Rows.{Ascends, is_object}
@@ -51,7 +51,7 @@ pub record IsEnrollment (site : EnrollmentSite) : Type 0 where
   pub notify : site.notify ≤ event_notify_type
   pub enable : length site.enable ≡ 3
 
-abbrev pub identifier_of : EnrollmentSite → Identifier
+abbrev pub identifier_of : EnrollmentSite → ObjectIdData
 identifier_of site = site.object
 
 -- enrollments in the order of their identifiers
@@ -59,11 +59,11 @@ abbrev pub AscendById : List EnrollmentSite → Type 0
 AscendById sites = Ascends (map identifier_of sites)
 
 -- the enrollment with an identifier
-abbrev pub site_of : Identifier → List EnrollmentSite → Option EnrollmentSite
+abbrev pub site_of : ObjectIdData → List EnrollmentSite → Option EnrollmentSite
 site_of object sites = find (λ site. is_object object site.object) sites
 
 -- the enrollment at the place is that one, and no other is
-pub record StandsAt (object : Identifier) (sites : List EnrollmentSite) (place : ℕ) : Type 0 where
+pub record StandsAt (object : ObjectIdData) (sites : List EnrollmentSite) (place : ℕ) : Type 0 where
   pub within : place < length sites
   pub here : (d : EnrollmentSite) → is_object object (slice_index_or sites place d).object ≡ true
   pub others : (k : ℕ) (d : EnrollmentSite) → k < length sites → k ≢ place → is_object object (slice_index_or sites k d).object ≡ false

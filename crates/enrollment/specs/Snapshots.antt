@@ -4,7 +4,7 @@ use Rattle.std.specs.Option.{option_and_then, option_map}
 use Rattle.bac_values.specs.declared.object_kind.ObjectKind.{ObjectKind}
 use Rattle.bac_values.specs.declared.object_kind.ObjectKind.TheVariants.{BitStringValue, CharacterStringValue, IntegerValue, PositiveIntegerValue}
 use Rattle.bac_values.specs.declared.value.Value.{Value}
-use Rattle.bac_values.specs.Identifier.{Identifier, kind_of}
+use Rattle.bac_values.specs.Identifier.{kind_of, ObjectIdData}
 use Rattle.algorithm_rules.specs.declared.table.Algorithm.{Algorithm}
 use Rattle.algorithm_rules.specs.declared.table.Algorithm.TheVariants.{ChangeOfBitstring, ChangeOfState, SignedOutOfRange, UnsignedOutOfRange, ChangeOfCharacterstring}
 use Rattle.algorithm_rules.specs.Facts.{Facts}
@@ -22,15 +22,15 @@ algorithm_of (Some IntegerValue) = SignedOutOfRange
 algorithm_of (Some PositiveIntegerValue) = UnsignedOutOfRange
 algorithm_of _ = ChangeOfState
 
-abbrev pub algorithm_for : Identifier → Algorithm
+abbrev pub algorithm_for : ObjectIdData → Algorithm
 algorithm_for object = algorithm_of (kind_of object.number)
 
 -- the algorithm of an enrollment is its own
-abbrev pub algorithm_by_site : Option EnrollmentSite → Identifier → Algorithm
+abbrev pub algorithm_by_site : Option EnrollmentSite → ObjectIdData → Algorithm
 algorithm_by_site (Some site) object = site.algorithm
 algorithm_by_site None object = algorithm_for object
 
-abbrev pub algorithm_with : Identifier → List EnrollmentSite → Algorithm
+abbrev pub algorithm_with : ObjectIdData → List EnrollmentSite → Algorithm
 algorithm_with object sites = algorithm_by_site (site_of object sites) object
 
 -- what the algorithm of a value object looks at: its own present value and its own settings
@@ -69,7 +69,7 @@ facts_of_enrollment value feedback site = record {
 }
 
 -- the present value of a value object
-abbrev pub value_in : List Row → Identifier → Option Value
+abbrev pub value_in : List Row → ObjectIdData → Option Value
 value_in rows object = option_map (λ row. row.site.value) (row_of object rows)
 
 -- an enrollment sees the present values of its monitored object and of its feedback, where it has one
@@ -79,12 +79,12 @@ facts_of_site site rows = option_map (λ value. facts_of_enrollment value (optio
 abbrev pub facts_of_row : Option Row → Option Facts
 facts_of_row row = option_map (λ row. facts_of_object row.site) row
 
-abbrev pub facts_by_site : Option EnrollmentSite → Identifier → List Row → Option Facts
+abbrev pub facts_by_site : Option EnrollmentSite → ObjectIdData → List Row → Option Facts
 facts_by_site (Some site) object rows = facts_of_site site rows
 facts_by_site None object rows = facts_of_row (row_of object rows)
 
 -- what the algorithm of an enrollment or a value object looks at, and nothing where it is neither
-abbrev pub facts_with : Identifier → List EnrollmentSite → List Row → Option Facts
+abbrev pub facts_with : ObjectIdData → List EnrollmentSite → List Row → Option Facts
 facts_with object sites rows = facts_by_site (site_of object sites) object rows
 
 -- the objects to which an enrollment refers are there

@@ -2,7 +2,7 @@
 use Rattle.std.specs.Prelude.{ℕ, Bool, false, Option, Some, None, Result, Err, List}
 use Rattle.bac_values.specs.ApplicationTags.{boolean_tag, bit_string_tag}
 use Rattle.bac_values.specs.declared.value.Value.{Value}
-use Rattle.bac_values.specs.Identifier.{Identifier}
+use Rattle.bac_values.specs.Identifier.{ObjectIdData}
 use Rattle.object_table.specs.declared.change.Change.{Change}
 use Rattle.object_table.specs.declared.faults.WriteFault.{WriteFault}
 use Rattle.object_table.specs.declared.faults.WriteFault.TheVariants.{Error, NoMemory}
@@ -38,12 +38,12 @@ known_verdict None index value = Err unknown_property
 abbrev pub write_verdict : ℕ → Option ℕ → Value → Result (Unit {0}) WriteFault
 write_verdict number index value = known_verdict (property_of number) index value
 
-abbrev pub write_by_site : Option EnrollmentSite → Identifier → ℕ → Option ℕ → Value → Result Change WriteFault
+abbrev pub write_by_site : Option EnrollmentSite → ObjectIdData → ℕ → Option ℕ → Value → Result Change WriteFault
 write_by_site (Some site) object number index value = allowed_change (write_verdict number index value) (property_change object number value)
 write_by_site None object number index value = Err unknown_object
 
 -- the answer to a write: the change, or the first error that applies
-abbrev pub checked_write : List EnrollmentSite → Identifier → ℕ → Option ℕ → Value → Result Change WriteFault
+abbrev pub checked_write : List EnrollmentSite → ObjectIdData → ℕ → Option ℕ → Value → Result Change WriteFault
 checked_write sites object number index value = write_by_site (site_of object sites) object number index value
 
 -- a fault that is an error to answer, and no want of memory

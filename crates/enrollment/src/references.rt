@@ -1,7 +1,7 @@
 ghost use Rattle.std.specs.Prelude.{◌≡◌, ◌≤◌, ◌++◌, ◌∷◌, [], true, false, IfOk, OnOk, filter, length, map, slice_range};
 ghost use Rattle.std.specs.List.{flat_map};
 ghost use Rattle.std.specs.List.Sorted.{IsPartitionPoint, IsSortedByKey};
-ghost use Rattle.bac_values.specs.Identifier.{Identifier};
+ghost use Rattle.bac_values.specs.Identifier.{ObjectIdData};
 ghost use Rattle.bac_values.specs.Orders.{identifier_order};
 ghost use Rattle.enrollment.specs.References.{is_below, is_to, is_up_to, reference_to, referred_by, references_of, watcher_of, watchers_in};
 ghost use Rattle.enrollment.specs.Watchers.{watchers};
@@ -42,7 +42,7 @@ impl Model for References {
 impl References {
     /// The references of enrollments.
     pub fn of(alloc: Global, sites: &[EnrollmentSite]) -> Result<References, NoMemory>
-        ensures watchers { IfOk result (λ index. (object : Identifier) → watchers_in object index ≡ watchers object sites.now) }
+        ensures watchers { IfOk result (λ index. (object : ObjectIdData) → watchers_in object index ≡ watchers object sites.now) }
     {
         let references = in_order(collected(alloc, sites)?)?;
         let watchers = all_watchers(alloc, &references)?;
@@ -117,7 +117,7 @@ fn add(references: &mut Vec<Reference>, reference: Reference) -> Result<(), NoMe
 /// The references in the order of the objects to which they refer; those to one object keep theirs.
 fn in_order(mut references: Vec<Reference>) -> Result<Vec<Reference>, NoMemory>
     ensures ascending { IfOk result (λ ordered. IsSortedByKey referred_by identifier_order ordered.items) }
-    ensures watchers { IfOk result (λ ordered. (object : Identifier) → watchers_in object ordered.items ≡ watchers_in object references.items) }
+    ensures watchers { IfOk result (λ ordered. (object : ObjectIdData) → watchers_in object ordered.items ≡ watchers_in object references.items) }
 {
     references.sort_by_key(|reference| reference.referred)?;
     Ok(references)

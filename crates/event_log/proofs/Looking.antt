@@ -3,7 +3,7 @@ use Rattle.std.proofs.Common.{◌≡◌, ℕ, ◌+◌, ◌-◌, Bool, true, fals
 use Rattle.std.proofs.lemmas.List.{drop-append-le, length-drop, drop-drop, drop_all}
 use Rattle.circular_buffer.specs.Buffer.{keep_last}
 use Rattle.event_log.specs.declared.log_record.LogRecord.{LogRecord}
-use Rattle.event_log.specs.Log.{LoggedEvent, number_after, entry_of, Log, new_log, with_entry}
+use Rattle.event_log.specs.Log.{LoggedEvent, number_after, entry_of, new_log, with_entry, EventLogState}
 use Rattle.event_log.specs.History.{Call, Recorded, Cleared, Switched, Taken, taken_after, one_more, enabled_after, log_after, next_log, FollowsCall}
 
 module _ {X : Type 0} where
@@ -26,31 +26,31 @@ full-kept : (size : ℕ) {X : Type 0} (xs : List X) → nat_le size (length (kee
 full-kept size xs = ap (λ n. nat_le size n) (length-keep_last size xs) ∙ le-min size (length xs)
 
 -- the log of what was taken
-abbrev log_of : Log → Bool → Taken → Log
+abbrev log_of : EventLogState → Bool → Taken → EventLogState
 log_of first enabled taken = record { size = first.size; stops = first.stops; enabled = enabled; total = taken.total; records = keep_last first.size taken.records }
 
-abbrev log_with : Log → Bool → ℕ → List LogRecord → Log
+abbrev log_with : EventLogState → Bool → ℕ → List LogRecord → EventLogState
 log_with first enabled total records = record { size = first.size; stops = first.stops; enabled = enabled; total = total; records = records }
 
-recorded-taken : (first : Log) (enabled : Bool) (taken : Taken) (event : LoggedEvent) →
+recorded-taken : (first : EventLogState) (enabled : Bool) (taken : Taken) (event : LoggedEvent) →
     log_of first enabled (one_more event taken) ≡ with_entry event (log_of first enabled taken)
 recorded-taken first enabled taken event =
     ap (log_with first enabled (number_after taken.total)) (sym (keep_last-again first.size taken.records (entry_of event (number_after taken.total))))
 
-record_by : (taken kept : Bool) (first : Log) (enabled : Bool) (t : Taken) (event : LoggedEvent) → kept ≡ taken →
+record_by : (taken kept : Bool) (first : EventLogState) (enabled : Bool) (t : Taken) (event : LoggedEvent) → kept ≡ taken →
     log_of first enabled (if taken then one_more event t else t) ≡ (if kept then with_entry event (log_of first enabled t) else log_of first enabled t)
 record_by true true first enabled t event e = recorded-taken first enabled t event
 record_by false false first enabled t event e = refl
 record_by true false first enabled t event e = search rules
 record_by false true first enabled t event e = search rules
 
-pub log_after-next : (first : Log) (call : Call) (calls : List Call) → log_after first (call ∷ calls) ≡ next_log call (log_after first calls)
+pub log_after-next : (first : EventLogState) (call : Call) (calls : List Call) → log_after first (call ∷ calls) ≡ next_log call (log_after first calls)
 unfolding taken_after
 log_after-next first Cleared calls = ap (log_with first (enabled_after first calls) (taken_after first calls).total) (drop_all (0 - first.size) [] (omega arith))
 log_after-next first (Switched on) calls = refl
 log_after-next first (Recorded event) calls = record_by _ _ first (enabled_after first calls) (taken_after first calls) event (ap (λ full. enabled_after first calls && not (first.stops && full)) (full-kept first.size (taken_after first calls).records))
 
-pub follows : (call : Call) (old new : Log) → new ≡ next_log call old → FollowsCall call old new
+pub follows : (call : Call) (old new : EventLogState) → new ≡ next_log call old → FollowsCall call old new
 follows call old new e = record { after = λ first calls h from. e ∙ ap (next_log call) from ∙ sym (log_after-next first call calls) }
 
 -- no call was made of a new log

@@ -4,7 +4,7 @@ use Rattle.std.proofs.lemmas.List.{length-drop}
 use Rattle.std.proofs.lemmas.Bool.{eqb-true, eqb-false, ltb-true, ltb-false, cond_below}
 use Rattle.circular_buffer.proofs.Places.{slice_get-drop, slice_get-append_left, slice_get-append_right, below_or_not}
 use Rattle.event_log.specs.declared.log_record.LogRecord.{LogRecord}
-use Rattle.event_log.specs.Log.{Log, IsLog, LoggedEvent, AreNumbered, number_after, number_back, entry_of, with_entry}
+use Rattle.event_log.specs.Log.{IsLog, LoggedEvent, AreNumbered, number_after, number_back, entry_of, with_entry, EventLogState}
 
 step_by : (same below below' : Bool) (total back : ℕ) → total < 2 ^ 32 → 0 < total → back < 2 ^ 32 - 1 →
     (total == 2 ^ 32 - 1) ≡ same → nat_lt back total ≡ below → nat_lt (back + 1) (if same then 1 else total + 1) ≡ below' →
@@ -76,7 +76,7 @@ same_by false false total a b ha hb ht e f same = omega (arith, ltb-false _ _ e,
 pub same_back : (total a b : ℕ) → a < 2 ^ 32 - 1 → b < 2 ^ 32 - 1 → total < 2 ^ 32 → number_back total a ≡ number_back total b → a ≡ b
 same_back total a b ha hb ht same = same_by _ _ total a b ha hb ht refl refl same
 
-pub is_log_with_entry : (event : LoggedEvent) (log : Log) → IsLog log → IsLog (with_entry event log)
+pub is_log_with_entry : (event : LoggedEvent) (log : EventLogState) → IsLog log → IsLog (with_entry event log)
 is_log_with_entry event log is =
     let entry : LogRecord = entry_of event (number_after log.total) in
     let more : List LogRecord = log.records ++ entry ∷ [] in

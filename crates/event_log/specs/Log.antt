@@ -5,7 +5,7 @@ use Rattle.bac_values.specs.declared.stamp.Stamp.{Stamp}
 use Rattle.event_log.specs.declared.log_record.LogRecord.{LogRecord}
 
 -- Buffer_Size, Stop_When_Full, Enable, Total_Record_Count, and the records in Log_Buffer, the oldest first
-pub record Log : Type 0 where
+pub record EventLogState : Type 0 where
   pub size : ℕ
   pub stops : Bool
   pub enabled : Bool
@@ -32,7 +32,7 @@ abbrev pub AreNumbered : ℕ → List LogRecord → Type 0
 AreNumbered total records = (place : ℕ) (entry : LogRecord) → slice_get records place ≡ Some entry → entry.sequence ≡ number_back total (length records - 1 - place)
 
 -- what is so of every log: numbers of 32 bits, no more records than its size, none where none was ever taken, and all in their numbers
-pub record IsLog (log : Log) : Type 0 where
+pub record IsLog (log : EventLogState) : Type 0 where
   pub size : log.size < 2 ^ 32
   pub total : log.total < 2 ^ 32
   pub short : length log.records ≤ log.size
@@ -40,7 +40,7 @@ pub record IsLog (log : Log) : Type 0 where
   pub numbered : AreNumbered log.total log.records
 
 -- a log that has taken nothing yet
-abbrev pub new_log : ℕ → Bool → Bool → Log
+abbrev pub new_log : ℕ → Bool → Bool → EventLogState
 new_log size stops enabled = record { size = size; stops = stops; enabled = enabled; total = 0; records = [] }
 
 -- whether a record is taken: where the log is enabled, and isn't both full and set to stop when it is
@@ -52,16 +52,16 @@ abbrev pub entry_of : LoggedEvent → ℕ → LogRecord
 entry_of event number = record { stamp = event.stamp; hundredths = event.hundredths; sequence = number; body = event.body }
 
 -- with one more record, of which the last ones stay that the size allows
-abbrev pub with_entry : LoggedEvent → Log → Log
+abbrev pub with_entry : LoggedEvent → EventLogState → EventLogState
 with_entry event log = record log { total = number_after log.total; records = keep_last log.size (log.records ++ entry_of event (number_after log.total) ∷ []) }
 
 -- after a record came; where it isn't taken, the log is as it was
-abbrev pub recorded : LoggedEvent → Log → Log
+abbrev pub recorded : LoggedEvent → EventLogState → EventLogState
 recorded event log = if is_taken log.enabled log.stops log.size (length log.records) then with_entry event log else log
 
 -- without records; the total stays
-abbrev pub cleared : Log → Log
+abbrev pub cleared : EventLogState → EventLogState
 cleared log = record log { records = [] }
 
-abbrev pub switched : Bool → Log → Log
+abbrev pub switched : Bool → EventLogState → EventLogState
 switched on log = record log { enabled = on }

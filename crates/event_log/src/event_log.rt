@@ -1,7 +1,7 @@
 ghost use Rattle.std.specs.Prelude.{◌≡◌, ℕ, List, [], ◌∷◌, IfOk, option_copied, slice_get, length, ◌≤◌, ◌<◌, IfSome, false};
 ghost use Rattle.std.specs.Option.{option_map_or};
 ghost use Rattle.circular_buffer.specs.Buffer.{buffer};
-ghost use Rattle.event_log.specs.Log.{Log, IsLog, LoggedEvent, new_log, is_taken, recorded, with_entry, cleared, switched};
+ghost use Rattle.event_log.specs.Log.{IsLog, LoggedEvent, new_log, is_taken, recorded, with_entry, cleared, switched, EventLogState};
 ghost use Rattle.event_log.specs.Ranges.{is_before, first_after, last_before, place_by_hundredths, place_by_time, range_from, place_of_position, place_of_sequence};
 ghost use Rattle.event_log.specs.History.{Recorded, Cleared, Switched, log_after, FollowsCall};
 
@@ -26,9 +26,9 @@ pub struct EventLog {
 
 impl Model for EventLog {
     ghost use Rattle.std.specs.Prelude.{◌≡◌};
-    ghost use Rattle.event_log.specs.Log.{Log, IsLog};
+    ghost use Rattle.event_log.specs.Log.{IsLog, EventLogState};
 
-    ghost Value = { Log };
+    ghost Value = { EventLogState };
 
     ghost view = { λ log. record { size = log.size; stops = log.stops; enabled = log.enabled; total = log.total; records = log.records.items } };
 

@@ -12,7 +12,8 @@ use Rattle.event_machine.specs.Points.{Point, Incident, Looked, Follows, IsCours
 use Rattle.event_machine.specs.Held.{key_in_detection, is_key, run_of}
 use Rattle.event_machine.specs.Detection.{Detection, sees, is_fault, detection_at}
 use Rattle.event_machine.specs.Runs.{earliest, run_with, run_start_of, run_at, runs_of}
-use Rattle.event_machine.specs.AlarmSteps.{no_runs, key_at, start_with, run_onward, next_run, next_runs}
+use Rattle.event_machine.specs.AlarmSteps.{key_at, start_with, run_onward, next_run, next_runs}
+use Rattle.event_machine.specs.Summary.{no_runs}
 use Rattle.event_machine.specs.Laws.{RunsGoOn}
 use Rattle.event_machine.proofs.Courses.{IsKnown, known, no_rules_in_fault}
 

@@ -9,7 +9,8 @@ use Rattle.algorithm_rules.specs.declared.table.Algorithm.{Algorithm}
 use Rattle.event_machine.specs.declared.run.Run.{Run}
 use Rattle.event_machine.specs.Points.{Point}
 use Rattle.event_machine.specs.Runs.{AreInRange}
-use Rattle.event_machine.specs.AlarmSteps.{no_runs, key_at, run_onward, next_run, next_runs}
+use Rattle.event_machine.specs.AlarmSteps.{key_at, run_onward, next_run, next_runs}
+use Rattle.event_machine.specs.Summary.{no_runs}
 
 abbrev InRange : Option Run → Type 0
 InRange run = IfSome run (λ r. IsMoment r.start)

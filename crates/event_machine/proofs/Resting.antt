@@ -7,7 +7,7 @@ use Rattle.algorithm_rules.specs.declared.table.Rule.{Rule}
 use Rattle.event_machine.specs.Points.{Point, Incident, Looked, IsCourse}
 use Rattle.event_machine.specs.Detection.{fault_target, is_fault, is_normal, moves_at}
 use Rattle.event_machine.specs.AlarmSteps.{Change, stays, enters, goes_on, next_runs, rule_by, rule_lasting, fault_by, relied_on, later_change, next_look}
-use Rattle.event_machine.specs.Rest.{rests}
+use Rattle.event_machine.specs.RestSteps.{rests}
 use Rattle.event_machine.specs.Summary.{AlarmState, IsAfter}
 use Rattle.event_machine.proofs.Keeping.{moves_look}
 

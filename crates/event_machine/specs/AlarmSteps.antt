@@ -1,9 +1,8 @@
 -- What one look, or one acknowledgement, makes of the alarm of an object, without looking back over its course.
-use Rattle.std.specs.Prelude.{ℕ, ◌==◌, Bool, true, false, not, if◌then◌else◌, Option, Some, None, List, [], ◌∷◌, ◌++◌, map, slice_get, slice_index_or, slice_set, replicate}
+use Rattle.std.specs.Prelude.{ℕ, ◌==◌, Bool, true, false, not, if◌then◌else◌, Option, Some, None, List, [], ◌∷◌, ◌++◌, map, slice_get, slice_index_or, slice_set}
 use Rattle.std.specs.Option.{option_and_then}
 use Rattle.bac_values.specs.declared.event_state.EventState.{EventState}
 use Rattle.bac_values.specs.declared.event_state.EventState.TheVariants.{Normal}
-use Rattle.bac_values.specs.declared.reliability.Reliability.TheVariants.{NoFaultDetected}
 use Rattle.bac_values.specs.declared.transition.Transition.{Transition}
 use Rattle.bac_values.specs.EventStates.{transition_to, place_of_transition}
 use Rattle.algorithm_rules.specs.declared.table.Algorithm.{Algorithm}
@@ -15,7 +14,7 @@ use Rattle.event_machine.specs.declared.run.Run.{Run}
 use Rattle.event_machine.specs.Points.{Point}
 use Rattle.event_machine.specs.Held.{key_in_detection}
 use Rattle.event_machine.specs.Detection.{is_fault, is_normal, cause_on, fault_target}
-use Rattle.event_machine.specs.AlarmRecord.{never, wants_ack}
+use Rattle.event_machine.specs.AlarmRecord.{wants_ack}
 use Rattle.event_machine.specs.Runs.{places, has_gone_on}
 use Rattle.event_machine.specs.Summary.{AlarmState}
 
@@ -26,21 +25,6 @@ pub record Change : Type 0 where
 
 abbrev pub set_at : {X : Type 0} → Transition → X → List X → List X
 set_at transition x xs = slice_set xs (place_of_transition transition) x
-
-abbrev pub no_runs : List (Option Run)
-no_runs = replicate 3 None
-
--- the alarm of an object that was never looked at
-abbrev pub new_alarm : AlarmState
-new_alarm = record {
-  state = Normal;
-  acked = replicate 3 true;
-  stamps = replicate 3 never;
-  last_states = replicate 3 None;
-  cause = None;
-  last_reliability = NoFaultDetected;
-  runs = no_runs;
-}
 
 abbrev pub acknowledged : Transition → AlarmState → AlarmState
 acknowledged transition alarm = record alarm { acked = set_at transition true alarm.acked }

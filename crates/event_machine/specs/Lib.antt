@@ -8,6 +8,6 @@ pub mod Summary
 pub mod AlarmSteps
 pub mod Laws
 pub mod Given
-pub mod Rest
+pub mod RestSteps
 pub mod Due
 pub mod Finding

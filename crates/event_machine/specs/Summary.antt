@@ -1,5 +1,5 @@
 -- What is kept of an object after a course: its alarm.
-use Rattle.std.specs.Prelude.{◌≡◌, ℕ, Bool, Option, List, [], ◌∷◌, map}
+use Rattle.std.specs.Prelude.{◌≡◌, ℕ, Bool, Option, List, [], ◌∷◌, map, true, None, replicate}
 use Rattle.bac_values.specs.declared.event_state.EventState.{EventState}
 use Rattle.bac_values.specs.declared.reliability.Reliability.{Reliability}
 use Rattle.bac_values.specs.declared.stamp.Stamp.{Stamp}
@@ -9,8 +9,10 @@ use Rattle.algorithm_rules.specs.declared.table.Algorithm.{Algorithm}
 use Rattle.event_machine.specs.declared.run.Run.{Run}
 use Rattle.event_machine.specs.Points.{Point, Incident}
 use Rattle.event_machine.specs.Detection.{Detection, detection_at}
-use Rattle.event_machine.specs.AlarmRecord.{Mark, record_of, marks_of}
+use Rattle.event_machine.specs.AlarmRecord.{Mark, record_of, marks_of, never}
 use Rattle.event_machine.specs.Runs.{runs_of}
+use Rattle.bac_values.specs.declared.event_state.EventState.TheVariants.{Normal}
+use Rattle.bac_values.specs.declared.reliability.Reliability.TheVariants.{NoFaultDetected}
 
 -- The alarm of an object: its Event_State, Acked_Transitions and Event_Time_Stamps, the states that its transitions last entered, the cause, the last reliability, and the runs of the rules of its state, by their places. The other lists are for to-offnormal, to-fault and to-normal.
 pub record AlarmState : Type 0 where
@@ -21,6 +23,21 @@ pub record AlarmState : Type 0 where
   pub cause : Option ℕ
   pub last_reliability : Reliability
   pub runs : List (Option Run)
+
+abbrev pub no_runs : List (Option Run)
+no_runs = replicate 3 None
+
+-- the alarm of an object that was never looked at
+abbrev pub new_alarm : AlarmState
+new_alarm = record {
+  state = Normal;
+  acked = replicate 3 true;
+  stamps = replicate 3 never;
+  last_states = replicate 3 None;
+  cause = None;
+  last_reliability = NoFaultDetected;
+  runs = no_runs;
+}
 
 abbrev pub transitions : List Transition
 transitions = ToOffnormal ∷ ToFault ∷ ToNormal ∷ []

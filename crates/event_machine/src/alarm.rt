@@ -6,8 +6,8 @@ ghost use Rattle.event_machine.specs.Detection.{cause_on};
 ghost use Rattle.event_machine.specs.Given.{alarm_of_parts, point_of};
 ghost use Rattle.event_machine.specs.Points.{Point, Incident, Acknowledged};
 ghost use Rattle.event_machine.specs.Runs.{AreInRange};
-ghost use Rattle.event_machine.specs.Summary.{IsAfter};
-ghost use Rattle.event_machine.specs.AlarmSteps.{acknowledged, begins, entered, goes_on, new_alarm};
+ghost use Rattle.event_machine.specs.Summary.{IsAfter, new_alarm};
+ghost use Rattle.event_machine.specs.AlarmSteps.{acknowledged, begins, entered, goes_on};
 
 use crate::running::next_runs;
 use crate::{AlarmParts, PointFacts, Run};

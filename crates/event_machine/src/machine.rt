@@ -3,9 +3,9 @@ ghost use Rattle.std.specs.Option.{option_to_list};
 ghost use Rattle.bac_values.specs.Moments.{IsMoment};
 ghost use Rattle.event_machine.specs.Detection.{fault_target, moves_at};
 ghost use Rattle.event_machine.specs.Given.{moves_in, point_of};
-ghost use Rattle.event_machine.specs.AlarmSteps.{begins, enters, fault_change, inhibited_change, later_change, new_alarm, next_look};
+ghost use Rattle.event_machine.specs.AlarmSteps.{begins, enters, fault_change, inhibited_change, later_change, next_look};
+ghost use Rattle.event_machine.specs.Summary.{new_alarm, IsAfter};
 ghost use Rattle.event_machine.specs.Points.{Incident, IsCourse, Looked, Point};
-ghost use Rattle.event_machine.specs.Summary.{IsAfter};
 
 use crate::held::rule_lasting;
 use crate::{Alarm, Changed, Move, PointFacts, Steps};

@@ -3,7 +3,7 @@ ghost use Rattle.event_machine.specs.Detection.{moves_at};
 ghost use Rattle.event_machine.specs.Given.{point_of};
 ghost use Rattle.event_machine.specs.AlarmSteps.{next_look};
 ghost use Rattle.event_machine.specs.Points.{Incident, IsCourse, Looked, Point};
-ghost use Rattle.event_machine.specs.Rest.{rests};
+ghost use Rattle.event_machine.specs.RestSteps.{rests};
 ghost use Rattle.event_machine.specs.Summary.{IsAfter};
 
 use crate::held::rule_lasting;

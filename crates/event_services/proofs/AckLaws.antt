@@ -2,7 +2,7 @@
 use Rattle.std.proofs.Common.{◌≡◌, ◌≢◌, ℕ, ◌+◌, ◌<◌, ◌≤◌, Bool, true, false, cond, ltb, Some, List, [], ◌∷◌, ◌++◌, length, drop, Result, Ok, Err, refl, sym, ap, subst, ◌∙◌, arith, inl, inr}
 use Rattle.std.specs.Prelude.{◌↔◌, ◌⊎◌, IfOk, IfErr}
 use Rattle.std.proofs.lemmas.List.{length-append, length-drop, drop_all, drop_at, append-nil}
-use Rattle.bac_values.specs.Identifier.{Identifier}
+use Rattle.bac_values.specs.Identifier.{ObjectIdData}
 use Rattle.bac_tags.specs.declared.fault.TagFault.{TagFault}
 use Rattle.bac_tags.specs.Contents.{SpellsUnsigned, SpellsObject}
 use Rattle.bac_tags.specs.ReadingSteps.{valued, content_at, unsigned_at, object_at, ◌>>=◌}
@@ -10,15 +10,16 @@ use Rattle.bac_tags.proofs.Standing.{IsBytes, Stands, Stands-from, Stands-then, 
 use Rattle.bac_tags.specs.declared.malformed.Malformed.{Malformed}
 use Rattle.bac_tags.specs.Refusals.{invalid_tag, missing_parameter, too_many_arguments}
 use Rattle.bac_tags.specs.ParameterReadingSteps.{or_invalid, required, nothing_follows}
-use Rattle.bac_tags.specs.EnclosingTags.{enclosed_at}
+use Rattle.bac_tags.specs.EnclosingSteps.{enclosed_at}
 use Rattle.bac_tags.proofs.Reasons.{five_four, five_seven, four_seven}
 use Rattle.bac_tags.proofs.Steps.{bind_ok, ok_is, err_is}
 use Rattle.bac_tags.proofs.ElementReaders.{Reader, whole, unsigned_reader, object_reader, octets_reader}
 use Rattle.bac_tags.proofs.Sequences.{required_ok, required_again, nothing_ok, nothing_err, nothing_more, nothing_none}
 use Rattle.event_services.specs.declared.acknowledge.AckRequest.{AckRequest}
 use Rattle.event_services.specs.declared.time_stamp.AckStamp.{AckStamp}
-use Rattle.event_services.specs.TimeStamps.{time_stamp_at}
-use Rattle.event_services.specs.Acknowledgements.{SpellsSource, SpellsStampOf, SpellsAcknowledgement, SpellsParameters, LacksParameter, HasMore, HasInvalidParameter, skipped, acknowledge_request_of}
+use Rattle.event_services.specs.TimeStampSteps.{time_stamp_at}
+use Rattle.event_services.specs.Acknowledgements.{SpellsSource, SpellsStampOf, SpellsAcknowledgement, SpellsParameters, LacksParameter, HasMore, HasInvalidParameter}
+use Rattle.event_services.specs.AcknowledgementSteps.{skipped, acknowledge_request_of}
 use Rattle.event_services.proofs.StampReaders.{stamp_of_reader}
 use Rattle.event_services.proofs.AckSteps.{place_of, source_at, step, step_laws, as_unsigned, as_enumerated, run, cause, run_fails, run_ends}
 
@@ -27,19 +28,19 @@ use Rattle.event_services.proofs.AckSteps.{place_of, source_at, step, step_laws,
 abbrev content : List ℕ → ℕ → Result (List ℕ × ℕ) TagFault
 content input place = content_at input place 0 (Some 4) 1 4294967295
 
-abbrev finish : List ℕ → ℕ → Identifier → ℕ → AckStamp → AckStamp × ℕ → Result AckRequest Malformed
+abbrev finish : List ℕ → ℕ → ObjectIdData → ℕ → AckStamp → AckStamp × ℕ → Result AckRequest Malformed
 finish input process object state stamp time = nothing_follows input time.1 >>= λ nothing. Ok (record { process = process; object = object; state = state; stamp = stamp })
 
-abbrev from_source : List ℕ → ℕ → Identifier → ℕ → AckStamp → ℕ → Result AckRequest Malformed
+abbrev from_source : List ℕ → ℕ → ObjectIdData → ℕ → AckStamp → ℕ → Result AckRequest Malformed
 from_source input process object state stamp source = required input source (enclosed_at time_stamp_at 5 input source) >>= finish input process object state stamp
 
-abbrev from_stamp : List ℕ → ℕ → Identifier → ℕ → AckStamp × ℕ → Result AckRequest Malformed
+abbrev from_stamp : List ℕ → ℕ → ObjectIdData → ℕ → AckStamp × ℕ → Result AckRequest Malformed
 from_stamp input process object state stamp = required input stamp.1 (skipped (content input stamp.1)) >>= from_source input process object state stamp.0
 
-abbrev from_state : List ℕ → ℕ → Identifier → ℕ × ℕ → Result AckRequest Malformed
+abbrev from_state : List ℕ → ℕ → ObjectIdData → ℕ × ℕ → Result AckRequest Malformed
 from_state input process object state = required input state.1 (enclosed_at time_stamp_at 3 input state.1) >>= from_stamp input process object state.0
 
-abbrev from_object : List ℕ → ℕ → Identifier × ℕ → Result AckRequest Malformed
+abbrev from_object : List ℕ → ℕ → ObjectIdData × ℕ → Result AckRequest Malformed
 from_object input process object = required input object.1 (unsigned_at input object.1 (Some 2)) >>= from_state input process object.0
 
 abbrev from_process : List ℕ → ℕ × ℕ → Result AckRequest Malformed
@@ -127,22 +128,22 @@ part Spells read r input place x Behind bytes le e f =
     let within : x.1 ≤ length input = Stands-within input place s.octets x.1 le s.stands in
     record { octets = s.octets; value = x.0; end = x.1; within = within; stands = s.stands; spells = s.spells; behind = f within }
 
-abbrev request_is : AckRequest → ℕ → Identifier → ℕ → AckStamp → Type 0
+abbrev request_is : AckRequest → ℕ → ObjectIdData → ℕ → AckStamp → Type 0
 request_is request process object state stamp = record { process = process; object = object; state = state; stamp = stamp } ≡ request
 
-abbrev Finished : List ℕ → AckRequest → ℕ → Identifier → ℕ → AckStamp → AckStamp → ℕ → Type 0
+abbrev Finished : List ℕ → AckRequest → ℕ → ObjectIdData → ℕ → AckStamp → AckStamp → ℕ → Type 0
 Finished input request process object state stamp acknowledged end = (length input ≤ end) × request_is request process object state stamp
 
-abbrev BehindSource : List ℕ → AckRequest → ℕ → Identifier → ℕ → AckStamp → List ℕ → ℕ → Type 0
+abbrev BehindSource : List ℕ → AckRequest → ℕ → ObjectIdData → ℕ → AckStamp → List ℕ → ℕ → Type 0
 BehindSource input request process object state stamp source place = Part (SpellsStampOf 5) input place (Finished input request process object state stamp)
 
-abbrev BehindStamp : List ℕ → AckRequest → ℕ → Identifier → ℕ → AckStamp → ℕ → Type 0
+abbrev BehindStamp : List ℕ → AckRequest → ℕ → ObjectIdData → ℕ → AckStamp → ℕ → Type 0
 BehindStamp input request process object state stamp place = Part SpellsSource input place (BehindSource input request process object state stamp)
 
-abbrev BehindState : List ℕ → AckRequest → ℕ → Identifier → ℕ → ℕ → Type 0
+abbrev BehindState : List ℕ → AckRequest → ℕ → ObjectIdData → ℕ → ℕ → Type 0
 BehindState input request process object state place = Part (SpellsStampOf 3) input place (BehindStamp input request process object state)
 
-abbrev BehindObject : List ℕ → AckRequest → ℕ → Identifier → ℕ → Type 0
+abbrev BehindObject : List ℕ → AckRequest → ℕ → ObjectIdData → ℕ → Type 0
 BehindObject input request process object place = Part (SpellsUnsigned (Some 2)) input place (BehindState input request process object)
 
 abbrev BehindProcess : List ℕ → AckRequest → ℕ → ℕ → Type 0
@@ -151,33 +152,33 @@ BehindProcess input request process place = Part (SpellsObject (Some 1)) input p
 abbrev All : List ℕ → AckRequest → Type 0
 All input request = Part (SpellsUnsigned (Some 0)) input 0 (BehindProcess input request)
 
-abbrev given : ℕ → Identifier → ℕ → AckStamp → Unit {0} → Result AckRequest Malformed
+abbrev given : ℕ → ObjectIdData → ℕ → AckStamp → Unit {0} → Result AckRequest Malformed
 given process object state stamp nothing = Ok (record { process = process; object = object; state = state; stamp = stamp })
 
-find_end : (input : List ℕ) (request : AckRequest) (process : ℕ) (object : Identifier) (state : ℕ) (stamp : AckStamp) (time : AckStamp × ℕ) → finish input process object state stamp time ≡ Ok request → Finished input request process object state stamp time.0 time.1
+find_end : (input : List ℕ) (request : AckRequest) (process : ℕ) (object : ObjectIdData) (state : ℕ) (stamp : AckStamp) (time : AckStamp × ℕ) → finish input process object state stamp time ≡ Ok request → Finished input request process object state stamp time.0 time.1
 find_end input request process object state stamp time e =
     let b = bind_ok (nothing_follows input time.1) (given process object state stamp) request e in
     (nothing_ok input time.1 b.0 b.1, ok_is (record { process = process; object = object; state = state; stamp = stamp }) request b.2)
 
-find_time : (input : List ℕ) (request : AckRequest) (process : ℕ) (object : Identifier) (state : ℕ) (stamp : AckStamp) (source : List ℕ) (place : ℕ) → IsBytes input → place ≤ length input → from_source input process object state stamp place ≡ Ok request
+find_time : (input : List ℕ) (request : AckRequest) (process : ℕ) (object : ObjectIdData) (state : ℕ) (stamp : AckStamp) (source : List ℕ) (place : ℕ) → IsBytes input → place ≤ length input → from_source input process object state stamp place ≡ Ok request
     → BehindSource input request process object state stamp source place
 find_time input request process object state stamp source place bytes le e =
     let b = bind_ok (required input place (enclosed_at time_stamp_at 5 input place)) (finish input process object state stamp) request e in
     part (SpellsStampOf 5) (enclosed_at time_stamp_at 5) (stamp_of_reader 5) input place b.0 (Finished input request process object state stamp) bytes le b.1 (λ within. find_end input request process object state stamp b.0 b.2)
 
-find_source : (input : List ℕ) (request : AckRequest) (process : ℕ) (object : Identifier) (state : ℕ) (stamp : AckStamp × ℕ) → IsBytes input → stamp.1 ≤ length input → from_stamp input process object state stamp ≡ Ok request
+find_source : (input : List ℕ) (request : AckRequest) (process : ℕ) (object : ObjectIdData) (state : ℕ) (stamp : AckStamp × ℕ) → IsBytes input → stamp.1 ≤ length input → from_stamp input process object state stamp ≡ Ok request
     → BehindStamp input request process object state stamp.0 stamp.1
 find_source input request process object state stamp bytes le e =
     let b = bind_ok (required input stamp.1 (skipped (content input stamp.1))) (from_source input process object state stamp.0) request e in
     let g = place_found (required input stamp.1 (source_at input stamp.1)) b.0 (sym (skipped_valued input stamp.1 (content input stamp.1)) ∙ b.1) in
     part SpellsSource source_at (octets_reader 4 1 4294967295) input stamp.1 g.0 (BehindSource input request process object state stamp.0) bytes le g.1 (λ within. find_time input request process object state stamp.0 g.0.0 g.0.1 bytes within (ap (from_source input process object state stamp.0) g.2 ∙ b.2))
 
-find_stamp : (input : List ℕ) (request : AckRequest) (process : ℕ) (object : Identifier) (state : ℕ × ℕ) → IsBytes input → state.1 ≤ length input → from_state input process object state ≡ Ok request → BehindState input request process object state.0 state.1
+find_stamp : (input : List ℕ) (request : AckRequest) (process : ℕ) (object : ObjectIdData) (state : ℕ × ℕ) → IsBytes input → state.1 ≤ length input → from_state input process object state ≡ Ok request → BehindState input request process object state.0 state.1
 find_stamp input request process object state bytes le e =
     let b = bind_ok (required input state.1 (enclosed_at time_stamp_at 3 input state.1)) (from_stamp input process object state.0) request e in
     part (SpellsStampOf 3) (enclosed_at time_stamp_at 3) (stamp_of_reader 3) input state.1 b.0 (BehindStamp input request process object state.0) bytes le b.1 (λ within. find_source input request process object state.0 b.0 bytes within b.2)
 
-find_state : (input : List ℕ) (request : AckRequest) (process : ℕ) (object : Identifier × ℕ) → IsBytes input → object.1 ≤ length input → from_object input process object ≡ Ok request → BehindObject input request process object.0 object.1
+find_state : (input : List ℕ) (request : AckRequest) (process : ℕ) (object : ObjectIdData × ℕ) → IsBytes input → object.1 ≤ length input → from_object input process object ≡ Ok request → BehindObject input request process object.0 object.1
 find_state input request process object bytes le e =
     let b = bind_ok (required input object.1 (unsigned_at input object.1 (Some 2))) (from_state input process object.0) request e in
     part (SpellsUnsigned (Some 2)) (λ input place. unsigned_at input place (Some 2)) (unsigned_reader 2) input object.1 b.0 (BehindState input request process object.0) bytes le b.1 (λ within. find_stamp input request process object.0 b.0 bytes within b.2)

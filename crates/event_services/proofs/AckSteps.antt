@@ -8,13 +8,13 @@ use Rattle.bac_tags.proofs.Standing.{IsBytes, Stands, Stands-nil, Stands-then, S
 use Rattle.bac_tags.specs.declared.malformed.Malformed.{Malformed}
 use Rattle.bac_tags.specs.Refusals.{invalid_tag, missing_parameter}
 use Rattle.bac_tags.specs.ParameterReadingSteps.{required, nothing_follows}
-use Rattle.bac_tags.specs.EnclosingTags.{enclosed_at}
+use Rattle.bac_tags.specs.EnclosingSteps.{enclosed_at}
 use Rattle.bac_tags.proofs.Steps.{bind_err, ok_is, err_is}
 use Rattle.bac_tags.proofs.RequiredReaders.{required_outside}
 use Rattle.bac_tags.proofs.ElementReaders.{Reader, whole, unsigned_reader, object_reader, octets_reader}
 use Rattle.bac_tags.proofs.Sequences.{required_err, required_ok, required_again}
 use Rattle.event_services.specs.Acknowledgements.{SpellsSource, SpellsStampOf, SpellsParameter, SpellsParameters}
-use Rattle.event_services.specs.TimeStamps.{time_stamp_at}
+use Rattle.event_services.specs.TimeStampSteps.{time_stamp_at}
 use Rattle.event_services.proofs.StampReaders.{stamp_of_reader}
 
 -- the place after a value

@@ -2,7 +2,7 @@
 use Rattle.std.proofs.Common.{◌≡◌, ℕ, ◌<◌, ◌≤◌, Option, Some, None, List, [], ◌∷◌, ◌++◌, length, drop, Result, Ok, Err, refl, sym, ap, subst, ◌∙◌, arith, inl, inr}
 use Rattle.std.specs.Prelude.{◌↔◌, ◌⊎◌, IfOk, IfErr}
 use Rattle.std.proofs.lemmas.List.{length-append, append-nil}
-use Rattle.bac_values.specs.Identifier.{Identifier}
+use Rattle.bac_values.specs.Identifier.{ObjectIdData}
 use Rattle.bac_tags.specs.declared.fault.TagFault.{TagFault}
 use Rattle.bac_tags.specs.Places.{IsSpelledAt}
 use Rattle.bac_tags.specs.Elements.{HasOtherTag}
@@ -20,16 +20,17 @@ use Rattle.bac_tags.proofs.Steps.{bind_ok, bind_err, ok_is}
 use Rattle.bac_tags.proofs.ElementReaders.{spelled_from, element_some, tag_some}
 use Rattle.bac_tags.proofs.RequiredReaders.{ReadsOptional, reads_optional}
 use Rattle.bac_tags.proofs.Sequences.{optional_err, nothing_ok, nothing_err, nothing_more, nothing_none}
-use Rattle.event_services.specs.Information.{SpellsInformationRequest, HasMoreThanObject, HasNoObject, information_request_of}
+use Rattle.event_services.specs.Information.{SpellsInformationRequest, HasMoreThanObject, HasNoObject}
+use Rattle.event_services.specs.InformationSteps.{information_request_of}
 use Rattle.event_services.proofs.AckLaws.{all_there, more_left, split, some_left}
 
-abbrev Spells : List ℕ → Identifier → Type 0
+abbrev Spells : List ℕ → ObjectIdData → Type 0
 Spells = SpellsObject (Some 0)
 
-abbrev object : List ℕ → Result (Option Identifier × ℕ) Malformed
+abbrev object : List ℕ → Result (Option ObjectIdData × ℕ) Malformed
 object input = optional input 0 (object_at input 0 (Some 0))
 
-read_within : (input : List ℕ) (r : Result (Identifier × ℕ) TagFault) → IfOk r (λ x. IsSpelledAt Spells input 0 x.0 x.1) → IfOk r (λ x. (0 < x.1) × (x.1 ≤ length input))
+read_within : (input : List ℕ) (r : Result (ObjectIdData × ℕ) TagFault) → IfOk r (λ x. IsSpelledAt Spells input 0 x.0 x.1) → IfOk r (λ x. (0 < x.1) × (x.1 ≤ length input))
 read_within input (Ok x) s =
     let p = spelled_from Spells input 0 x.0 x.1 s in
     (omega (arith, p.stands.ends, element_some 12 (Some 0) IsObject p.octets x.0 p.spells), Stands-within input 0 p.octets x.1 (omega arith) p.stands)
@@ -41,24 +42,24 @@ object_reads input bytes =
     let r = reads 12 (Some 0) 4 4 identifier_of IsObject identifier_values input 0 (object_at input 0 (Some 0)) bytes (omega arith) refl in
     reads_optional Spells 12 0 input 0 (object_at input 0 (Some 0)) (object input) (omega arith) r.found r.only (read_within input (object_at input 0 (Some 0)) r.found) r.wrong_tag refl
 
-abbrev after : List ℕ → Option Identifier × ℕ → Result (Option Identifier) Malformed
+abbrev after : List ℕ → Option ObjectIdData × ℕ → Result (Option ObjectIdData) Malformed
 after input found = nothing_follows input found.1 >>= λ nothing. Ok found.0
 
-abbrev kept : Option Identifier → Unit {0} → Result (Option Identifier) Malformed
+abbrev kept : Option ObjectIdData → Unit {0} → Result (Option ObjectIdData) Malformed
 kept found nothing = Ok found
 
-pub record Asks (input : List ℕ) (answer : Result (Option Identifier) Malformed) : Type 0 where
+pub record Asks (input : List ℕ) (answer : Result (Option ObjectIdData) Malformed) : Type 0 where
   pub found : IfOk answer (λ object. SpellsInformationRequest input object)
-  pub only : (object : Option Identifier) → SpellsInformationRequest input object → answer ≡ Ok object
+  pub only : (object : Option ObjectIdData) → SpellsInformationRequest input object → answer ≡ Ok object
   pub too_many : (place : ℕ) → (answer ≡ Err (too_many_arguments place)) ↔ HasMoreThanObject input place
   pub invalid : (place : ℕ) → (answer ≡ Err (invalid_tag place)) ↔ HasNoObject input place
   pub refusals : IfErr answer (λ why. (why ≡ too_many_arguments why.at) ⊎ (why ≡ invalid_tag why.at))
 
 -- what an answered optional parameter is
-at_ok : (input : List ℕ) (r : Result (Option Identifier × ℕ) Malformed) (x : Option Identifier × ℕ) → r ≡ Ok x → IfOk r (λ x. IsOptionalAt Spells 0 input 0 x.0 x.1) → IsOptionalAt Spells 0 input 0 x.0 x.1
-at_ok input r x e h = subst (λ (r : Result (Option Identifier × ℕ) Malformed). IfOk r (λ x. IsOptionalAt Spells 0 input 0 x.0 x.1)) e h
+at_ok : (input : List ℕ) (r : Result (Option ObjectIdData × ℕ) Malformed) (x : Option ObjectIdData × ℕ) → r ≡ Ok x → IfOk r (λ x. IsOptionalAt Spells 0 input 0 x.0 x.1) → IsOptionalAt Spells 0 input 0 x.0 x.1
+at_ok input r x e h = subst (λ (r : Result (Option ObjectIdData × ℕ) Malformed). IfOk r (λ x. IsOptionalAt Spells 0 input 0 x.0 x.1)) e h
 
-whole_is : (input : List ℕ) (found : Option Identifier) (end : ℕ) → length input ≤ end → IsOptionalAt Spells 0 input 0 found end → SpellsInformationRequest input found
+whole_is : (input : List ℕ) (found : Option ObjectIdData) (end : ℕ) → length input ≤ end → IsOptionalAt Spells 0 input 0 found end → SpellsInformationRequest input found
 whole_is input None end past s = nothing input (omega (arith, s.0))
   where
     nothing : (xs : List ℕ) → length xs ≤ 0 → xs ≡ []
@@ -68,16 +69,16 @@ whole_is input (Some id) end past s =
     let p = spelled_from Spells input 0 id end s in
     subst (λ (o : List ℕ). SpellsObject (Some 0) o id) (sym (all_there input p.octets end past p.stands)) p.spells
 
-ask_found : (input : List ℕ) (x : Option Identifier) → IsBytes input → (object input >>= after input) ≡ Ok x → SpellsInformationRequest input x
+ask_found : (input : List ℕ) (x : Option ObjectIdData) → IsBytes input → (object input >>= after input) ≡ Ok x → SpellsInformationRequest input x
 ask_found input x bytes e =
     let b = bind_ok (object input) (after input) x e in
     let n = bind_ok (nothing_follows input b.0.1) (kept b.0.0) x b.2 in
     subst (SpellsInformationRequest input) (ok_is b.0.0 x n.2) (whole_is input b.0.0 b.0.1 (nothing_ok input b.0.1 n.0 n.1) (at_ok input (object input) b.0 b.1 (object_reads input bytes).found))
 
-spelled_whole : (input front more : List ℕ) (id : Identifier) → input ≡ front ++ more → SpellsObject (Some 0) front id → IsSpelledAt Spells input 0 id (length front)
+spelled_whole : (input front more : List ℕ) (id : ObjectIdData) → input ≡ front ++ more → SpellsObject (Some 0) front id → IsSpelledAt Spells input 0 id (length front)
 spelled_whole input front more id e s = record { octets = front; rest = more; spelled = s; there = e; ends = omega arith }
 
-ask_only : (input : List ℕ) (x : Option Identifier) → IsBytes input → SpellsInformationRequest input x → (object input >>= after input) ≡ Ok x
+ask_only : (input : List ℕ) (x : Option ObjectIdData) → IsBytes input → SpellsInformationRequest input x → (object input >>= after input) ≡ Ok x
 ask_only input None bytes s =
     let none : 0 ≡ length input = omega (arith, ap length s) in
     rw ((object_reads input bytes).only None 0 (refl, inl none), nothing_none input 0 (omega arith)) refl
@@ -86,7 +87,7 @@ ask_only input (Some id) bytes s =
 
 -- why it is refused
 pub record AskRefused (input : List ℕ) (e : Malformed) : Type 0 where
-  pub why : ((object input ≡ Err e) × (e ≡ invalid_tag 0)) ⊎ ((found : Option Identifier) × (end : ℕ) × IsOptionalAt Spells 0 input 0 found end × (end < length input) × (e ≡ too_many_arguments end))
+  pub why : ((object input ≡ Err e) × (e ≡ invalid_tag 0)) ⊎ ((found : Option ObjectIdData) × (end : ℕ) × IsOptionalAt Spells 0 input 0 found end × (end < length input) × (e ≡ too_many_arguments end))
 
 ask_refused : (input : List ℕ) (e : Malformed) → IsBytes input → (object input >>= after input) ≡ Err e → AskRefused input e
 ask_refused input e bytes h = elim (bind_err (object input) (after input) e h) [
@@ -98,7 +99,7 @@ ask_refused input e bytes h = elim (bind_err (object input) (after input) e h) [
       ]
 ]
 
-more_than : (input : List ℕ) (found : Option Identifier) (end : ℕ) → IsOptionalAt Spells 0 input 0 found end → end < length input → HasMoreThanObject input end
+more_than : (input : List ℕ) (found : Option ObjectIdData) (end : ℕ) → IsOptionalAt Spells 0 input 0 found end → end < length input → HasMoreThanObject input end
 more_than input None end s lt = elim s.1 [ inl none ↦ absurd (omega (arith, s.0)) | inr other ↦ inl (s.0, other) ]
 more_than input (Some id) end s lt =
     let p = spelled_from Spells input 0 id end s in
@@ -113,7 +114,7 @@ too_many_back input place bytes (inl m) = rw ((object_reads input bytes).only No
 too_many_back input place bytes (inr m) =
     rw ((object_reads input bytes).only (Some m.2) (length m.0) (spelled_whole input m.0 m.1 m.2 m.3 m.4), nothing_more input (length m.0) (more_left m.0 m.1 input m.3 m.5), m.6) refl
 
-pub asks : (input : List ℕ) (answer : Result (Option Identifier) Malformed) → IsBytes input → answer ≡ information_request_of input → Asks input answer
+pub asks : (input : List ℕ) (answer : Result (Option ObjectIdData) Malformed) → IsBytes input → answer ≡ information_request_of input → Asks input answer
 unfolding information_request_of
 asks input answer bytes e =
     record {
@@ -131,12 +132,12 @@ asks input answer bytes e =
           | inl a ↦ let no = (object_reads input bytes).invalid.0 (a.0 ∙ ap Err a.1) in (ap (λ (m : Malformed). m.at) a.1, no.0, no.1)
           | inr a ↦ absurd (four_seven place a.1 a.4)
         ],
-        λ v. e ∙ ap (λ (r : Result (Option Identifier × ℕ) Malformed). r >>= after input) ((object_reads input bytes).invalid.1 (v.1, v.2)) ∙ ap (λ (p : ℕ). Err (invalid_tag p)) (sym v.0),
+        λ v. e ∙ ap (λ (r : Result (Option ObjectIdData × ℕ) Malformed). r >>= after input) ((object_reads input bytes).invalid.1 (v.1, v.2)) ∙ ap (λ (p : ℕ). Err (invalid_tag p)) (sym v.0),
       );
       refusals = refusals answer e;
     }
   where
-    found : (r : Result (Option Identifier) Malformed) → r ≡ (object input >>= after input) → IfOk r (λ object. SpellsInformationRequest input object)
+    found : (r : Result (Option ObjectIdData) Malformed) → r ≡ (object input >>= after input) → IfOk r (λ object. SpellsInformationRequest input object)
     found (Ok x) same = ask_found input x bytes (sym same)
     found (Err d) same = tt
 
@@ -146,6 +147,6 @@ asks input answer bytes e =
       | inr a ↦ inl (a.4 ∙ ap too_many_arguments (sym (ap (λ (m : Malformed). m.at) a.4)))
     ]
 
-    refusals : (r : Result (Option Identifier) Malformed) → r ≡ (object input >>= after input) → IfErr r (λ why. (why ≡ too_many_arguments why.at) ⊎ (why ≡ invalid_tag why.at))
+    refusals : (r : Result (Option ObjectIdData) Malformed) → r ≡ (object input >>= after input) → IfErr r (λ why. (why ≡ too_many_arguments why.at) ⊎ (why ≡ invalid_tag why.at))
     refusals (Ok x) same = tt
     refusals (Err d) same = reason d (ask_refused input d bytes (sym same))

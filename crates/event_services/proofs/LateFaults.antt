@@ -3,13 +3,14 @@ use Rattle.std.proofs.Common.{◌≡◌, ℤ, ℕ, ◌≤◌, Bool, true, false,
 use Rattle.std.specs.Prelude.{◌⊎◌, ◌↔◌}
 use Rattle.bac_values.specs.Reliabilities.{reliability_of_number}
 use Rattle.bac_values.specs.declared.value.Value.{Value}
-use Rattle.bac_values.specs.BitString.{BitString}
+use Rattle.bac_values.specs.BitString.{BitsData}
 use Rattle.bac_tags.specs.declared.fault.TagFault.{TagFault}
 use Rattle.bac_tags.specs.declared.fault.TagFault.TheVariants.{Truncated, WrongTag, BadLength, NoMemory}
 use Rattle.bac_tags.specs.Contents.{SpellsSigned, SpellsBits}
 use Rattle.bac_tags.specs.Values.{SpellsValue}
 use Rattle.bac_tags.specs.ReadingSteps.{◌>>=◌, content_at, unsigned_at, signed_at, bits_of, bits_at, tag_at, value_at, valued, unsigned_of, signed_of}
-use Rattle.bac_tags.specs.EnclosingTags.{opening, closing, IsOtherTag, SpellsEnclosed, is_closing, opening_at, closing_at, enclosed_at}
+use Rattle.bac_tags.specs.EnclosingTags.{opening, closing, IsOtherTag, SpellsEnclosed}
+use Rattle.bac_tags.specs.EnclosingSteps.{is_closing, opening_at, closing_at, enclosed_at}
 use Rattle.bac_tags.proofs.Steps.{bind_err}
 use Rattle.bac_tags.proofs.Standing.{IsBytes, Stands-within}
 use Rattle.bac_tags.proofs.Cut.{tag_cut}
@@ -111,7 +112,7 @@ late_signed : (number : ℕ) → Late (signed_in number)
 unfolding signed_at
 late_signed number = late_valued signed_of (λ input place. content_at input place 3 (Some number) 1 4) (late_content 3 (Some number) 1 4)
 
-abbrev bits_in : ℕ → Reads BitString
+abbrev bits_in : ℕ → Reads BitsData
 bits_in number input place = bits_at input place (Some number)
 
 late_bits : (number : ℕ) → Late (bits_in number)

@@ -1,7 +1,7 @@
 -- A notification that is spelled is read, whichever of its parameters are absent.
 use Rattle.std.proofs.Common.{◌≡◌, ◌≢◌, ℕ, ◌+◌, ◌<◌, ◌≤◌, Bool, Option, Some, None, List, [], ◌++◌, length, drop, Ok, Err, refl, sym, ap, subst, ◌∙◌, append_assoc, arith}
 use Rattle.std.proofs.lemmas.List.{append-nil}
-use Rattle.bac_values.specs.Identifier.{Identifier}
+use Rattle.bac_values.specs.Identifier.{ObjectIdData}
 use Rattle.bac_values.specs.declared.event_state.EventState.{EventState}
 use Rattle.bac_values.specs.declared.stamp.Stamp.{Stamp}
 use Rattle.bac_tags.specs.declared.fault.TagFault.TheVariants.{WrongTag}
@@ -76,7 +76,7 @@ allowed_again Spells read r input place octets None end le s p absent =
 
 -- ---- the groups of parameters
 
-source_again : (input : List ℕ) (a b c d : List ℕ) (end : ℕ) (process : ℕ) (device object : Identifier) (stamp : Stamp) → SpellsNumber 0 a process → SpellsObject (Some 1) b device → SpellsObject (Some 2) c object → SpellsMoment 3 d stamp
+source_again : (input : List ℕ) (a b c d : List ℕ) (end : ℕ) (process : ℕ) (device object : ObjectIdData) (stamp : Stamp) → SpellsNumber 0 a process → SpellsObject (Some 1) b device → SpellsObject (Some 2) c object → SpellsMoment 3 d stamp
     → Stands input 0 (a ++ (b ++ (c ++ d))) end → source_at input ≡ Ok ((process, device, object, stamp), end)
 unfolding source_at
 source_again input a b c d end process device object stamp sa sb sc sd p =

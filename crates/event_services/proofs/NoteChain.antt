@@ -1,7 +1,7 @@
 -- The parts of a notification that are read one after the other are the whole of it.
 use Rattle.std.proofs.Common.{◌≡◌, ℕ, Bool, Option, List, Result, Ok, Err, refl, sym, ap, subst, ◌∙◌, inl, inr}
 use Rattle.std.specs.Prelude.{◌⊎◌, ◌↔◌, IfOk}
-use Rattle.bac_values.specs.Identifier.{Identifier}
+use Rattle.bac_values.specs.Identifier.{ObjectIdData}
 use Rattle.bac_values.specs.declared.event_state.EventState.{EventState}
 use Rattle.bac_values.specs.declared.stamp.Stamp.{Stamp}
 use Rattle.bac_tags.specs.declared.malformed.Malformed.{Malformed}
@@ -17,7 +17,7 @@ use Rattle.event_services.specs.NoteReadingSteps.{text_at, values_at}
 use Rattle.event_services.specs.NoteServiceSteps.{source_at, kind_at, states_at, notification_of, fault_of, as_note, GivesNote}
 
 abbrev pub Source : Type 0
-Source = (ℕ × Identifier × Identifier × Stamp) × ℕ
+Source = (ℕ × ObjectIdData × ObjectIdData × Stamp) × ℕ
 
 abbrev pub Kind : Type 0
 Kind = (ℕ × ℕ × ℕ) × ℕ

@@ -1,6 +1,6 @@
 -- A notification that is read is spelled so, and one that is spelled so is read.
 use Rattle.std.proofs.Common.{◌≡◌, ℕ, ◌≤◌, Bool, Option, Some, None, List, [], ◌++◌, length, Result, Ok, refl, sym, ap, subst, ◌∙◌, arith}
-use Rattle.bac_values.specs.Identifier.{Identifier}
+use Rattle.bac_values.specs.Identifier.{ObjectIdData}
 use Rattle.bac_tags.specs.Contents.{SpellsObject, SpellsBoolean}
 use Rattle.bac_tags.specs.ReadingSteps.{object_at, boolean_at, ◌>>=◌}
 use Rattle.bac_tags.proofs.Standing.{IsBytes, Stands, Stands-nil, Stands-then, Stands-within}
@@ -129,7 +129,7 @@ find4 {A = A} {B = B} {C = C} {D = D} SA SB SC SD ra rb rc rd fa fb fc fd input 
 
 -- ---- the groups of parameters
 
-abbrev pub object_in : ℕ → Reads Identifier
+abbrev pub object_in : ℕ → Reads ObjectIdData
 object_in number input place = object_at input place (Some number)
 
 abbrev pub boolean_in : ℕ → Reads Bool

@@ -5,10 +5,10 @@ use Rattle.std.proofs.lemmas.Bool.{cases_lt, lt-ltb, le-ltb}
 use Rattle.std.proofs.lemmas.List.{length-append, length-take, length-drop}
 use Rattle.byteorder.specs.Endian.{big_bytes}
 use Rattle.byteorder.specs.Numbers.{length-bytes_high_first}
-use Rattle.bac_values.specs.BitString.{BitString}
+use Rattle.bac_values.specs.BitString.{BitsData}
 use Rattle.bac_values.specs.EventStates.{number_of_state}
 use Rattle.bac_values.specs.Reliabilities.{number_of_reliability}
-use Rattle.bac_values.specs.Identifier.{Identifier}
+use Rattle.bac_values.specs.Identifier.{ObjectIdData}
 use Rattle.bac_values.specs.declared.event_state.EventState.{EventState}
 use Rattle.bac_values.specs.declared.stamp.Stamp.{Stamp}
 use Rattle.bac_values.specs.declared.status_flags.StatusFlags.{StatusFlags}
@@ -107,14 +107,14 @@ enumerated_octets context n = big_octets 9 context (unsigned_size n) n 4 (unsign
 signed_octets : (context : Option ℕ) (z : ℤ) → length (written_signed context z) ≤ 11
 signed_octets context z = big_octets 3 context (signed_size z) (cast_unsigned w32 z) 4 (signed_few z)
 
-object_octets : (context : Option ℕ) (id : Identifier) → length (written_object context id) ≤ 11
+object_octets : (context : Option ℕ) (id : ObjectIdData) → length (written_object context id) ≤ 11
 object_octets context id = big_octets 12 context 4 (id.number * 4194304 + id.instance) 4 (omega arith)
 
 boolean_octets : (context : Option ℕ) (b : Bool) → length (written_boolean context b) ≤ 8
 boolean_octets None b = omega (arith, tag_octets (element_tag 1 None (from_bool b)))
 boolean_octets (Some number) b = element_octets 1 (Some number) (from_bool b ∷ [])
 
-bits_octets : (context : Option ℕ) (string : BitString) → string.size ≤ 64 → length (written_bits context string) ≤ 16
+bits_octets : (context : Option ℕ) (string : BitsData) → string.size ≤ 64 → length (written_bits context string) ≤ 16
 bits_octets context string few = omega (arith, element_octets 8 context (unused_of_bits string.size ∷ big_bytes (octets_of_bits string.size) bits), length-bytes_high_first (octets_of_bits string.size) bits, size string.size few)
   where
     bits : ℕ

@@ -6,7 +6,7 @@ use Rattle.std.specs.Str.{is_utf8}
 use Rattle.std.proofs.lemmas.Bool.{eqb-true, eq-eqb, ltb-true, lt-ltb, leb-true, and_parts, cases_Bool, cases_eq, ne_eqb}
 use Rattle.std.proofs.lemmas.List.{length-append}
 use Rattle.std.proofs.lemmas.Str.{IsUtf8-from_is_utf8}
-use Rattle.bac_values.specs.BitString.{BitString}
+use Rattle.bac_values.specs.BitString.{BitsData}
 use Rattle.bac_values.specs.EventStates.{number_of_state, event_states, state_of_number}
 use Rattle.bac_values.specs.Reliabilities.{number_of_reliability, reliabilities as all_reliabilities, reliability_of_number}
 use Rattle.bac_values.specs.declared.event_state.EventState.{EventState}
@@ -29,7 +29,8 @@ use Rattle.bac_tags.proofs.Readers.{Forms, reads_form, form_again}
 use Rattle.byteorder.specs.Endian.{big_number}
 use Rattle.bac_tags.proofs.Mirror.{mirrored_small}
 use Rattle.bac_tags.proofs.ValueLaws.{value_found, value_again}
-use Rattle.bac_tags.specs.EnclosingTags.{SpellsEnclosed, enclosed_at}
+use Rattle.bac_tags.specs.EnclosingTags.{SpellsEnclosed}
+use Rattle.bac_tags.specs.EnclosingSteps.{enclosed_at}
 use Rattle.bac_tags.proofs.ElementReaders.{Reader, read_found as spelled_found, element_some, tag_some, unsigned_reader, bits_reader, stamp_reader, enclosed_reader}
 use Rattle.event_services.specs.Notifications.{bits_of_flags}
 use Rattle.event_services.specs.NoteReadingSteps.{Reads, both_at, held_at, number_at, octet_of, octet_number_at, state_at, flags_of, flags_at, text_of, text_at, moment_at}
@@ -177,22 +178,22 @@ bit_is n = elim (cases_eq (n % 2) 1) [
 four_bits : (n : ℕ) → n < 16 → from_bool (eqb (n % 2) 1) + 2 * from_bool (eqb (n / 2 % 2) 1) + 4 * from_bool (eqb (n / 4 % 2) 1) + 8 * from_bool (eqb (n / 8 % 2) 1) ≡ n
 four_bits n lt = omega (arith, bit_is n, bit_is (n / 2), bit_is (n / 4), bit_is (n / 8))
 
-abbrev string : ℕ → ℕ → BitString
+abbrev string : ℕ → ℕ → BitsData
 string size bits = record { size = size; bits = bits }
 
-flags_found : (bits : BitString) (flags : StatusFlags) → bits.size ≡ 4 → bits.bits < 16 → flags_of bits ≡ Some flags → bits ≡ bits_of_flags flags
+flags_found : (bits : BitsData) (flags : StatusFlags) → bits.size ≡ 4 → bits.bits < 16 → flags_of bits ≡ Some flags → bits ≡ bits_of_flags flags
 flags_found bits flags four_long small e =
     let h : Some (four (eqb (bits.bits % 2) 1) (eqb (bits.bits / 2 % 2) 1) (eqb (bits.bits / 4 % 2) 1) (eqb (bits.bits / 8 % 2) 1)) ≡ Some flags = rw (eq-eqb bits.size 4 four_long) at e in
     let same : four (eqb (bits.bits % 2) 1) (eqb (bits.bits / 2 % 2) 1) (eqb (bits.bits / 4 % 2) 1) (eqb (bits.bits / 8 % 2) 1) ≡ flags = cc in
     ap (λ (n : ℕ). string n bits.bits) four_long ∙ ap (string 4) (sym (four_bits bits.bits small)) ∙ ap bits_of_flags same
 
-flags_size : (bits : BitString) (flags : StatusFlags) → flags_of bits ≡ Some flags → bits.size ≡ 4
+flags_size : (bits : BitsData) (flags : StatusFlags) → flags_of bits ≡ Some flags → bits.size ≡ 4
 flags_size bits flags e = elim (cases_eq bits.size 4) [
   | inl same ↦ same
   | inr not ↦ absurd (let h = rw (ne_eqb bits.size 4 not) at e in cc)
 ]
 
-bits_small : (content : List ℕ) (bits : BitString) → IsBits content bits → bits.bits < 2 ^ bits.size
+bits_small : (content : List ℕ) (bits : BitsData) → IsBits content bits → bits.bits < 2 ^ bits.size
 bits_small [] bits h = absurd h
 bits_small (unused ∷ octets) bits h = rw h.3 (mirrored_small bits.size (big_number (length octets) octets / 2 ^ unused))
 

@@ -12,11 +12,13 @@ use Rattle.bac_tags.proofs.Steps.{bind_ok, chosen, ok_is}
 use Rattle.bac_tags.proofs.Standing.{IsBytes, Stands, Stands-front}
 use Rattle.bac_tags.proofs.Answered.{Spelled}
 use Rattle.bac_tags.proofs.TagLaws.{tag_again}
-use Rattle.bac_tags.specs.EnclosingTags.{opening, SpellsEnclosed, IsOctets, enclosed_at}
+use Rattle.bac_tags.specs.EnclosingTags.{opening, SpellsEnclosed, IsOctets}
+use Rattle.bac_tags.specs.EnclosingSteps.{enclosed_at}
 use Rattle.bac_tags.proofs.ElementReaders.{Reader, element_some, whole, unsigned_reader, octets_reader, stamp_reader, enclosed_reader}
 use Rattle.event_services.specs.declared.time_stamp.AckStamp.{AckStamp}
 use Rattle.event_services.specs.declared.time_stamp.AckStamp.TheVariants.{Time, Sequence, DateTime}
-use Rattle.event_services.specs.TimeStamps.{SpellsTimeStamp, form_at, time_stamp_at}
+use Rattle.event_services.specs.TimeStamps.{SpellsTimeStamp}
+use Rattle.event_services.specs.TimeStampSteps.{form_at, time_stamp_at}
 
 pub whole_is : (r : Result (List ℕ × ℕ) TagFault) → valued whole r ≡ r
 whole_is (Ok x) = refl

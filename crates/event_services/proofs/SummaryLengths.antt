@@ -4,7 +4,7 @@ use Rattle.std.specs.Prelude.{flat_map}
 use Rattle.std.proofs.lemmas.Bool.{lt-ltb}
 use Rattle.std.proofs.lemmas.List.{length-append, length-take, length-drop}
 use Rattle.bac_values.specs.EventStates.{number_of_state}
-use Rattle.bac_values.specs.Identifier.{Identifier}
+use Rattle.bac_values.specs.Identifier.{ObjectIdData}
 use Rattle.bac_values.specs.declared.event_state.EventState.{EventState}
 use Rattle.bac_values.specs.declared.event_state.EventState.TheVariants.{Normal, Fault, Offnormal, HighLimit, LowLimit}
 use Rattle.bac_values.specs.declared.stamp.Stamp.{Stamp}
@@ -15,7 +15,7 @@ use Rattle.bac_tags.specs.ParameterWriting.{written_enclosed}
 use Rattle.bac_values.specs.BitString.{string_of_flags}
 use Rattle.event_services.specs.Information.{written_moment, written_state, written_notifying, written_summary}
 
-pub object_length : (id : Identifier) → length (written_object (Some 0) id) ≡ 5
+pub object_length : (id : ObjectIdData) → length (written_object (Some 0) id) ≡ 5
 unfolding written_tag
 object_length id = refl
 

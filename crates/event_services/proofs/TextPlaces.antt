@@ -12,7 +12,8 @@ use Rattle.bac_tags.specs.declared.tag.Tag.{Tag}
 use Rattle.bac_tags.specs.declared.tag.Shape.{Shape}
 use Rattle.bac_tags.specs.declared.tag.Shape.TheVariants.{Primitive, Opening, Closing}
 use Rattle.bac_tags.specs.ReadingSteps.{tag_at, value_at, GivesValue}
-use Rattle.bac_tags.specs.EnclosingTags.{SpellsEnclosed, is_closing, opening_at, enclosed_at}
+use Rattle.bac_tags.specs.EnclosingTags.{SpellsEnclosed}
+use Rattle.bac_tags.specs.EnclosingSteps.{is_closing, opening_at, enclosed_at}
 use Rattle.bac_tags.proofs.Steps.{err_is}
 use Rattle.bac_tags.proofs.Standing.{IsBytes}
 use Rattle.bac_tags.proofs.ElementReaders.{Reader, spelled_to, opening_found, enclosed_reader}

@@ -2,7 +2,7 @@
 use Rattle.std.proofs.Common.{◌≡◌, ℤ, ℕ, ◌+◌, ◌≤◌, Bool, true, false, cond, eqb, Option, Some, None, List, [], ◌++◌, length, Result, Ok, Err, refl, sym, ap, subst, ◌∙◌, arith, inl, inr}
 use Rattle.std.proofs.lemmas.Bool.{eqb-true, cases_Bool}
 use Rattle.std.proofs.lemmas.List.{length-append}
-use Rattle.bac_values.specs.BitString.{BitString}
+use Rattle.bac_values.specs.BitString.{BitsData}
 use Rattle.bac_values.specs.Reliabilities.{reliability_of_number}
 use Rattle.bac_values.specs.declared.reliability.Reliability.{Reliability as Reliable}
 use Rattle.bac_values.specs.declared.status_flags.StatusFlags.{StatusFlags}
@@ -18,7 +18,8 @@ use Rattle.bac_tags.proofs.Steps.{bind_ok, chosen, ok_is}
 use Rattle.bac_tags.proofs.Standing.{IsBytes, Stands, Stands-then, Stands-front, Stands-back, Stands-within}
 use Rattle.bac_tags.proofs.Answered.{Spelled}
 use Rattle.bac_tags.proofs.TagLaws.{tag_again}
-use Rattle.bac_tags.specs.EnclosingTags.{opening, closing, SpellsEnclosed, is_closing, opening_at, closing_at, enclosed_at}
+use Rattle.bac_tags.specs.EnclosingTags.{opening, closing, SpellsEnclosed}
+use Rattle.bac_tags.specs.EnclosingSteps.{is_closing, opening_at, closing_at, enclosed_at}
 use Rattle.bac_tags.proofs.ElementReaders.{Reader, tag_some, opening_found, opening_again, closing_found, closing_again, signed_reader, bits_reader, enclosed_reader}
 use Rattle.event_services.specs.declared.notification.EventValues.{EventValues}
 use Rattle.event_services.specs.declared.notification.EventValues.TheVariants.{Bitstring, State, Command, UnsignedRange, SignedOutOfRange, UnsignedOutOfRange, Characterstring, Reliability}
@@ -202,7 +203,7 @@ properties_reader = record {
 -- ---- what is told, by the event's type
 
 abbrev bitstring_type : Type 0
-bitstring_type = BitString × StatusFlags
+bitstring_type = BitsData × StatusFlags
 
 abbrev bitstring_spells : List ℕ → bitstring_type → Type 0
 bitstring_spells = SpellsBoth (SpellsBits (Some 0)) SpellsFlags

@@ -1,15 +1,11 @@
 -- The parameters of AcknowledgeAlarm (ANSI/ASHRAE 135-2020, 13.5 and clause 21, AcknowledgeAlarm-Request).
-use Rattle.std.specs.Prelude.{◌≡◌, ◌≢◌, ℕ, zero, suc, ◌<◌, Some, List, [], ◌++◌, length, Result, Ok, Err}
-use Rattle.bac_values.specs.Identifier.{Identifier}
-use Rattle.bac_tags.specs.declared.fault.TagFault.{TagFault}
+use Rattle.std.specs.Prelude.{◌≡◌, ◌≢◌, ℕ, zero, suc, ◌<◌, Some, List, [], ◌++◌, length}
+use Rattle.bac_values.specs.Identifier.{ObjectIdData}
 use Rattle.bac_tags.specs.Contents.{SpellsUnsigned, SpellsEnumerated, SpellsObject}
-use Rattle.bac_tags.specs.ReadingSteps.{content_at, unsigned_at, object_at, ◌>>=◌}
-use Rattle.bac_tags.specs.declared.malformed.Malformed.{Malformed}
-use Rattle.bac_tags.specs.ParameterReadingSteps.{required, nothing_follows}
-use Rattle.bac_tags.specs.EnclosingTags.{SpellsEnclosed, SpellsOctets, enclosed_at}
+use Rattle.bac_tags.specs.EnclosingTags.{SpellsEnclosed, SpellsOctets}
 use Rattle.event_services.specs.declared.acknowledge.AckRequest.{AckRequest}
 use Rattle.event_services.specs.declared.time_stamp.AckStamp.{AckStamp}
-use Rattle.event_services.specs.TimeStamps.{SpellsTimeStamp, time_stamp_at}
+use Rattle.event_services.specs.TimeStamps.{SpellsTimeStamp}
 
 -- an acknowledgmentSource: a tag with at least one octet of content
 abbrev pub SpellsSource : List ℕ → List ℕ → Type 0
@@ -40,7 +36,7 @@ pub record SpellsAcknowledgement (octets : List ℕ) (request : AckRequest) : Ty
 -- a parameter by its place in the order
 abbrev pub SpellsParameter : ℕ → List ℕ → Type 0
 SpellsParameter zero octets = (process : ℕ) × SpellsUnsigned (Some 0) octets process
-SpellsParameter (suc zero) octets = (object : Identifier) × SpellsObject (Some 1) octets object
+SpellsParameter (suc zero) octets = (object : ObjectIdData) × SpellsObject (Some 1) octets object
 SpellsParameter (suc (suc zero)) octets = (state : ℕ) × SpellsEnumerated (Some 2) octets state
 SpellsParameter (suc (suc (suc zero))) octets = (stamp : AckStamp) × SpellsStampOf 3 octets stamp
 SpellsParameter (suc (suc (suc (suc zero)))) octets = (source : List ℕ) × SpellsSource octets source
@@ -78,22 +74,3 @@ pub record HasInvalidParameter (octets : List ℕ) (place : ℕ) : Type 0 where
   pub some : more ≢ []
   pub ends : place ≡ length front
   pub other : (next rest : List ℕ) → more ≡ next ++ rest → ¬ SpellsParameter there next
-
--- ---- reading
-
--- the place after a content
-abbrev pub skipped : Result (List ℕ × ℕ) TagFault → Result ℕ TagFault
-skipped (Ok x) = Ok x.1
-skipped (Err fault) = Err fault
-
--- the request, or the first refusal
-unfoldable pub acknowledge_request_of : List ℕ → Result AckRequest Malformed
-acknowledge_request_of input = do
-  process ← required input 0 (unsigned_at input 0 (Some 0))
-  object ← required input process.1 (object_at input process.1 (Some 1))
-  state ← required input object.1 (unsigned_at input object.1 (Some 2))
-  stamp ← required input state.1 (enclosed_at time_stamp_at 3 input state.1)
-  source ← required input stamp.1 (skipped (content_at input stamp.1 0 (Some 4) 1 4294967295))
-  time ← required input source (enclosed_at time_stamp_at 5 input source)
-  nothing ← nothing_follows input time.1
-  Ok (record { process = process.0; object = object.0; state = state.0; stamp = stamp.0 })

@@ -1,35 +1,26 @@
 -- GetEventInformation (ANSI/ASHRAE 135-2020, 13.12): the request, and the one spelling of its answer.
-use Rattle.std.specs.Prelude.{◌≡◌, ◌≢◌, ◌⊎◌, ℕ, Bool, Option, Some, None, List, [], ◌∷◌, ◌++◌, length, flat_map, Result, Ok}
+use Rattle.std.specs.Prelude.{◌≡◌, ◌≢◌, ◌⊎◌, ℕ, Bool, Option, Some, None, List, [], ◌++◌, length, flat_map}
 use Rattle.bac_values.specs.BitString.{string_of_flags}
 use Rattle.bac_values.specs.EventStates.{number_of_state}
-use Rattle.bac_values.specs.Identifier.{Identifier}
+use Rattle.bac_values.specs.Identifier.{ObjectIdData}
 use Rattle.bac_values.specs.declared.stamp.Stamp.{Stamp}
 use Rattle.bac_tags.specs.Elements.{HasOtherTag}
 use Rattle.bac_tags.specs.Contents.{SpellsObject}
-use Rattle.bac_tags.specs.ReadingSteps.{object_at, ◌>>=◌}
 use Rattle.bac_tags.specs.Writing.{written_unsigned, written_object, written_boolean, written_bits, written_stamp}
-use Rattle.bac_tags.specs.declared.malformed.Malformed.{Malformed}
 use Rattle.bac_tags.specs.Parameters.{IsThere, IsAbsent}
-use Rattle.bac_tags.specs.ParameterReadingSteps.{optional, nothing_follows}
 use Rattle.event_services.specs.declared.information.EventSummary.{EventSummary}
 use Rattle.bac_tags.specs.ParameterWriting.{written_enclosed}
 
 -- [0] the last object that was received, if one was
-abbrev pub SpellsInformationRequest : List ℕ → Option Identifier → Type 0
+abbrev pub SpellsInformationRequest : List ℕ → Option ObjectIdData → Type 0
 SpellsInformationRequest octets None = octets ≡ []
 SpellsInformationRequest octets (Some object) = SpellsObject (Some 0) octets object
-
-unfoldable pub information_request_of : List ℕ → Result (Option Identifier) Malformed
-information_request_of input = do
-  object ← optional input 0 (object_at input 0 (Some 0))
-  nothing ← nothing_follows input object.1
-  Ok object.0
 
 -- the object ends at the place, and more follows, or the octets begin with a whole tag of something else
 abbrev pub HasMoreThanObject : List ℕ → ℕ → Type 0
 HasMoreThanObject octets place =
     ((place ≡ 0) × HasOtherTag 0 (Some 0) octets)
-    ⊎ ((front : List ℕ) × (more : List ℕ) × (object : Identifier) × (octets ≡ front ++ more) × SpellsObject (Some 0) front object × (more ≢ []) × (place ≡ length front))
+    ⊎ ((front : List ℕ) × (more : List ℕ) × (object : ObjectIdData) × (octets ≡ front ++ more) × SpellsObject (Some 0) front object × (more ≢ []) × (place ≡ length front))
 
 -- some octets begin with neither
 abbrev pub HasNoObject : List ℕ → ℕ → Type 0

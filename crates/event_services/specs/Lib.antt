@@ -9,3 +9,6 @@ pub mod NoteGrammar
 pub mod NoteRanges
 pub mod NoteLengths
 pub mod NoteTexts
+pub mod AcknowledgementSteps
+pub mod InformationSteps
+pub mod TimeStampSteps

@@ -2,7 +2,7 @@
 use Rattle.std.specs.Prelude.{◌≡◌, ℕ, ◌/◌, ◌%◌, ◌==◌, nat_lt, nat_le, ◌&&◌, ◌⊎◌, if◌then◌else◌, Bool, true, false, Option, Some, None, List, [], ◌∷◌, length, Result, Ok, Err}
 use Rattle.std.specs.Option.{ok_or}
 use Rattle.std.specs.Str.{is_utf8}
-use Rattle.bac_values.specs.BitString.{BitString}
+use Rattle.bac_values.specs.BitString.{BitsData}
 use Rattle.bac_values.specs.EventStates.{state_of_number}
 use Rattle.bac_values.specs.Reliabilities.{reliability_of_number}
 use Rattle.bac_values.specs.declared.event_state.EventState.{EventState}
@@ -15,7 +15,7 @@ use Rattle.bac_values.specs.declared.value.Value.{Value}
 use Rattle.bac_tags.specs.declared.fault.TagFault.{TagFault}
 use Rattle.bac_tags.specs.declared.fault.TagFault.TheVariants.{WrongTag, BadLength, NoMemory}
 use Rattle.bac_tags.specs.ReadingSteps.{◌>>=◌, content_at, tag_at, unsigned_at, signed_at, bits_at, stamp_at, value_at}
-use Rattle.bac_tags.specs.EnclosingTags.{is_closing, opening_at, closing_at, enclosed_at}
+use Rattle.bac_tags.specs.EnclosingSteps.{is_closing, opening_at, closing_at, enclosed_at}
 use Rattle.event_services.specs.declared.notification.EventValues.{EventValues}
 use Rattle.event_services.specs.declared.notification.EventValues.TheVariants.{Bitstring, State, Command, UnsignedRange, SignedOutOfRange, UnsignedOutOfRange, Characterstring, Reliability}
 
@@ -51,7 +51,7 @@ unfoldable pub state_at : ℕ → Reads EventState
 state_at number = held_at state_of_number (number_at number)
 
 -- the four status flags, the first of them the string's first bit
-abbrev pub flags_of : BitString → Option StatusFlags
+abbrev pub flags_of : BitsData → Option StatusFlags
 flags_of string =
     if string.size == 4
     then Some (record { in_alarm = string.bits % 2 == 1; fault = string.bits / 2 % 2 == 1; overridden = string.bits / 4 % 2 == 1; out_of_service = string.bits / 8 % 2 == 1 })

@@ -1,6 +1,6 @@
 -- The parameters of event notifications in their order (ANSI/ASHRAE 135-2020, clause 21, ConfirmedEventNotification-Request).
 use Rattle.std.specs.Prelude.{◌≡◌, ℕ, ◌⊎◌, Bool, Option, Some, List, Result, Ok, Err}
-use Rattle.bac_values.specs.Identifier.{Identifier}
+use Rattle.bac_values.specs.Identifier.{ObjectIdData}
 use Rattle.bac_values.specs.declared.event_state.EventState.{EventState}
 use Rattle.bac_values.specs.declared.stamp.Stamp.{Stamp}
 use Rattle.bac_tags.specs.ReadingSteps.{unsigned_at, object_at, boolean_at, ◌>>=◌}
@@ -12,7 +12,7 @@ use Rattle.event_services.specs.declared.read_note.NoteFault.TheVariants as faul
 use Rattle.event_services.specs.NoteReadingSteps.{octet_number_at, state_at, text_at, moment_at, values_at}
 
 -- [0] to [3]: process, device, object, time stamp
-unfoldable pub source_at : List ℕ → Result ((ℕ × Identifier × Identifier × Stamp) × ℕ) Malformed
+unfoldable pub source_at : List ℕ → Result ((ℕ × ObjectIdData × ObjectIdData × Stamp) × ℕ) Malformed
 source_at input = do
   process ← required input 0 (unsigned_at input 0 (Some 0))
   device ← required input process.1 (object_at input process.1 (Some 1))

@@ -1,7 +1,7 @@
 -- Event notifications (ANSI/ASHRAE 135-2020, 13.8, 13.9 and clause 21, BACnetNotificationParameters): what can be told, and the one spelling in which it is written.
 use Rattle.std.specs.Prelude.{◌≡◌, ℕ, ◌+◌, ◌*◌, if◌then◌else◌, Bool, Option, Some, None, List, [], ◌∷◌, ◌++◌}
 use Rattle.std.specs.Int.{from_bool}
-use Rattle.bac_values.specs.BitString.{BitString}
+use Rattle.bac_values.specs.BitString.{BitsData}
 use Rattle.bac_values.specs.EventTypes.{change_of_bitstring_type, change_of_state_type, command_failure_type, unsigned_range_type, signed_out_of_range_type, unsigned_out_of_range_type, change_of_characterstring_type, change_of_reliability_type}
 use Rattle.bac_values.specs.EventStates.{number_of_state}
 use Rattle.bac_values.specs.Properties.{present_value_property}
@@ -65,7 +65,7 @@ abbrev pub written_text_in : ℕ → List ℕ → List ℕ
 written_text_in number text = written_element 7 (Some number) (0 ∷ text)
 
 -- in-alarm, fault, overridden, out-of-service, the first of them the string's first bit
-abbrev pub bits_of_flags : StatusFlags → BitString
+abbrev pub bits_of_flags : StatusFlags → BitsData
 bits_of_flags flags = record { size = 4; bits = from_bool flags.in_alarm + 2 * from_bool flags.fault + 4 * from_bool flags.overridden + 8 * from_bool flags.out_of_service }
 
 -- they are always [1]

@@ -3,9 +3,10 @@ ghost use Rattle.bac_tags.specs.ReadingSteps.{content_at};
 ghost use Rattle.bac_tags.specs.Refusals.{invalid_tag, missing_parameter, too_many_arguments};
 ghost use Rattle.event_services.specs.declared.acknowledge.AckRequest.{AckRequest};
 ghost use Rattle.bac_tags.specs.ParameterReadingSteps.{required};
-ghost use Rattle.bac_tags.specs.EnclosingTags.{enclosed_at};
-ghost use Rattle.event_services.specs.TimeStamps.{time_stamp_at};
-ghost use Rattle.event_services.specs.Acknowledgements.{SpellsAcknowledgement, LacksParameter, HasInvalidParameter, HasMore, skipped, acknowledge_request_of};
+ghost use Rattle.bac_tags.specs.EnclosingSteps.{enclosed_at};
+ghost use Rattle.event_services.specs.TimeStampSteps.{time_stamp_at};
+ghost use Rattle.event_services.specs.Acknowledgements.{SpellsAcknowledgement, LacksParameter, HasInvalidParameter, HasMore};
+ghost use Rattle.event_services.specs.AcknowledgementSteps.{skipped, acknowledge_request_of};
 
 use crate::AckStamp;
 use crate::time_stamp::enclosed_time_stamp;
@@ -56,7 +57,7 @@ fn required_source(input: &[u8], at: usize) -> Result<usize, Malformed>
 }
 
 /// The request that the octets are.
-#[tactic(auto, unfolding(crate::specs::Acknowledgements::acknowledge_request_of))]
+#[tactic(auto, unfolding(crate::specs::AcknowledgementSteps::acknowledge_request_of))]
 fn acknowledge_request_of(bytes: &[u8]) -> Result<AckRequest, Malformed>
     ensures { result ≡ acknowledge_request_of bytes.now }
 {

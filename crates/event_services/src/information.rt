@@ -1,10 +1,11 @@
 ghost use Rattle.std.specs.Prelude.{◌≡◌, ◌↔◌, ◌⊎◌, ℕ, ◌+◌, ◌*◌, ◌<◌, ◌≤◌, Option, Some, None, List, ◌++◌, length, flat_map, drop, IfOk, OnOk, IfErr};
-ghost use Rattle.bac_values.specs.Identifier.{Identifier};
+ghost use Rattle.bac_values.specs.Identifier.{ObjectIdData};
 ghost use Rattle.bac_tags.specs.Contents.{SpellsObject};
 ghost use Rattle.bac_tags.specs.Writing.{written_unsigned};
 ghost use Rattle.bac_tags.specs.Refusals.{invalid_tag, too_many_arguments};
 ghost use Rattle.bac_tags.specs.ParameterWriting.{written_enclosed};
-ghost use Rattle.event_services.specs.Information.{SpellsInformationRequest, HasMoreThanObject, HasNoObject, information_request_of, written_moment, written_state, written_notifying, written_summary, written_information};
+ghost use Rattle.event_services.specs.Information.{SpellsInformationRequest, HasMoreThanObject, HasNoObject, written_moment, written_state, written_notifying, written_summary, written_information};
+ghost use Rattle.event_services.specs.InformationSteps.{information_request_of};
 
 use crate::write_note::write_enclosed_stamp;
 use bac_tags::{
@@ -35,7 +36,7 @@ pub struct EventSummary {
 }
 
 /// The request that the octets are.
-#[tactic(auto, unfolding(crate::specs::Information::information_request_of))]
+#[tactic(auto, unfolding(crate::specs::InformationSteps::information_request_of))]
 fn information_request_of(bytes: &[u8]) -> Result<Option<ObjectId>, Malformed>
     ensures { result ≡ information_request_of bytes.now }
 {
@@ -50,7 +51,7 @@ pub fn read_information_request(bytes: &[u8]) -> Result<Option<ObjectId>, Malfor
     // What is read is spelled so.
     ensures found { IfOk result (λ object. SpellsInformationRequest bytes.now object) }
     // What is spelled so is read.
-    ensures only { (object : Option Identifier) → SpellsInformationRequest bytes.now object → result ≡ Ok object }
+    ensures only { (object : Option ObjectIdData) → SpellsInformationRequest bytes.now object → result ≡ Ok object }
 
     // Octets follow the object, or there is a whole tag of something else.
     ensures too_many { (place : ℕ) → (result ≡ Err (too_many_arguments place)) ↔ HasMoreThanObject bytes.now place }

@@ -1,6 +1,6 @@
 ghost use Rattle.std.specs.Prelude.{◌≡◌, ◌<◌, ◌≤◌, length, IfOk};
 ghost use Rattle.bac_tags.specs.ReadingSteps.{value_at};
-ghost use Rattle.bac_tags.specs.EnclosingTags.{enclosed_at};
+ghost use Rattle.bac_tags.specs.EnclosingSteps.{enclosed_at};
 ghost use Rattle.event_services.specs.NoteTexts.{HoldsText, IsTextOfChange, IsTextOfCommand, IsTextOfProperties, IsTextOfProperty, IsTextOfReliability, IsTextOfValues, IsTextTold};
 ghost use Rattle.event_services.specs.NoteReadingSteps.{GivesRead, property_state_in, property_state_at, present_value, property_value_at, properties_at, reliability_number_at, bitstring_at, changed_state_at, commanded_at, unsigned_range_at, signed_out_of_range_at, unsigned_out_of_range_at, changed_text_at, reliability_at, told_at, values_at};
 

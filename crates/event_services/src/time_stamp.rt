@@ -1,7 +1,7 @@
 ghost use Rattle.std.specs.Prelude.{◌≡◌, ◌<◌, ◌≤◌, length, IfOk};
 ghost use Rattle.bac_tags.specs.ReadingSteps.{stamp_at};
-ghost use Rattle.bac_tags.specs.EnclosingTags.{enclosed_at};
-ghost use Rattle.event_services.specs.TimeStamps.{form_at, time_stamp_at};
+ghost use Rattle.bac_tags.specs.EnclosingSteps.{enclosed_at};
+ghost use Rattle.event_services.specs.TimeStampSteps.{form_at, time_stamp_at};
 
 use bac_tags::{
     TagFault, read_closing, read_octets, read_opening, read_stamp, read_tag, read_unsigned,
@@ -59,7 +59,7 @@ fn form_at(number: u8, input: &[u8], at: usize) -> Result<(AckStamp, usize), Tag
 }
 
 /// The time stamp at a place, in any of its forms, and the place after it.
-#[tactic(auto, unfolding(crate::specs::TimeStamps::time_stamp_at))]
+#[tactic(auto, unfolding(crate::specs::TimeStampSteps::time_stamp_at))]
 fn time_stamp_at(input: &[u8], at: usize) -> Result<(AckStamp, usize), TagFault>
     requires { at ≤ length input.now }
     ensures exact { result ≡ time_stamp_at input.now at }

@@ -2,7 +2,7 @@
 use Rattle.std.proofs.Common.{◌≡◌, ℕ, Bool, true, false, List, [], ◌∷◌, ◌++◌, Option, Some, None, unwrap_or, Result, Ok, Err, IfOk, refl, sym, ap, subst, ◌∙◌, length}
 use Rattle.std.proofs.lemmas.List.Elements.{All-append, All-cons, All-nil}
 use Rattle.std.specs.Result.{result_ok}
-use Rattle.bac_values.specs.Address.{Address}
+use Rattle.bac_values.specs.Address.{PeerData}
 use Rattle.ground_io.specs.Disk.{Disk, IsInside}
 use Rattle.ground_io.specs.Image.{contents_with}
 use Rattle.ground_io.specs.InMemory.{AreTold}
@@ -48,10 +48,10 @@ pub put_first : {E : Type 0} (past : Past) (made : Result Past E) (contents now 
 put_first past (Ok more) contents now is = ap (λ (o : Option (List ℕ)). unwrap_or o now) is
 put_first past (Err fault) contents now is = tt
 
-pub sending_inside : (lost : Bool) (peer : Address) (octets contents : List ℕ) → IsInside (length contents) (sending lost peer octets)
+pub sending_inside : (lost : Bool) (peer : PeerData) (octets contents : List ℕ) → IsInside (length contents) (sending lost peer octets)
 sending_inside true peer octets contents = tt
 sending_inside false peer octets contents = tt
 
-pub sending_keeps : (lost : Bool) (peer : Address) (octets contents : List ℕ) → contents ≡ contents_with (sending lost peer octets) contents
+pub sending_keeps : (lost : Bool) (peer : PeerData) (octets contents : List ℕ) → contents ≡ contents_with (sending lost peer octets) contents
 sending_keeps true peer octets contents = refl
 sending_keeps false peer octets contents = refl

@@ -1,6 +1,6 @@
 -- What a link gives, and what it leaves of the datagrams that it tells.
 use Rattle.std.specs.Prelude.{◌≡◌, ◌≤◌, ℕ, List, [], ◌∷◌, length, take, drop, min, Option, Some, None, ⊤, Result, Ok, Err}
-use Rattle.bac_values.specs.Address.{Address}
+use Rattle.bac_values.specs.Address.{PeerData}
 use Rattle.bac_values.specs.declared.note.Send.{Send}
 use Rattle.ground_io.specs.declared.link.Received.{Received}
 use Rattle.ground_io.specs.declared.link.Received.TheVariants.{Nothing, Datagram}
@@ -11,7 +11,7 @@ FitsInto Nothing into = ⊤
 FitsInto (Datagram peer count) into = count ≤ length into
 
 -- what came is this datagram, cut to the slice; behind it the slice is as it was
-pub record IsCutTo (datagram : Send) (peer : Address) (count : ℕ) (before after : List ℕ) : Type 0 where
+pub record IsCutTo (datagram : Send) (peer : PeerData) (count : ℕ) (before after : List ℕ) : Type 0 where
   pub sender : peer ≡ datagram.peer
   pub cut : count ≡ min (length datagram.bytes) (length before)
   pub octets : take count after ≡ take count datagram.bytes

@@ -1,6 +1,6 @@
 -- What a ground tells of itself, and what a call adds to it.
 use Rattle.std.specs.Prelude.{◌≡◌, ℕ, Bool, true, false, List, [], ◌∷◌, ◌++◌, length, Option, Some, None, ⊤, Result, Ok, Err}
-use Rattle.bac_values.specs.Address.{Address}
+use Rattle.bac_values.specs.Address.{PeerData}
 use Rattle.ground_io.specs.declared.entry.Entry.{Entry}
 use Rattle.ground_io.specs.declared.entry.Entry.TheVariants.{Broke, Emitted, Lost}
 use Rattle.ground_io.specs.Disk.{Disk, disk_after, octets_at}
@@ -41,11 +41,11 @@ HasSize size None = ⊤
 HasSize size (Some now) = length (disk_of now).contents ≡ size
 
 -- the entry of an emission: what was sent, or what may have gone out in part
-abbrev pub emission : {T E : Type 0} → Address → List ℕ → Result T E → Entry
+abbrev pub emission : {T E : Type 0} → PeerData → List ℕ → Result T E → Entry
 emission peer octets (Ok x) = Emitted peer octets
 emission peer octets (Err fault) = Lost peer octets
 
 -- the same, for one that was lost or wasn't
-abbrev pub sending : Bool → Address → List ℕ → Entry
+abbrev pub sending : Bool → PeerData → List ℕ → Entry
 sending false peer octets = Emitted peer octets
 sending true peer octets = Lost peer octets

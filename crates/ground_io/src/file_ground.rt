@@ -23,9 +23,9 @@ pub struct FileGround<W: Write + Drop> {
 }
 
 impl<W: Write + Drop> Model for FileGround<W> {
-    ghost use Rattle.ground_io.specs.InMemory.{GroundOfFile};
+    ghost use Rattle.ground_io.specs.InMemory.{FileGroundState};
 
-    ghost Value = { GroundOfFile };
+    ghost Value = { FileGroundState };
 
     ghost view = { λ edge. record { size = edge.size; disk_faults = edge.disk_faults; emit_faults = edge.emit_faults } };
 }

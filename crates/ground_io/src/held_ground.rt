@@ -20,9 +20,9 @@ pub struct HeldGround<W: Gate> {
 }
 
 impl<W: Gate> Model for HeldGround<W> {
-    ghost use Rattle.ground_io.specs.InMemory.{GroundInMemory};
+    ghost use Rattle.ground_io.specs.InMemory.{MemoryGroundState};
 
-    ghost Value = { GroundInMemory };
+    ghost Value = { MemoryGroundState };
 
     ghost view = { λ held. held.inner };
 }

@@ -31,10 +31,10 @@ pub struct MemoryGround {
 }
 
 impl Model for MemoryGround {
-    ghost use Rattle.ground_io.specs.InMemory.{GroundInMemory, AreTold};
+    ghost use Rattle.ground_io.specs.InMemory.{AreTold, MemoryGroundState};
     ghost use Rattle.ground_io.specs.Past.{told_of};
 
-    ghost Value = { GroundInMemory };
+    ghost Value = { MemoryGroundState };
 
     ghost view = { λ device. record { contents = device.contents.items; told = told_of device.past device.contents.items; failing = device.failing.items; calls = device.calls; disk_faults = device.disk_faults; emit_faults = device.emit_faults } };
 

@@ -22,9 +22,9 @@ pub struct MemoryLink {
 
 impl Model for MemoryLink {
     ghost use Rattle.std.specs.Prelude.{◌≤◌, drop, length};
-    ghost use Rattle.ground_io.specs.InMemory.{LinkInMemory};
+    ghost use Rattle.ground_io.specs.InMemory.{MemoryLinkState};
 
-    ghost Value = { LinkInMemory };
+    ghost Value = { MemoryLinkState };
 
     ghost view = { λ link. record { left = drop link.place link.datagrams.items; failing = link.failing.items; calls = link.calls; faults = link.faults } };
 

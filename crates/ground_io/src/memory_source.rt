@@ -20,9 +20,9 @@ pub struct MemorySource {
 
 impl Model for MemorySource {
     ghost use Rattle.std.specs.Prelude.{◌≤◌, drop, length};
-    ghost use Rattle.ground_io.specs.InMemory.{SourceInMemory};
+    ghost use Rattle.ground_io.specs.InMemory.{MemorySourceState};
 
-    ghost Value = { SourceInMemory };
+    ghost Value = { MemorySourceState };
 
     ghost view = { λ source. record { left = drop source.place source.octets.items; failing = source.failing.items; calls = source.calls; faults = source.faults } };
 

@@ -12,9 +12,9 @@ pub struct StdSource<R: Read> {
 }
 
 impl<R: Read> Model for StdSource<R> {
-    ghost use Rattle.ground_io.specs.InMemory.{Reading};
+    ghost use Rattle.ground_io.specs.InMemory.{StdSourceState};
 
-    ghost Value = { Reading R };
+    ghost Value = { StdSourceState R };
 
     ghost view = { λ source. record { reader = source.reader; faults = source.faults } };
 }

@@ -17,9 +17,9 @@ pub struct UdpLink {
 }
 
 impl Model for UdpLink {
-    ghost use Rattle.ground_io.specs.InMemory.{LinkOfSocket};
+    ghost use Rattle.ground_io.specs.InMemory.{UdpLinkState};
 
-    ghost Value = { LinkOfSocket };
+    ghost Value = { UdpLinkState };
 
     ghost view = { λ link. record { faults = link.faults } };
 }

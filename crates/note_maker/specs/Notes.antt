@@ -2,14 +2,14 @@
 use Rattle.std.specs.Prelude.{ℕ, List, map}
 use Rattle.bac_values.specs.declared.note.Note.{Note}
 use Rattle.bac_values.specs.declared.transition.Transition.{Transition}
-use Rattle.civil_stamp.specs.LocalTime.{LocalZone}
-use Rattle.notify_class.specs.Recipients.{ListedRecipient}
+use Rattle.civil_stamp.specs.LocalTime.{ZoneData}
+use Rattle.notify_class.specs.Recipients.{DestinationData}
 use Rattle.notify_class.specs.Chosen.{chosen_destinations}
 use Rattle.event_services.specs.declared.notification.Notification.{Notification}
 use Rattle.event_services.specs.Notifications.{told_to, written_notification}
 
 -- the note to a recipient: to its peer, confirmed or not as the list says (Issue Confirmed Notifications), and what is told with its Process Identifier
-abbrev pub note_to : Notification → ListedRecipient → Note
+abbrev pub note_to : Notification → DestinationData → Note
 note_to facts recipient = record {
   peer = recipient.peer;
   confirmed = recipient.confirmed;
@@ -17,5 +17,5 @@ note_to facts recipient = record {
 }
 
 -- the notes to those recipients that are to be notified of such a transition at the moment
-abbrev pub notes_for : Notification → List ListedRecipient → Transition → ℕ → LocalZone → List Note
+abbrev pub notes_for : Notification → List DestinationData → Transition → ℕ → ZoneData → List Note
 notes_for facts recipients transition moment zone = map (note_to facts) (chosen_destinations recipients transition moment zone)

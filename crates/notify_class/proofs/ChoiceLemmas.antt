@@ -5,13 +5,13 @@ use Rattle.std.specs.Option.{IfSome, IsSomeAnd, option_map}
 use Rattle.std.proofs.lemmas.Bool.Decides.{leb_tells}
 use Rattle.std.proofs.lemmas.Option.{slice_get_past}
 use Rattle.bac_values.specs.declared.transition.Transition.{Transition}
-use Rattle.civil_stamp.specs.LocalTime.{LocalZone}
-use Rattle.notify_class.specs.Recipients.{ListedRecipient}
+use Rattle.civil_stamp.specs.LocalTime.{ZoneData}
+use Rattle.notify_class.specs.Recipients.{DestinationData}
 use Rattle.notify_class.specs.Windows.{IsInWindow, is_in_window}
 use Rattle.notify_class.specs.Chosen.{IsChosenAt, IsNextChosen, GoesOn}
 use Rattle.notify_class.proofs.Positions.{before, none_kept, first_kept, slice_get-drop, drop-drop}
 
-window_tested : (recipient : ListedRecipient) (transition : Transition) (moment : ℕ) (zone : LocalZone) → IsTrue (is_in_window recipient transition moment zone) ↔ IsInWindow recipient transition moment zone
+window_tested : (recipient : DestinationData) (transition : Transition) (moment : ℕ) (zone : ZoneData) → IsTrue (is_in_window recipient transition moment zone) ↔ IsInWindow recipient transition moment zone
 window_tested recipient transition moment zone = search rules
 
 -- nothing both fails and passes
@@ -23,17 +23,17 @@ one_of : {X : Type 0} (P Q : X → Type 0) → ((x : X) → P x → Q x) → (o 
 one_of P Q step None a = a
 one_of P Q step (Some x) a = step x a
 
-module _ (recipients : List ListedRecipient) (transition : Transition) (moment : ℕ) (zone : LocalZone) (from : ℕ) where
-  abbrev test : ListedRecipient → Bool
+module _ (recipients : List DestinationData) (transition : Transition) (moment : ℕ) (zone : ZoneData) (from : ℕ) where
+  abbrev test : DestinationData → Bool
   test recipient = is_in_window recipient transition moment zone
 
-  abbrev rest : List ListedRecipient
+  abbrev rest : List DestinationData
   rest = drop from recipients
 
   abbrev first : ℕ
   first = position_or_len test rest
 
-  outside : (recipient : ListedRecipient) → test recipient ≡ false → IsInWindow recipient transition moment zone → ⊥
+  outside : (recipient : DestinationData) → test recipient ≡ false → IsInWindow recipient transition moment zone → ⊥
   outside recipient fails inside = true≢false (sym ((window_tested recipient transition moment zone).1 inside) ∙ fails)
 
   at : (place : ℕ) → from ≤ place → slice_get rest (place - from) ≡ slice_get recipients place
@@ -57,7 +57,7 @@ module _ (recipients : List ListedRecipient) (transition : Transition) (moment :
     none_kept test rest h,
   )
 
-  abbrev IsFirst : ListedRecipient → Type 0
+  abbrev IsFirst : DestinationData → Type 0
   IsFirst recipient = (test recipient ≡ true) × (filter test rest ≡ recipient ∷ filter test (drop (suc first) rest))
 
   next_chosen : first < length rest → IsNextChosen recipients transition moment zone from (Some (from + first)) × GoesOn recipients transition moment zone from (Some (from + first))

@@ -1,10 +1,10 @@
 -- The limits of a Recipient_List that is edited.
 use Rattle.std.specs.Prelude.{◌≡◌, ℕ, ◌*◌, ◌↔◌, ◌⊎◌, List, [], ◌∷◌, ◌++◌, length, map, Result, Ok, Err, Contains, AllPairs, nat_lt, if◌then◌else◌}
-use Rattle.bac_values.specs.Address.{Address}
+use Rattle.bac_values.specs.Address.{PeerData}
 use Rattle.bac_values.specs.Orders.{is_among}
 use Rattle.notify_class.specs.declared.edit.EditFault.{EditFault}
 use Rattle.notify_class.specs.declared.edit.EditFault.TheVariants.{TooMany, TooManyPeers, TooManyNotes}
-use Rattle.notify_class.specs.Recipients.{ListedRecipient}
+use Rattle.notify_class.specs.Recipients.{DestinationData}
 
 -- the most recipients of a list, and the most peers that the server knows
 abbrev pub most_destinations : ℕ
@@ -14,23 +14,23 @@ abbrev pub most_peers : ℕ
 most_peers = 8_192
 
 -- the peers of a list of recipients, in its order
-abbrev pub peers_of : List ListedRecipient → List Address
-peers_of recipients = map (λ (recipient : ListedRecipient). recipient.peer) recipients
+abbrev pub peers_of : List DestinationData → List PeerData
+peers_of recipients = map (λ (recipient : DestinationData). recipient.peer) recipients
 
 -- the known peers, once each of the others has been added that is not there yet
-abbrev pub known_with : List Address → List Address → List Address
+abbrev pub known_with : List PeerData → List PeerData → List PeerData
 known_with known [] = known
 known_with known (peer ∷ peers) =
     if is_among known peer then known_with known peers else known_with (known ++ peer ∷ []) peers
 
 -- the list has no peer twice, and has exactly the peers of both
-pub record IsUnion (known others together : List Address) : Type 0 where
+pub record IsUnion (known others together : List PeerData) : Type 0 where
   pub distinct : AllPairs (λ earlier later. earlier ≡ later → ⊥) together
-  pub members : (peer : Address) → Contains together peer ↔ (Contains known peer ⊎ Contains others peer)
+  pub members : (peer : PeerData) → Contains together peer ↔ (Contains known peer ⊎ Contains others peer)
 
 -- what an edit is refused for: too many recipients; then too many peers, those known together with the new ones; then
 -- too many notes, one of each member of the class to each recipient
-abbrev pub edit_verdict : List Address → List ListedRecipient → ℕ → ℕ → Result (Unit {0}) EditFault
+abbrev pub edit_verdict : List PeerData → List DestinationData → ℕ → ℕ → Result (Unit {0}) EditFault
 edit_verdict known recipients members room =
     let count = length recipients in
     let peers = length (known_with known (peers_of recipients)) in

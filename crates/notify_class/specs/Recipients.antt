@@ -1,13 +1,13 @@
 -- The elements of a Recipient_List (ANSI/ASHRAE 135-2020, 12.21, BACnetDestination).
 use Rattle.std.specs.Prelude.{ℕ, ◌<◌, Bool, List}
-use Rattle.bac_values.specs.Address.{Address}
+use Rattle.bac_values.specs.Address.{PeerData}
 
 -- whom to notify, on which days, from which time of day to which, of which transitions, and how
-pub record ListedRecipient : Type 0 where
+pub record DestinationData : Type 0 where
   pub days : ℕ
   pub from : ℕ
   pub to : ℕ
-  pub peer : Address
+  pub peer : PeerData
   pub process : ℕ
   pub confirmed : Bool
   pub transitions : List Bool

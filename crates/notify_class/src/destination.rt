@@ -21,9 +21,9 @@ pub struct Destination {
 }
 
 impl Model for Destination {
-    ghost use Rattle.notify_class.specs.Recipients.{ListedRecipient, IsListedRecipient};
+    ghost use Rattle.notify_class.specs.Recipients.{IsListedRecipient, DestinationData};
 
-    ghost Value = { ListedRecipient };
+    ghost Value = { DestinationData };
 
     ghost view = { λ it. record { days = it.days; from = it.from; to = it.to; peer = it.peer; process = it.process; confirmed = it.confirmed; transitions = it.transitions } };
 

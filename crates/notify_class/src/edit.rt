@@ -1,7 +1,7 @@
 ghost use Rattle.std.specs.Prelude.{◌≡◌, ◌↔◌, ◌+◌, ◌<◌, ◌≤◌, ◌^◌, IsTrue, length, not, ◌&&◌};
-ghost use Rattle.bac_values.specs.Address.{Address};
+ghost use Rattle.bac_values.specs.Address.{PeerData};
 ghost use Rattle.bac_values.specs.Orders.{IsAscending, is_among};
-ghost use Rattle.notify_class.specs.Recipients.{ListedRecipient};
+ghost use Rattle.notify_class.specs.Recipients.{DestinationData};
 ghost use Rattle.notify_class.specs.Edits.{IsUnion, known_with, peers_of, edit_verdict};
 
 use crate::Destination;

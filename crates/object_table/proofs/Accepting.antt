@@ -4,7 +4,7 @@ use Rattle.bac_values.specs.declared.object_kind.ObjectKind.{ObjectKind}
 use Rattle.bac_values.specs.declared.object_kind.ObjectKind.TheVariants.{BinaryValue, MultiStateValue, BitStringValue, CharacterStringValue, IntegerValue, PositiveIntegerValue}
 use Rattle.bac_values.specs.declared.value.Value.{Value}
 use Rattle.bac_values.specs.declared.value.Value.TheVariants.{Bool as Truth, Unsigned, Signed, Text, Bits, Enumerated}
-use Rattle.bac_values.specs.Identifier.{Identifier}
+use Rattle.bac_values.specs.Identifier.{ObjectIdData}
 use Rattle.object_table.specs.declared.change.Change.{Change}
 use Rattle.object_table.specs.declared.faults.WriteFault.{WriteFault}
 use Rattle.object_table.specs.declared.object_property.ObjectProperty.{ObjectProperty}
@@ -87,7 +87,7 @@ property_passes kind site (Some property) value h =
     let parts = both (has kind site property) (can_be kind site property value) h in
     rw (parts.0, parts.1) (possible_passes kind site property value parts.1)
 
-passes_by_row : (row : Option Row) (object : Identifier) (number : ℕ) (value : Value) → IsSomeAnd row (λ (r : Row). IsTrue (takes_value number value r.site)) → IsOk (write_by_row row object number None value)
+passes_by_row : (row : Option Row) (object : ObjectIdData) (number : ℕ) (value : Value) → IsSomeAnd row (λ (r : Row). IsTrue (takes_value number value r.site)) → IsOk (write_by_row row object number None value)
 passes_by_row (Some row) object number value h = rw (property_passes (kind_in row.site) row.site (property_of number) value h) refl
 passes_by_row None object number value h = absurd h
 
@@ -96,7 +96,7 @@ ok_verdict : (verdict : Result (Unit {0}) WriteFault) (change : Change) → IsOk
 ok_verdict (Ok passed) change h = refl
 ok_verdict (Err fault) change h = absurd (true≢false (sym h))
 
-taken_by_row : (row : Option Row) (object : Identifier) (number : ℕ) (value : Value) → IsOk (write_by_row row object number None value) → IsSomeAnd row (λ (r : Row). IsTrue (takes_value number value r.site))
+taken_by_row : (row : Option Row) (object : ObjectIdData) (number : ℕ) (value : Value) → IsOk (write_by_row row object number None value) → IsSomeAnd row (λ (r : Row). IsTrue (takes_value number value r.site))
 taken_by_row (Some row) object number value h = write_ok row.site number None value (ok_verdict (write_verdict row.site number None value) (property_change object number value) h)
 taken_by_row None object number value h = absurd (true≢false (sym h))
 

@@ -10,7 +10,7 @@ use Rattle.std.proofs.lemmas.List.Elements.{All-set, All-map}
 use Rattle.std.proofs.lemmas.Simd.{map-map}
 use Rattle.std.proofs.Math.Seq.{map-set_same}
 use Rattle.std.proofs.lemmas.Cmp.{alike_right}
-use Rattle.bac_values.specs.Identifier.{Identifier}
+use Rattle.bac_values.specs.Identifier.{ObjectIdData}
 use Rattle.bac_values.specs.Orders.{identifier_order}
 use Rattle.bac_values.proofs.OrderLemmas.{identifiers_are_total, rises}
 use Rattle.object_table.specs.declared.change.Change.{Change}
@@ -60,7 +60,7 @@ no_more : (m n : ℕ) → m ≡ n → m ≤ n
 no_more m n e = omega arith
 
 -- what a binary search among the rows of a table says
-pub searched : (object : Identifier) (rows : List Row) (answer : Result ℕ ℕ) → RowsAscend rows → IsSearchInRange answer (length rows) → IsBinarySearchResult (λ row. identifier_order row.site.object object) rows answer → record { found : IfOk answer (StandsAt object rows); absent : OnErr answer (row_of object rows ≡ None) }
+pub searched : (object : ObjectIdData) (rows : List Row) (answer : Result ℕ ℕ) → RowsAscend rows → IsSearchInRange answer (length rows) → IsBinarySearchResult (λ row. identifier_order row.site.object object) rows answer → record { found : IfOk answer (StandsAt object rows); absent : OnErr answer (row_of object rows ≡ None) }
 searched object rows (Ok place) ascending within equal = record {
   found = record {
     within = within;
@@ -73,10 +73,10 @@ searched object rows (Ok place) ascending within equal = record {
   absent = tt;
 }
   where
-    other_side : (a b : Identifier) → identifier_order a b ≡ Less → identifier_order b object ≡ Equal → identifier_order a object ≡ Less
+    other_side : (a b : ObjectIdData) → identifier_order a b ≡ Less → identifier_order b object ≡ Equal → identifier_order a object ≡ Less
     other_side a b lt same = sym (alike_right identifiers_are_total b object a same) ∙ lt
 
-    this_side : (a b : Identifier) → identifier_order a b ≡ Less → identifier_order a object ≡ Equal → identifier_order b object ≡ Greater
+    this_side : (a b : ObjectIdData) → identifier_order a b ≡ Less → identifier_order a object ≡ Equal → identifier_order b object ≡ Greater
     this_side a b lt same = sym (alike_right identifiers_are_total a object b same) ∙ above a b lt
 searched object rows (Err place) ascending within parted =
     let point = parted (λ i j d low high. elim (leb_tells (suc i) j) [
@@ -92,11 +92,11 @@ searched object rows (Err place) ascending within parted =
     }
 
 -- the row at the object's place is the object's
-pub row_at : (object : Identifier) (rows : List Row) (place : ℕ) (d : Row) → StandsAt object rows place → row_of object rows ≡ Some (get_or rows place d)
+pub row_at : (object : ObjectIdData) (rows : List Row) (place : ℕ) (d : Row) → StandsAt object rows place → row_of object rows ≡ Some (get_or rows place d)
 row_at object rows place d h = find_at (λ row. is_object object row.site.object) rows place d h.within (h.here d) (λ k low. h.others k d (omega (arith, h.within)) (λ same. omega arith))
 
 -- where no row is the object's, a write changes nothing
-unwritten : (object : Identifier) (f : Row → Row) (rows : List Row) → ((k : ℕ) (d : Row) → k < length rows → is_object object (get_or rows k d).site.object ≡ false) → map (λ row. if is_object object row.site.object then f row else row) rows ≡ rows
+unwritten : (object : ObjectIdData) (f : Row → Row) (rows : List Row) → ((k : ℕ) (d : Row) → k < length rows → is_object object (get_or rows k d).site.object ≡ false) → map (λ row. if is_object object row.site.object then f row else row) rows ≡ rows
 unwritten object f [] h = refl
 unwritten object f (row ∷ rows) h =
     let first : is_object object row.site.object ≡ false = h 0 row (omega arith) in
@@ -104,7 +104,7 @@ unwritten object f (row ∷ rows) h =
     rw (first, rest) refl
 
 -- a write of an object is one at its place
-pub written_at : (object : Identifier) (f : Row → Row) (rows : List Row) (place : ℕ) (d : Row) → StandsAt object rows place → map (λ row. if is_object object row.site.object then f row else row) rows ≡ set rows place (f (get_or rows place d))
+pub written_at : (object : ObjectIdData) (f : Row → Row) (rows : List Row) (place : ℕ) (d : Row) → StandsAt object rows place → map (λ row. if is_object object row.site.object then f row else row) rows ≡ set rows place (f (get_or rows place d))
 written_at object f [] place d h = absurd (omega (arith, h.within))
 written_at object f (row ∷ rows) zero d h =
     let first : is_object object row.site.object ≡ true = h.here d in

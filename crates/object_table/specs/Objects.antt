@@ -6,7 +6,7 @@ use Rattle.bac_values.specs.declared.object_kind.ObjectKind.{ObjectKind}
 use Rattle.bac_values.specs.declared.object_kind.ObjectKind.TheVariants.{BinaryValue, MultiStateValue, BitStringValue, CharacterStringValue, IntegerValue, PositiveIntegerValue}
 use Rattle.bac_values.specs.declared.value.Value.{Value}
 use Rattle.bac_values.specs.declared.value.Value.TheVariants.{Unsigned, Text, Bits}
-use Rattle.bac_values.specs.BitString.{BitString}
+use Rattle.bac_values.specs.BitString.{BitsData}
 use Rattle.object_table.specs.declared.object_site.ObjectSite.{ObjectSite}
 use Rattle.object_table.specs.declared.row.Row.{Row}
 use Rattle.object_table.specs.Properties.{kind_in}
@@ -74,7 +74,7 @@ NeedsAlarmValues (Some CharacterStringValue) values = 1 ≤ length values
 NeedsAlarmValues _ values = Unit {0}
 
 -- the mask of a bit string value
-abbrev pub KeepsMask : Option ObjectKind → Option BitString → Type 0
+abbrev pub KeepsMask : Option ObjectKind → Option BitsData → Type 0
 KeepsMask (Some BitStringValue) mask = IsSome mask
 KeepsMask _ mask = IsNone mask
 

@@ -11,7 +11,7 @@ use Rattle.bac_values.specs.declared.service_error.ServiceError.{ServiceError}
 use Rattle.bac_values.specs.declared.value.Foreign.TheVariants.{CharacterSet, TooLong}
 use Rattle.bac_values.specs.declared.value.Value.{Value}
 use Rattle.bac_values.specs.declared.value.Value.TheVariants.{Null, Bool as Truth, Unsigned, Signed, Text, Bits, Enumerated, Object, DateTime, Opaque}
-use Rattle.bac_values.specs.Identifier.{Identifier}
+use Rattle.bac_values.specs.Identifier.{ObjectIdData}
 use Rattle.object_table.specs.declared.change.Change.{Change}
 use Rattle.object_table.specs.declared.change.What.TheVariants.{Property, FieldFault}
 use Rattle.object_table.specs.declared.faults.WriteFault.{WriteFault}
@@ -151,36 +151,36 @@ abbrev pub allowed_change : {Fault : Type 0} → Result (Unit {0}) Fault → Cha
 allowed_change (Ok passed) change = Ok change
 allowed_change (Err fault) change = Err fault
 
-abbrev pub property_change : Identifier → ℕ → Value → Change
+abbrev pub property_change : ObjectIdData → ℕ → Value → Change
 property_change object number value = record { object = object; what = Property (record { 0 = number }) value }
 
-abbrev pub fault_change : Identifier → ℕ → Change
+abbrev pub fault_change : ObjectIdData → ℕ → Change
 fault_change object number = record { object = object; what = FieldFault number }
 
-abbrev pub write_by_row : Option Row → Identifier → ℕ → Option ℕ → Value → Result Change WriteFault
+abbrev pub write_by_row : Option Row → ObjectIdData → ℕ → Option ℕ → Value → Result Change WriteFault
 write_by_row (Some row) object number index value = allowed_change (write_verdict row.site number index value) (property_change object number value)
 write_by_row None object number index value = Err unknown_object
 
 -- the answer to a write: the change, or the first error that applies
-abbrev pub checked_write : List Row → Identifier → ℕ → Option ℕ → Value → Result Change WriteFault
+abbrev pub checked_write : List Row → ObjectIdData → ℕ → Option ℕ → Value → Result Change WriteFault
 checked_write rows object number index value = write_by_row (row_of object rows) object number index value
 
 -- the answer is that one; but where a text is to be written and taken, there may be no memory for it
 abbrev pub AnswersWrite : Value → Result Change WriteFault → Result Change WriteFault → Type 0
 AnswersWrite value answer checked = (answer ≡ checked) ⊎ ((answer ≡ Err NoMemory) × IsOk checked × IsTrue (is_text value))
 
-abbrev pub set_by_row : Option Row → Identifier → Value → Result Change SetFault
+abbrev pub set_by_row : Option Row → ObjectIdData → Value → Result Change SetFault
 set_by_row (Some row) object value = allowed_change (set_verdict (kind_in row.site) row.site value) (property_change object present_value_property value)
 set_by_row None object value = Err UnknownObject
 
 -- the answer to a set of a present value
-abbrev pub checked_set : List Row → Identifier → Value → Result Change SetFault
+abbrev pub checked_set : List Row → ObjectIdData → Value → Result Change SetFault
 checked_set rows object value = set_by_row (row_of object rows) object value
 
-abbrev pub fault_by_row : Option Row → Identifier → ℕ → Result Change SetFault
+abbrev pub fault_by_row : Option Row → ObjectIdData → ℕ → Result Change SetFault
 fault_by_row (Some row) object number = if is_field_fault number then Ok (fault_change object number) else Err ValueRange
 fault_by_row None object number = Err UnknownObject
 
 -- the answer to a field fault
-abbrev pub checked_fault : List Row → Identifier → ℕ → Result Change SetFault
+abbrev pub checked_fault : List Row → ObjectIdData → ℕ → Result Change SetFault
 checked_fault rows object number = fault_by_row (row_of object rows) object number

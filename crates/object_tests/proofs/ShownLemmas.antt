@@ -8,7 +8,7 @@ use Rattle.bac_values.specs.declared.note.Note.{Note}
 use Rattle.bac_values.specs.Orders.{is_same}
 use Rattle.bac_values.proofs.OrderLemmas.{same_is_equivalence}
 use Rattle.outbox.specs.declared.post.Post.{Post}
-use Rattle.outbox.specs.Posts.{PostState}
+use Rattle.outbox.specs.Posts.{MailboxState}
 use Rattle.outbox.specs.Outboxes.{AreKnown, is_known, shown}
 
 abbrev of_some : Option Post → Post → Post
@@ -20,7 +20,7 @@ has_one (Some x) = true
 has_one None = false
 
 -- a recipient whose post is shown is known
-pub shown_known : (posts : List PostState) (place : ℕ) (post : Post) → Some post ≡ option_map shown (slice_get posts place) → IsTrue (is_known post.peer posts)
+pub shown_known : (posts : List MailboxState) (place : ℕ) (post : Post) → Some post ≡ option_map shown (slice_get posts place) → IsTrue (is_known post.peer posts)
 shown_known [] place post told = absurd (true≢false (ap has_one told))
 shown_known (first ∷ posts) zero post told =
     let same : first.peer ≡ post.peer = sym (ap (λ (o : Option Post). (of_some o post).peer) told) in
@@ -28,11 +28,11 @@ shown_known (first ∷ posts) zero post told =
     rw there refl
 shown_known (first ∷ posts) (suc place) post told = or_right (is_same first.peer post.peer) (is_known post.peer posts) (shown_known posts place post told)
 
-pub one_known : (posts : List PostState) (note : Note) (notes : List Note) → IsTrue (is_known note.peer posts) → notes ≡ note ∷ [] → AreKnown notes posts
+pub one_known : (posts : List MailboxState) (note : Note) (notes : List Note) → IsTrue (is_known note.peer posts) → notes ≡ note ∷ [] → AreKnown notes posts
 one_known posts note notes known same =
     subst (λ ns. AreKnown ns posts) (sym same) (All-cons (λ (n : Note). IsTrue (is_known n.peer posts)) note [] known (All-nil (λ (n : Note). IsTrue (is_known n.peer posts))))
 
-pub two_known : (posts : List PostState) (first second : Note) (notes : List Note) → IsTrue (is_known first.peer posts) → IsTrue (is_known second.peer posts) → notes ≡ first ∷ second ∷ [] → AreKnown notes posts
+pub two_known : (posts : List MailboxState) (first second : Note) (notes : List Note) → IsTrue (is_known first.peer posts) → IsTrue (is_known second.peer posts) → notes ≡ first ∷ second ∷ [] → AreKnown notes posts
 two_known posts first second notes one two same =
     let known : Note → Type 0 = λ (n : Note). IsTrue (is_known n.peer posts) in
     subst (λ ns. AreKnown ns posts) (sym same) (All-cons known first (second ∷ []) one (All-cons known second [] two (All-nil known)))

@@ -6,7 +6,7 @@ use Rattle.std.proofs.lemmas.List.{length-drop, length-map, length-take}
 use Rattle.bac_values.specs.declared.note.Note.{Note}
 use Rattle.outbox.specs.Notifying.{datagram_of}
 use Rattle.outbox.specs.Delivery.{Timing, is_confirmed, is_awaited}
-use Rattle.outbox.specs.Posts.{PostState, IsPost, post_pumped, post_sends, is_post_idle}
+use Rattle.outbox.specs.Posts.{IsPost, post_pumped, post_sends, is_post_idle, MailboxState}
 use Rattle.outbox.specs.Outboxes.{OutboxState, IsOutbox, timing_of, pumped, sends_of, is_idle}
 use Rattle.outbox.proofs.Keeping.{filled_by}
 use Rattle.outbox.proofs.Settling.{with_posts}
@@ -15,14 +15,14 @@ nothing_long : (notes : List Note) → length notes ≡ 0 → notes ≡ []
 nothing_long [] e = refl
 nothing_long (note ∷ notes) e = absurd (omega (arith, e))
 
-some_sent : (n : ℕ) (post : PostState) → 0 < n → 0 < length post.notes → length (map (datagram_of post.peer post.next_invoke) (take n post.notes)) ≡ 0 → ⊥
+some_sent : (n : ℕ) (post : MailboxState) → 0 < n → 0 < length post.notes → length (map (datagram_of post.peer post.next_invoke) (take n post.notes)) ≡ 0 → ⊥
 some_sent n post some there none =
     let mapped = length-map (take n post.notes) (datagram_of post.peer post.next_invoke) in
     let taken = length-take n post.notes in
     omega (arith, mapped, taken, some, there, none)
 
 -- one recipient
-module _ (timing : Timing) (moment : ℕ) (post : PostState) (is : IsPost timing.retries post) where
+module _ (timing : Timing) (moment : ℕ) (post : MailboxState) (is : IsPost timing.retries post) where
   resting_idle : post.attempts ≡ 0 → length post.notes ≡ 0 → (post_sends timing moment post ≡ []) × (post_pumped timing moment post ≡ post)
   resting_idle rests empty =
       let none : nat_lt 0 post.attempts ≡ false = ap (nat_lt 0) rests in
@@ -58,7 +58,7 @@ module _ (timing : Timing) (moment : ℕ) (post : PostState) (is : IsPost timing
       none_sent = ap length silent
 
       kept : length (post_pumped timing moment post).notes ≡ length post.notes
-      kept = ap (λ (p : PostState). length p.notes) same
+      kept = ap (λ (p : MailboxState). length p.notes) same
 
       by_test : (a b c : Bool) → nat_lt 0 post.attempts ≡ a → nat_lt moment post.deadline ≡ b → nat_le post.attempts timing.retries ≡ c → ⊥
       by_test true true c e f g = true≢false (rw (e, f) at busy)
@@ -91,7 +91,7 @@ nothing_of (x ∷ xs) ys e = absurd (never (ap length e))
     never h = omega (arith, h)
 
 module _ (timing : Timing) (moment : ℕ) where
-  idle_all : (posts : List PostState) → All (IsPost timing.retries) posts → list_all (is_post_idle moment) posts ≡ true →
+  idle_all : (posts : List MailboxState) → All (IsPost timing.retries) posts → list_all (is_post_idle moment) posts ≡ true →
       (flat_map (post_sends timing moment) posts ≡ []) × (map (post_pumped timing moment) posts ≡ posts)
   idle_all [] is idle = (refl, refl)
   idle_all (post ∷ posts) is idle =
@@ -104,7 +104,7 @@ module _ (timing : Timing) (moment : ℕ) where
       both true b e = (refl, e)
       both false b e = absurd (true≢false (sym e))
 
-  all_idle : (posts : List PostState) → All (IsPost timing.retries) posts → flat_map (post_sends timing moment) posts ≡ [] → map (post_pumped timing moment) posts ≡ posts →
+  all_idle : (posts : List MailboxState) → All (IsPost timing.retries) posts → flat_map (post_sends timing moment) posts ≡ [] → map (post_pumped timing moment) posts ≡ posts →
       list_all (is_post_idle moment) posts ≡ true
   all_idle [] is silent same = refl
   all_idle (post ∷ posts) is silent same =

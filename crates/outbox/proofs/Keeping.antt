@@ -8,11 +8,11 @@ use Rattle.std.proofs.lemmas.Bool.{ltb-true, cases_Bool}
 use Rattle.std.proofs.lemmas.List.{length-drop}
 use Rattle.std.proofs.lemmas.List.Elements.{All-map, All-weaker, All-drop}
 use Rattle.std.proofs.lemmas.List.Sums.{sum_by-cons}
-use Rattle.bac_values.specs.Address.{Address}
+use Rattle.bac_values.specs.Address.{PeerData}
 use Rattle.bac_values.specs.declared.note.Note.{Note}
 use Rattle.bac_values.specs.Orders.{is_same, IsAscending}
 use Rattle.outbox.specs.Delivery.{Timing, is_confirmed, is_awaited, is_repeated}
-use Rattle.outbox.specs.Posts.{PostState, IsPost, without_first, unsent, post_sent, post_pumped, post_answered, is_in_flight, most_octets}
+use Rattle.outbox.specs.Posts.{IsPost, without_first, unsent, post_sent, post_pumped, post_answered, is_in_flight, most_octets, MailboxState}
 use Rattle.outbox.specs.Outboxes.{OutboxState, IsOutbox, timing_of, unfinished_in, pumped, answered, answered_by, is_flight_to}
 use Rattle.outbox.proofs.Standing.{peers_stay, pumped_peer, answered_peer}
 
@@ -27,7 +27,7 @@ first_confirmed (note ∷ notes) h = elim (cases_Bool (is_confirmed note)) [
       rw (e, next) (first_confirmed notes (omega arith))
 ]
 
-without_first_keeps : (retries : ℕ) (post : PostState) → IsPost retries post → IsPost retries (without_first post)
+without_first_keeps : (retries : ℕ) (post : MailboxState) → IsPost retries post → IsPost retries (without_first post)
 without_first_keeps retries post is = record {
   number = mod-lt (post.next_invoke + 1) (omega arith);
   fits = omega arith;
@@ -38,7 +38,7 @@ without_first_keeps retries post is = record {
   own = All-drop (λ (note : Note). note.peer ≡ post.peer) 1 post.notes is.own;
 }
 
-unsent_keeps : (retries : ℕ) (post : PostState) → IsPost retries post → IsPost retries (unsent post)
+unsent_keeps : (retries : ℕ) (post : MailboxState) → IsPost retries post → IsPost retries (unsent post)
 unsent_keeps retries post is = by_test (nat_lt 0 post.attempts) refl
   where
     by_test : (b : Bool) → nat_lt 0 post.attempts ≡ b → IsPost retries (unsent post)
@@ -52,7 +52,7 @@ EndsInTime timing moment = moment + timing.timeout < 2 ^ 64
 pub ends_in_time : (timing : Timing) (moment : ℕ) → IsMoment moment → timing.timeout ≤ 3_600_000 → EndsInTime timing moment
 ends_in_time timing moment in_range short = omega (arith, in_range.1, short)
 
-post_sent_keeps : (timing : Timing) (moment : ℕ) (post : PostState) → EndsInTime timing moment → IsPost timing.retries post → IsPost timing.retries (post_sent timing moment post)
+post_sent_keeps : (timing : Timing) (moment : ℕ) (post : MailboxState) → EndsInTime timing moment → IsPost timing.retries post → IsPost timing.retries (post_sent timing moment post)
 post_sent_keeps timing moment post ends is = by_test (nat_lt count (length post.notes)) refl
   where
     count : ℕ
@@ -81,7 +81,7 @@ post_sent_keeps timing moment post ends is = by_test (nat_lt count (length post.
 le-true : (a b : ℕ) → nat_le a b ≡ true → a ≤ b
 le-true a b e = search (rules, e)
 
-post_pumped_keeps : (timing : Timing) (moment : ℕ) → EndsInTime timing moment → (post : PostState) → IsPost timing.retries post → IsPost timing.retries (post_pumped timing moment post)
+post_pumped_keeps : (timing : Timing) (moment : ℕ) → EndsInTime timing moment → (post : MailboxState) → IsPost timing.retries post → IsPost timing.retries (post_pumped timing moment post)
 post_pumped_keeps timing moment ends post is = by_test (is_awaited moment post.attempts post.deadline) (nat_lt 0 post.attempts) (nat_le post.attempts timing.retries) refl refl refl
   where
     by_test : (a b c : Bool) → is_awaited moment post.attempts post.deadline ≡ a → nat_lt 0 post.attempts ≡ b → nat_le post.attempts timing.retries ≡ c → IsPost timing.retries (post_pumped timing moment post)
@@ -100,7 +100,7 @@ post_pumped_keeps timing moment ends post is = by_test (is_awaited moment post.a
     by_test false true false e f g = rw (e, f, g) (post_sent_keeps timing moment (without_first post) ends (without_first_keeps timing.retries post is))
     by_test false false c e f g = rw (e, f) (post_sent_keeps timing moment post ends is)
 
-post_answered_keeps : (retries invoke : ℕ) (post : PostState) → IsPost retries post → IsPost retries (post_answered invoke post)
+post_answered_keeps : (retries invoke : ℕ) (post : MailboxState) → IsPost retries post → IsPost retries (post_answered invoke post)
 post_answered_keeps retries invoke post is = by_test (is_in_flight invoke post) refl
   where
     by_test : (b : Bool) → is_in_flight invoke post ≡ b → IsPost retries (post_answered invoke post)
@@ -108,15 +108,15 @@ post_answered_keeps retries invoke post is = by_test (is_in_flight invoke post) 
     by_test false e = rw e is
 
 -- fewer notes in each post are fewer in all
-module _ (change : PostState → PostState) (fewer : (post : PostState) → length (change post).notes ≤ length post.notes) where
-  pub fewer_in_all : (posts : List PostState) → unfinished_in (map change posts) ≤ unfinished_in posts
+module _ (change : MailboxState → MailboxState) (fewer : (post : MailboxState) → length (change post).notes ≤ length post.notes) where
+  pub fewer_in_all : (posts : List MailboxState) → unfinished_in (map change posts) ≤ unfinished_in posts
   fewer_in_all [] = omega arith
   fewer_in_all (post ∷ posts) =
-      let left = sum_by-cons (λ (p : PostState). length p.notes) (change post) (map change posts) in
-      let right = sum_by-cons (λ (p : PostState). length p.notes) post posts in
+      let left = sum_by-cons (λ (p : MailboxState). length p.notes) (change post) (map change posts) in
+      let right = sum_by-cons (λ (p : MailboxState). length p.notes) post posts in
       omega (arith, left, right, fewer post, fewer_in_all posts)
 
-pub pumped_fewer : (timing : Timing) (moment : ℕ) (post : PostState) → length (post_pumped timing moment post).notes ≤ length post.notes
+pub pumped_fewer : (timing : Timing) (moment : ℕ) (post : MailboxState) → length (post_pumped timing moment post).notes ≤ length post.notes
 pumped_fewer timing moment post = by_test (is_awaited moment post.attempts post.deadline) (is_repeated timing.retries post.attempts) (nat_lt 0 post.attempts) refl refl refl
   where
     by_test : (a b c : Bool) → is_awaited moment post.attempts post.deadline ≡ a → is_repeated timing.retries post.attempts ≡ b → nat_lt 0 post.attempts ≡ c → length (post_pumped timing moment post).notes ≤ length post.notes
@@ -129,7 +129,7 @@ pub pump_keeps : (moment : ℕ) (outbox : OutboxState) → IsMoment moment → I
 pump_keeps moment outbox in_range is =
     let ends : EndsInTime (timing_of outbox) moment = ends_in_time (timing_of outbox) moment in_range is.settings.ends in
     let timing = timing_of outbox in
-    let change : PostState → PostState = post_pumped (timing_of outbox) moment in
+    let change : MailboxState → MailboxState = post_pumped (timing_of outbox) moment in
     let less = fewer_in_all change (pumped_fewer (timing_of outbox) moment) outbox.posts in
     record {
       settings = is.settings;
@@ -138,14 +138,14 @@ pump_keeps moment outbox in_range is =
       room = omega (arith, less, is.room);
     }
 
-answered_by_keeps : (retries : ℕ) (from : Address) (invoke : ℕ) (post : PostState) → IsPost retries post → IsPost retries (answered_by from invoke post)
+answered_by_keeps : (retries : ℕ) (from : PeerData) (invoke : ℕ) (post : MailboxState) → IsPost retries post → IsPost retries (answered_by from invoke post)
 answered_by_keeps retries from invoke post is = by_test (is_same post.peer from) refl
   where
     by_test : (b : Bool) → is_same post.peer from ≡ b → IsPost retries (answered_by from invoke post)
     by_test true e = rw e (post_answered_keeps retries invoke post is)
     by_test false e = rw e is
 
-pub answered_fewer : (from : Address) (invoke : ℕ) (post : PostState) → length (answered_by from invoke post).notes ≤ length post.notes
+pub answered_fewer : (from : PeerData) (invoke : ℕ) (post : MailboxState) → length (answered_by from invoke post).notes ≤ length post.notes
 answered_fewer from invoke post = by_test (is_same post.peer from) (is_in_flight invoke post) refl refl
   where
     by_test : (b c : Bool) → is_same post.peer from ≡ b → is_in_flight invoke post ≡ c → length (answered_by from invoke post).notes ≤ length post.notes
@@ -153,9 +153,9 @@ answered_fewer from invoke post = by_test (is_same post.peer from) (is_in_flight
     by_test true false e f = rw (e, f) (omega arith)
     by_test false c e f = rw e (omega arith)
 
-pub answer_keeps : (from : Address) (invoke : ℕ) (outbox : OutboxState) → IsOutbox outbox → IsOutbox (answered from invoke outbox)
+pub answer_keeps : (from : PeerData) (invoke : ℕ) (outbox : OutboxState) → IsOutbox outbox → IsOutbox (answered from invoke outbox)
 answer_keeps from invoke outbox is =
-    let change : PostState → PostState = answered_by from invoke in
+    let change : MailboxState → MailboxState = answered_by from invoke in
     let less = fewer_in_all change (answered_fewer from invoke) outbox.posts in
     record {
       settings = is.settings;
@@ -165,18 +165,18 @@ answer_keeps from invoke outbox is =
     }
 
 -- a note in flight is there
-pub filled_by : (retries : ℕ) (post : PostState) → IsPost retries post → 0 < post.attempts → 0 < length post.notes
+pub filled_by : (retries : ℕ) (post : MailboxState) → IsPost retries post → 0 < post.attempts → 0 < length post.notes
 filled_by retries post is sent = by_notes post.notes (is.in_flight sent)
   where
     by_notes : (notes : List Note) → IsSomeAnd (slice_get notes 0) (λ (note : Note). IsTrue note.confirmed) → 0 < length notes
     by_notes [] h = absurd h
     by_notes (note ∷ notes) h = omega arith
 
-pub all_filled : (outbox : OutboxState) → IsOutbox outbox → All (λ (post : PostState). 0 < post.attempts → 0 < length post.notes) outbox.posts
-all_filled outbox is = All-weaker (IsPost outbox.retries) (λ (post : PostState). 0 < post.attempts → 0 < length post.notes) (filled_by outbox.retries) outbox.posts is.posts
+pub all_filled : (outbox : OutboxState) → IsOutbox outbox → All (λ (post : MailboxState). 0 < post.attempts → 0 < length post.notes) outbox.posts
+all_filled outbox is = All-weaker (IsPost outbox.retries) (λ (post : MailboxState). 0 < post.attempts → 0 < length post.notes) (filled_by outbox.retries) outbox.posts is.posts
 
 -- where no note of the peer is in flight with the invoke ID, an answer changes nothing
-pub stray_same : (from : Address) (invoke : ℕ) (posts : List PostState) → false ≡ list_any (is_flight_to from invoke) posts → map (answered_by from invoke) posts ≡ posts
+pub stray_same : (from : PeerData) (invoke : ℕ) (posts : List MailboxState) → false ≡ list_any (is_flight_to from invoke) posts → map (answered_by from invoke) posts ≡ posts
 stray_same from invoke [] none = refl
 stray_same from invoke (post ∷ posts) none =
     let apart = neither (is_flight_to from invoke post) (list_any (is_flight_to from invoke) posts) (sym none) in

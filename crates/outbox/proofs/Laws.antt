@@ -6,11 +6,11 @@ use Rattle.std.proofs.lemmas.Bool.{ltb-true}
 use Rattle.std.proofs.lemmas.Bool.Decides.{nat_tests}
 use Rattle.std.proofs.lemmas.List.{drop-drop, drop-take, take-append-drop, take-take, length-drop, drop-append-le, take-append-le, get_or_append_left, get_or-drop, append-nil, reverse-append}
 use Rattle.std.proofs.lemmas.List.Sums.{count_by_more_yes, sum_by-append, prefix_len-le-length, passes_at_first}
-use Rattle.bac_values.specs.Address.{Address}
+use Rattle.bac_values.specs.Address.{PeerData}
 use Rattle.bac_values.specs.declared.note.Note.{Note}
 use Rattle.outbox.specs.Notifying.{datagram_of}
 use Rattle.outbox.specs.Delivery.{Operation, NoteQueued, PumpedAt, AnswerCame, Timing, Delivery, is_confirmed, invoke_id, next_confirmed, is_awaited, is_repeated, first_unsent, sent_from, pumped_at, datagrams_between, sent_at, answered_with, queued_for, delivery_after}
-use Rattle.outbox.specs.Posts.{PostState, post_of, post_after, post_answered, unsent, post_sent, post_pumped, first_datagrams, post_sends}
+use Rattle.outbox.specs.Posts.{post_of, post_after, post_answered, unsent, post_sent, post_pumped, first_datagrams, post_sends, MailboxState}
 use Rattle.outbox.proofs.Fronts.{none_before}
 
 -- what is so of every delivery: a note in flight is there, and is to be confirmed
@@ -47,7 +47,7 @@ lt_apart : (place count n : ℕ) → place ≤ n → nat_lt (place + count) n �
 lt_apart place count n h = grind (arith, nat_tests)
 
 -- the notes that were never sent, where they begin at this place
-sent_by : (timing : Timing) (moment : ℕ) (peer : Address) (d : Delivery) (place : ℕ) (post : PostState) → place ≤ length d.all → post.peer ≡ peer → post.next_invoke ≡ invoke_id d.all place → post.notes ≡ drop place d.all →
+sent_by : (timing : Timing) (moment : ℕ) (peer : PeerData) (d : Delivery) (place : ℕ) (post : MailboxState) → place ≤ length d.all → post.peer ≡ peer → post.next_invoke ≡ invoke_id d.all place → post.notes ≡ drop place d.all →
     post_of peer (sent_from timing moment place d) ≡ post_sent timing moment post
 sent_by timing moment peer d place post within own invoke notes =
     let count = position_or_len is_confirmed (drop place d.all) in
@@ -67,21 +67,21 @@ sent_by timing moment peer d place post within own invoke notes =
     }
 
 -- the same parts, whether there was a note in flight or not
-unsent_number : (peer : Address) (d : Delivery) → IsDelivery d → (unsent (post_of peer d)).next_invoke ≡ invoke_id d.all (first_unsent d)
+unsent_number : (peer : PeerData) (d : Delivery) → IsDelivery d → (unsent (post_of peer d)).next_invoke ≡ invoke_id d.all (first_unsent d)
 unsent_number peer d is = by_sent (nat_lt 0 d.attempts) refl
   where
     by_sent : (b : Bool) → nat_lt 0 d.attempts ≡ b → (unsent (post_of peer d)).next_invoke ≡ invoke_id d.all (first_unsent d)
     by_sent true e = let there = is.in_flight (ltb-true 0 d.attempts e) in rw e (sym (invoke_behind d.all d.finished there.0 there.1))
     by_sent false e = rw e refl
 
-unsent_rest : (peer : Address) (d : Delivery) → (unsent (post_of peer d)).notes ≡ drop (first_unsent d) d.all
+unsent_rest : (peer : PeerData) (d : Delivery) → (unsent (post_of peer d)).notes ≡ drop (first_unsent d) d.all
 unsent_rest peer d = by_sent (nat_lt 0 d.attempts) refl
   where
     by_sent : (b : Bool) → nat_lt 0 d.attempts ≡ b → (unsent (post_of peer d)).notes ≡ drop (first_unsent d) d.all
     by_sent true e = rw e (drop-drop 1 d.finished d.all)
     by_sent false e = rw e refl
 
-unsent_peer : (peer : Address) (d : Delivery) → (unsent (post_of peer d)).peer ≡ peer
+unsent_peer : (peer : PeerData) (d : Delivery) → (unsent (post_of peer d)).peer ≡ peer
 unsent_peer peer d = by_sent (nat_lt 0 d.attempts) refl
   where
     by_sent : (b : Bool) → nat_lt 0 d.attempts ≡ b → (unsent (post_of peer d)).peer ≡ peer
@@ -96,7 +96,7 @@ first_unsent-le d is = by_sent (nat_lt 0 d.attempts) refl
     by_sent false e = rw e is.within
 
 -- a pump
-module _ (timing : Timing) (moment : ℕ) (peer : Address) (d : Delivery) (is : IsDelivery d) where
+module _ (timing : Timing) (moment : ℕ) (peer : PeerData) (d : Delivery) (is : IsDelivery d) where
   pumped_when : (b c : Bool) → is_awaited moment d.attempts d.deadline ≡ b → is_repeated timing.retries d.attempts ≡ c →
       post_of peer (pumped_at timing moment d) ≡ post_pumped timing moment (post_of peer d)
   pumped_when true c e f = rw e refl
@@ -131,7 +131,7 @@ module _ (timing : Timing) (moment : ℕ) (peer : Address) (d : Delivery) (is : 
   sent_law = sent_when _ _ refl refl
 
 -- an answer
-pub answered_law : (invoke : ℕ) (peer : Address) (d : Delivery) → IsDelivery d → post_of peer (answered_with invoke d) ≡ post_answered invoke (post_of peer d)
+pub answered_law : (invoke : ℕ) (peer : PeerData) (d : Delivery) → IsDelivery d → post_of peer (answered_with invoke d) ≡ post_answered invoke (post_of peer d)
 answered_law invoke peer d is = by_test (nat_lt 0 d.attempts) (invoke == invoke_id d.all d.finished) refl refl
   where
     by_test : (b c : Bool) → nat_lt 0 d.attempts ≡ b → (invoke == invoke_id d.all d.finished) ≡ c → post_of peer (answered_with invoke d) ≡ post_answered invoke (post_of peer d)
@@ -199,7 +199,7 @@ delivery_is timing (PumpedAt moment ∷ older) = pumped_keeps timing moment (del
 delivery_is timing (AnswerCame invoke ∷ older) = answered_keeps invoke (delivery_after timing older) (delivery_is timing older)
 
 -- the post after one more operation
-module _ (timing : Timing) (peer : Address) (older : List Operation) where
+module _ (timing : Timing) (peer : PeerData) (older : List Operation) where
   pub after_pump_law : (moment : ℕ) → post_after timing peer (PumpedAt moment ∷ older) ≡ post_pumped timing moment (post_after timing peer older)
   unfolding delivery_after
   after_pump_law moment = pumped_law timing moment peer (delivery_after timing older) (delivery_is timing older)
@@ -225,7 +225,7 @@ all_queued timing (note ∷ notes) older =
     ap (λ ns. ns ++ older) (reverse-append (NoteQueued note ∷ []) (map (λ n. NoteQueued n) notes)) ∙ append_assoc (reverse (map (λ n. NoteQueued n) notes)) (NoteQueued note ∷ []) older in
     ap (delivery_after timing) turned ∙ all_queued timing notes (NoteQueued note ∷ older) ∙ ap (λ ns. record d { all = ns }) (append_assoc d.all (note ∷ []) notes)
 
-pub after_queue_law : (timing : Timing) (peer : Address) (notes : List Note) (older : List Operation) →
+pub after_queue_law : (timing : Timing) (peer : PeerData) (notes : List Note) (older : List Operation) →
     (let post = post_after timing peer older in post_after timing peer (operations_of notes older) ≡ record post { notes = post.notes ++ notes })
 after_queue_law timing peer notes older =
     let d = delivery_after timing older in

@@ -2,22 +2,22 @@
 use Rattle.std.proofs.Common.{◌≡◌, ℕ, List, [], ◌∷◌, length, map, get_or, refl, sym, subst, arith}
 use Rattle.std.proofs.lemmas.List.Elements.{All-map}
 use Rattle.std.proofs.lemmas.List.Sums.{sum_by-cons}
-use Rattle.bac_values.specs.Address.{Address}
+use Rattle.bac_values.specs.Address.{PeerData}
 use Rattle.bac_values.specs.Orders.{IsAscending}
-use Rattle.outbox.specs.Posts.{PostState, IsPost, empty_post}
+use Rattle.outbox.specs.Posts.{IsPost, empty_post, MailboxState}
 use Rattle.outbox.specs.Outboxes.{AreSettings, IsOutbox, peers_of, unfinished_in, new_outbox}
 
-pub peers_empty : (peers : List Address) → peers_of (map empty_post peers) ≡ peers
+pub peers_empty : (peers : List PeerData) → peers_of (map empty_post peers) ≡ peers
 peers_empty [] = refl
 peers_empty (peer ∷ peers) = λ k. peer ∷ peers_empty peers k
 
-pub none_unfinished : (peers : List Address) → 0 ≡ unfinished_in (map empty_post peers)
+pub none_unfinished : (peers : List PeerData) → 0 ≡ unfinished_in (map empty_post peers)
 none_unfinished [] = refl
 none_unfinished (peer ∷ peers) =
-    let sums = sum_by-cons (λ (p : PostState). length p.notes) (empty_post peer) (map empty_post peers) in
+    let sums = sum_by-cons (λ (p : MailboxState). length p.notes) (empty_post peer) (map empty_post peers) in
     omega (arith, sums, none_unfinished peers)
 
-pub empty_is : (retries : ℕ) (peer : Address) → IsPost retries (empty_post peer)
+pub empty_is : (retries : ℕ) (peer : PeerData) → IsPost retries (empty_post peer)
 empty_is retries peer = record {
   number = omega arith;
   fits = omega arith;
@@ -28,7 +28,7 @@ empty_is retries peer = record {
   own = λ k d h. absurd (omega (arith, h));
 }
 
-pub new_is : (peers : List Address) (limit timeout retries : ℕ) → IsAscending peers → AreSettings limit timeout retries → IsOutbox (new_outbox peers limit timeout retries)
+pub new_is : (peers : List PeerData) (limit timeout retries : ℕ) → IsAscending peers → AreSettings limit timeout retries → IsOutbox (new_outbox peers limit timeout retries)
 new_is peers limit timeout retries ascending settings =
     let none = none_unfinished peers in
     record {

@@ -6,32 +6,32 @@ use Rattle.std.specs.declared.cmp.Ordering.TheVariants.{Less}
 use Rattle.std.proofs.lemmas.Bool.{cases_Bool, cases_lt, cases_eq}
 use Rattle.std.proofs.lemmas.List.{get_or-map, length-map, length-set, get_or-set_same, get_or-set_other, get_or_default, same_lists}
 use Rattle.std.proofs.lemmas.List.Folds.{list_any_at, list_any_none}
-use Rattle.bac_values.specs.Address.{Address}
+use Rattle.bac_values.specs.Address.{PeerData}
 use Rattle.bac_values.specs.Orders.{peer_order, is_same, IsAscending}
 use Rattle.bac_values.specs.contracts.peer.PeerOrd.TheImpl as peer_ord
 use Rattle.bac_values.proofs.OrderLemmas.{below_is_other, peers_are_total, tied}
 use Rattle.bac_values.proofs.Placing.{searched as searched_for, here as stands_here, nowhere as stands_nowhere}
-use Rattle.outbox.specs.Posts.{PostState}
+use Rattle.outbox.specs.Posts.{MailboxState}
 use Rattle.outbox.specs.Outboxes.{peers_of}
 use Rattle.outbox.specs.Places.{IsPlaceOf, IsGapFor, IsSearched}
 
-abbrev pub peer_of : PostState → Address
+abbrev pub peer_of : MailboxState → PeerData
 peer_of post = post.peer
 
-pub in_order : (posts : List PostState) → IsAscending (peers_of posts) → (i j : ℕ) (d : PostState) → i < j → j < length posts → peer_order (get_or posts i d).peer (get_or posts j d).peer ≡ Less
+pub in_order : (posts : List MailboxState) → IsAscending (peers_of posts) → (i j : ℕ) (d : MailboxState) → i < j → j < length posts → peer_order (get_or posts i d).peer (get_or posts j d).peer ≡ Less
 in_order posts ascending i j d before within =
     let size : length (peers_of posts) ≡ length posts = length-map posts peer_of in
     let first = get_or-map peer_of posts i d d.peer (omega (arith, before, within)) in
     let second = get_or-map peer_of posts j d d.peer within in
     (λ k. peer_order (sym first k) (sym second k)) ∙ ascending i j d.peer before (omega (arith, size, within))
 
-pub searched : (posts : List PostState) (peer : Address) (answer : Result ℕ ℕ) → IsAscending (peers_of posts) → IsSearchInRange answer (length posts) →
-    IsBinarySearchResult (λ (post : PostState). (peer_ord.ghosts).cmp post.peer peer) posts answer → IsSearched peer posts answer
+pub searched : (posts : List MailboxState) (peer : PeerData) (answer : Result ℕ ℕ) → IsAscending (peers_of posts) → IsSearchInRange answer (length posts) →
+    IsBinarySearchResult (λ (post : MailboxState). (peer_ord.ghosts).cmp post.peer peer) posts answer → IsSearched peer posts answer
 searched posts peer answer ascending within found = searched_for peer_of peer posts answer (in_order posts ascending) within found
 
 -- no post but the one at its place is the peer's
-pub others : (posts : List PostState) (peer : Address) (k : ℕ) → IsAscending (peers_of posts) → IsPlaceOf peer posts k →
-    (j : ℕ) (d : PostState) → j < length posts → j ≢ k → is_same (get_or posts j d).peer peer ≡ false
+pub others : (posts : List MailboxState) (peer : PeerData) (k : ℕ) → IsAscending (peers_of posts) → IsPlaceOf peer posts k →
+    (j : ℕ) (d : MailboxState) → j < length posts → j ≢ k → is_same (get_or posts j d).peer peer ≡ false
 others posts peer k ascending place j d within other = elim (cases_Bool (is_same (get_or posts j d).peer peer)) [
   | inl same ↦
       let e : (get_or posts j d).peer ≡ (get_or posts k d).peer = tied (get_or posts j d).peer peer same ∙ sym (place.1 d) in
@@ -42,16 +42,16 @@ others posts peer k ascending place j d within other = elim (cases_Bool (is_same
   | inr different ↦ different
 ]
 
-pub here : (posts : List PostState) (peer : Address) (k : ℕ) → IsPlaceOf peer posts k → (d : PostState) → is_same (get_or posts k d).peer peer ≡ true
+pub here : (posts : List MailboxState) (peer : PeerData) (k : ℕ) → IsPlaceOf peer posts k → (d : MailboxState) → is_same (get_or posts k d).peer peer ≡ true
 here posts peer = stands_here peer_of peer posts
 
 -- no post is the peer's
-pub nowhere : (posts : List PostState) (peer : Address) (k : ℕ) → IsGapFor peer posts k → (j : ℕ) (d : PostState) → j < length posts → is_same (get_or posts j d).peer peer ≡ false
+pub nowhere : (posts : List MailboxState) (peer : PeerData) (k : ℕ) → IsGapFor peer posts k → (j : ℕ) (d : MailboxState) → j < length posts → is_same (get_or posts j d).peer peer ≡ false
 nowhere posts peer = stands_nowhere peer_of peer posts
 
 -- a change of this post alone
-module _ (change : PostState → PostState) (peer : Address) (does : (post : PostState) → is_same post.peer peer ≡ false → change post ≡ post) where
-  pub changed_one : (posts : List PostState) (k : ℕ) (new : PostState) → IsAscending (peers_of posts) → IsPlaceOf peer posts k → ((d : PostState) → new ≡ change (get_or posts k d)) → set posts k new ≡ map change posts
+module _ (change : MailboxState → MailboxState) (peer : PeerData) (does : (post : MailboxState) → is_same post.peer peer ≡ false → change post ≡ post) where
+  pub changed_one : (posts : List MailboxState) (k : ℕ) (new : MailboxState) → IsAscending (peers_of posts) → IsPlaceOf peer posts k → ((d : MailboxState) → new ≡ change (get_or posts k d)) → set posts k new ≡ map change posts
   changed_one posts k new ascending place is =
       let size : length (set posts k new) ≡ length posts = length-set posts k new in
       let mapped : length (map change posts) ≡ length posts = length-map posts change in
@@ -59,11 +59,11 @@ module _ (change : PostState → PostState) (peer : Address) (does : (post : Pos
       let inside : j < length posts = omega (arith, size, within) in
       at j d inside (cases_eq j k) ∙ sym (get_or-map change posts j d d inside))
     where
-      at : (j : ℕ) (d : PostState) → j < length posts → (j ≡ k) ⊎ (j ≢ k) → get_or (set posts k new) j d ≡ change (get_or posts j d)
+      at : (j : ℕ) (d : MailboxState) → j < length posts → (j ≡ k) ⊎ (j ≢ k) → get_or (set posts k new) j d ≡ change (get_or posts j d)
       at j d inside (inl same) = ap (λ n. get_or (set posts k new) n d) same ∙ get_or-set_same posts k new d place.0 ∙ is d ∙ ap (λ n. change (get_or posts n d)) (sym same)
       at j d inside (inr other) = get_or-set_other posts k j new d other ∙ sym (does (get_or posts j d) (others posts peer k ascending place j d inside other))
 
-  pub changed_none : (posts : List PostState) (k : ℕ) → IsGapFor peer posts k → posts ≡ map change posts
+  pub changed_none : (posts : List MailboxState) (k : ℕ) → IsGapFor peer posts k → posts ≡ map change posts
   changed_none posts k gap =
       let mapped : length (map change posts) ≡ length posts = length-map posts change in
       same_lists posts (map change posts) (sym mapped) (λ j d within.
@@ -78,8 +78,8 @@ none_by true b e = absurd (true≢false e)
 none_by false b e = refl
 
 -- a test of this post alone
-module _ (test : PostState → Bool) (peer : Address) where
-  pub tested_one : (posts : List PostState) (k : ℕ) (d : PostState) → IsAscending (peers_of posts) → IsPlaceOf peer posts k → test (get_or posts k d) ≡ list_any (λ post. is_same post.peer peer && test post) posts
+module _ (test : MailboxState → Bool) (peer : PeerData) where
+  pub tested_one : (posts : List MailboxState) (k : ℕ) (d : MailboxState) → IsAscending (peers_of posts) → IsPlaceOf peer posts k → test (get_or posts k d) ≡ list_any (λ post. is_same post.peer peer && test post) posts
   tested_one posts k d ascending place = by_test (test (get_or posts k d)) refl
     where
       by_test : (b : Bool) → test (get_or posts k d) ≡ b → b ≡ list_any (λ post. is_same post.peer peer && test post) posts
@@ -88,11 +88,11 @@ module _ (test : PostState → Bool) (peer : Address) where
           sym (list_any_at (λ post. is_same post.peer peer && test post) posts k d place.0 both)
       by_test false e = sym (list_any_none (λ post. is_same post.peer peer && test post) posts (λ j d' within. at j d' within (cases_eq j k)))
         where
-          at : (j : ℕ) (d' : PostState) → j < length posts → (j ≡ k) ⊎ (j ≢ k) → (is_same (get_or posts j d').peer peer && test (get_or posts j d')) ≡ false
+          at : (j : ℕ) (d' : MailboxState) → j < length posts → (j ≡ k) ⊎ (j ≢ k) → (is_same (get_or posts j d').peer peer && test (get_or posts j d')) ≡ false
           at j d' within (inr other) = none_by (is_same (get_or posts j d').peer peer) (test (get_or posts j d')) (others posts peer k ascending place j d' within other)
           at j d' within (inl same) =
               let fails : test (get_or posts k d') ≡ false = ap test (get_or_default posts k d' d place.0) ∙ e in
               ap (λ n. is_same (get_or posts n d').peer peer && test (get_or posts n d')) same ∙ both_by (is_same (get_or posts k d').peer peer) (test (get_or posts k d')) (here posts peer k place d') fails
 
-  pub tested_none : (posts : List PostState) (k : ℕ) → IsGapFor peer posts k → false ≡ list_any (λ post. is_same post.peer peer && test post) posts
+  pub tested_none : (posts : List MailboxState) (k : ℕ) → IsGapFor peer posts k → false ≡ list_any (λ post. is_same post.peer peer && test post) posts
   tested_none posts k gap = sym (list_any_none (λ post. is_same post.peer peer && test post) posts (λ j d within. none_by (is_same (get_or posts j d).peer peer) (test (get_or posts j d)) (nowhere posts peer k gap j d within)))

@@ -6,24 +6,24 @@ use Rattle.std.proofs.lemmas.List.{get_or_default}
 use Rattle.std.proofs.lemmas.List.Elements.{All-map, All-weaker, All-append, All-filter, filter_passes}
 use Rattle.std.proofs.lemmas.List.Folds.{Any-from_list_any}
 use Rattle.std.proofs.lemmas.List.Sums.{sum_by-set}
-use Rattle.bac_values.specs.Address.{Address}
+use Rattle.bac_values.specs.Address.{PeerData}
 use Rattle.bac_values.specs.declared.note.Note.{Note}
 use Rattle.bac_values.specs.Orders.{is_same, IsAscending}
 use Rattle.bac_values.proofs.OrderLemmas.{tied}
-use Rattle.outbox.specs.Posts.{PostState, IsPost, with_note, most_octets}
+use Rattle.outbox.specs.Posts.{IsPost, with_note, most_octets, MailboxState}
 use Rattle.outbox.specs.Outboxes.{OutboxState, IsOutbox, peers_of, unfinished_in, notes_for, with_notes, queued, is_known, AreKnown}
 use Rattle.outbox.specs.Places.{IsPlaceOf}
 use Rattle.outbox.proofs.QueueLemmas.{put_one, more_notes, no_notes, known_after, rising_still}
 use Rattle.outbox.proofs.Standing.{peers_stay}
 
 -- a peer that is known has a place
-place_of : (peer : Address) (posts : List PostState) → is_known peer posts ≡ true → (k : ℕ) × (PostState × IsPlaceOf peer posts k)
+place_of : (peer : PeerData) (posts : List MailboxState) → is_known peer posts ≡ true → (k : ℕ) × (MailboxState × IsPlaceOf peer posts k)
 place_of peer posts known =
-    let found = Any-from_list_any (λ (post : PostState). is_same post.peer peer) posts known in
-    (found.0, (found.1, (found.2, λ d. ap (λ (post : PostState). post.peer) (get_or_default posts found.0 d found.1 found.2 ∙ found.3) ∙ tied (found.1).peer peer found.4)))
+    let found = Any-from_list_any (λ (post : MailboxState). is_same post.peer peer) posts known in
+    (found.0, (found.1, (found.2, λ d. ap (λ (post : MailboxState). post.peer) (get_or_default posts found.0 d found.1 found.2 ∙ found.3) ∙ tied (found.1).peer peer found.4)))
 
 -- one note more
-one_longer : (note : Note) (posts : List PostState) → IsAscending (peers_of posts) → is_known note.peer posts ≡ true → unfinished_in (map (with_notes (note ∷ [])) posts) ≡ unfinished_in posts + 1
+one_longer : (note : Note) (posts : List MailboxState) → IsAscending (peers_of posts) → is_known note.peer posts ≡ true → unfinished_in (map (with_notes (note ∷ [])) posts) ≡ unfinished_in posts + 1
 one_longer note posts ascending known =
     let at = place_of note.peer posts known in
     let place = at.0 in
@@ -31,13 +31,13 @@ one_longer note posts ascending known =
     let there = (at.1).1 in
     let new = with_note note (get_or posts place old) in
     let put = put_one note posts place new old ascending there refl in
-    let sums = sum_by-set (λ (p : PostState). length p.notes) posts place new old there.0 in
+    let sums = sum_by-set (λ (p : MailboxState). length p.notes) posts place new old there.0 in
     let size = length-append (get_or posts place old).notes (note ∷ []) in
     let counts = ap unfinished_in put in
     omega (arith, sums, size, counts)
 
 -- each note is one more
-pub all_longer : (notes : List Note) (posts : List PostState) → IsAscending (peers_of posts) → AreKnown notes posts → unfinished_in (map (with_notes notes) posts) ≡ unfinished_in posts + length notes
+pub all_longer : (notes : List Note) (posts : List MailboxState) → IsAscending (peers_of posts) → AreKnown notes posts → unfinished_in (map (with_notes notes) posts) ≡ unfinished_in posts + length notes
 all_longer [] posts ascending known = let counts = ap unfinished_in (no_notes posts) in omega (arith, counts)
 all_longer (note ∷ notes) posts ascending known =
     let one = one_longer note posts ascending (known 0 note (omega arith)) in
@@ -50,7 +50,7 @@ first_stays : (notes more : List Note) → IsSomeAnd (slice_get notes 0) (λ (no
 first_stays [] more h = absurd h
 first_stays (note ∷ notes) more h = h
 
-with_notes_keeps : (retries : ℕ) (notes : List Note) → All (λ (note : Note). length note.body ≤ most_octets) notes → (post : PostState) → IsPost retries post → IsPost retries (with_notes notes post)
+with_notes_keeps : (retries : ℕ) (notes : List Note) → All (λ (note : Note). length note.body ≤ most_octets) notes → (post : MailboxState) → IsPost retries post → IsPost retries (with_notes notes post)
 with_notes_keeps retries notes short post is = record {
   number = is.number;
   fits = is.fits;

@@ -5,7 +5,7 @@ use Rattle.std.proofs.lemmas.Bool.{cases_lt, eq-eqb, ne_eqb, ltb-true}
 use Rattle.std.proofs.lemmas.List.{append-nil, drop-drop, get_or-drop, length-drop, map-append, take_all}
 use Rattle.std.proofs.lemmas.List.Elements.{filter-append}
 use Rattle.std.proofs.lemmas.List.Sums.{prefix_len-le-length}
-use Rattle.bac_values.specs.Address.{Address}
+use Rattle.bac_values.specs.Address.{PeerData}
 use Rattle.bac_values.specs.declared.note.Note.{Note}
 use Rattle.outbox.specs.Notifying.{datagram_of}
 use Rattle.outbox.specs.Delivery.{Timing, Delivery, is_confirmed, invoke_id, next_confirmed, is_awaited, is_repeated, first_unsent, sent_at, delivery_after}
@@ -57,11 +57,11 @@ module _ (test : ℕ → Bool) where
       ∙ filter-append test middle high ∙ (λ k. all_middle k ++ none_high k) ∙ append-nil middle
 
 -- an invoke ID is looked at where a note is to be confirmed alone
-number_or_none : (peer : Address) (invoke own : ℕ) (note : Note) → (is_confirmed note ≡ false) ⊎ (invoke ≡ own) → datagram_of peer invoke note ≡ datagram_of peer own note
+number_or_none : (peer : PeerData) (invoke own : ℕ) (note : Note) → (is_confirmed note ≡ false) ⊎ (invoke ≡ own) → datagram_of peer invoke note ≡ datagram_of peer own note
 number_or_none peer invoke own note (inl e) = rw e refl
 number_or_none peer invoke own note (inr e) = ap (λ n. datagram_of peer n note) e
 
-module _ (peer : Address) (all : List Note) (invoke : ℕ) where
+module _ (peer : PeerData) (all : List Note) (invoke : ℕ) where
   -- the note at a place goes out with this invoke ID as with its own
   abbrev Suits : ℕ → Type 0
   Suits place = (note : Note) → (is_confirmed (get_or all place note) ≡ false) ⊎ (invoke ≡ invoke_id all place)
@@ -97,7 +97,7 @@ module _ (peer : Address) (all : List Note) (invoke : ℕ) where
       let rest = many_sent (from + 1) count (λ place above below. suits place (omega (arith, above)) (omega (arith, below))) in
       ap (map (datagram_of peer invoke)) apart ∙ map-append (datagram_of peer invoke) first others ∙ (λ k. here k ++ rest k)
 
-module _ (timing : Timing) (moment : ℕ) (peer : Address) (d : Delivery) (is : IsDelivery d) where
+module _ (timing : Timing) (moment : ℕ) (peer : PeerData) (d : Delivery) (is : IsDelivery d) where
   -- nothing
   awaited : is_awaited moment d.attempts d.deadline ≡ true → sent_at timing moment peer d ≡ flat_map (datagram_at peer d.all) (places_sent timing moment d)
   awaited e =

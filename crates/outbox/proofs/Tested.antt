@@ -8,13 +8,13 @@ use Rattle.std.specs.declared.cmp.Ordering.TheVariants.{Less, Equal, Greater}
 use Rattle.std.proofs.lemmas.Bool.{eq-eqb, eqb-true, lt-ltb, ltb-true}
 use Rattle.std.proofs.lemmas.List.{get_or-map, length-drop, length-map}
 use Rattle.std.proofs.lemmas.List.Sums.{sum_by-cons}
-use Rattle.bac_values.specs.Address.{Address}
+use Rattle.bac_values.specs.Address.{PeerData}
 use Rattle.bac_values.specs.declared.note.Note.{Note}
 use Rattle.bac_values.specs.Orders.{is_same, peer_order, IsAscending}
 use Rattle.bac_values.proofs.OrderLemmas.{peers_are_total, same_is_equivalence, tied}
 use Rattle.outbox.specs.declared.post.Post.{Post}
 use Rattle.outbox.specs.Delivery.{is_confirmed}
-use Rattle.outbox.specs.Posts.{PostState, IsPost, TestsPosts, is_own, is_post, is_tried, most_octets}
+use Rattle.outbox.specs.Posts.{IsPost, TestsPosts, is_own, is_post, is_tried, most_octets, MailboxState}
 use Rattle.outbox.specs.Outboxes.{AreParts, AreSettings, are_posts, notes_told, peers_of, restored_post, restored_posts}
 use Rattle.outbox.proofs.Finished.{le_true}
 use Rattle.outbox.proofs.Told.{counts_told, first_within, others_count}
@@ -32,7 +32,7 @@ le-true a b e = search (rules, e)
 
 -- ---- the notes of a post
 
-module _ (peer : Address) where
+module _ (peer : PeerData) where
   pub own_told : (notes : List Note) → list_all (is_own peer) notes ≡ true → All (λ (note : Note). length note.body ≤ most_octets) notes × All (λ (note : Note). note.peer ≡ peer) notes
   own_told [] e = (λ k d h. absurd (omega (arith, h)), λ k d h. absurd (omega (arith, h)))
   own_told (note ∷ notes) e =
@@ -68,7 +68,7 @@ told_confirmed [] h = absurd h
 told_confirmed (note ∷ notes) h = h
 
 -- its attempts and its deadline
-record IsTried (retries : ℕ) (post : PostState) : Type 0 where
+record IsTried (retries : ℕ) (post : MailboxState) : Type 0 where
   attempts : post.attempts ≤ 1 + retries
   in_flight : 0 < post.attempts → IsSomeAnd (slice_get post.notes 0) (λ (note : Note). IsTrue note.confirmed)
   resting : post.attempts ≡ 0 → post.deadline ≡ 0
@@ -80,7 +80,7 @@ some_of : (n : ℕ) → (n ≡ 0 → ⊥) → 0 < n
 some_of zero never = absurd (never refl)
 some_of (suc n) never = omega arith
 
-tried_told : (retries : ℕ) (post : PostState) → is_tried retries post ≡ true → IsTried retries post
+tried_told : (retries : ℕ) (post : MailboxState) → is_tried retries post ≡ true → IsTried retries post
 tried_told retries post h = by_test (post.attempts == 0) refl
   where
     by_test : (b : Bool) → (post.attempts == 0) ≡ b → IsTried retries post
@@ -101,7 +101,7 @@ tried_told retries post h = by_test (post.attempts == 0) refl
           resting = λ none. absurd (not_zero post.attempts e none);
         }
 
-told_tried : (retries : ℕ) (post : PostState) → IsPost retries post → is_tried retries post ≡ true
+told_tried : (retries : ℕ) (post : MailboxState) → IsPost retries post → is_tried retries post ≡ true
 told_tried retries post is = by_test (post.attempts == 0) refl
   where
     by_test : (b : Bool) → (post.attempts == 0) ≡ b → is_tried retries post ≡ true
@@ -110,7 +110,7 @@ told_tried retries post is = by_test (post.attempts == 0) refl
         let never = not_zero post.attempts e in
         rw e (all_of _ _ (le_true post.attempts (1 + retries) is.attempts) (told_confirmed post.notes (is.in_flight (some_of post.attempts never))))
 
-pub post_told : (retries : ℕ) (post : PostState) → is_post retries post ≡ true → IsPost retries post
+pub post_told : (retries : ℕ) (post : MailboxState) → is_post retries post ≡ true → IsPost retries post
 post_told retries post e =
     let parts = both _ _ e in
     let range = both _ _ parts.0 in
@@ -127,7 +127,7 @@ post_told retries post e =
       own = own.1;
     }
 
-pub told_post : (retries : ℕ) (post : PostState) → IsPost retries post → is_post retries post ≡ true
+pub told_post : (retries : ℕ) (post : MailboxState) → IsPost retries post → is_post retries post ≡ true
 told_post retries post is =
     all_of _ _ (all_of _ _ (lt-ltb post.next_invoke 256 is.number) (lt-ltb post.deadline (2 ^ 64) is.fits))
     (all_of _ _ (told_tried retries post is) (told_own post.peer post.notes is.short is.own))
@@ -196,7 +196,7 @@ module _ (below : Post → Post → Bool) (tells : (x y : Post) → below x y �
       (less (get_or posts (k + n + 1) d) (get_or posts (k + n + 1 + 1) d) (steps (k + n + 1) d (omega (arith, within))))
 
   -- a post that has this peer
-  at_peer : Address → Post
+  at_peer : PeerData → Post
   at_peer peer = record { peer = peer; next_invoke = 0; attempts = 0; deadline = 0; notes = 0 }
 
   all_ascend : AllAdjacentBelow (λ x y. true ≡ below x y) posts (length posts) → IsAscending (map (λ (post : Post). post.peer) posts)
@@ -212,7 +212,7 @@ module _ (below : Post → Post → Bool) (tells : (x y : Post) → below x y �
   not_below : (x y : Post) → false ≡ below x y → peer_order x.peer y.peer ≡ Less → ⊥
   not_below x y e f = true≢false (ap is_lt (sym f) ∙ sym (tells x y) ∙ sym e)
 
-  none_ascends : (k : ℕ) → k + 1 < length posts → ((d : Post) → false ≡ below (get_or posts k d) (get_or posts (k + 1) d)) → IsAscending (map (λ (post : Post). post.peer) posts) → Address → ⊥
+  none_ascends : (k : ℕ) → k + 1 < length posts → ((d : Post) → false ≡ below (get_or posts k d) (get_or posts (k + 1) d)) → IsAscending (map (λ (post : Post). post.peer) posts) → PeerData → ⊥
   none_ascends k within fails ascending peer =
       let size : length (map (λ (post : Post). post.peer) posts) ≡ length posts = length-map posts (λ (post : Post). post.peer) in
       let first = get_or-map (λ (post : Post). post.peer) posts k (at_peer peer) peer (omega (arith, within)) in
@@ -220,7 +220,7 @@ module _ (below : Post → Post → Bool) (tells : (x y : Post) → below x y �
       not_below (get_or posts k (at_peer peer)) (get_or posts (k + 1) (at_peer peer)) (fails (at_peer peer))
       ((λ i. peer_order (sym first i) (sym second i)) ∙ ascending k (k + 1) peer (omega arith) (omega (arith, size, within)))
 
-  some_peer : (posts : List Post) → 0 < length posts → Address
+  some_peer : (posts : List Post) → 0 < length posts → PeerData
   some_peer [] h = absurd (omega (arith, h))
   some_peer (post ∷ posts) h = post.peer
 

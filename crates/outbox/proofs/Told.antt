@@ -4,7 +4,7 @@ use Rattle.std.proofs.lemmas.List.{length-drop, length-take-le, take-append-drop
 use Rattle.std.proofs.lemmas.List.Sums.{sum_by-cons}
 use Rattle.bac_values.specs.declared.note.Note.{Note}
 use Rattle.outbox.specs.declared.post.Post.{Post}
-use Rattle.outbox.specs.Posts.{PostState}
+use Rattle.outbox.specs.Posts.{MailboxState}
 use Rattle.outbox.specs.Outboxes.{unfinished_in, shown, restored_post, restored_posts, notes_told, notes_of}
 
 no_notes : (notes : List Note) → 0 ≡ length notes → [] ≡ notes
@@ -40,7 +40,7 @@ holds_told (post ∷ posts) notes counts =
 pub counts_told : (posts : List Post) (notes : List Note) → notes_told posts ≡ length notes → unfinished_in (restored_posts posts notes) ≡ length notes
 counts_told [] notes counts = counts
 counts_told (post ∷ posts) notes counts =
-    let sums = sum_by-cons (λ (p : PostState). length p.notes) (restored_post post (take post.notes notes)) (restored_posts posts (drop post.notes notes)) in
+    let sums = sum_by-cons (λ (p : MailboxState). length p.notes) (restored_post post (take post.notes notes)) (restored_posts posts (drop post.notes notes)) in
     let first = first_long post posts notes counts in
     let rest = counts_told posts (drop post.notes notes) (others_count post posts notes counts) in
     let size = length-drop post.notes notes in

@@ -2,7 +2,7 @@
 -- that was done for this recipient, the newest first. The list of its notes loses nothing.
 use Rattle.std.specs.Prelude.{ℕ, ◌+◌, ◌%◌, Bool, ◌&&◌, nat_lt, nat_le, ◌==◌, List, [], ◌∷◌, ◌++◌, length, take, drop, map, count_by, slice_range, if◌then◌else◌}
 use Rattle.std.specs.List.{position_or_len}
-use Rattle.bac_values.specs.Address.{Address}
+use Rattle.bac_values.specs.Address.{PeerData}
 use Rattle.bac_values.specs.declared.note.Note.{Note}
 use Rattle.bac_values.specs.declared.note.Send.{Send}
 use Rattle.outbox.specs.Notifying.{datagram_of}
@@ -74,12 +74,12 @@ pumped_at timing moment delivery =
     else sent_from timing moment (first_unsent delivery) delivery)
 
 -- the notes from one place up to another, as datagrams; each of them that is to be confirmed has this invoke ID
-abbrev pub datagrams_between : Address → ℕ → List Note → ℕ → ℕ → List Send
+abbrev pub datagrams_between : PeerData → ℕ → List Note → ℕ → ℕ → List Send
 datagrams_between peer invoke all from to = map (datagram_of peer invoke) (slice_range all from to)
 
 -- what the device sent then, in this order: nothing while an answer is awaited, the note in flight where it is repeated, and
 -- else the notes that were never sent, up to and with the first that is to be confirmed
-abbrev pub sent_at : Timing → ℕ → Address → Delivery → List Send
+abbrev pub sent_at : Timing → ℕ → PeerData → Delivery → List Send
 sent_at timing moment peer delivery =
     if is_awaited moment delivery.attempts delivery.deadline then []
     else (if is_repeated timing.retries delivery.attempts then

@@ -1,7 +1,7 @@
 -- How the notes of one recipient come to be finished (ANSI/ASHRAE 135-2020, 5.4.4).
 use Rattle.std.specs.Prelude.{◌≡◌, ◌⊎◌, ℕ, ◌+◌, ◌<◌, ◌≤◌, ◌==◌, nat_lt, nat_le, Bool, true, false, ◌&&◌, IsTrue, List, [], ◌∷◌, length, filter, slice_index_or, if◌then◌else◌}
 use Rattle.std.specs.List.{flat_map, range_with_len}
-use Rattle.bac_values.specs.Address.{Address}
+use Rattle.bac_values.specs.Address.{PeerData}
 use Rattle.bac_values.specs.declared.note.Note.{Note}
 use Rattle.bac_values.specs.declared.note.Send.{Send}
 use Rattle.outbox.specs.Delivery.{Operation, NoteQueued, PumpedAt, AnswerCame, Timing, Delivery, is_confirmed, invoke_id, next_confirmed, is_awaited, is_repeated, first_unsent, datagrams_between, sent_at, delivery_after}
@@ -75,10 +75,10 @@ abbrev pub places_sent : Timing → ℕ → Delivery → List ℕ
 places_sent timing moment delivery = filter (is_sent_at timing moment delivery) (range_with_len 0 (length delivery.all))
 
 -- the note at a place as a datagram; one that is to be confirmed has its own invoke ID
-abbrev pub datagram_at : Address → List Note → ℕ → List Send
+abbrev pub datagram_at : PeerData → List Note → ℕ → List Send
 datagram_at peer all place = datagrams_between peer (invoke_id all place) all place (place + 1)
 
 -- whatever was done, a pump sends the notes at these places, in their order, and nothing else
 abbrev pub SendsThesePlaces : Type 0
-SendsThesePlaces = (timing : Timing) (moment : ℕ) (peer : Address) (operations : List Operation) →
+SendsThesePlaces = (timing : Timing) (moment : ℕ) (peer : PeerData) (operations : List Operation) →
     (let delivery = delivery_after timing operations in sent_at timing moment peer delivery ≡ flat_map (datagram_at peer delivery.all) (places_sent timing moment delivery))

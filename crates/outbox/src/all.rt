@@ -4,7 +4,7 @@ ghost use Rattle.std.specs.List.{list_all, list_any};
 ghost use Rattle.bac_values.specs.Moments.{IsMoment};
 ghost use Rattle.bac_values.specs.Orders.{IsAscending};
 ghost use Rattle.outbox.specs.Places.{IsSearched};
-ghost use Rattle.outbox.specs.Posts.{PostState, IsPost, empty_post, post_pumped, post_sends, is_post_idle};
+ghost use Rattle.outbox.specs.Posts.{IsPost, empty_post, post_pumped, post_sends, is_post_idle, MailboxState};
 ghost use Rattle.outbox.specs.Outboxes.{peers_of, unfinished_in, with_peer, with_peers, is_flight_to, answered_by};
 
 use crate::mailbox::Mailbox;
@@ -33,7 +33,7 @@ pub(crate) fn has_flight(mailboxes: &[Mailbox], peer: &Peer, invoke: u8) -> bool
 /// An answer finishes the note of this peer that is in flight with this invoke ID; tells whether there is one.
 pub(crate) fn answer_one(mailboxes: &mut [Mailbox], peer: &Peer, invoke: u8) -> bool
     requires ascending { IsAscending (peers_of mailboxes.old) }
-    requires filled { All (λ (post : PostState). 0 < post.attempts → 0 < length post.notes) mailboxes.old }
+    requires filled { All (λ (post : MailboxState). 0 < post.attempts → 0 < length post.notes) mailboxes.old }
     ensures in_flight { result ≡ list_any (is_flight_to peer.now invoke) mailboxes.old }
     ensures left { unfinished_in mailboxes.new + (if result then 1 else 0) ≡ unfinished_in mailboxes.old }
     ensures now { mailboxes.new ≡ map (answered_by peer.now invoke) mailboxes.old }

@@ -4,7 +4,7 @@ ghost use Rattle.bac_values.specs.Moments.{IsMoment};
 ghost use Rattle.bac_values.specs.declared.note.Note.{Note};
 ghost use Rattle.outbox.specs.Notifying.{apdu_of, datagram_of};
 ghost use Rattle.outbox.specs.Delivery.{is_awaited, is_repeated, is_confirmed, datagrams_between};
-ghost use Rattle.outbox.specs.Posts.{PostState, empty_post, with_note, without_first, is_in_flight, post_answered, unsent, post_sent, post_pumped, post_sends, is_post_idle, most_octets};
+ghost use Rattle.outbox.specs.Posts.{empty_post, with_note, without_first, is_in_flight, post_answered, unsent, post_sent, post_pumped, post_sends, is_post_idle, most_octets, MailboxState};
 
 use apdu_frame::{request, unconfirmed};
 use bac_values::{ConfirmedService, Items, NoMemory, Note, Peer, Send, UnconfirmedService};
@@ -25,9 +25,9 @@ pub(crate) struct Mailbox {
 }
 
 impl Model for Mailbox {
-    ghost use Rattle.outbox.specs.Posts.{PostState};
+    ghost use Rattle.outbox.specs.Posts.{MailboxState};
 
-    ghost Value = { PostState };
+    ghost Value = { MailboxState };
 
     ghost view = { λ it. record { peer = it.peer; next_invoke = it.next_invoke; attempts = it.attempts; deadline = it.deadline; notes = it.notes.items } };
 }

@@ -1,9 +1,9 @@
 ghost use Rattle.std.specs.Prelude.{◌≡◌, ◌&&◌, nat_lt, ℕ, ◌+◌, ◌-◌, ◌<◌, ◌≤◌, ◌^◌, ◌↔◌, IsTrue, List, [], map, All, IfOk, IfErr, IsErrOf, OnOk, OnErr, OnSome, option_map, option_and_then, option_copied, slice_get, length, if◌then◌else◌};
-ghost use Rattle.bac_values.specs.Address.{Address};
+ghost use Rattle.bac_values.specs.Address.{PeerData};
 ghost use Rattle.bac_values.specs.Moments.{IsMoment};
 ghost use Rattle.bac_values.specs.declared.note.Note.{Note};
 ghost use Rattle.bac_values.specs.Orders.{IsAscending};
-ghost use Rattle.outbox.specs.Posts.{PostState, most_octets};
+ghost use Rattle.outbox.specs.Posts.{most_octets, MailboxState};
 ghost use Rattle.outbox.specs.Outboxes.{OutboxState, AreSettings, IsOutbox, AreParts, peers_of, unfinished_in, new_outbox, queued, pumped, sends_of, has_in_flight, answered, is_idle, AreKnown, learned, shown, restored, notes_told, notes_of};
 ghost use Rattle.outbox.specs.Following.{StandsFor, Follows, Learns, AreSent, no_operations, after_queue, after_pump, after_answer};
 ghost use Rattle.outbox.specs.Verdicts.{returned};
@@ -90,7 +90,7 @@ impl Outbox {
 
     /// The note at an index, from 0 for the first, of the recipient at a place; none exactly past the last.
     pub fn note(&self, place: u32, index: u32) -> Option<&Note>
-        ensures note { option_copied result ≡ option_and_then (λ (post : PostState). slice_get post.notes index) (slice_get self.now.posts place) }
+        ensures note { option_copied result ≡ option_and_then (λ (post : MailboxState). slice_get post.notes index) (slice_get self.now.posts place) }
     {
         self.mailboxes.get(place as usize)?.note(index as usize)
     }

@@ -2,7 +2,7 @@
 ghost use Rattle.std.specs.Prelude.{◌≡◌, List, ◌∷◌, [], ◌++◌, ◌≤◌, IsTrue, IfErr, OnOk, OnErr, map, take, drop, length};
 ghost use Rattle.bac_values.specs.declared.note.Note.{Note};
 ghost use Rattle.bac_values.specs.Orders.{IsAscending};
-ghost use Rattle.outbox.specs.Posts.{PostState};
+ghost use Rattle.outbox.specs.Posts.{MailboxState};
 ghost use Rattle.outbox.specs.Outboxes.{peers_of, with_notes, is_known, without_body, AreKnown};
 
 use crate::all::find;
@@ -42,7 +42,7 @@ fn put(alloc: Global, mailboxes: &mut [Mailbox], note: &mut Note) -> Result<(), 
 fn take_back(mailboxes: &mut [Mailbox], note: &mut Note)
     requires ascending { IsAscending (peers_of mailboxes.old) }
     ensures peers { peers_of mailboxes.new ≡ peers_of mailboxes.old }
-    ensures back { (posts : List PostState) (whole : Note) → IsTrue (is_known whole.peer posts) → mailboxes.old ≡ map (with_notes (whole ∷ [])) posts
+    ensures back { (posts : List MailboxState) (whole : Note) → IsTrue (is_known whole.peer posts) → mailboxes.old ≡ map (with_notes (whole ∷ [])) posts
         → note.old ≡ without_body whole → (mailboxes.new ≡ posts) × (note.new ≡ whole) }
 {
     let Ok(place) = find(mailboxes, &note.peer) else {
@@ -55,7 +55,7 @@ fn take_back(mailboxes: &mut [Mailbox], note: &mut Note)
 fn take_back_all(mailboxes: &mut [Mailbox], notes: &mut [Note], count: usize)
     requires count { count ≤ length notes.old }
     requires ascending { IsAscending (peers_of mailboxes.old) }
-    ensures back { (posts : List PostState) (whole : List Note) → AreKnown whole posts → mailboxes.old ≡ map (with_notes (take count whole)) posts
+    ensures back { (posts : List MailboxState) (whole : List Note) → AreKnown whole posts → mailboxes.old ≡ map (with_notes (take count whole)) posts
         → notes.old ≡ map without_body (take count whole) ++ drop count whole → (mailboxes.new ≡ posts) × (notes.new ≡ whole) }
 {
     let mut place = count;

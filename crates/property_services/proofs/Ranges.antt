@@ -12,7 +12,8 @@ use Rattle.bac_tags.proofs.Numbers.{signed_values}
 use Rattle.bac_tags.proofs.StampLaws.{reads_stamp}
 use Rattle.bac_tags.specs.declared.malformed.Malformed.{Malformed}
 use Rattle.bac_tags.specs.Refusals.{invalid_tag}
-use Rattle.bac_tags.specs.EnclosingTags.{closing, SpellsOnly, closing_at}
+use Rattle.bac_tags.specs.EnclosingTags.{closing, SpellsOnly}
+use Rattle.bac_tags.specs.EnclosingSteps.{closing_at}
 use Rattle.bac_tags.specs.ParameterReadingSteps.{or_invalid}
 use Rattle.bac_tags.proofs.Steps.{bind_ok, bind_err, ok_is}
 use Rattle.bac_tags.proofs.TagReaders.{reads_closing}

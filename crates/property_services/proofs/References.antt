@@ -2,7 +2,7 @@
 use Rattle.std.proofs.Common.{◌≡◌, ℕ, ◌+◌, ◌≤◌, Option, Some, None, List, [], ◌++◌, length, drop, Result, Ok, refl, sym, ap, subst, ◌∙◌, arith, inl}
 use Rattle.std.specs.Prelude.{◌⊎◌}
 use Rattle.std.proofs.lemmas.List.{append-nil, drop_all}
-use Rattle.bac_values.specs.Identifier.{Identifier}
+use Rattle.bac_values.specs.Identifier.{ObjectIdData}
 use Rattle.bac_tags.specs.Places.{IsSpelledAt}
 use Rattle.bac_tags.specs.Contents.{SpellsUnsigned, SpellsObject}
 use Rattle.bac_tags.specs.ReadingSteps.{unsigned_at, object_at, ◌>>=◌}
@@ -18,19 +18,19 @@ use Rattle.bac_tags.specs.Refusals.{Behind, RefusesRequired, RefusesOptional}
 use Rattle.bac_tags.proofs.ParameterAnswers.{Answers, Both, Made, then, mapped, said, Whole, ended, whole_said}
 use Rattle.bac_tags.proofs.ElementAnswers.{ends_within, optional_ends, object_required, unsigned_required, unsigned_optional}
 
-abbrev pub made : Identifier → ℕ → Option ℕ → ReadRequest
+abbrev pub made : ObjectIdData → ℕ → Option ℕ → ReadRequest
 made object property index = record { object = object; property = property_id property; index = index }
 
-abbrev with_index : List ℕ → Identifier → ℕ → Result (ReadRequest × ℕ) Malformed
+abbrev with_index : List ℕ → ObjectIdData → ℕ → Result (ReadRequest × ℕ) Malformed
 with_index input object place = do
   property ← required input place (unsigned_at input place (Some 1))
   index ← optional input property.1 (unsigned_at input property.1 (Some 2))
   Ok (made object property.0 index.0, index.1)
 
-abbrev IsIndex : List ℕ → Identifier → ℕ → ℕ → ReadRequest → ℕ → Type 0
+abbrev IsIndex : List ℕ → ObjectIdData → ℕ → ℕ → ReadRequest → ℕ → Type 0
 IsIndex input object property place = Made (IsOptionalAt (SpellsUnsigned (Some 2)) 2 input place) (made object property)
 
-abbrev IsProperty : List ℕ → Identifier → ℕ → ReadRequest → ℕ → Type 0
+abbrev IsProperty : List ℕ → ObjectIdData → ℕ → ReadRequest → ℕ → Type 0
 IsProperty input object place = Both (IsSpelledAt (SpellsUnsigned (Some 1)) input place) (IsIndex input object)
 
 abbrev IsRead : List ℕ → ReadRequest → ℕ → Type 0

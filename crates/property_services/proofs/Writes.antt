@@ -18,7 +18,8 @@ use Rattle.bac_tags.proofs.ValueLaws.{value_found, value_again}
 use Rattle.bac_tags.specs.declared.malformed.Malformed.{Malformed}
 use Rattle.bac_tags.specs.Parameters.{IsOptionalAt, SpellsIfGiven}
 use Rattle.bac_tags.specs.EnclosingTags.{SpellsEnclosed}
-use Rattle.bac_tags.specs.Balanced.{AreElements, SpellsElements, elements_at}
+use Rattle.bac_tags.specs.Balanced.{AreElements, SpellsElements}
+use Rattle.bac_tags.specs.BalancedSteps.{elements_at}
 use Rattle.bac_tags.specs.ParameterReadingSteps.{or_invalid, required, optional, whole}
 use Rattle.bac_tags.proofs.Steps.{bind_ok, bind_err, ok_is}
 use Rattle.bac_tags.proofs.RequiredReaders.{required_inside, required_outside}

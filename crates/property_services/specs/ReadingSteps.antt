@@ -11,8 +11,8 @@ use Rattle.bac_tags.specs.declared.tag.Shape.TheVariants.{Primitive, Opening, Cl
 use Rattle.bac_tags.specs.ReadingSteps.{tag_at, unsigned_at, signed_at, object_at, stamp_at, value_at, ◌>>=◌}
 use Rattle.bac_tags.specs.declared.malformed.Malformed.{Malformed}
 use Rattle.bac_tags.specs.ParameterReadingSteps.{or_invalid, required, optional, whole}
-use Rattle.bac_tags.specs.EnclosingTags.{closing_at}
-use Rattle.bac_tags.specs.Balanced.{elements_at}
+use Rattle.bac_tags.specs.EnclosingSteps.{closing_at}
+use Rattle.bac_tags.specs.BalancedSteps.{elements_at}
 use Rattle.property_services.specs.declared.requests.ReadRequest.{ReadRequest}
 use Rattle.property_services.specs.declared.fault.ServiceFault.{ServiceFault}
 use Rattle.property_services.specs.declared.fault.ServiceFault.TheVariants as faults

@@ -1,6 +1,6 @@
 -- Why octets aren't the parameters of a request: each refusal, exactly where it comes (ANSI/ASHRAE 135-2020, clause 21, BACnetRejectReason).
 use Rattle.std.specs.Prelude.{◌≡◌, ℕ, ◌⊎◌, Option, Some, None, List, [], length, drop}
-use Rattle.bac_values.specs.Identifier.{Identifier}
+use Rattle.bac_values.specs.Identifier.{ObjectIdData}
 use Rattle.bac_values.specs.declared.value.Value.TheVariants as values
 use Rattle.bac_tags.specs.Places.{IsSpelledAt}
 use Rattle.bac_tags.specs.Values.{SpellsValue}
@@ -109,7 +109,7 @@ RefusesWhoIs input fault = RefusesLimits input fault ⊎ Behind (IsLimitsAt inpu
 
 -- there are no octets, or there is an object alone
 abbrev pub EndsBeforeProperty : List ℕ → Type 0
-EndsBeforeProperty octets = (octets ≡ []) ⊎ ((object : Identifier) × SpellsObject (Some 0) octets object)
+EndsBeforeProperty octets = (octets ≡ []) ⊎ ((object : ObjectIdData) × SpellsObject (Some 0) octets object)
 
 -- or there is all that is written, without a value
 abbrev pub EndsBeforeValue : List ℕ → Type 0

@@ -2,9 +2,9 @@
 use Rattle.std.specs.Prelude.{ℕ, ◌==◌, ◌/◌, ◌%◌, if◌then◌else◌, Option, Some, None, Result, Ok, Err, List, [], ◌∷◌, ◌++◌, map, find}
 use Rattle.std.specs.Int.{bytes_high_first}
 use Rattle.std.specs.List.{flat_map}
-use Rattle.bac_values.specs.Address.{Address}
+use Rattle.bac_values.specs.Address.{PeerData}
 use Rattle.bac_values.specs.ApplicationTags.{octet_string_tag, time_tag}
-use Rattle.bac_values.specs.BitString.{BitString, string_of_flags}
+use Rattle.bac_values.specs.BitString.{string_of_flags, BitsData}
 use Rattle.bac_values.specs.Identifier.{number_of_kind}
 use Rattle.bac_values.specs.Properties.{ack_required_property, notification_class_property, object_identifier_property, object_name_property, object_type_property, priority_property, recipient_list_property}
 use Rattle.bac_values.specs.declared.object_kind.ObjectKind.TheVariants as kinds
@@ -12,7 +12,7 @@ use Rattle.bac_values.specs.declared.value.Value.TheVariants as values
 use Rattle.bac_tags.specs.Writing.{written_bits, written_boolean, written_element, written_tag, written_unsigned}
 use Rattle.bac_tags.specs.EnclosingTags.{opening, closing}
 use Rattle.notify_class.specs.declared.class_site.ClassSite.{ClassSite}
-use Rattle.notify_class.specs.Recipients.{ListedRecipient}
+use Rattle.notify_class.specs.Recipients.{DestinationData}
 use Rattle.property_values.specs.declared.class_properties.ClassProperty.{ClassProperty}
 use Rattle.property_values.specs.declared.class_properties.ClassProperty.TheVariants.{ObjectIdentifier, ObjectName, ObjectType, NotificationClass, Priority, AckRequired, RecipientList}
 use Rattle.property_values.specs.declared.content.Content.{Content}
@@ -47,26 +47,26 @@ abbrev pub written_time : ℕ → List ℕ
 written_time time = written_element time_tag None (clock_of time)
 
 -- the octets of a station: on the local network those of the IP address and of the port, the high one first (annex J.1.2)
-abbrev pub station_of : Address → List ℕ
+abbrev pub station_of : PeerData → List ℕ
 station_of peer = if peer.net == 0 then bytes_high_first 4 peer.ip ++ bytes_high_first 2 peer.port else peer.mac
 
-abbrev pub written_station : Address → List ℕ
+abbrev pub written_station : PeerData → List ℕ
 written_station peer = written_element octet_string_tag None (station_of peer)
 
 -- a BACnetAddress: the number of the network, which is 0 for the local one, and the OctetString of the station there
-abbrev pub written_address : Address → List ℕ
+abbrev pub written_address : PeerData → List ℕ
 written_address peer = written_unsigned None peer.net ++ written_station peer
 
 -- a BACnetRecipient that is an address
-abbrev pub written_peer : Address → List ℕ
+abbrev pub written_peer : PeerData → List ℕ
 written_peer peer = written_tag (opening 1) ++ (written_address peer ++ written_tag (closing 1))
 
 -- seven bits, Monday first
-abbrev pub days_of : ListedRecipient → BitString
+abbrev pub days_of : DestinationData → BitsData
 days_of recipient = record { size = 7; bits = recipient.days }
 
 -- a BACnetDestination: valid days, From Time, To Time, recipient, process identifier, Issue Confirmed Notifications, transitions
-abbrev pub written_recipient : ListedRecipient → List ℕ
+abbrev pub written_recipient : DestinationData → List ℕ
 written_recipient recipient =
     written_bits None (days_of recipient)
     ++ (written_time recipient.from
@@ -77,14 +77,14 @@ written_recipient recipient =
     ++ written_bits None (string_of_flags recipient.transitions))))))
 
 -- Recipient_List: its elements stand one after the other
-abbrev pub list_of_recipients : List ListedRecipient → Content
+abbrev pub list_of_recipients : List DestinationData → Content
 list_of_recipients recipients = Whole (flat_map written_recipient recipients)
 
 abbrev pub array_of_numbers : List ℕ → Content
 array_of_numbers numbers = Elements (map (written_unsigned None) numbers)
 
 -- what a property of a class of the site is, with the recipients that it has now
-abbrev pub class_property : ClassSite → List ListedRecipient → ClassProperty → Content
+abbrev pub class_property : ClassSite → List DestinationData → ClassProperty → Content
 class_property listed recipients ObjectIdentifier = one (values.Object (class_object listed))
 class_property listed recipients ObjectName = one (values.Text listed.name)
 class_property listed recipients ObjectType = one (values.Enumerated (number_of_kind kinds.NotificationClass))
@@ -93,10 +93,10 @@ class_property listed recipients Priority = array_of_numbers listed.class.priori
 class_property listed recipients AckRequired = flags listed.class.ack_required
 class_property listed recipients RecipientList = list_of_recipients recipients
 
-abbrev pub known_class_content : ClassSite → List ListedRecipient → Option ClassProperty → Result Content ReadFault
+abbrev pub known_class_content : ClassSite → List DestinationData → Option ClassProperty → Result Content ReadFault
 known_class_content listed recipients (Some property) = Ok (class_property listed recipients property)
 known_class_content listed recipients None = Err unknown_property
 
 -- the property with a number, or that there is none
-abbrev pub class_content : ClassSite → List ListedRecipient → ℕ → Result Content ReadFault
+abbrev pub class_content : ClassSite → List DestinationData → ℕ → Result Content ReadFault
 class_content listed recipients number = known_class_content listed recipients (property_of number)

@@ -1,7 +1,7 @@
 -- The properties of devices, and what is read of them (ANSI/ASHRAE 135-2020, 12.11).
 use Rattle.std.specs.Prelude.{ℕ, ◌==◌, Option, Some, None, Result, Ok, Err, List, [], ◌∷◌, map, filter, find}
 use Rattle.std.specs.List.{flat_map}
-use Rattle.bac_values.specs.Identifier.{Identifier, known_kinds, number_of_kind}
+use Rattle.bac_values.specs.Identifier.{known_kinds, number_of_kind, ObjectIdData}
 use Rattle.bac_values.specs.Properties.{max_apdu_length_accepted_property, object_identifier_property, object_list_property, object_name_property, object_type_property, segmentation_supported_property, vendor_identifier_property}
 use Rattle.bac_values.specs.Services.{longest_apdu, no_segmentation}
 use Rattle.bac_values.specs.declared.object_kind.ObjectKind.TheVariants.{Device}
@@ -35,11 +35,11 @@ unfoldable pub property_of : ℕ → Option DeviceProperty
 property_of number = find (λ property. number_of_property property == number) device_properties
 
 -- Object_List (12.11): type by type, by the numbers of the types
-abbrev pub object_list : List Identifier → List Identifier
-object_list identifiers = flat_map (λ kind. filter (λ (object : Identifier). object.number == number_of_kind kind) identifiers) known_kinds
+abbrev pub object_list : List ObjectIdData → List ObjectIdData
+object_list identifiers = flat_map (λ kind. filter (λ (object : ObjectIdData). object.number == number_of_kind kind) identifiers) known_kinds
 
 -- what a property of a device is, whose site has the objects with these identifiers: it takes and sends no segments
-abbrev pub device_property : DeviceSite → List Identifier → DeviceProperty → Content
+abbrev pub device_property : DeviceSite → List ObjectIdData → DeviceProperty → Content
 device_property device identifiers ObjectIdentifier = one (values.Object (object_of_device device))
 device_property device identifiers ObjectName = one (values.Text device.name)
 device_property device identifiers ObjectType = one (values.Enumerated (number_of_kind Device))
@@ -48,10 +48,10 @@ device_property device identifiers MaxApduLengthAccepted = one (values.Unsigned 
 device_property device identifiers SegmentationSupported = one (values.Enumerated no_segmentation)
 device_property device identifiers VendorIdentifier = one (values.Unsigned device.vendor)
 
-abbrev pub known_device_content : DeviceSite → List Identifier → Option DeviceProperty → Result Content ReadFault
+abbrev pub known_device_content : DeviceSite → List ObjectIdData → Option DeviceProperty → Result Content ReadFault
 known_device_content device identifiers (Some property) = Ok (device_property device identifiers property)
 known_device_content device identifiers None = Err unknown_property
 
 -- the property with a number, or that there is none
-abbrev pub device_content : DeviceSite → List Identifier → ℕ → Result Content ReadFault
+abbrev pub device_content : DeviceSite → List ObjectIdData → ℕ → Result Content ReadFault
 device_content device identifiers number = known_device_content device identifiers (property_of number)

@@ -13,7 +13,7 @@ use Rattle.object_table.specs.declared.change.What.TheVariants.{Property, FieldF
 use Rattle.object_table.specs.declared.faults.WriteFault.{WriteFault}
 use Rattle.object_table.specs.Verdicts.{allowed_change, and_then, index_verdict, property_change, value_verdict}
 use Rattle.event_log.specs.declared.log_site.LogSite.{LogSite}
-use Rattle.event_log.specs.Log.{Log}
+use Rattle.event_log.specs.Log.{EventLogState}
 use Rattle.property_values.specs.declared.content.Content.{Content}
 use Rattle.property_values.specs.declared.content.ReadFault.{ReadFault}
 use Rattle.property_values.specs.declared.log_properties.LogProperty.{LogProperty}
@@ -40,7 +40,7 @@ unfoldable pub property_of : ℕ → Option LogProperty
 property_of number = find (λ property. number_of_property property == number) log_properties
 
 -- what a property of a log is
-abbrev pub log_property : LogSite → Log → LogProperty → Content
+abbrev pub log_property : LogSite → EventLogState → LogProperty → Content
 log_property site log ObjectIdentifier = one (values.Object site.object)
 log_property site log ObjectName = one (values.Text site.name)
 log_property site log ObjectType = one (values.Enumerated (number_of_kind EventLog))
@@ -50,12 +50,12 @@ log_property site log BufferSize = one (values.Unsigned site.size)
 log_property site log StopWhenFull = one (values.Bool site.stop_when_full)
 log_property site log TotalRecordCount = one (values.Unsigned log.total)
 
-abbrev pub known_log_content : LogSite → Log → Option LogProperty → Result Content ReadFault
+abbrev pub known_log_content : LogSite → EventLogState → Option LogProperty → Result Content ReadFault
 known_log_content site log (Some property) = Ok (log_property site log property)
 known_log_content site log None = Err unknown_property
 
 -- the property with a number, or that there is none
-abbrev pub log_content : LogSite → Log → ℕ → Result Content ReadFault
+abbrev pub log_content : LogSite → EventLogState → ℕ → Result Content ReadFault
 log_content site log number = known_log_content site log (property_of number)
 
 -- the values that a log takes: Enable can be any Boolean, and Record_Count 0 alone
@@ -80,5 +80,5 @@ write_with (Err fault) number index value = Err (as_write_fault fault)
 write_with (Ok content) number index value = and_then (index_verdict None index) (value_verdict (writable_tag number) (takes_value number value) value)
 
 -- the change that a write of a log's property makes, or the first error that applies
-abbrev pub log_write : LogSite → Log → ℕ → Option ℕ → Value → Result Change WriteFault
+abbrev pub log_write : LogSite → EventLogState → ℕ → Option ℕ → Value → Result Change WriteFault
 log_write site log number index value = allowed_change (write_with (log_content site log number) number index value) (property_change site.object number value)

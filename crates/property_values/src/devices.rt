@@ -1,6 +1,6 @@
 ghost use Rattle.std.specs.Prelude.{◌≡◌, ◌≤◌, ◌==◌, ◌++◌, IfOk, OnOk, filter};
 ghost use Rattle.std.specs.List.{flat_map};
-ghost use Rattle.bac_values.specs.Identifier.{Identifier, number_of_kind};
+ghost use Rattle.bac_values.specs.Identifier.{number_of_kind, ObjectIdData};
 ghost use Rattle.property_values.specs.DeviceProperties.{device_property, object_list};
 ghost use Rattle.property_values.specs.Devices.{object_of_device};
 
@@ -23,7 +23,7 @@ fn add_of_kind(
     kind: ObjectKind,
     identifiers: &[ObjectId],
 ) -> Result<(), NoMemory>
-    ensures added { OnOk result (list.new.items ≡ list.old.items ++ filter (λ (object : Identifier). object.number == number_of_kind kind) identifiers.now) }
+    ensures added { OnOk result (list.new.items ≡ list.old.items ++ filter (λ (object : ObjectIdData). object.number == number_of_kind kind) identifiers.now) }
 {
     for object in identifiers {
         if object.number() == kind.number() {
@@ -39,7 +39,7 @@ fn of_kinds(
     kinds: &[ObjectKind],
     identifiers: &[ObjectId],
 ) -> Result<Vec<ObjectId>, NoMemory>
-    ensures list { IfOk result (λ list. list.items ≡ flat_map (λ kind. filter (λ (object : Identifier). object.number == number_of_kind kind) identifiers.now) kinds.now) }
+    ensures list { IfOk result (λ list. list.items ≡ flat_map (λ kind. filter (λ (object : ObjectIdData). object.number == number_of_kind kind) identifiers.now) kinds.now) }
 {
     let mut list = Vec::new(alloc);
     for kind in kinds {

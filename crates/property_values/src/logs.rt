@@ -1,5 +1,5 @@
 ghost use Rattle.std.specs.Prelude.{◌≡◌, IfOk, IsTrue, OnOk};
-ghost use Rattle.event_log.specs.Log.{Log};
+ghost use Rattle.event_log.specs.Log.{EventLogState};
 ghost use Rattle.event_log.specs.declared.log_site.LogSite.{LogSite as Site};
 ghost use Rattle.property_values.specs.LogProperties.{log_content, log_property, log_write, takes, takes_value, writable_tag, write_with};
 ghost use Rattle.property_values.specs.Reading.{AnswersContent};
@@ -71,7 +71,7 @@ fn can_be(property: PropertyId, value: &Value) -> bool
 
 // Whether a log takes a write of a property; the first error that applies is told.
 fn check_log(property: PropertyId, index: Option<u32>, value: &Value) -> Result<(), WriteFault>
-    ensures verdict { (site : Site) (log : Log) → result ≡ write_with (log_content site log property.0) property.0 index value.now }
+    ensures verdict { (site : Site) (log : EventLogState) → result ≡ write_with (log_content site log property.0) property.0 index value.now }
     ensures taken { OnOk result (IsTrue (takes_value property.0 value.now)) }
 {
     let Some(_known) = LogProperty::of_number(property.0) else {
@@ -101,7 +101,7 @@ pub fn log_write(
     index: Option<u32>,
     value: &Value,
 ) -> Result<Change, WriteFault>
-    ensures answer { (log : Log) → result ≡ log_write site.now log property.0 index value.now }
+    ensures answer { (log : EventLogState) → result ≡ log_write site.now log property.0 index value.now }
     ensures takes { IfOk result (λ change. IsTrue (takes change.what)) }
     ensures object { IfOk result (λ change. change.object ≡ site.now.object) }
 {

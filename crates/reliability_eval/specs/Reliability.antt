@@ -6,7 +6,7 @@ use Rattle.bac_values.specs.declared.object_kind.ObjectKind.TheVariants.{MultiSt
 use Rattle.bac_values.specs.declared.reliability.Reliability.{Reliability}
 use Rattle.bac_values.specs.declared.reliability.Reliability.TheVariants.{NoFaultDetected, OverRange, UnderRange, MultiStateFault}
 use Rattle.bac_values.specs.declared.value.Value.{Value}
-use Rattle.bac_values.specs.Identifier.{Identifier}
+use Rattle.bac_values.specs.Identifier.{ObjectIdData}
 use Rattle.bac_values.specs.Reliabilities.{reliability_of_number}
 use Rattle.algorithm_rules.specs.Conditions.{number_in, is_above, is_below}
 use Rattle.algorithm_rules.specs.Matches.{matches}
@@ -64,5 +64,5 @@ reliability_found (Some row) = reliability_of row
 reliability_found None = NoFaultDetected
 
 -- the reliability of an object, and none where there is no such object
-abbrev pub reliability_in : Identifier → List Row → Reliability
+abbrev pub reliability_in : ObjectIdData → List Row → Reliability
 reliability_in object rows = reliability_found (row_of object rows)

@@ -3,7 +3,7 @@ use Rattle.std.proofs.Common.{◌≡◌, ◌↔◌, ℕ, ◌+◌, ◌*◌, ◌/�
 use Rattle.std.specs.Fmt.{decimal}
 use Rattle.std.proofs.lemmas.Bool.{cases_Bool}
 use Rattle.std.proofs.lemmas.Bool.Decides.{nat_tests}
-use Rattle.bac_values.specs.Address.{Address}
+use Rattle.bac_values.specs.Address.{PeerData}
 use Rattle.script_lines.specs.Number.{unsigned_of}
 use Rattle.script_lines.specs.Report.{address_text}
 use Rattle.script_lines.specs.SessionLine.{◌>>=◌, before, behind, colon, dot, ip_of, port_of, peer_of, IsNamedPeer}
@@ -96,7 +96,7 @@ no_port : (text : List ℕ) (port : ℕ) → port_of text ≡ Some port → text
 no_port text port h e = let wrong : None ≡ Some port = rw e at h in cc
 
 -- a peer's address, by the four octets of IPv4
-written_address : (peer : Address) → four_text (peer.ip / 16777216) (peer.ip / 65536 % 256) (peer.ip / 256 % 256) (peer.ip % 256) ++ colon ∷ decimal peer.port ≡ address_text peer
+written_address : (peer : PeerData) → four_text (peer.ip / 16777216) (peer.ip / 65536 % 256) (peer.ip / 256 % 256) (peer.ip % 256) ++ colon ∷ decimal peer.port ≡ address_text peer
 written_address peer = simp append_assoc
 
 port_read : (text : List ℕ) (port : ℕ) → port_of text ≡ Some port → (text ≡ decimal port) × (1 ≤ port) × (port ≤ 65535)
@@ -117,9 +117,9 @@ port_back text port e low high =
     let some : (port == 0) ≡ false = grind (arith, nat_tests) in
     rw (number_back 65535 port text (omega arith) e high, some) refl
 
-peer_read : (text : List ℕ) (peer : Address) → peer_of text ≡ Some peer → (text ≡ address_text peer) × IsNamedPeer peer
+peer_read : (text : List ℕ) (peer : PeerData) → peer_of text ≡ Some peer → (text ≡ address_text peer) × IsNamedPeer peer
 peer_read text peer h =
-    let last : ℕ → ℕ → Option Address = λ ip port. Some (record { ip = ip; port = port; net = 0; mac = [] }) in
+    let last : ℕ → ℕ → Option PeerData = λ ip port. Some (record { ip = ip; port = port; net = 0; mac = [] }) in
     let first = from_chain (ip_of (before colon text)) (λ ip. port_of (behind colon text) >>= last ip) peer h in
     let ip = first.0 in
     let second = from_chain (port_of (behind colon text)) (last ip) peer first.2 in
@@ -156,7 +156,7 @@ first_octet ip small = omega arith
 next_octet : (n : ℕ) → n % 256 ≤ 255
 next_octet n = omega arith
 
-peer_back : (text : List ℕ) (peer : Address) → text ≡ address_text peer → IsNamedPeer peer → peer_of text ≡ Some peer
+peer_back : (text : List ℕ) (peer : PeerData) → text ≡ address_text peer → IsNamedPeer peer → peer_of text ≡ Some peer
 peer_back text peer e is =
     let p = peer.ip / 16777216 in
     let q = peer.ip / 65536 % 256 in
@@ -174,5 +174,5 @@ peer_back text peer e is =
     rw (ip, port_back (behind colon text) peer.port port is.port.0 is.port.1, sym is.net, sym is.mac) refl
 
 -- the peer that is named
-pub named : (peer : Address) (text : List ℕ) (result : Option Address) → result ≡ peer_of text → (result ≡ Some peer) ↔ ((text ≡ address_text peer) × IsNamedPeer peer)
+pub named : (peer : PeerData) (text : List ℕ) (result : Option PeerData) → result ≡ peer_of text → (result ≡ Some peer) ↔ ((text ≡ address_text peer) × IsNamedPeer peer)
 named peer text result value = (λ h. peer_read text peer (sym value ∙ h), λ h. value ∙ peer_back text peer h.0 h.1)

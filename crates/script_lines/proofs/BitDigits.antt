@@ -3,7 +3,7 @@ use Rattle.std.proofs.Common.{◌≡◌, ℕ, suc, ◌+◌, ◌*◌, ◌^◌, �
 use Rattle.std.specs.List.{push}
 use Rattle.std.proofs.lemmas.Bool.Decides.{nat_tests}
 use Rattle.std.proofs.Math.Pow.{pow_mono}
-use Rattle.bac_values.specs.BitString.{BitString}
+use Rattle.bac_values.specs.BitString.{BitsData}
 use Rattle.script_lines.specs.SessionLine.{◌>>=◌, bit_of, bits_number, bits_of}
 
 -- the digits behind those that are left write this number
@@ -69,7 +69,7 @@ pub number_small : (digits : List ℕ) (number : ℕ) → bits_number digits ≡
 number_small [] number h = let none : 0 ≡ number = cc in omega arith
 number_small (c ∷ cs) number h = joined (bit_of c) (bits_number cs) number (length cs) h (λ b e. bit_small c b e) (λ m e. number_small cs m e)
 
-abbrev pub string_of : List ℕ → ℕ → BitString
+abbrev pub string_of : List ℕ → ℕ → BitsData
 string_of digits number = record { size = length digits; bits = number }
 
 -- the string of bits that digits write

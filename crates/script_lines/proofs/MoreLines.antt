@@ -4,7 +4,7 @@ use Rattle.std.specs.List.{onto_first}
 use Rattle.std.proofs.lemmas.Bool.{cases_Bool}
 use Rattle.ground_io.specs.Trace.{WhereTold}
 use Rattle.script_lines.specs.declared.line.Grammar.{Grammar}
-use Rattle.script_lines.specs.ReadingSteps.{Reading, octets_to_come}
+use Rattle.script_lines.specs.ReadingSteps.{octets_to_come, LinesState}
 use Rattle.script_lines.specs.Script.{is_line_feed, lines_of, next_in, TakesLines, IsWholeLines}
 
 -- what holds from the first to the second and from there to the third, where they are told
@@ -58,7 +58,7 @@ takes_then before mid now x y z first more =
     }
 
 -- whole lines, and more of them, unless the source's end was seen
-pub whole_then : (r0 r1 r2 : Reading) (left0 left1 left2 : Option (List ℕ))
+pub whole_then : (r0 r1 r2 : LinesState) (left0 left1 left2 : Option (List ℕ))
     → (r1.ended ≡ false → WhereTold (octets_to_come r0 left0) (octets_to_come r1 left1) (TakesLines r0.number r1.number))
     → (r2.ended ≡ false → r1.ended ≡ false)
     → (r2.ended ≡ false → WhereTold (octets_to_come r1 left1) (octets_to_come r2 left2) (TakesLines r1.number r2.number))
@@ -68,7 +68,7 @@ whole_then r0 r1 r2 left0 left1 left2 first earlier more goes_on =
     (takes_then r0.number r1.number r2.number) (first (earlier goes_on)) (more goes_on)
 
 -- what comes next stays the same
-pub next_then : (grammar : Grammar) (r0 r1 r2 : Reading) (left0 left1 left2 : Option (List ℕ))
+pub next_then : (grammar : Grammar) (r0 r1 r2 : LinesState) (left0 left1 left2 : Option (List ℕ))
     → WhereTold (octets_to_come r0 left0) (octets_to_come r1 left1) (λ old new. next_in grammar r1.number (lines_of new) ≡ next_in grammar r0.number (lines_of old))
     → WhereTold (octets_to_come r1 left1) (octets_to_come r2 left2) (λ old new. next_in grammar r2.number (lines_of new) ≡ next_in grammar r1.number (lines_of old))
     → WhereTold (octets_to_come r0 left0) (octets_to_come r2 left2) (λ old new. next_in grammar r2.number (lines_of new) ≡ next_in grammar r0.number (lines_of old))

@@ -6,7 +6,7 @@ use Rattle.std.specs.Fmt.{decimal}
 use Rattle.std.proofs.lemmas.Bool.{cases_Bool}
 use Rattle.std.proofs.lemmas.Bool.Decides.{nat_tests}
 use Rattle.std.proofs.lemmas.Slice.Eq.{bytes_eq-Decides}
-use Rattle.bac_values.specs.Identifier.{Identifier, kind_of, known_kinds, number_of_kind}
+use Rattle.bac_values.specs.Identifier.{kind_of, known_kinds, number_of_kind, ObjectIdData}
 use Rattle.bac_values.specs.declared.object_kind.ObjectKind.{ObjectKind}
 use Rattle.bac_values.specs.declared.object_kind.ObjectKind.TheVariants.{BinaryValue, Device, EventEnrollment, NotificationClass, MultiStateValue, EventLog, BitStringValue, CharacterStringValue, IntegerValue, PositiveIntegerValue}
 use Rattle.script_lines.specs.Number.{unsigned_of}
@@ -59,16 +59,16 @@ kind_back IntegerValue = refl
 kind_back PositiveIntegerValue = refl
 
 -- a known type is written by its name
-known_text : (object : Identifier) (kind : ObjectKind) → kind_of object.number ≡ Some kind → object_text object ≡ kind_name kind ++ colon ∷ decimal object.instance
+known_text : (object : ObjectIdData) (kind : ObjectKind) → kind_of object.number ≡ Some kind → object_text object ≡ kind_name kind ++ colon ∷ decimal object.instance
 known_text object kind h = ap (λ known. type_text object.number known ++ (codes ":" ++ decimal object.instance)) h
 
 some_kind : (known : Option ObjectKind) → IsSome known → (kind : ObjectKind) × (known ≡ Some kind)
 some_kind None h = absurd cc
 some_kind (Some kind) h = (kind, refl)
 
-object_read : (text : List ℕ) (object : Identifier) → object_of text ≡ Some object → (text ≡ object_text object) × IsNamedObject object
+object_read : (text : List ℕ) (object : ObjectIdData) → object_of text ≡ Some object → (text ≡ object_text object) × IsNamedObject object
 object_read text object h =
-    let last : ObjectKind → ℕ → Option Identifier = λ kind instance. Some (record { number = number_of_kind kind; instance = instance }) in
+    let last : ObjectKind → ℕ → Option ObjectIdData = λ kind instance. Some (record { number = number_of_kind kind; instance = instance }) in
     let first = from_chain (kind_named (before colon text)) (λ kind. unsigned_of 4194303 (behind colon text) >>= last kind) object h in
     let kind = first.0 in
     let second = from_chain (unsigned_of 4194303 (behind colon text)) (last kind) object first.2 in
@@ -84,7 +84,7 @@ object_read text object h =
       record { kind = ap is_some known; instance = omega (arith, read.1, placed) },
     )
 
-object_back : (text : List ℕ) (object : Identifier) → text ≡ object_text object → IsNamedObject object → object_of text ≡ Some object
+object_back : (text : List ℕ) (object : ObjectIdData) → text ≡ object_text object → IsNamedObject object → object_of text ≡ Some object
 object_back text object e is =
     let some = some_kind (kind_of object.number) is.kind in
     let kind = some.0 in
@@ -97,5 +97,5 @@ object_back text object e is =
     rw (ap kind_named name ∙ named_back kind, number_back 4194303 object.instance (behind colon text) (omega arith) number is.instance, numbered) refl
 
 -- the object that is named
-pub named : (object : Identifier) (text : List ℕ) (result : Option Identifier) → result ≡ object_of text → (result ≡ Some object) ↔ ((text ≡ object_text object) × IsNamedObject object)
+pub named : (object : ObjectIdData) (text : List ℕ) (result : Option ObjectIdData) → result ≡ object_of text → (result ≡ Some object) ↔ ((text ≡ object_text object) × IsNamedObject object)
 named object text result value = (λ h. object_read text object (sym value ∙ h), λ h. value ∙ object_back text object h.0 h.1)

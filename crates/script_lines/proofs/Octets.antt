@@ -6,7 +6,7 @@ use Rattle.hex.specs.Hex.{decode_of, decode_sized}
 use Rattle.hex.specs.declared.error.FromHexError.{FromHexError}
 use Rattle.hex.proofs.HexLemmas.{decode_of-ok}
 use Rattle.std.specs.Prelude.{IsSomeAnd}
-use Rattle.bac_values.specs.Identifier.{Identifier}
+use Rattle.bac_values.specs.Identifier.{ObjectIdData}
 use Rattle.bac_values.specs.declared.input.Input.TheVariants.{Set}
 use Rattle.bac_values.specs.declared.value.Value.{Value}
 use Rattle.script_lines.specs.declared.line.Line.{Line}
@@ -29,15 +29,15 @@ long_text digits long = none_of text_from 256 digits (decode_of digits) refl (λ
 pub long_datagram : (digits : List ℕ) → 2994 < length digits → datagram_of digits ≡ None
 long_datagram digits long = none_of datagram_from 1497 digits (decode_of digits) refl (λ octets more. grind (arith, nat_tests)) long
 
-abbrev set_line : ℕ → ℕ → Identifier → Value → Line
+abbrev set_line : ℕ → ℕ → ObjectIdData → Value → Line
 set_line number moment object value = record { number = number; moment = moment; input = Set object value }
 
-sets_text : (number moment : ℕ) (object : Identifier) (value : Option Value) → IsSomeAnd value IsText → IsSomeAnd (value >>= λ x. Some (set_line number moment object x)) IsOfOctets
+sets_text : (number moment : ℕ) (object : ObjectIdData) (value : Option Value) → IsSomeAnd value IsText → IsSomeAnd (value >>= λ x. Some (set_line number moment object x)) IsOfOctets
 sets_text number moment object (Some value) text = text
 sets_text number moment object None text = absurd text
 
 -- a line that sets an object to a text
-pub value_wants : (number moment : ℕ) (object : Identifier) (words : List ℕ) → moment_of (first_word words) ≡ Some moment → object_of (first_word (other_words words)) ≡ Some object
+pub value_wants : (number moment : ℕ) (object : ObjectIdData) (words : List ℕ) → moment_of (first_word words) ≡ Some moment → object_of (first_word (other_words words)) ≡ Some object
     → IsSomeAnd (value_of (other_words (other_words words))) IsText → IsSomeAnd (value_line number words) IsOfOctets
 unfolding value_line
 value_wants number moment object words at_moment of_object text = rw (at_moment, of_object) (sets_text number moment object (value_of (other_words (other_words words))) text)

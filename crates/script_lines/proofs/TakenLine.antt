@@ -8,21 +8,21 @@ use Rattle.ground_io.specs.Trace.{WhereTold}
 use Rattle.script_lines.specs.declared.line.LineSays.{LineSays}
 use Rattle.script_lines.specs.declared.line.LineSays.TheVariants.{Skipped, Outside, Spells}
 use Rattle.script_lines.specs.Line.{line_says, SpellsLine}
-use Rattle.script_lines.specs.ReadingSteps.{Reading}
+use Rattle.script_lines.specs.ReadingSteps.{LinesState}
 use Rattle.script_lines.specs.Script.{is_line_feed, lines_of, next_by, next_in, TakesLines}
 use Rattle.script_lines.specs.TakingSteps.{TakesLine, behind_line, taken_of}
 use Rattle.script_lines.proofs.FirstLine.{next_first, feed_ends, long_says}
 
 -- a line feed is pending, or more than a line may have, or the source's end was seen
-abbrev pub IsFoundBy : Reading → Type 0
+abbrev pub IsFoundBy : LinesState → Type 0
 IsFoundBy now = (position_or_len is_line_feed now.pending < length now.pending) ⊎ ((4096 < length now.pending) ⊎ (now.ended ≡ true))
 
-nothing_comes : (now : Reading) (b : List ℕ) → IsFoundBy now → (now.ended ≡ true → b ≡ []) → (position_or_len is_line_feed now.pending < length now.pending) ⊎ ((4096 < length now.pending) ⊎ (b ≡ []))
+nothing_comes : (now : LinesState) (b : List ℕ) → IsFoundBy now → (now.ended ≡ true → b ≡ []) → (position_or_len is_line_feed now.pending < length now.pending) ⊎ ((4096 < length now.pending) ⊎ (b ≡ []))
 nothing_comes now b (inl feed) ended = inl feed
 nothing_comes now b (inr (inl long)) ended = inr (inl long)
 nothing_comes now b (inr (inr end)) ended = inr (inr (ended end))
 
-judged_told : (says : LineSays) (xs b : List ℕ) (reading : Reading) → reading.pending ≡ xs
+judged_told : (says : LineSays) (xs b : List ℕ) (reading : LinesState) → reading.pending ≡ xs
     → next_in reading.grammar reading.number (lines_of (xs ++ b)) ≡ next_by says (reading.number + 1) (lines_of (after_first is_line_feed xs ++ b)) (next_in reading.grammar (reading.number + 1) (lines_of (after_first is_line_feed xs ++ b)))
     → SpellsLine reading.grammar (reading.number + 1) says
     → TakesLine reading.grammar reading.number (behind_line says reading).number (taken_of (reading.number + 1) says) (xs ++ b) ((behind_line says reading).pending ++ b)
@@ -31,7 +31,7 @@ judged_told Skipped xs b reading same next spelled = rw same (sym next)
 judged_told (Spells line) xs b reading same next spelled = rw same (next, spelled.0)
 
 -- what the octets before and after say
-pub judged : (says : LineSays) (pending : List ℕ) (now new : Reading) (left0 left1 : Option (List ℕ))
+pub judged : (says : LineSays) (pending : List ℕ) (now new : LinesState) (left0 left1 : Option (List ℕ))
     → Keeps (prepend_known pending left0) (prepend_known now.pending left1) → 0 < length now.pending → IsFoundBy now → (now.ended ≡ true → IsAtEnd left1)
     → says ≡ line_says now.grammar (now.number + 1) (before_first is_line_feed now.pending) → new ≡ behind_line says now → SpellsLine now.grammar (now.number + 1) says
     → WhereTold (prepend_known pending left0) (prepend_known new.pending left1) (TakesLine now.grammar now.number new.number (taken_of (now.number + 1) says))
@@ -57,7 +57,7 @@ takes_first number xs b found =
     }
 
 -- a line that isn't outside the grammar, before the source's end, has its line feed
-has_feed : (says : LineSays) (now : Reading) → IsFoundBy now → now.ended ≡ false → says ≡ line_says now.grammar (now.number + 1) (before_first is_line_feed now.pending)
+has_feed : (says : LineSays) (now : LinesState) → IsFoundBy now → now.ended ≡ false → says ≡ line_says now.grammar (now.number + 1) (before_first is_line_feed now.pending)
     → (says ≡ Outside → ⊥) → position_or_len is_line_feed now.pending < length now.pending
 has_feed says now found goes_on said inside =
     elim (cases_lt (position_or_len is_line_feed now.pending) (length now.pending)) [
@@ -71,19 +71,19 @@ has_feed says now found goes_on said inside =
       ]
     ]
 
-judged_takes : (says : LineSays) (xs b : List ℕ) (reading : Reading) → reading.pending ≡ xs → ((says ≡ Outside → ⊥) → position_or_len is_line_feed xs < length xs)
+judged_takes : (says : LineSays) (xs b : List ℕ) (reading : LinesState) → reading.pending ≡ xs → ((says ≡ Outside → ⊥) → position_or_len is_line_feed xs < length xs)
     → TakesLines reading.number (behind_line says reading).number (xs ++ b) ((behind_line says reading).pending ++ b)
 judged_takes Outside xs b reading same feed = rw same (takes_none reading.number (xs ++ b))
 judged_takes Skipped xs b reading same feed = rw same (takes_first reading.number xs b (feed (λ e. cc)))
 judged_takes (Spells line) xs b reading same feed = rw same (takes_first reading.number xs b (feed (λ e. cc)))
 
-goes_on_before : (says : LineSays) (now : Reading) → (behind_line says now).ended ≡ false → now.ended ≡ false
+goes_on_before : (says : LineSays) (now : LinesState) → (behind_line says now).ended ≡ false → now.ended ≡ false
 goes_on_before Outside now e = e
 goes_on_before Skipped now e = e
 goes_on_before (Spells line) now e = e
 
 -- whole lines were taken before the source's end
-pub judged_whole : (says : LineSays) (pending : List ℕ) (now new : Reading) (left0 left1 : Option (List ℕ))
+pub judged_whole : (says : LineSays) (pending : List ℕ) (now new : LinesState) (left0 left1 : Option (List ℕ))
     → Keeps (prepend_known pending left0) (prepend_known now.pending left1) → IsFoundBy now
     → says ≡ line_says now.grammar (now.number + 1) (before_first is_line_feed now.pending) → new ≡ behind_line says now → new.ended ≡ false
     → WhereTold (prepend_known pending left0) (prepend_known new.pending left1) (TakesLines now.number new.number)

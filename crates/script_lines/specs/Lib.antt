@@ -6,3 +6,4 @@ pub mod ReadingSteps
 pub mod Script
 pub mod TakingSteps
 pub mod Report
+pub mod FrontSteps

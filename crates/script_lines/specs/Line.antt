@@ -2,7 +2,7 @@
 use Rattle.std.specs.Prelude.{◌≡◌, ℕ, ◌==◌, ◌||◌, nat_lt, Bool, true, Option, Some, None, option_and_then, List, [], ◌∷◌, length, if◌then◌else◌, codes}
 use Rattle.std.specs.Str.{bytes_eq}
 use Rattle.std.specs.Option.{option_map}
-use Rattle.bac_values.specs.Identifier.{Identifier}
+use Rattle.bac_values.specs.Identifier.{ObjectIdData}
 use Rattle.bac_values.specs.Moments.{IsMoment}
 use Rattle.bac_values.specs.declared.input.Input.{Input}
 use Rattle.bac_values.specs.declared.input.Input.TheVariants.{Tick, Pump, Set, Fault, Datagram}
@@ -17,7 +17,7 @@ use Rattle.script_lines.specs.Words.{first_word, other_words, moment_of}
 use Rattle.script_lines.specs.SessionLine.{session_line_of, IsOfOctets, IsSessionLine}
 
 -- the object on trial: integer-value 1
-abbrev pub trial_object : Identifier
+abbrev pub trial_object : ObjectIdData
 trial_object = record { number = 45; instance = 1 }
 
 -- what a line of a trial can say: that time goes by, or a value with a sign for the object on trial

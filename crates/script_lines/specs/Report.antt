@@ -2,8 +2,8 @@
 use Rattle.std.specs.Prelude.{ℕ, ◌/◌, ◌%◌, Option, Some, None, List, ◌++◌, codes}
 use Rattle.std.specs.Fmt.{decimal}
 use Rattle.hex.specs.Hex.{encode_lower}
-use Rattle.bac_values.specs.Address.{Address}
-use Rattle.bac_values.specs.Identifier.{Identifier, kind_of}
+use Rattle.bac_values.specs.Address.{PeerData}
+use Rattle.bac_values.specs.Identifier.{kind_of, ObjectIdData}
 use Rattle.bac_values.specs.declared.event_state.EventState.{EventState}
 use Rattle.bac_values.specs.declared.event_state.EventState.TheVariants.{Normal, Fault, Offnormal, HighLimit, LowLimit}
 use Rattle.bac_values.specs.declared.object_kind.ObjectKind.{ObjectKind}
@@ -44,11 +44,11 @@ type_text number (Some kind) = kind_name kind
 type_text number None = decimal number
 
 -- KIND:INSTANCE
-abbrev pub object_text : Identifier → List ℕ
+abbrev pub object_text : ObjectIdData → List ℕ
 object_text object = type_text object.number (kind_of object.number) ++ (codes ":" ++ decimal object.instance)
 
 -- A.B.C.D:PORT, the address of IPv4 by its octets, the highest first
-abbrev pub address_text : Address → List ℕ
+abbrev pub address_text : PeerData → List ℕ
 address_text peer = decimal (peer.ip / 16777216) ++ (codes "." ++ (decimal (peer.ip / 65536 % 256) ++ (codes "." ++ (decimal (peer.ip / 256 % 256) ++ (codes "." ++ (decimal (peer.ip % 256) ++ (codes ":" ++ decimal peer.port)))))))
 
 -- `N WORD` and a line feed

@@ -1,6 +1,6 @@
 -- The lines of a script, and how they are taken one after the other.
 use Rattle.std.specs.Prelude.{◌≡◌, ◌⊎◌, ℕ, ◌+◌, ◌==◌, Bool, List, [], ◌∷◌, ◌++◌, length, Option, Some, None, Result, Ok, Err, if◌then◌else◌}
-use Rattle.std.specs.List.{before_first, onto_first}
+use Rattle.std.specs.List.{onto_first}
 use Rattle.script_lines.specs.declared.line.Grammar.{Grammar}
 use Rattle.script_lines.specs.declared.line.Line.{Line}
 use Rattle.script_lines.specs.declared.lines.LineFault.{LineFault}
@@ -9,7 +9,6 @@ use Rattle.script_lines.specs.declared.lines.LineFault.TheVariants as line_fault
 use Rattle.script_lines.specs.declared.line.LineSays.{LineSays}
 use Rattle.script_lines.specs.declared.line.LineSays.TheVariants.{Skipped, Outside, Spells}
 use Rattle.script_lines.specs.Line.{line_says}
-use Rattle.script_lines.specs.ReadingSteps.{Reading}
 
 abbrev pub is_line_feed : ℕ → Bool
 is_line_feed c = c == 10
@@ -54,7 +53,3 @@ ReadsLine grammar before now (Ok (Some line)) old new = (next_in grammar before 
 ReadsLine grammar before now (Err (line_fault.Grammar line)) old new = (next_in grammar before (lines_of old) ≡ Refuses line) × (next_in grammar now (lines_of new) ≡ Refuses line)
 ReadsLine grammar before now (Err Read) old new = next_in grammar now (lines_of new) ≡ next_in grammar before (lines_of old)
 ReadsLine grammar before now (Err NoMemory) old new = next_in grammar now (lines_of new) ≡ next_in grammar before (lines_of old)
-
--- what the line at the front of the octets that were read says
-abbrev pub front_says : Reading → LineSays
-front_says reading = line_says reading.grammar (reading.number + 1) (before_first is_line_feed reading.pending)

@@ -5,9 +5,9 @@ use Rattle.std.specs.Option.{option_map}
 use Rattle.std.specs.Result.{result_ok}
 use Rattle.std.specs.Str.{bytes_eq, is_utf8}
 use Rattle.hex.specs.Hex.{decode_of}
-use Rattle.bac_values.specs.Address.{Address}
-use Rattle.bac_values.specs.BitString.{BitString}
-use Rattle.bac_values.specs.Identifier.{Identifier, kind_of, number_of_kind, known_kinds}
+use Rattle.bac_values.specs.Address.{PeerData}
+use Rattle.bac_values.specs.BitString.{BitsData}
+use Rattle.bac_values.specs.Identifier.{kind_of, number_of_kind, known_kinds, ObjectIdData}
 use Rattle.bac_values.specs.Moments.{IsMoment}
 use Rattle.bac_values.specs.declared.input.Input.{Input}
 use Rattle.bac_values.specs.declared.input.Input.TheVariants.{Tick, Pump, Set, Fault, Datagram}
@@ -44,14 +44,14 @@ abbrev pub kind_named : List ℕ → Option ObjectKind
 kind_named name = find (λ kind. bytes_eq (kind_name kind) name) known_kinds
 
 -- the object KIND:INSTANCE
-abbrev pub object_of : List ℕ → Option Identifier
+abbrev pub object_of : List ℕ → Option ObjectIdData
 object_of text = do
   kind ← kind_named (before colon text)
   instance ← unsigned_of 4194303 (behind colon text)
   Some (record { number = number_of_kind kind; instance = instance })
 
 -- an object of a type that has a name
-pub record IsNamedObject (object : Identifier) : Type 0 where
+pub record IsNamedObject (object : ObjectIdData) : Type 0 where
   pub kind : IsSome (kind_of object.number)
   pub instance : object.instance ≤ 4194303
 
@@ -71,14 +71,14 @@ port_of text = do
   if port == 0 then None else Some port
 
 -- the peer A.B.C.D:PORT, on the local network
-abbrev pub peer_of : List ℕ → Option Address
+abbrev pub peer_of : List ℕ → Option PeerData
 peer_of text = do
   ip ← ip_of (before colon text)
   port ← port_of (behind colon text)
   Some (record { ip = ip; port = port; net = 0; mac = [] })
 
 -- a peer on the local network that has a port
-pub record IsNamedPeer (peer : Address) : Type 0 where
+pub record IsNamedPeer (peer : PeerData) : Type 0 where
   pub ip : peer.ip < 2 ^ 32
   pub port : (1 ≤ peer.port) × (peer.port ≤ 65535)
   pub net : peer.net ≡ 0
@@ -97,7 +97,7 @@ bits_number (c ∷ cs) = do
   Some (bit + 2 * others)
 
 -- a string of at most 64 bits, the first digit bit 0
-abbrev pub bits_of : List ℕ → Option BitString
+abbrev pub bits_of : List ℕ → Option BitsData
 bits_of digits = if nat_lt 64 (length digits) then None else option_map (λ bits. record { size = length digits; bits = bits }) (bits_number digits)
 
 -- the octets that pairs of hexadecimal digits spell, in either case

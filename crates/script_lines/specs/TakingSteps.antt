@@ -9,7 +9,7 @@ use Rattle.script_lines.specs.declared.line.LineSays.TheVariants.{Skipped, Outsi
 use Rattle.script_lines.specs.declared.lines.Taken.{Taken}
 use Rattle.script_lines.specs.declared.lines.Taken.TheVariants.{End, Passed, Took}
 use Rattle.script_lines.specs.Line.{IsLineOf}
-use Rattle.script_lines.specs.ReadingSteps.{Reading}
+use Rattle.script_lines.specs.ReadingSteps.{LinesState}
 use Rattle.script_lines.specs.Script.{is_line_feed, lines_of, next_in, ReadsLine}
 
 -- what one line gave: that there is none, as ReadsLine has it for the script's end; that it was skipped, and what comes next is the same; or as ReadsLine has it
@@ -20,7 +20,7 @@ TakesLine grammar before now (Ok (Took line)) old new = ReadsLine grammar before
 TakesLine grammar before now (Err fault) old new = ReadsLine grammar before now (Err fault) old new
 
 -- the reader behind its first line, unless that is outside the grammar
-abbrev pub behind_line : LineSays → Reading → Reading
+abbrev pub behind_line : LineSays → LinesState → LinesState
 behind_line Outside reading = reading
 behind_line Skipped reading = record { grammar = reading.grammar; pending = after_first is_line_feed reading.pending; number = reading.number + 1; ended = reading.ended }
 behind_line (Spells line) reading = record { grammar = reading.grammar; pending = after_first is_line_feed reading.pending; number = reading.number + 1; ended = reading.ended }

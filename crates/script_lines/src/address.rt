@@ -1,5 +1,5 @@
 ghost use Rattle.std.specs.Prelude.{◌≡◌, ◌↔◌, ◌≤◌, IfSome};
-ghost use Rattle.bac_values.specs.Address.{Address};
+ghost use Rattle.bac_values.specs.Address.{PeerData};
 ghost use Rattle.script_lines.specs.Number.{unsigned_of};
 ghost use Rattle.script_lines.specs.Report.{address_text};
 ghost use Rattle.script_lines.specs.SessionLine.{IsNamedPeer, ip_of, port_of, peer_of};
@@ -50,7 +50,7 @@ fn peer(text: &[u8]) -> Option<Peer>
 /// the peer's address.
 pub fn read_peer(text: &[u8]) -> Option<Peer>
     ensures peer { result ≡ peer_of text.now }
-    ensures written { (peer : Address) → (result ≡ Some peer) ↔ ((text.now ≡ address_text peer) × IsNamedPeer peer) }
+    ensures written { (peer : PeerData) → (result ≡ Some peer) ↔ ((text.now ≡ address_text peer) × IsNamedPeer peer) }
 {
     peer(text)
 }

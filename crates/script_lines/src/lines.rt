@@ -129,9 +129,9 @@ pub struct Lines {
 
 impl Model for Lines {
     ghost use Rattle.std.specs.Prelude.{◌≤◌};
-    ghost use Rattle.script_lines.specs.ReadingSteps.{Reading};
+    ghost use Rattle.script_lines.specs.ReadingSteps.{LinesState};
 
-    ghost Value = { Reading };
+    ghost Value = { LinesState };
 
     ghost view = { λ lines. record { grammar = lines.grammar; pending = lines.pending; number = lines.number; ended = lines.ended } };
 
@@ -144,7 +144,8 @@ impl Lines {
     ghost use Rattle.script_lines.specs.Line.{HoldsOctets, IsLineOf, SpellsLine, line_says};
     ghost use Rattle.script_lines.specs.ReadingSteps.{octets_to_come};
     ghost use Rattle.ground_io.specs.Trace.{WhereTold};
-    ghost use Rattle.script_lines.specs.Script.{front_says, is_line_feed, ReadsLine, TakesLines};
+    ghost use Rattle.script_lines.specs.Script.{is_line_feed, ReadsLine, TakesLines};
+    ghost use Rattle.script_lines.specs.FrontSteps.{front_says};
     ghost use Rattle.script_lines.specs.TakingSteps.{CountsLine, TakesLine, TakesLineOf, behind_line};
 
     // A reader of a script in a grammar, at its first line.

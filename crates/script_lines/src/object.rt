@@ -1,5 +1,5 @@
 ghost use Rattle.std.specs.Prelude.{◌≡◌, ◌↔◌};
-ghost use Rattle.bac_values.specs.Identifier.{Identifier};
+ghost use Rattle.bac_values.specs.Identifier.{ObjectIdData};
 ghost use Rattle.script_lines.specs.Report.{object_text};
 ghost use Rattle.script_lines.specs.SessionLine.{IsNamedObject, kind_named, object_of};
 
@@ -46,7 +46,7 @@ fn object(text: &[u8]) -> Option<ObjectId>
 /// object.
 pub fn read_object(text: &[u8]) -> Option<ObjectId>
     ensures object { result ≡ object_of text.now }
-    ensures written { (object : Identifier) → (result ≡ Some object) ↔ ((text.now ≡ object_text object) × IsNamedObject object) }
+    ensures written { (object : ObjectIdData) → (result ≡ Some object) ↔ ((text.now ≡ object_text object) × IsNamedObject object) }
 {
     object(text)
 }

@@ -1,7 +1,7 @@
 -- What is decided on the state of a history is allowed after it.
 use Rattle.std.proofs.Common.{◌≡◌, ◌==◌, ℕ, max, Bool, true, false, Option, Some, None, Result, Ok, Err, List, [], ◌∷◌, drop, if◌then◌else◌, refl}
-use Rattle.bac_values.specs.Address.{Address}
-use Rattle.bac_values.specs.Identifier.{Identifier}
+use Rattle.bac_values.specs.Address.{PeerData}
+use Rattle.bac_values.specs.Identifier.{ObjectIdData}
 use Rattle.bac_values.specs.Pdus.{abort_pdu, error_pdu, reject_pdu, simple_ack_pdu}
 use Rattle.bac_values.specs.Services.{acknowledge_alarm_service, confirmed_event_notification_service, get_event_information_service, read_property_service, read_range_service, who_is_service, write_property_service}
 use Rattle.bac_values.specs.declared.input.Input.{Input}
@@ -17,8 +17,8 @@ use Rattle.apdu_frame.specs.ReadingSteps.{apdu_of}
 use Rattle.bac_tags.specs.declared.malformed.Malformed.{Malformed}
 use Rattle.event_machine.specs.Finding.{Finding, NoSuchObject, WithoutAlarm, WithAlarm}
 use Rattle.event_services.specs.declared.acknowledge.AckRequest.{AckRequest}
-use Rattle.event_services.specs.Acknowledgements.{acknowledge_request_of}
-use Rattle.event_services.specs.Information.{information_request_of}
+use Rattle.event_services.specs.AcknowledgementSteps.{acknowledge_request_of}
+use Rattle.event_services.specs.InformationSteps.{information_request_of}
 use Rattle.property_services.specs.declared.requests.ReadRequest.{ReadRequest}
 use Rattle.property_services.specs.declared.requests.WriteRequest.{WriteRequest}
 use Rattle.property_services.specs.ReadingSteps.{read_property_of, who_is_of, write_property_of}
@@ -38,11 +38,11 @@ use Rattle.alarm_core.specs.History.{StateTransition, raised, tick_at}
 use Rattle.alarm_core.specs.CoreSteps.{next_transitions}
 use Rattle.alarm_core.specs.Reading.{write_of}
 use Rattle.alarm_core.specs.Sites.{IsSite}
-use Rattle.alarm_core.specs.State.{State, state_of}
+use Rattle.alarm_core.specs.State.{state_of, CoreState}
 use Rattle.service_desk.specs.declared.decision.Decision.{Decision}
 use Rattle.service_desk.specs.declared.decision.Decision.TheVariants.{Ignore, Idle, Reply, Enter}
 use Rattle.service_desk.specs.declared.replies.Requester.{Requester}
-use Rattle.service_desk.specs.DecisionSteps.{EntersAllowed, acknowledge_decision, acknowledge_with, answer_at, apdu_decision, requester_of, names_device, by_kind, change_decision, decision_on, field_decision, has_no_value, i_am, incoming_decision, information_decision, information_with, pump_at, range_decision, read_decision, read_with, request_decision, tick_with, unconfirmed_decision, who_is_decision, write_decision, write_with}
+use Rattle.service_desk.specs.Decisions.{EntersAllowed, acknowledge_decision, acknowledge_with, answer_at, apdu_decision, requester_of, names_device, by_kind, change_decision, decision_on, field_decision, has_no_value, i_am, incoming_decision, information_decision, information_with, pump_at, range_decision, read_decision, read_with, request_decision, tick_with, unconfirmed_decision, who_is_decision, write_decision, write_with}
 use Rattle.service_desk.proofs.AllowedWrites.{fault_allowed, set_allowed, write_allowed}
 use Rattle.service_desk.proofs.Entering.{verdict_enters}
 
@@ -53,7 +53,7 @@ of_two P false first second p q = q
 
 -- ---- what comes by time, and from the field
 
-tick_enters : (state : State) (transitions : List StateTransition) (moment : ℕ) → EntersAllowed state moment (tick_with transitions moment)
+tick_enters : (state : CoreState) (transitions : List StateTransition) (moment : ℕ) → EntersAllowed state moment (tick_with transitions moment)
 tick_enters state [] moment = tt
 tick_enters state (transition ∷ transitions) moment = (refl, tt)
 
@@ -61,13 +61,13 @@ of_kind : (none : Bool) (checked : Result Change SetFault) (change : Change) →
 of_kind true checked change e = absurd cc
 of_kind false checked change e = e
 
-field_enters : (state : State) (moment : ℕ) (checked : Result Change SetFault) → ((change : Change) → checked ≡ Ok change → IsAllowed state (Write change)) → EntersAllowed state moment (field_decision moment checked)
+field_enters : (state : CoreState) (moment : ℕ) (checked : Result Change SetFault) → ((change : Change) → checked ≡ Ok change → IsAllowed state (Write change)) → EntersAllowed state moment (field_decision moment checked)
 field_enters state moment (Err why) allowed = tt
 field_enters state moment (Ok change) allowed = (refl, allowed change refl)
 
 -- ---- what a datagram asks for
 
-module _ (state : State) (moment : ℕ) where
+module _ (state : CoreState) (moment : ℕ) where
   abbrev Enters : Decision → Type 0
   Enters decision = EntersAllowed state moment decision
 
@@ -91,23 +91,23 @@ module _ (state : State) (moment : ℕ) where
   change_enters requester (Err (write_faults.Error class code)) allowed = tt
   change_enters requester (Err write_faults.NoMemory) allowed = tt
 
-  information_enters : (requester : Requester) (request : Result (Option Identifier) Malformed) → Enters (information_with state requester request)
+  information_enters : (requester : Requester) (request : Result (Option ObjectIdData) Malformed) → Enters (information_with state requester request)
   information_enters requester (Err refusal) = tt
   information_enters requester (Ok last) = tt
 
-  answer_enters : (peer : Address) (invoke kind : ℕ) → IsAnswer kind → (waits : Bool) → has_in_flight peer invoke state.outbox ≡ waits →
+  answer_enters : (peer : PeerData) (invoke kind : ℕ) → IsAnswer kind → (waits : Bool) → has_in_flight peer invoke state.outbox ≡ waits →
       Enters (if waits then Enter (answer_at moment peer invoke kind) None None else Ignore)
   answer_enters peer invoke kind is true e = (refl, (is, e))
   answer_enters peer invoke kind is false e = tt
 
-  unconfirmed_enters : (peer : Address) (service : ℕ) (parameters : List ℕ) → Enters (unconfirmed_decision state.site peer service parameters)
+  unconfirmed_enters : (peer : PeerData) (service : ℕ) (parameters : List ℕ) → Enters (unconfirmed_decision state.site peer service parameters)
   unconfirmed_enters peer service parameters =
       of_two Enters (service == who_is_service) (who_is_decision state.site peer parameters) Ignore
       (of_two Enters (names_device (who_is_of parameters) state.site.device.instance) (Reply (i_am state.site peer)) Ignore tt tt) tt
 
   -- what a write makes is allowed
   abbrev AllowsWrites : Type 0
-  AllowsWrites = (object : Identifier) (number : ℕ) (index : Option ℕ) (value : Value) (change : Change) → write_of state object number index value ≡ Ok change → IsAllowed state (Write change)
+  AllowsWrites = (object : ObjectIdData) (number : ℕ) (index : Option ℕ) (value : Value) (change : Change) → write_of state object number index value ≡ Ok change → IsAllowed state (Write change)
 
   write_enters : AllowsWrites → (requester : Requester) (request : Result WriteRequest Malformed) → Enters (write_with state moment requester request)
   write_enters writes requester (Err refusal) = tt
@@ -123,12 +123,12 @@ module _ (state : State) (moment : ℕ) where
       (of_two Enters (requester.service == read_range_service) (range_decision state requester parameters) _ tt
       (of_two Enters (requester.service == get_event_information_service) (information_decision state requester parameters) _ (information_enters requester (information_request_of parameters)) tt))))
 
-  named_enters : (peer : Address) (invoke service kind : ℕ) → IsAnswer kind →
+  named_enters : (peer : PeerData) (invoke service kind : ℕ) → IsAnswer kind →
       Enters (if service == confirmed_event_notification_service then (if has_in_flight peer invoke state.outbox then Enter (answer_at moment peer invoke kind) None None else Ignore) else Ignore)
   named_enters peer invoke service kind is =
       of_two Enters (service == confirmed_event_notification_service) _ Ignore (answer_enters peer invoke kind is (has_in_flight peer invoke state.outbox) refl) tt
 
-  apdu_enters : AllowsWrites → (peer : Address) (octets : List ℕ) (header : Apdu) → Enters (apdu_decision state moment peer octets header)
+  apdu_enters : AllowsWrites → (peer : PeerData) (octets : List ℕ) (header : Apdu) → Enters (apdu_decision state moment peer octets header)
   apdu_enters writes peer octets (Request max_apdu invoke service start) = request_enters writes (requester_of peer max_apdu invoke service) (drop start octets)
   apdu_enters writes peer octets (Segmented invoke) = tt
   apdu_enters writes peer octets (Unconfirmed service start) = unconfirmed_enters peer service (drop start octets)

@@ -1,6 +1,6 @@
 -- A write that is answered with no error makes a change that is allowed, with an index or without.
 use Rattle.std.proofs.Common.{◌≡◌, ℕ, Bool, true, false, List, Option, Some, None, Result, Ok, Err, IsOk, if◌then◌else◌, refl, ap, ◌∙◌, sym, subst}
-use Rattle.bac_values.specs.Identifier.{Identifier}
+use Rattle.bac_values.specs.Identifier.{ObjectIdData}
 use Rattle.bac_values.specs.Properties.{present_value_property}
 use Rattle.bac_values.specs.declared.input.SetFault.TheVariants.{ValueRange}
 use Rattle.bac_values.specs.declared.object_kind.ObjectKind.{ObjectKind}
@@ -27,11 +27,11 @@ use Rattle.alarm_core.specs.Allowed.{IsAllowed}
 use Rattle.alarm_core.specs.Contents.{other_content}
 use Rattle.property_values.specs.LogProperties.{log_content, log_write, write_with}
 use Rattle.property_values.specs.LogProperties as log_properties
-use Rattle.alarm_core.specs.Logs.{KeptLog, kept_log}
+use Rattle.alarm_core.specs.Logs.{kept_log, SiteLogState}
 use Rattle.alarm_core.specs.Logs as logs
 use Rattle.alarm_core.specs.Reading.{denied, denied_by, write_by, write_of}
 use Rattle.alarm_core.specs.Sites.{IsSite}
-use Rattle.alarm_core.specs.State.{State, state_of}
+use Rattle.alarm_core.specs.State.{state_of, CoreState}
 use Rattle.alarm_core.proofs.Accepted.{allows_what_checks_accept}
 use Rattle.alarm_core.proofs.Parted.{found_passes, same_object}
 
@@ -77,7 +77,7 @@ of_read : {X : Type 0} (P Q : Result X ReadFault → Type 0) → ((fault : ReadF
 of_read P Q first second (Err fault) p = first fault p
 of_read P Q first second (Ok x) p = second x p
 
-log_plain : (log : KeptLog) (number : ℕ) (index : Option ℕ) (value : Value) → write_with (log_content log.site log.log number) number index value ≡ Ok tt → write_with (log_content log.site log.log number) number None value ≡ Ok tt
+log_plain : (log : SiteLogState) (number : ℕ) (index : Option ℕ) (value : Value) → write_with (log_content log.site log.log number) number index value ≡ Ok tt → write_with (log_content log.site log.log number) number None value ≡ Ok tt
 log_plain log number index value e =
     of_read (λ content. write_with content number index value ≡ Ok tt) (λ content. write_with content number None value ≡ Ok tt) (λ fault p. p)
     (λ content p. second_passed (index_verdict None index) (value_verdict (log_properties.writable_tag number) (logs.takes_value number value) value) p)
@@ -89,17 +89,17 @@ never_by : (verdict : Result (Unit {0}) WriteFault) (change : Change) → denied
 never_by (Ok passed) change e = cc
 never_by (Err fault) change e = cc
 
-never_denied : (state : State) (object : Identifier) (number : ℕ) (index : Option ℕ) (change : Change) → denied (other_content state.site state.classes object number) index ≡ Ok change → ⊥
+never_denied : (state : CoreState) (object : ObjectIdData) (number : ℕ) (index : Option ℕ) (change : Change) → denied (other_content state.site state.classes object number) index ≡ Ok change → ⊥
 never_denied state object number index change e =
     of_read (λ content. denied content index ≡ Ok change) (λ content. ⊥) (λ fault p. absurd cc) (λ content p. never_by _ change p) (other_content state.site state.classes object number) e
 
 -- the change is that of the value, which a write without an index makes too
-record Writes (plain : Result Change WriteFault) (object : Identifier) (number : ℕ) (value : Value) (change : Change) : Type 0 where
+record Writes (plain : Result Change WriteFault) (object : ObjectIdData) (number : ℕ) (value : Value) (change : Change) : Type 0 where
   passes : IsOk plain
   is : property_change object number value ≡ change
 
-writes_by : (state : State) (site : Option EnrollmentSite) (row : Option Row) (kept : Option KeptLog) (object : Identifier) (number : ℕ) (index : Option ℕ) (value : Value) (change : Change) →
-    ((log : KeptLog) → kept ≡ Some log → log.site.object ≡ object) → write_by state site row kept object number index value ≡ Ok change →
+writes_by : (state : CoreState) (site : Option EnrollmentSite) (row : Option Row) (kept : Option SiteLogState) (object : ObjectIdData) (number : ℕ) (index : Option ℕ) (value : Value) (change : Change) →
+    ((log : SiteLogState) → kept ≡ Some log → log.site.object ≡ object) → write_by state site row kept object number index value ≡ Ok change →
     Writes (write_by state site row kept object number None value) object number value change
 writes_by state (Some site) row kept object number index value change own e =
     let given = property_change object number value in
@@ -123,12 +123,12 @@ writes_by state None None None object number index value change own e =
     absurd (never_denied state object number index change e)
 
 -- what a write makes is allowed
-pub write_allowed : (site : Site) → IsSite site → (history : List Event) (object : Identifier) (number : ℕ) (index : Option ℕ) (value : Value) (change : Change) →
+pub write_allowed : (site : Site) → IsSite site → (history : List Event) (object : ObjectIdData) (number : ℕ) (index : Option ℕ) (value : Value) (change : Change) →
     write_of (state_of site history) object number index value ≡ Ok change → IsAllowed (state_of site history) (Write change)
 write_allowed site is history object number index value change e =
     let state = state_of site history in
-    let own : (log : KeptLog) → kept_log object state.logs ≡ Some log → log.site.object ≡ object =
-    λ log found. same_object object log.site.object (found_passes (λ (k : KeptLog). is_object object k.site.object) state.logs log found) in
+    let own : (log : SiteLogState) → kept_log object state.logs ≡ Some log → log.site.object ≡ object =
+    λ log found. same_object object log.site.object (found_passes (λ (k : SiteLogState). is_object object k.site.object) state.logs log found) in
     let writes = writes_by state (site_of object state.values.enrollments) (row_of object state.values.rows) (kept_log object state.logs) object number index value change own e in
     subst (λ c. IsAllowed state (Write c)) writes.is ((allows_what_checks_accept.writes site is history object number value).1 writes.passes)
 
@@ -138,11 +138,11 @@ ok_of : {A E : Type 0} (answer : Result A E) (x : A) → answer ≡ Ok x → IsO
 ok_of (Ok y) x e = refl
 ok_of (Err fault) x e = absurd cc
 
-set_made : (row : Option Row) (object : Identifier) (value : Value) (change : Change) → set_by_row row object value ≡ Ok change → property_change object present_value_property value ≡ change
+set_made : (row : Option Row) (object : ObjectIdData) (value : Value) (change : Change) → set_by_row row object value ≡ Ok change → property_change object present_value_property value ≡ change
 set_made (Some row) object value change e = given_change (set_verdict (kind_in row.site) row.site value) (property_change object present_value_property value) change e
 set_made None object value change e = absurd cc
 
-pub set_allowed : (state : State) (object : Identifier) (value : Value) (change : Change) → set_by_row (row_of object state.values.rows) object value ≡ Ok change → IsAllowed state (Write change)
+pub set_allowed : (state : CoreState) (object : ObjectIdData) (value : Value) (change : Change) → set_by_row (row_of object state.values.rows) object value ≡ Ok change → IsAllowed state (Write change)
 set_allowed state object value change e =
     let row = row_of object state.values.rows in
     subst (λ c. IsAllowed state (Write c)) (set_made row object value change e) (allows_what_checks_accept.sets state object value (ok_of (set_by_row row object value) change e))
@@ -151,11 +151,11 @@ fault_tested : (fault : Bool) (given change : Change) → (if fault then Ok give
 fault_tested true given change e = cc
 fault_tested false given change e = absurd cc
 
-fault_made : (row : Option Row) (object : Identifier) (reliability : ℕ) (change : Change) → fault_by_row row object reliability ≡ Ok change → fault_change object reliability ≡ change
+fault_made : (row : Option Row) (object : ObjectIdData) (reliability : ℕ) (change : Change) → fault_by_row row object reliability ≡ Ok change → fault_change object reliability ≡ change
 fault_made (Some row) object reliability change e = fault_tested (is_field_fault reliability) (fault_change object reliability) change e
 fault_made None object reliability change e = absurd cc
 
-pub fault_allowed : (state : State) (object : Identifier) (reliability : ℕ) (change : Change) → fault_by_row (row_of object state.values.rows) object reliability ≡ Ok change → IsAllowed state (Write change)
+pub fault_allowed : (state : CoreState) (object : ObjectIdData) (reliability : ℕ) (change : Change) → fault_by_row (row_of object state.values.rows) object reliability ≡ Ok change → IsAllowed state (Write change)
 fault_allowed state object reliability change e =
     let row = row_of object state.values.rows in
     subst (λ c. IsAllowed state (Write c)) (fault_made row object reliability change e)

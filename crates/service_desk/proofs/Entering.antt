@@ -1,16 +1,16 @@
 -- What a decision enters is allowed.
 use Rattle.std.proofs.Common.{◌≡◌, ℕ, Result, Ok, Err, IfOk, refl, sym, subst}
-use Rattle.bac_values.specs.Identifier.{Identifier}
+use Rattle.bac_values.specs.Identifier.{ObjectIdData}
 use Rattle.ack_alarm.specs.declared.verdict.Verdict.{Verdict}
 use Rattle.ack_alarm.specs.declared.verdict.Verdict.TheVariants.{Accept, Already, Error}
 use Rattle.ack_alarm.specs.Verdicts.{AcceptsAllowed}
 use Rattle.alarm_core.specs.Found.{found_in}
-use Rattle.alarm_core.specs.State.{State}
+use Rattle.alarm_core.specs.State.{CoreState}
 use Rattle.service_desk.specs.declared.decision.Decision.{Decision}
 use Rattle.service_desk.specs.declared.replies.Requester.{Requester}
-use Rattle.service_desk.specs.DecisionSteps.{EntersAllowed, verdict_decision}
+use Rattle.service_desk.specs.Decisions.{EntersAllowed, verdict_decision}
 
-pub verdict_enters : (state : State) (moment : ℕ) (requester : Requester) (object : Identifier) (verdict : Verdict) → AcceptsAllowed (found_in state object) verdict →
+pub verdict_enters : (state : CoreState) (moment : ℕ) (requester : Requester) (object : ObjectIdData) (verdict : Verdict) → AcceptsAllowed (found_in state object) verdict →
     EntersAllowed state moment (verdict_decision moment requester object verdict)
 verdict_enters state moment requester object (Accept transition named) accepts = (refl, accepts transition named refl)
 verdict_enters state moment requester object Already accepts = tt

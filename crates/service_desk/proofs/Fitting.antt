@@ -1,11 +1,11 @@
 -- No reply is longer than its requester takes.
 use Rattle.std.proofs.Common.{ℕ, ◌≤◌, Bool, true, false, if◌then◌else◌, Result, Ok, Err, List, Option, bit_and, ◌==◌, sym, subst, lit≤}
-use Rattle.bac_values.specs.Identifier.{Identifier}
+use Rattle.bac_values.specs.Identifier.{ObjectIdData}
 use Rattle.apdu_frame.specs.Headers.{max_apdu_of}
 use Rattle.bac_tags.specs.declared.malformed.Malformed.{Malformed}
 use Rattle.event_services.specs.declared.acknowledge.AckRequest.{AckRequest}
-use Rattle.event_services.specs.Acknowledgements.{acknowledge_request_of}
-use Rattle.event_services.specs.Information.{information_request_of}
+use Rattle.event_services.specs.AcknowledgementSteps.{acknowledge_request_of}
+use Rattle.event_services.specs.InformationSteps.{information_request_of}
 use Rattle.property_services.specs.declared.requests.ReadRequest.{ReadRequest}
 use Rattle.property_services.specs.declared.requests.WriteRequest.{WriteRequest}
 use Rattle.property_services.specs.ReadingSteps.{read_property_of, write_property_of}
@@ -21,10 +21,10 @@ use Rattle.alarm_core.specs.Found.{found_in, has_object}
 use Rattle.alarm_core.specs.Information.{has_more, summaries_of}
 use Rattle.alarm_core.specs.Logs.{log_in}
 use Rattle.alarm_core.specs.Reading.{read_of, write_of}
-use Rattle.alarm_core.specs.State.{State}
+use Rattle.alarm_core.specs.State.{CoreState}
 use Rattle.service_desk.specs.declared.decision.Decision.{Decision}
 use Rattle.service_desk.specs.declared.replies.Requester.{Requester}
-use Rattle.service_desk.specs.DecisionSteps.{acknowledge_with, change_decision, information_with, read_reply, read_with, verdict_decision, write_with}
+use Rattle.service_desk.specs.Decisions.{acknowledge_with, change_decision, information_with, read_reply, read_with, verdict_decision, write_with}
 use Rattle.service_desk.specs.Laws.{EachReplyFits, FitsRequester, RepliesFit}
 use Rattle.service_desk.specs.Information.{information_room}
 use Rattle.service_desk.proofs.Sends.{abort_fits, simple_ack_fits, within_max_apdu_fits, information_reply_fits, range_decided_fits, error_fits, reject_fits}
@@ -40,12 +40,12 @@ least_apdu second =
     either (code == 0) 50 _ 50 (lit≤ tt) (either (code == 1) 128 _ 50 (lit≤ tt) (either (code == 2) 206 _ 50 (lit≤ tt)
     (either (code == 3) 480 _ 50 (lit≤ tt) (either (code == 4) 1024 1476 50 (lit≤ tt) (lit≤ tt)))))
 
-verdict_fits : (moment : ℕ) (requester : Requester) (object : Identifier) (verdict : Verdict) → 50 ≤ requester.max_apdu → RepliesFit requester (verdict_decision moment requester object verdict)
+verdict_fits : (moment : ℕ) (requester : Requester) (object : ObjectIdData) (verdict : Verdict) → 50 ≤ requester.max_apdu → RepliesFit requester (verdict_decision moment requester object verdict)
 verdict_fits moment requester object (Accept transition named) least = (simple_ack_fits requester least, abort_fits requester 0 least)
 verdict_fits moment requester object Already least = simple_ack_fits requester least
 verdict_fits moment requester object (Error class code) least = error_fits requester class code least
 
-acknowledge_fits : (state : State) (moment : ℕ) (requester : Requester) (read : Result AckRequest Malformed) → 50 ≤ requester.max_apdu → RepliesFit requester (acknowledge_with state moment requester read)
+acknowledge_fits : (state : CoreState) (moment : ℕ) (requester : Requester) (read : Result AckRequest Malformed) → 50 ≤ requester.max_apdu → RepliesFit requester (acknowledge_with state moment requester read)
 acknowledge_fits state moment requester (Err refusal) least = reject_fits requester refusal.reject least
 acknowledge_fits state moment requester (Ok request) least =
     verdict_fits moment requester request.object (acknowledgement_verdict (found_in state request.object) request) least
@@ -55,7 +55,7 @@ reply_fits requester request (Ok octets) least = within_max_apdu_fits requester 
 reply_fits requester request (Err (read_faults.Error class code)) least = error_fits requester class code least
 reply_fits requester request (Err read_faults.NoMemory) least = abort_fits requester 0 least
 
-read_fits : (state : State) (requester : Requester) (read : Result ReadRequest Malformed) → 50 ≤ requester.max_apdu → RepliesFit requester (read_with state requester read)
+read_fits : (state : CoreState) (requester : Requester) (read : Result ReadRequest Malformed) → 50 ≤ requester.max_apdu → RepliesFit requester (read_with state requester read)
 read_fits state requester (Err refusal) least = reject_fits requester refusal.reject least
 read_fits state requester (Ok request) least = reply_fits requester request (read_of state request.object request.property.0 request.index) least
 
@@ -64,12 +64,12 @@ change_fits moment requester (Ok change) least = (simple_ack_fits requester leas
 change_fits moment requester (Err (write_faults.Error class code)) least = error_fits requester class code least
 change_fits moment requester (Err write_faults.NoMemory) least = abort_fits requester 0 least
 
-write_fits : (state : State) (moment : ℕ) (requester : Requester) (read : Result WriteRequest Malformed) → 50 ≤ requester.max_apdu → RepliesFit requester (write_with state moment requester read)
+write_fits : (state : CoreState) (moment : ℕ) (requester : Requester) (read : Result WriteRequest Malformed) → 50 ≤ requester.max_apdu → RepliesFit requester (write_with state moment requester read)
 write_fits state moment requester (Err refusal) least = reject_fits requester refusal.reject least
 write_fits state moment requester (Ok request) least =
     change_fits moment requester (write_of state request.object request.property.0 request.index request.value) least
 
-information_fits : (state : State) (requester : Requester) (read : Result (Option Identifier) Malformed) → 50 ≤ requester.max_apdu → RepliesFit requester (information_with state requester read)
+information_fits : (state : CoreState) (requester : Requester) (read : Result (Option ObjectIdData) Malformed) → 50 ≤ requester.max_apdu → RepliesFit requester (information_with state requester read)
 information_fits state requester (Err refusal) least = reject_fits requester refusal.reject least
 information_fits state requester (Ok last) least =
     information_reply_fits requester (summaries_of last (information_room requester) state) (has_more last (information_room requester) state) least

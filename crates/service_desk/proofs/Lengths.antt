@@ -2,7 +2,7 @@
 use Rattle.std.proofs.Common.{◌≡◌, ℕ, ◌≤◌, Bool, true, false, None, ◌++◌, length, refl, lit≤, arith}
 use Rattle.std.specs.Prelude.{nat_lt}
 use Rattle.std.proofs.lemmas.List.{length-append}
-use Rattle.bac_values.specs.Identifier.{Identifier}
+use Rattle.bac_values.specs.Identifier.{ObjectIdData}
 use Rattle.bac_tags.specs.Writing.{written_enumerated, written_object, written_tag, written_unsigned}
 use Rattle.property_services.specs.Writing.{written_i_am}
 
@@ -20,11 +20,11 @@ enumerated_length : length (written_enumerated None 3) ≡ 2
 unfolding written_tag
 enumerated_length = refl
 
-object_length : (object : Identifier) → length (written_object None object) ≡ 5
+object_length : (object : ObjectIdData) → length (written_object None object) ≡ 5
 unfolding written_tag
 object_length object = refl
 
-pub i_am_length : (device : Identifier) (vendor : ℕ) → length (written_i_am device vendor) ≤ 17
+pub i_am_length : (device : ObjectIdData) (vendor : ℕ) → length (written_i_am device vendor) ≤ 17
 i_am_length device vendor =
     let object = written_object None device in
     let longest = written_unsigned None 1476 in

@@ -7,7 +7,7 @@ use Rattle.bac_values.specs.declared.stamp.Stamp.{Stamp}
 use Rattle.property_services.specs.declared.requests.RangeBy.{RangeBy}
 use Rattle.property_services.specs.declared.requests.RangeBy.TheVariants.{All, Position, Sequence, Time}
 use Rattle.event_log.specs.declared.log_record.LogRecord.{LogRecord}
-use Rattle.event_log.specs.Log.{Log}
+use Rattle.event_log.specs.Log.{EventLogState}
 use Rattle.event_log.specs.Ranges.{is_before, last_position, later_position, place_by_time, place_of_position, range_at, range_from}
 use Rattle.service_desk.specs.Ranges.{requested_range}
 
@@ -52,7 +52,7 @@ time_within : (count : ℤ) (reference : Stamp) (records : List LogRecord) → W
 time_within (pos n) reference records = position_within (λ entry. is_before reference entry.stamp) records
 time_within (negsuc n) reference records = last_within (λ entry. is_before entry.stamp reference) records
 
-pub requested_range_within : (range : RangeBy) (log : Log) → (requested_range range log).first + (requested_range range log).count ≤ length log.records
+pub requested_range_within : (range : RangeBy) (log : EventLogState) → (requested_range range log).first + (requested_range range log).count ≤ length log.records
 requested_range_within All log = omega arith
 requested_range_within (Position reference count) log = from_within count (length log.records) _ (place_within reference (length log.records))
 requested_range_within (Sequence reference count) log = from_within count (length log.records) _ (position_within _ log.records)

@@ -6,12 +6,12 @@ use Rattle.std.proofs.lemmas.Option.{none-some, slice_get-get_or}
 use Rattle.bac_tags.specs.Writing.{unsigned_size}
 use Rattle.event_log.specs.declared.log_range.LogRange.{LogRange}
 use Rattle.event_log.specs.declared.log_record.LogRecord.{LogRecord}
-use Rattle.event_log.specs.Log.{Log}
+use Rattle.event_log.specs.Log.{EventLogState}
 use Rattle.service_desk.specs.Ranges.{greatest, items_from, written_item}
 use Rattle.service_desk.proofs.Greatest.{greatest_passes, greatest_stops, leading_grow, one_more, size_grows}
 
 -- whether so many leading records and their number have room in so many octets
-abbrev pub has_room : ℕ → Log → LogRange → ℕ → Bool
+abbrev pub has_room : ℕ → EventLogState → LogRange → ℕ → Bool
 has_room room log range sent = nat_le (unsigned_size sent + length (flat_map written_item (items_from range.first sent log))) room
 
 pub no_number : (test : ℕ → Bool) → greatest test 0 ≡ 0
@@ -28,7 +28,7 @@ fails_of k room more = lt-leb k room more
 passes_of : (k room : ℕ) → k ≤ room → nat_le k room ≡ true
 passes_of k room less = le-leb k room less
 
-module _ (room : ℕ) (log : Log) (range : LogRange) (sent : ℕ) (entry : LogRecord) (found : slice_get log.records (range.first + sent) ≡ Some entry) where
+module _ (room : ℕ) (log : EventLogState) (range : LogRange) (sent : ℕ) (entry : LogRecord) (found : slice_get log.records (range.first + sent) ≡ Some entry) where
   pub with_one_more : flat_map written_item (items_from range.first (sent + 1) log) ≡ flat_map written_item (items_from range.first sent log) ++ written_item entry
   with_one_more = one_more written_item log.records range.first sent entry found
 

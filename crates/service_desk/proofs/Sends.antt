@@ -5,14 +5,14 @@ use Rattle.std.proofs.lemmas.Bool.{ltb-false}
 use Rattle.bac_values.specs.Errors.{property_is_not_an_array_error, unknown_object_error, unknown_property_error, value_out_of_range_error}
 use Rattle.bac_values.specs.Properties.{log_buffer_property}
 use Rattle.bac_values.specs.Reasons.{segmentation_not_supported_reason}
-use Rattle.bac_values.specs.Identifier.{Identifier}
+use Rattle.bac_values.specs.Identifier.{ObjectIdData}
 use Rattle.bac_values.specs.declared.note.Send.{Send}
 use Rattle.apdu_frame.specs.Writing.{written_abort, written_error, written_reject, written_simple_ack}
 use Rattle.bac_tags.specs.declared.malformed.Malformed.{Malformed}
 use Rattle.property_services.specs.declared.requests.RangeRequest.{RangeRequest}
 use Rattle.property_services.specs.ReadingSteps.{read_range_of}
 use Rattle.event_log.specs.declared.log_range.LogRange.{LogRange}
-use Rattle.event_log.specs.Log.{Log}
+use Rattle.event_log.specs.Log.{EventLogState}
 use Rattle.event_services.specs.declared.information.EventSummary.{EventSummary}
 use Rattle.service_desk.specs.declared.replies.Requester.{Requester}
 use Rattle.service_desk.specs.Information.{information_reply}
@@ -52,30 +52,30 @@ information_reply_fits requester summaries more least =
     either requester (more && nat_eq (length summaries) 0) _ _ (abort_fits requester segmentation_not_supported_reason least) (within_max_apdu_fits requester _ least)
 
 -- a range
-pub range_reply_fits : (requester : Requester) (request : RangeRequest) (log : Log) (range : LogRange) → 50 ≤ requester.max_apdu → FitsRequester requester (range_reply requester request log range)
+pub range_reply_fits : (requester : Requester) (request : RangeRequest) (log : EventLogState) (range : LogRange) → 50 ≤ requester.max_apdu → FitsRequester requester (range_reply requester request log range)
 range_reply_fits requester request log range least =
     either requester (nat_lt 0 range.count && nat_eq (records_that_fit requester request log range) 0) _ _ (abort_fits requester segmentation_not_supported_reason least) (within_max_apdu_fits requester _ least)
 
-buffer_answer_fits : (requester : Requester) (request : RangeRequest) (log : Log) → 50 ≤ requester.max_apdu → FitsRequester requester (buffer_answer requester request log)
+buffer_answer_fits : (requester : Requester) (request : RangeRequest) (log : EventLogState) → 50 ≤ requester.max_apdu → FitsRequester requester (buffer_answer requester request log)
 buffer_answer_fits requester request log least =
     either requester (is_some request.index) _ _ (error_fits requester property_is_not_an_array_error.class property_is_not_an_array_error.code least)
     (either requester (has_zero_count request.range) _ _ (error_fits requester value_out_of_range_error.class value_out_of_range_error.code least) (range_reply_fits requester request log (requested_range request.range log) least))
 
-object_answer_fits : (requester : Requester) (request : RangeRequest) (log : Option Log) → 50 ≤ requester.max_apdu → FitsRequester requester (object_answer requester request log)
+object_answer_fits : (requester : Requester) (request : RangeRequest) (log : Option EventLogState) → 50 ≤ requester.max_apdu → FitsRequester requester (object_answer requester request log)
 object_answer_fits requester request None least = error_fits requester unknown_property_error.class unknown_property_error.code least
 object_answer_fits requester request (Some log) least =
     either requester (nat_eq request.property.0 log_buffer_property) _ _ (buffer_answer_fits requester request log least) (error_fits requester unknown_property_error.class unknown_property_error.code least)
 
-pub range_answer_fits : (requester : Requester) (request : RangeRequest) (there : Bool) (log : Option Log) → 50 ≤ requester.max_apdu → FitsRequester requester (range_answer requester request there log)
+pub range_answer_fits : (requester : Requester) (request : RangeRequest) (there : Bool) (log : Option EventLogState) → 50 ≤ requester.max_apdu → FitsRequester requester (range_answer requester request there log)
 range_answer_fits requester request there log least =
     either requester there _ _ (object_answer_fits requester request log least) (error_fits requester unknown_object_error.class unknown_object_error.code least)
 
-range_with_fits : (requester : Requester) (is_there : Identifier → Bool) (log_of : Identifier → Option Log) (read : Result RangeRequest Malformed) → 50 ≤ requester.max_apdu →
+range_with_fits : (requester : Requester) (is_there : ObjectIdData → Bool) (log_of : ObjectIdData → Option EventLogState) (read : Result RangeRequest Malformed) → 50 ≤ requester.max_apdu →
     FitsRequester requester (range_with requester is_there log_of read)
 range_with_fits requester is_there log_of (Err refusal) least = reject_fits requester refusal.reject least
 range_with_fits requester is_there log_of (Ok request) least = range_answer_fits requester request (is_there request.object) (log_of request.object) least
 
 -- the answer to ReadRange
-pub range_decided_fits : (requester : Requester) (is_there : Identifier → Bool) (log_of : Identifier → Option Log) (parameters : List ℕ) → 50 ≤ requester.max_apdu →
+pub range_decided_fits : (requester : Requester) (is_there : ObjectIdData → Bool) (log_of : ObjectIdData → Option EventLogState) (parameters : List ℕ) → 50 ≤ requester.max_apdu →
     FitsRequester requester (range_decided requester is_there log_of parameters)
 range_decided_fits requester is_there log_of parameters least = range_with_fits requester is_there log_of (read_range_of parameters) least

@@ -2,11 +2,11 @@
 use Rattle.std.specs.Prelude.{◌≡◌, ◌≤◌, ℕ, Option, Some, None, List, length}
 use Rattle.bac_values.specs.declared.note.Send.{Send}
 use Rattle.apdu_frame.specs.Headers.{max_apdu_of}
-use Rattle.alarm_core.specs.State.{State}
+use Rattle.alarm_core.specs.State.{CoreState}
 use Rattle.service_desk.specs.declared.decision.Decision.{Decision}
 use Rattle.service_desk.specs.declared.decision.Decision.TheVariants.{Enter, Reply}
 use Rattle.service_desk.specs.declared.replies.Requester.{Requester}
-use Rattle.service_desk.specs.DecisionSteps.{request_decision}
+use Rattle.service_desk.specs.Decisions.{request_decision}
 use Rattle.service_desk.specs.Replies.{reply_to}
 
 -- an APDU that an requester takes, on its way to it
@@ -28,4 +28,4 @@ RepliesFit requester decision = Unit {0}
 -- what is decided on a confirmed request, whatever it asks for, where the second octet of its header says what its requester takes (20.1.2.5)
 abbrev pub EachReplyFits : Type 0
 EachReplyFits =
-    (state : State) (moment : ℕ) (requester : Requester) (parameters : List ℕ) (second : ℕ) → requester.max_apdu ≡ max_apdu_of second → RepliesFit requester (request_decision state moment requester parameters)
+    (state : CoreState) (moment : ℕ) (requester : Requester) (parameters : List ℕ) (second : ℕ) → requester.max_apdu ≡ max_apdu_of second → RepliesFit requester (request_decision state moment requester parameters)

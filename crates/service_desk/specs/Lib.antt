@@ -1,5 +1,5 @@
 pub mod Replies
 pub mod Ranges
 pub mod Information
-pub mod DecisionSteps
+pub mod Decisions
 pub mod Laws

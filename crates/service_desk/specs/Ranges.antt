@@ -1,7 +1,7 @@
 -- Ranges of a log, as they are answered (ANSI/ASHRAE 135-2020, 15.8).
 use Rattle.std.specs.Prelude.{ℕ, zero, suc, ◌+◌, ◌==◌, ◌&&◌, nat_lt, nat_le, Bool, true, false, ℤ, pos, negsuc, if◌then◌else◌, Option, Some, None, is_some, Result, Ok, Err, List, [], ◌∷◌, ◌++◌, length, take, drop, flat_map, slice_get}
 use Rattle.bac_values.specs.Errors.{property_is_not_an_array_error, unknown_object_error, unknown_property_error, value_out_of_range_error}
-use Rattle.bac_values.specs.Identifier.{Identifier}
+use Rattle.bac_values.specs.Identifier.{ObjectIdData}
 use Rattle.bac_values.specs.Properties.{log_buffer_property}
 use Rattle.bac_values.specs.Reasons.{segmentation_not_supported_reason}
 use Rattle.bac_values.specs.declared.note.Send.{Send}
@@ -16,7 +16,7 @@ use Rattle.property_services.specs.ReadingSteps.{read_range_of}
 use Rattle.property_services.specs.Writing.{written_range_ack}
 use Rattle.event_log.specs.declared.log_range.LogRange.{LogRange}
 use Rattle.event_log.specs.declared.log_record.LogRecord.{LogRecord}
-use Rattle.event_log.specs.Log.{Log}
+use Rattle.event_log.specs.Log.{EventLogState}
 use Rattle.event_log.specs.Ranges.{place_by_time, place_of_position, place_of_sequence, range_from, range_of}
 use Rattle.service_desk.specs.declared.replies.Requester.{Requester}
 use Rattle.service_desk.specs.Replies.{abort, complex_ack, error, reject}
@@ -27,18 +27,18 @@ written_item entry =
     written_tag (opening 0) ++ written_stamp entry.stamp ++ written_tag (closing 0) ++ written_tag (opening 1) ++ written_tag (opening 1) ++ entry.body ++ written_tag (closing 1) ++ written_tag (closing 1)
 
 -- the records that a request asks for
-abbrev pub requested_range : RangeBy → Log → LogRange
+abbrev pub requested_range : RangeBy → EventLogState → LogRange
 requested_range All log = range_of 0 (length log.records)
 requested_range (Position reference count) log = range_from count (length log.records) (place_of_position reference (length log.records))
 requested_range (Sequence reference count) log = range_from count (length log.records) (place_of_sequence reference log.records)
 requested_range (Time reference count) log = range_from count (length log.records) (place_by_time count reference log.records)
 
 -- so many records from a place on
-abbrev pub items_from : ℕ → ℕ → Log → List LogRecord
+abbrev pub items_from : ℕ → ℕ → EventLogState → List LogRecord
 items_from first count log = take count (drop first log.records)
 
 -- First Item, Last Item, More Items (BACnetResultFlags), where so many of the records are sent; of no records none is set
-abbrev pub range_flags : Log → LogRange → ℕ → List Bool
+abbrev pub range_flags : EventLogState → LogRange → ℕ → List Bool
 range_flags log range sent =
     if sent == 0 then false ∷ false ∷ false ∷ [] else ((range.first == 0) ∷ (range.first + sent == length log.records) ∷ nat_lt sent range.count ∷ [])
 
@@ -54,16 +54,16 @@ sequence_of None = None
 sequence_of (Some entry) = Some entry.sequence
 
 -- the sequence number of the first record that is sent, where it is told
-abbrev pub first_sequence : RangeRequest → Log → LogRange → ℕ → Option ℕ
+abbrev pub first_sequence : RangeRequest → EventLogState → LogRange → ℕ → Option ℕ
 first_sequence request log range sent = if sent == 0 then None else (if names_sequence request.range then sequence_of (slice_get log.records range.first) else None)
 
 -- the result with so many leading records
-abbrev pub range_body : RangeRequest → Log → LogRange → ℕ → List ℕ
+abbrev pub range_body : RangeRequest → EventLogState → LogRange → ℕ → List ℕ
 range_body request log range sent =
     written_range_ack request (range_flags log range sent) sent (flat_map written_item (items_from range.first sent log)) (first_sequence request log range sent)
 
 -- whether an requester takes the answer with so many leading records
-abbrev pub range_fits : Requester → RangeRequest → Log → LogRange → ℕ → Bool
+abbrev pub range_fits : Requester → RangeRequest → EventLogState → LogRange → ℕ → Bool
 range_fits requester request log range sent = nat_le (length (written_complex_ack requester.invoke requester.service (range_body request log range sent))) requester.max_apdu
 
 -- the greatest number up to a count for which a test passes, or 0
@@ -72,16 +72,16 @@ greatest test zero = 0
 greatest test (suc n) = if test (suc n) then suc n else greatest test n
 
 -- how many leading records are sent: as many as fit
-abbrev pub records_that_fit : Requester → RangeRequest → Log → LogRange → ℕ
+abbrev pub records_that_fit : Requester → RangeRequest → EventLogState → LogRange → ℕ
 records_that_fit requester request log range = greatest (range_fits requester request log range) range.count
 
 -- a range, where so many of its records are sent; where there are some and none fits, the device would have to send segments
-abbrev pub range_sent : Requester → RangeRequest → Log → LogRange → ℕ → Send
+abbrev pub range_sent : Requester → RangeRequest → EventLogState → LogRange → ℕ → Send
 range_sent requester request log range sent =
     if nat_lt 0 range.count && sent == 0 then abort requester segmentation_not_supported_reason else complex_ack requester (range_body request log range sent)
 
 -- a range, as it is answered
-abbrev pub range_reply : Requester → RangeRequest → Log → LogRange → Send
+abbrev pub range_reply : Requester → RangeRequest → EventLogState → LogRange → Send
 range_reply requester request log range = range_sent requester request log range (records_that_fit requester request log range)
 
 -- how many records a request asks for, where it says so
@@ -101,25 +101,25 @@ abbrev pub has_zero_count : RangeBy → Bool
 has_zero_count range = is_zero_count (count_of range)
 
 -- of a log: Log_Buffer is no array, and a count isn't 0
-abbrev pub buffer_answer : Requester → RangeRequest → Log → Send
+abbrev pub buffer_answer : Requester → RangeRequest → EventLogState → Send
 buffer_answer requester request log =
     if is_some request.index then error requester property_is_not_an_array_error
     else (if has_zero_count request.range then error requester value_out_of_range_error
     else range_reply requester request log (requested_range request.range log))
 
 -- of an object: only the Log_Buffer of a log has a range
-abbrev pub object_answer : Requester → RangeRequest → Option Log → Send
+abbrev pub object_answer : Requester → RangeRequest → Option EventLogState → Send
 object_answer requester request None = error requester unknown_property_error
 object_answer requester request (Some log) = if request.property.0 == log_buffer_property then buffer_answer requester request log else error requester unknown_property_error
 
 -- by whether there is such an object, and its log, where it is one
-abbrev pub range_answer : Requester → RangeRequest → Bool → Option Log → Send
+abbrev pub range_answer : Requester → RangeRequest → Bool → Option EventLogState → Send
 range_answer requester request there log = if there then object_answer requester request log else error requester unknown_object_error
 
 -- ReadRange (15.8), by which objects there are, and their logs
-abbrev pub range_with : Requester → (Identifier → Bool) → (Identifier → Option Log) → Result RangeRequest Malformed → Send
+abbrev pub range_with : Requester → (ObjectIdData → Bool) → (ObjectIdData → Option EventLogState) → Result RangeRequest Malformed → Send
 range_with requester is_there log_of (Err refusal) = reject requester refusal.reject
 range_with requester is_there log_of (Ok request) = range_answer requester request (is_there request.object) (log_of request.object)
 
-abbrev pub range_decided : Requester → (Identifier → Bool) → (Identifier → Option Log) → List ℕ → Send
+abbrev pub range_decided : Requester → (ObjectIdData → Bool) → (ObjectIdData → Option EventLogState) → List ℕ → Send
 range_decided requester is_there log_of parameters = range_with requester is_there log_of (read_range_of parameters)

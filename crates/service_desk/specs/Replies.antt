@@ -1,6 +1,6 @@
 -- The replies of the device.
 use Rattle.std.specs.Prelude.{ℕ, nat_lt, false, if◌then◌else◌, List, length}
-use Rattle.bac_values.specs.Address.{Address}
+use Rattle.bac_values.specs.Address.{PeerData}
 use Rattle.bac_values.specs.Reasons.{segmentation_not_supported_reason}
 use Rattle.bac_values.specs.declared.note.Send.{Send}
 use Rattle.bac_values.specs.declared.service_error.ServiceError.{ServiceError}
@@ -9,10 +9,10 @@ use Rattle.bvlc_npdu.specs.Writing.{written_frame}
 use Rattle.service_desk.specs.declared.replies.Requester.{Requester}
 
 -- an APDU on its way to a peer that needn't answer it
-abbrev pub reply_to : Address → List ℕ → Send
+abbrev pub reply_to : PeerData → List ℕ → Send
 reply_to peer apdu = record { peer = peer; bytes = written_frame peer false apdu }
 
-abbrev pub abort_to : Address → ℕ → ℕ → Send
+abbrev pub abort_to : PeerData → ℕ → ℕ → Send
 abort_to peer invoke reason = reply_to peer (written_abort invoke reason)
 
 abbrev pub simple_ack : Requester → Send

@@ -1,7 +1,7 @@
 ghost use Rattle.std.specs.Prelude.{◌≡◌, ◌≤◌, ℕ, IfOk, drop, length};
 ghost use Rattle.bac_values.specs.Services.{longest_apdu};
 ghost use Rattle.apdu_frame.specs.ReadingSteps.{apdu_of};
-ghost use Rattle.service_desk.specs.DecisionSteps.{EntersAllowed, apdu_decision, requester_of, incoming_decision, request_decision, unconfirmed_decision};
+ghost use Rattle.service_desk.specs.Decisions.{EntersAllowed, apdu_decision, requester_of, incoming_decision, request_decision, unconfirmed_decision};
 ghost use Rattle.bvlc_npdu.specs.ReadingSteps.{incoming_at};
 
 use crate::Decision;

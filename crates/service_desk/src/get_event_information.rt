@@ -1,7 +1,7 @@
 ghost use Rattle.std.specs.Prelude.{◌≡◌, ◌≤◌, IfOk};
 ghost use Rattle.bac_values.specs.Services.{longest_apdu};
 ghost use Rattle.alarm_core.specs.Information.{has_more, summaries_of};
-ghost use Rattle.service_desk.specs.DecisionSteps.{information_decision};
+ghost use Rattle.service_desk.specs.Decisions.{information_decision};
 ghost use Rattle.service_desk.specs.Information.{information_reply, information_room};
 
 use crate::Decision;

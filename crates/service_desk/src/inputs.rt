@@ -3,7 +3,7 @@ ghost use Rattle.bac_values.specs.Moments.{IsMoment};
 ghost use Rattle.bac_values.specs.declared.input.SetFault.{SetFault as Fault};
 ghost use Rattle.object_table.specs.declared.change.Change.{Change as Changed};
 ghost use Rattle.object_table.specs.Verdicts.{checked_fault, checked_set};
-ghost use Rattle.service_desk.specs.DecisionSteps.{EntersAllowed, by_kind, decision_on, field_decision, has_no_value, pump_decision, tick_decision};
+ghost use Rattle.service_desk.specs.Decisions.{EntersAllowed, by_kind, decision_on, field_decision, has_no_value, pump_decision, tick_decision};
 
 use crate::Decision;
 use crate::apdus::datagram_decision;

@@ -1,7 +1,7 @@
 ghost use Rattle.std.specs.Prelude.{◌≡◌, ◌≤◌, IfOk};
 ghost use Rattle.bac_values.specs.Services.{longest_apdu};
 ghost use Rattle.alarm_core.specs.Reading.{read_of};
-ghost use Rattle.service_desk.specs.DecisionSteps.{read_decision, read_reply};
+ghost use Rattle.service_desk.specs.Decisions.{read_decision, read_reply};
 
 use crate::Decision;
 use crate::replies::Requester;

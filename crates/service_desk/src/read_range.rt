@@ -3,7 +3,7 @@ ghost use Rattle.std.specs.Option.{option_copied};
 ghost use Rattle.bac_values.specs.Services.{longest_apdu};
 ghost use Rattle.bac_tags.specs.Writing.{unsigned_size};
 ghost use Rattle.property_services.specs.Writing.{written_range_ack};
-ghost use Rattle.service_desk.specs.DecisionSteps.{range_decision};
+ghost use Rattle.service_desk.specs.Decisions.{range_decision};
 ghost use Rattle.service_desk.specs.Ranges.{buffer_answer, first_sequence, greatest, has_zero_count, items_from, names_sequence, object_answer, range_answer, range_body, range_flags, range_reply, range_sent, records_that_fit, requested_range, written_item};
 
 use crate::Decision;

@@ -2,8 +2,8 @@ ghost use Rattle.std.specs.Prelude.{◌≡◌, IfOk};
 ghost use Rattle.alarm_core.specs.declared.event.Act.TheVariants.{Write};
 ghost use Rattle.alarm_core.specs.Allowed.{IsAllowed};
 ghost use Rattle.alarm_core.specs.Reading.{write_of};
-ghost use Rattle.alarm_core.specs.State.{State};
-ghost use Rattle.service_desk.specs.DecisionSteps.{EntersAllowed, change_decision, write_decision};
+ghost use Rattle.alarm_core.specs.State.{CoreState};
+ghost use Rattle.service_desk.specs.Decisions.{EntersAllowed, change_decision, write_decision};
 
 use crate::Decision;
 use crate::replies::Requester;
@@ -21,7 +21,7 @@ fn enter_change(
     change: Change,
 ) -> Result<Decision, NoMemory>
     ensures decision { IfOk result (λ decision. decision ≡ change_decision moment requester.now (Ok change)) }
-    ensures allowed { (state : State) → IsAllowed state (Write change) → IfOk result (EntersAllowed state moment) }
+    ensures allowed { (state : CoreState) → IsAllowed state (Write change) → IfOk result (EntersAllowed state moment) }
 {
     let reply = requester.simple_ack(alloc)?;
     let full = requester.abort(alloc, AbortReason::OTHER.0)?;

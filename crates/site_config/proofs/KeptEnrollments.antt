@@ -5,7 +5,7 @@ use Rattle.std.specs.Str.{bytes_eq}
 use Rattle.toml.specs.Data.{Data, Members, as_bool, as_str}
 use Rattle.algorithm_rules.specs.declared.table.Algorithm.{Algorithm}
 use Rattle.algorithm_rules.specs.declared.table.Algorithm.TheVariants.{ChangeOfBitstring, ChangeOfState, CommandFailure, UnsignedRange, SignedOutOfRange, UnsignedOutOfRange, ChangeOfCharacterstring}
-use Rattle.bac_values.specs.Identifier.{Identifier}
+use Rattle.bac_values.specs.Identifier.{ObjectIdData}
 use Rattle.bac_values.specs.declared.object_kind.ObjectKind.TheVariants as kinds
 use Rattle.enrollment.specs.declared.enrollment_site.EnrollmentSite.{EnrollmentSite}
 use Rattle.event_log.specs.declared.log_site.LogSite.{LogSite}
@@ -51,7 +51,7 @@ algorithm_known d algorithm h = let f = found (as_str d) algorithm_of algorithm 
 -- ---- what goes with it
 
 -- COMMAND_FAILURE has a feedback and no limits, UNSIGNED_RANGE no feedback
-abbrev pub KeepsParameters : Algorithm → Option Identifier → ℕ → ℕ → Type 0
+abbrev pub KeepsParameters : Algorithm → Option ObjectIdData → ℕ → ℕ → Type 0
 KeepsParameters CommandFailure feedback low high = IsSome feedback × (low ≡ 0) × (high ≡ 0)
 KeepsParameters UnsignedRange feedback low high = IsNone feedback
 KeepsParameters _ feedback low high = ⊥
@@ -60,7 +60,7 @@ some_is : {A : Type 0} (part : Result A ItemFault) (y : Option A) → optional_v
 some_is (Ok x) y h = let is : Some x ≡ y = cc in rw (← is) refl
 some_is (Err fault) y h = absurd cc
 
-parameters_kept : (algorithm : Algorithm) (ms : Members) (feedback : Option Identifier) (low high : ℕ) → IsKnown algorithm
+parameters_kept : (algorithm : Algorithm) (ms : Members) (feedback : Option ObjectIdData) (low high : ℕ) → IsKnown algorithm
     → feedback_of algorithm ms ≡ Ok feedback → range_limit algorithm (codes "low") ms ≡ Ok low → range_limit algorithm (codes "high") ms ≡ Ok high
     → KeepsParameters algorithm feedback low high
 unfolding IsKnown

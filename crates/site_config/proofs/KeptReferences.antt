@@ -7,7 +7,7 @@ use Rattle.std.specs.declared.cmp.Ordering.TheVariants.{Equal}
 use Rattle.std.proofs.lemmas.Bool.Decides.{nat_tests}
 use Rattle.algorithm_rules.specs.declared.table.Algorithm.{Algorithm}
 use Rattle.algorithm_rules.specs.declared.table.Algorithm.TheVariants.{ChangeOfBitstring, ChangeOfState, CommandFailure, UnsignedRange, SignedOutOfRange, UnsignedOutOfRange, ChangeOfCharacterstring}
-use Rattle.bac_values.specs.Identifier.{Identifier, kind_of}
+use Rattle.bac_values.specs.Identifier.{kind_of, ObjectIdData}
 use Rattle.bac_values.specs.declared.object_kind.ObjectKind.{ObjectKind}
 use Rattle.bac_values.specs.declared.object_kind.ObjectKind.TheVariants.{BinaryValue, Device, EventEnrollment, NotificationClass, MultiStateValue, EventLog, BitStringValue, CharacterStringValue, IntegerValue, PositiveIntegerValue}
 use Rattle.bac_values.specs.Orders.{identifier_order}
@@ -30,7 +30,7 @@ use Rattle.site_config.proofs.Present.{fold_holds}
 
 -- ---- a least one is found where there is any
 
-least_stays : (least : Identifier) (objects : List Identifier) → least_with (Some least) objects ≡ None → ⊥
+least_stays : (least : ObjectIdData) (objects : List ObjectIdData) → least_with (Some least) objects ≡ None → ⊥
 least_stays least [] h = absurd cc
 least_stays least (object ∷ objects) h = by (is_lt (identifier_order object least)) (least_stays object objects) (least_stays least objects) h
   where
@@ -39,11 +39,11 @@ least_stays least (object ∷ objects) h = by (is_lt (identifier_order object le
     by true its own e = its e
     by false its own e = own e
 
-none_before : (found : Option Identifier) (objects : List Identifier) → least_with found objects ≡ None → found ≡ None
+none_before : (found : Option ObjectIdData) (objects : List ObjectIdData) → least_with found objects ≡ None → found ≡ None
 none_before None objects h = refl
 none_before (Some least) objects h = absurd (least_stays least objects h)
 
-none_behind : (found : Option Identifier) (objects : List Identifier) → least_with found objects ≡ None → objects ≡ []
+none_behind : (found : Option ObjectIdData) (objects : List ObjectIdData) → least_with found objects ≡ None → objects ≡ []
 none_behind found [] h = refl
 none_behind None (object ∷ objects) h = absurd (least_stays object objects h)
 none_behind (Some least) (object ∷ objects) h = absurd (least_stays least (object ∷ objects) h)
@@ -80,10 +80,10 @@ value_kind (Some NotificationClass) site h = absurd cc
 value_kind (Some EventLog) site h = absurd cc
 value_kind None site h = absurd cc
 
-same_number : (object other : Identifier) → is_object object other ≡ true → other.number ≡ object.number
+same_number : (object other : ObjectIdData) → is_object object other ≡ true → other.number ≡ object.number
 same_number object other h = grind (arith, nat_tests)
 
-there_kind : (object : Identifier) (sites : List ObjectSite) → AllByRecursion IsObject sites → is_there sites object ≡ true → IsTrue (is_value_kind (kind_of object.number))
+there_kind : (object : ObjectIdData) (sites : List ObjectSite) → AllByRecursion IsObject sites → is_there sites object ≡ true → IsTrue (is_value_kind (kind_of object.number))
 there_kind object [] kept h = absurd cc
 there_kind object (site ∷ sites) kept h = by (is_object object site.object) refl (there_kind object sites kept.1) h
   where
@@ -92,7 +92,7 @@ there_kind object (site ∷ sites) kept h = by (is_object object site.object) re
     by true is rest e = rw (← same_number object site.object is) (value_kind (kind_in site) site kept.0.value)
     by false is rest e = rest e
 
-unsigned_kind : (object : Identifier) → can_monitor UnsignedRange object ≡ true → IsTrue (is_unsigned_kind (kind_of object.number))
+unsigned_kind : (object : ObjectIdData) → can_monitor UnsignedRange object ≡ true → IsTrue (is_unsigned_kind (kind_of object.number))
 unsigned_kind object h = by (object.number == 48) (object.number == 19) refl refl h
   where
     by : (a b : Bool) → (object.number == 48) ≡ a → (object.number == 19) ≡ b → (a || b) ≡ true → IsTrue (is_unsigned_kind (kind_of object.number))
@@ -102,7 +102,7 @@ unsigned_kind object h = by (object.number == 48) (object.number == 19) refl ref
 
 -- ---- and has a row
 
-row_there : (object : Identifier) (sites : List ObjectSite) → list_any (is_object object) (map id_of_object sites) ≡ true → IsSome (row_of object (rows_of sites))
+row_there : (object : ObjectIdData) (sites : List ObjectSite) → list_any (is_object object) (map id_of_object sites) ≡ true → IsSome (row_of object (rows_of sites))
 row_there object [] h = absurd cc
 row_there object (site ∷ sites) h = by (is_object object site.object) (row_there object sites) h
   where
@@ -112,24 +112,24 @@ row_there object (site ∷ sites) h = by (is_object object site.object) (row_the
     by false rest e = rest e
 
 -- identifiers of one place in the order are one
-pub same_ids : (a b : Identifier) → identifier_order a b ≡ Equal → a ≡ b
+pub same_ids : (a b : ObjectIdData) → identifier_order a b ≡ Equal → a ≡ b
 same_ids a b h =
     let numbers : a.number ≡ b.number = grind (arith, nat_tests) in
     let instances : a.instance ≡ b.instance = grind (arith, nat_tests) in
-    ap (λ (n : ℕ). let made : Identifier = record { number = n; instance = a.instance } in made) numbers
-    ∙ ap (λ (i : ℕ). let made : Identifier = record { number = b.number; instance = i } in made) instances
+    ap (λ (n : ℕ). let made : ObjectIdData = record { number = n; instance = a.instance } in made) numbers
+    ∙ ap (λ (i : ℕ). let made : ObjectIdData = record { number = b.number; instance = i } in made) instances
 
-has_row : (object : Identifier) (sites : List ObjectSite) → is_there sites object ≡ true → IsSome (row_of object (rows_of (in_order id_of_object sites)))
+has_row : (object : ObjectIdData) (sites : List ObjectSite) → is_there sites object ≡ true → IsSome (row_of object (rows_of (in_order id_of_object sites)))
 has_row object sites h = row_there object (in_order id_of_object sites) (fold_holds identifiers_are_total same_ids id_of_object (is_object object) sites h)
 
 -- ---- an enrollment whose references don't dangle
 
 -- what a feedback is that doesn't dangle
-record IsWell (objects : List ObjectSite) (monitored feedback : Identifier) : Type 0 where
+record IsWell (objects : List ObjectSite) (monitored feedback : ObjectIdData) : Type 0 where
   there : is_there objects feedback ≡ true
   same : feedback.number ≡ monitored.number
 
-feedback_well : (objects : List ObjectSite) (monitored : Identifier) (feedback : Option Identifier) → feedback_dangles objects monitored feedback ≡ false → IfSome feedback (IsWell objects monitored)
+feedback_well : (objects : List ObjectSite) (monitored : ObjectIdData) (feedback : Option ObjectIdData) → feedback_dangles objects monitored feedback ≡ false → IfSome feedback (IsWell objects monitored)
 feedback_well objects monitored None h = tt
 feedback_well objects monitored (Some feedback) h = by (is_there objects feedback) (feedback.number == monitored.number) refl refl h
   where
@@ -153,7 +153,7 @@ refers classes objects site h = by (has_class classes site.class) (is_there obje
     by true false m p q e = absurd cc
     by false t m p q e = absurd cc
 
-same_kind : (objects : List ObjectSite) (monitored : Identifier) (feedback : Option Identifier) → IsSome feedback → IfSome feedback (IsWell objects monitored) → IsSomeAnd feedback (λ own. own.number ≡ monitored.number)
+same_kind : (objects : List ObjectSite) (monitored : ObjectIdData) (feedback : Option ObjectIdData) → IsSome feedback → IfSome feedback (IsWell objects monitored) → IsSomeAnd feedback (λ own. own.number ≡ monitored.number)
 same_kind objects monitored None some well = absurd cc
 same_kind objects monitored (Some feedback) some well = well.same
 
@@ -177,7 +177,7 @@ is_enrollment objects site each kept well = record {
   enable = kept.enable;
 }
 
-feedback_row : (objects : List ObjectSite) (monitored : Identifier) (feedback : Option Identifier) → IfSome feedback (IsWell objects monitored) → IfSome feedback (λ own. IsSome (row_of own (rows_of (in_order id_of_object objects))))
+feedback_row : (objects : List ObjectSite) (monitored : ObjectIdData) (feedback : Option ObjectIdData) → IfSome feedback (IsWell objects monitored) → IfSome feedback (λ own. IsSome (row_of own (rows_of (in_order id_of_object objects))))
 feedback_row objects monitored None well = tt
 feedback_row objects monitored (Some feedback) well = has_row feedback objects well.there
 

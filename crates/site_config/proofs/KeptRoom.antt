@@ -10,7 +10,7 @@ use Rattle.std.proofs.lemmas.List.Elements.{All-cons, All-head, All-tail, All-ni
 use Rattle.std.proofs.lemmas.List.Kept.{AllPairs-cons}
 use Rattle.std.proofs.lemmas.List.Folds.{fold-map}
 use Rattle.std.proofs.lemmas.List.Sums.{length-filter, sum_by-append, sum_by-cons, sum_by-le-sum_by}
-use Rattle.bac_values.specs.Identifier.{Identifier, number_of_kind}
+use Rattle.bac_values.specs.Identifier.{number_of_kind, ObjectIdData}
 use Rattle.bac_values.specs.Orders.{identifier_order}
 use Rattle.bac_values.specs.declared.object_kind.ObjectKind.TheVariants as kinds
 use Rattle.object_table.specs.declared.object_site.ObjectSite.{ObjectSite}
@@ -37,7 +37,7 @@ use Rattle.site_config.proofs.InOrder.{fold_weighs}
 -- ---- the classes
 
 -- identifiers of one type that ascend do so by their instances
-instance_below : (type : ℕ) (earlier later : Identifier) → earlier.number ≡ type → later.number ≡ type → identifier_order earlier later ≡ Less → earlier.instance < later.instance
+instance_below : (type : ℕ) (earlier later : ObjectIdData) → earlier.number ≡ type → later.number ≡ type → identifier_order earlier later ≡ Less → earlier.instance < later.instance
 instance_below type earlier later first second below = grind (arith, nat_tests)
 
 -- an item's identifier is that of a class
@@ -50,7 +50,7 @@ instance_of_item item = item.object.instance
 abbrev Below : ℕ → ℕ → Type 0
 Below earlier later = earlier < later
 
-abbrev Precedes : Identifier → Identifier → Type 0
+abbrev Precedes : ObjectIdData → ObjectIdData → Type 0
 Precedes earlier later = identifier_order earlier later ≡ Less
 
 all_below : (first : ClassItem) (items : List ClassItem) → HasClassId first → All HasClassId items → All (Precedes first.object) (map id_of_class items) → All (Below first.object.instance) (map instance_of_item items)

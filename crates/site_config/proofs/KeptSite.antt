@@ -4,7 +4,7 @@ use Rattle.std.specs.Prelude.{codes, Result, neg_ℤ, nat_lt, IfOk}
 use Rattle.std.specs.List.{All, AllByRecursion}
 use Rattle.std.proofs.lemmas.List.Elements.{All-nil, All-map, All-weaker}
 use Rattle.toml.specs.Data.{Members, as_bool, get_member, Items, no_items, item, table, array, string, integer, float, boolean, datetime}
-use Rattle.bac_values.specs.Identifier.{Identifier}
+use Rattle.bac_values.specs.Identifier.{ObjectIdData}
 use Rattle.bac_values.specs.Moments.{IsMoment}
 use Rattle.bac_values.specs.declared.object_kind.ObjectKind.TheVariants as kinds
 use Rattle.bac_values.proofs.OrderLemmas.{identifiers_are_total}
@@ -184,7 +184,7 @@ draft_kept document draft h =
     })
 
 -- no reference of a draft dangles that passes
-nothing_dangles : (found : Option Identifier) (verdict : Unit {0}) → dangling_of found ≡ Ok verdict → found ≡ None
+nothing_dangles : (found : Option ObjectIdData) (verdict : Unit {0}) → dangling_of found ≡ Ok verdict → found ≡ None
 nothing_dangles None verdict h = refl
 nothing_dangles (Some object) verdict h = absurd cc
 

@@ -1,7 +1,7 @@
 -- The device (ANSI/ASHRAE 135-2020, 12.11).
 use Rattle.std.specs.Prelude.{ℕ, List, pos, neg_ℤ, codes, Result, Ok}
 use Rattle.toml.specs.Data.{Members}
-use Rattle.bac_values.specs.Identifier.{Identifier, number_of_kind}
+use Rattle.bac_values.specs.Identifier.{number_of_kind, ObjectIdData}
 use Rattle.bac_values.specs.declared.object_kind.ObjectKind.{ObjectKind}
 use Rattle.bac_values.specs.declared.object_kind.ObjectKind.TheVariants as kinds
 use Rattle.property_values.specs.declared.device_site.DeviceSite.{DeviceSite}
@@ -13,11 +13,11 @@ use Rattle.site_config.specs.Values.{instance_in}
 use Rattle.toml_items.specs.Values.{unsigned_in, whole_in, moment_in, text_in}
 
 -- the object of a kind with an instance
-abbrev pub object_with : ObjectKind → ℕ → Identifier
+abbrev pub object_with : ObjectKind → ℕ → ObjectIdData
 object_with kind instance = record { number = number_of_kind kind; instance = instance }
 
 -- the name of an object is its identifier's text where none is given
-abbrev pub name_of : Identifier → Members → Result (List ℕ) ItemFault
+abbrev pub name_of : ObjectIdData → Members → Result (List ℕ) ItemFault
 name_of object = or_else (named (object_text object)) text_in (codes "name")
 
 unfoldable pub device_of : Members → Result DeviceSite ItemFault

@@ -3,7 +3,7 @@ use Rattle.std.specs.Prelude.{ℕ, List, Option, Some, None, codes, Result, Ok}
 use Rattle.toml.specs.Data.{Data, Members, get_member}
 use Rattle.algorithm_rules.specs.declared.table.Algorithm.{Algorithm}
 use Rattle.algorithm_rules.specs.declared.table.Algorithm.TheVariants.{CommandFailure, UnsignedRange}
-use Rattle.bac_values.specs.Identifier.{Identifier}
+use Rattle.bac_values.specs.Identifier.{ObjectIdData}
 use Rattle.bac_values.specs.declared.object_kind.ObjectKind.TheVariants as kinds
 use Rattle.enrollment.specs.declared.enrollment_site.EnrollmentSite.{EnrollmentSite}
 use Rattle.site_config.specs.declared.enrollment_item.Watch.{Watch}
@@ -26,7 +26,7 @@ abbrev pub keys_of_enrollment : Members → Keys
 keys_of_enrollment ms = Enrollment (known_algorithm (get_member (codes "algorithm") ms))
 
 -- only COMMAND_FAILURE has a feedback
-abbrev pub feedback_of : Algorithm → Members → Result (Option Identifier) ItemFault
+abbrev pub feedback_of : Algorithm → Members → Result (Option ObjectIdData) ItemFault
 feedback_of CommandFailure ms = optional_value (required object_in (codes "feedback") ms)
 feedback_of _ ms = Ok None
 

@@ -3,7 +3,7 @@ use Rattle.std.specs.Prelude.{ℕ, ◌==◌, ◌||◌, not, Bool, true, false, O
 use Rattle.std.specs.List.{list_any}
 use Rattle.algorithm_rules.specs.declared.table.Algorithm.{Algorithm}
 use Rattle.algorithm_rules.specs.declared.table.Algorithm.TheVariants.{UnsignedRange}
-use Rattle.bac_values.specs.Identifier.{Identifier, number_of_kind}
+use Rattle.bac_values.specs.Identifier.{number_of_kind, ObjectIdData}
 use Rattle.bac_values.specs.declared.object_kind.ObjectKind.TheVariants as kinds
 use Rattle.enrollment.specs.declared.enrollment_site.EnrollmentSite.{EnrollmentSite}
 use Rattle.event_log.specs.declared.log_site.LogSite.{LogSite}
@@ -21,7 +21,7 @@ has_class classes instance = list_any (λ item. item.object.instance == instance
 abbrev pub destination_dangles : List ClassItem → DestinationSite → Bool
 destination_dangles classes site = not (has_class classes site.class.instance)
 
-abbrev pub id_of_destination : DestinationSite → Identifier
+abbrev pub id_of_destination : DestinationSite → ObjectIdData
 id_of_destination site = site.class
 
 -- the class of an object, if it has one, isn't there
@@ -33,16 +33,16 @@ abbrev pub object_dangles : List ClassItem → ObjectSite → Bool
 object_dangles classes site = lacks_class classes site.class
 
 -- one of the objects
-abbrev pub is_there : List ObjectSite → Identifier → Bool
+abbrev pub is_there : List ObjectSite → ObjectIdData → Bool
 is_there objects object = list_any (λ site. is_object object site.object) objects
 
 -- UNSIGNED_RANGE monitors a positive integer or a multi-state value, COMMAND_FAILURE every value
-abbrev pub can_monitor : Algorithm → Identifier → Bool
+abbrev pub can_monitor : Algorithm → ObjectIdData → Bool
 can_monitor UnsignedRange object = object.number == number_of_kind kinds.PositiveIntegerValue || object.number == number_of_kind kinds.MultiStateValue
 can_monitor _ object = true
 
 -- the feedback, if there is one, isn't there or isn't of the kind of the monitored object
-abbrev pub feedback_dangles : List ObjectSite → Identifier → Option Identifier → Bool
+abbrev pub feedback_dangles : List ObjectSite → ObjectIdData → Option ObjectIdData → Bool
 feedback_dangles objects monitored None = false
 feedback_dangles objects monitored (Some feedback) = not (is_there objects feedback) || not (feedback.number == monitored.number)
 
@@ -56,7 +56,7 @@ abbrev pub log_dangles : List ClassItem → LogSite → Bool
 log_dangles classes site = list_any (λ instance. not (has_class classes instance)) site.classes
 
 -- the least object that refers to what isn't there
-abbrev pub least_dangling : Draft → Option Identifier
+abbrev pub least_dangling : Draft → Option ObjectIdData
 least_dangling draft =
     let destinations = least_with None (map id_of_destination (filter (destination_dangles draft.classes) draft.destinations)) in
     let objects = least_with destinations (map id_of_object (filter (object_dangles draft.classes) draft.objects)) in

@@ -5,9 +5,9 @@ use Rattle.std.specs.Map.{values_of}
 use Rattle.std.specs.Str.{is_utf8}
 use Rattle.toml.specs.Data.{Members}
 use Rattle.toml.specs.Parse.{parse_document}
-use Rattle.bac_values.specs.Identifier.{Identifier}
+use Rattle.bac_values.specs.Identifier.{ObjectIdData}
 use Rattle.bac_values.specs.Orders.{identifier_order}
-use Rattle.notify_class.specs.Recipients.{ListedRecipient}
+use Rattle.notify_class.specs.Recipients.{DestinationData}
 use Rattle.notify_class.specs.declared.class_site.ClassSite.{ClassSite}
 use Rattle.alarm_core.specs.declared.site.Site.{Site}
 use Rattle.site_config.specs.declared.class.ClassItem.{ClassItem}
@@ -25,11 +25,11 @@ use Rattle.site_config.specs.References.{least_dangling}
 
 -- ---- what is looked for once every item is read
 
-abbrev pub duplicate_of : Option Identifier → Result (Unit {0}) SiteFault
+abbrev pub duplicate_of : Option ObjectIdData → Result (Unit {0}) SiteFault
 duplicate_of None = Ok tt
 duplicate_of (Some object) = Err (Duplicate object)
 
-abbrev pub dangling_of : Option Identifier → Result (Unit {0}) SiteFault
+abbrev pub dangling_of : Option ObjectIdData → Result (Unit {0}) SiteFault
 dangling_of None = Ok tt
 dangling_of (Some object) = Err (Dangling object)
 
@@ -47,17 +47,17 @@ verdict_on draft = do
 -- ---- the site
 
 -- items in the ascending order of their identifiers
-abbrev pub put : {A : Type 0} → (A → Identifier) → List (Identifier × A) → A → List (Identifier × A)
+abbrev pub put : {A : Type 0} → (A → ObjectIdData) → List (ObjectIdData × A) → A → List (ObjectIdData × A)
 put id_of entries x = insert_entry identifier_order entries (id_of x) x
 
-abbrev pub in_order : {A : Type 0} → (A → Identifier) → List A → List A
+abbrev pub in_order : {A : Type 0} → (A → ObjectIdData) → List A → List A
 in_order id_of xs = values_of (fold (put id_of) [] xs)
 
 -- a class with its destinations, in the order of the text
-abbrev pub recipient_of : DestinationSite → ListedRecipient
+abbrev pub recipient_of : DestinationSite → DestinationData
 recipient_of site = site.destination
 
-abbrev pub destinations_of : ℕ → List DestinationSite → List ListedRecipient
+abbrev pub destinations_of : ℕ → List DestinationSite → List DestinationData
 destinations_of class destinations = map recipient_of (filter (names_class class) destinations)
 
 abbrev pub with_destinations : List DestinationSite → ClassItem → ClassSite

@@ -2,9 +2,9 @@
 use Rattle.std.specs.Prelude.{ℕ, ◌==◌, nat_le, ℤ, pos, negsuc, Option, Some, None, option_map, List, codes, if◌then◌else◌}
 use Rattle.std.specs.Str.{bytes_eq}
 use Rattle.toml.specs.Data.{Data, as_str}
-use Rattle.bac_values.specs.Address.{Address}
-use Rattle.bac_values.specs.BitString.{BitString}
-use Rattle.bac_values.specs.Identifier.{Identifier}
+use Rattle.bac_values.specs.Address.{PeerData}
+use Rattle.bac_values.specs.BitString.{BitsData}
+use Rattle.bac_values.specs.Identifier.{ObjectIdData}
 use Rattle.bac_values.specs.declared.object_kind.ObjectKind.{ObjectKind}
 use Rattle.bac_values.specs.declared.object_kind.ObjectKind.TheVariants.{BinaryValue, MultiStateValue, BitStringValue, CharacterStringValue, IntegerValue, PositiveIntegerValue}
 use Rattle.bac_values.specs.declared.value.Value.{Value}
@@ -22,25 +22,25 @@ abbrev pub instance_in : Data → Option ℕ
 instance_in d = unsigned_in 0 last_instance d
 
 -- a string of bits, the first digit its first bit
-abbrev pub bits_in : Data → Option BitString
+abbrev pub bits_in : Data → Option BitsData
 bits_in d = as_str d >>= bits_of
 
 -- seven digits, Monday first: the number whose lowest bit is Monday's
-abbrev pub seven_bits : BitString → Option ℕ
+abbrev pub seven_bits : BitsData → Option ℕ
 seven_bits string = if string.size == 7 then Some string.bits else None
 
 abbrev pub days_in : Data → Option ℕ
 days_in d = bits_in d >>= seven_bits
 
 -- an address A.B.C.D:PORT, with a port from 1
-abbrev pub peer_in : Data → Option Address
+abbrev pub peer_in : Data → Option PeerData
 peer_in d = as_str d >>= peer_of
 
 -- an object KIND:INSTANCE
-abbrev pub with_instance : Identifier → Option Identifier
+abbrev pub with_instance : ObjectIdData → Option ObjectIdData
 with_instance object = if nat_le object.instance last_instance then Some object else None
 
-abbrev pub object_in : Data → Option Identifier
+abbrev pub object_in : Data → Option ObjectIdData
 object_in d = (as_str d >>= object_of) >>= with_instance
 
 -- Notify_Type: alarm is 0, event is 1

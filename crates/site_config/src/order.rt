@@ -10,10 +10,10 @@ use std::collections::BTreeMap;
 
 /// What has an identifier.
 pub trait Identified: Sized + Drop {
-    ghost use Rattle.bac_values.specs.Identifier.{Identifier};
+    ghost use Rattle.bac_values.specs.Identifier.{ObjectIdData};
 
     /// The identifier.
-    ghost id_of: { Self → Identifier };
+    ghost id_of: { Self → ObjectIdData };
 
     /// The identifier.
     fn object(&self) -> ObjectId

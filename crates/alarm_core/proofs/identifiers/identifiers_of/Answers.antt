@@ -1,5 +1,5 @@
 use Rattle.std.proofs.Common.{◌≡◌, List, [], ◌∷◌, ◌++◌, map, append_assoc, rules}
-use Rattle.bac_values.specs.Identifier.{Identifier}
+use Rattle.bac_values.specs.Identifier.{ObjectIdData}
 use Rattle.object_table.specs.declared.object_site.ObjectSite.{ObjectSite}
 use Rattle.enrollment.specs.declared.enrollment_site.EnrollmentSite.{EnrollmentSite}
 use Rattle.event_log.specs.declared.log_site.LogSite.{LogSite}
@@ -16,11 +16,11 @@ gathered a b c d e w x y z p q r s =
 pub returns : goal.returns
 returns c =
     let site = c.args.site.now in
-    let device : List Identifier = device_object site ∷ [] in
-    let objects : List Identifier = map (λ (object : ObjectSite). object.object) site.objects in
-    let classes : List Identifier = map class_object site.classes in
-    let enrollments : List Identifier = map (λ (enrollment : EnrollmentSite). enrollment.object) site.enrollments in
-    let logs : List Identifier = map (λ (log : LogSite). log.object) site.logs in
+    let device : List ObjectIdData = device_object site ∷ [] in
+    let objects : List ObjectIdData = map (λ (object : ObjectSite). object.object) site.objects in
+    let classes : List ObjectIdData = map class_object site.classes in
+    let enrollments : List ObjectIdData = map (λ (enrollment : EnrollmentSite). enrollment.object) site.enrollments in
+    let logs : List ObjectIdData = map (λ (log : LogSite). log.object) site.logs in
     let first : c.push.new.items.items ≡ device = search rules in
     let second : c.add_objects.new.identifiers.items ≡ device ++ objects = search rules in
     let third : c.add_classes.new.identifiers.items ≡ c.add_objects.new.identifiers.items ++ classes = search rules in

@@ -3,8 +3,8 @@ use Rattle.std.specs.List.{flat_map}
 use Rattle.std.specs.Option.{option_to_list}
 use Rattle.event_log.specs.History.{Call}
 use Rattle.alarm_core.specs.Evaluations.{site_zone}
-use Rattle.alarm_core.specs.Logs.{KeptLog}
-use Rattle.alarm_core.specs.ViewSteps.{SiteData, addressed_in, notes_to, record_to, transition_in}
+use Rattle.alarm_core.specs.Logs.{SiteLogState}
+use Rattle.alarm_core.specs.ViewSteps.{addressed_in, notes_to, record_to, transition_in, SiteViewData}
 use Rattle.alarm_core.proofs.Moved.{at_site, moved_all}
 use Rattle.alarm_core.proofs.ToldBy.{all_notes, all_records}
 use Rattle.alarm_core.proofs.look.tell.Goals as goal
@@ -16,7 +16,7 @@ pub returns-clause-notes : goal.returns-clause-notes
 returns-clause-notes c =
     let seen = c.args.view.now in
     let at = c.view.inside.at.now in
-    let here = at_site at seen.site seen.moment (c.view.invariant.zone ∙ ap (λ (s : SiteData). site_zone s.site) c.view.view_is) (ap (λ (s : SiteData). s.moment) c.view.view_is) in
+    let here = at_site at seen.site seen.moment (c.view.invariant.zone ∙ ap (λ (s : SiteViewData). site_zone s.site) c.view.view_is) (ap (λ (s : SiteViewData). s.moment) c.view.view_is) in
     let told = c.in_ok-addressed.addressed.items in
     let notes : c.in_ok-notes.notes.items ≡ flat_map (notes_to at) told = search rules in
     all_notes seen at here c.args.transitions.now told c.in_ok-notes.notes.items c.in_ok-addressed.ensures.addressed notes
@@ -25,7 +25,7 @@ pub returns-clause-records : goal.returns-clause-records
 returns-clause-records c =
     let seen = c.args.view.now in
     let at = c.view.inside.at.now in
-    let here = at_site at seen.site seen.moment (c.view.invariant.zone ∙ ap (λ (s : SiteData). site_zone s.site) c.view.view_is) (ap (λ (s : SiteData). s.moment) c.view.view_is) in
+    let here = at_site at seen.site seen.moment (c.view.invariant.zone ∙ ap (λ (s : SiteViewData). site_zone s.site) c.view.view_is) (ap (λ (s : SiteViewData). s.moment) c.view.view_is) in
     let told = c.in_ok-addressed.addressed.items in
-    let records : map (λ (list : Vec Call Global). list.items) c.in_ok-records.records.items ≡ map (λ (kept : KeptLog). flat_map (record_to at kept.site) told) c.args.logs.now = search rules in
+    let records : map (λ (list : Vec Call Global). list.items) c.in_ok-records.records.items ≡ map (λ (kept : SiteLogState). flat_map (record_to at kept.site) told) c.args.logs.now = search rules in
     records ∙ all_records seen at here c.args.transitions.now told c.args.logs.now c.in_ok-addressed.ensures.addressed

@@ -1,5 +1,5 @@
 use Rattle.alarm_server.specs.Emission.{Ends}
-use Rattle.alarm_server.specs.SessionSteps.{piece_text}
+use Rattle.alarm_server.specs.Pieces.{piece_text}
 use Rattle.alarm_server.specs.Status.{status_of}
 use Rattle.alarm_server.proofs.ByHistory.{by_history, stops_by_history, tally_by_history}
 use Rattle.alarm_server.proofs.on_file.play_site.Goals as goal

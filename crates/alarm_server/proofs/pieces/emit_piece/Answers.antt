@@ -1,6 +1,6 @@
 use Rattle.std.proofs.Common.{◌∙◌}
 use Rattle.std.proofs.lemmas.Result.{err_from_is_err_and}
-use Rattle.alarm_server.specs.SessionSteps.{piece_text}
+use Rattle.alarm_server.specs.Pieces.{piece_text}
 use Rattle.alarm_server.proofs.Sending.{loses_line}
 use Rattle.alarm_server.proofs.pieces.emit_piece.Goals as goal
 

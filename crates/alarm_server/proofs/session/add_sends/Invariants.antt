@@ -1,5 +1,5 @@
 use Rattle.std.proofs.Common.{◌≡◌, ◌++◌, map}
-use Rattle.alarm_server.specs.SessionSteps.{send_line}
+use Rattle.alarm_server.specs.Pieces.{send_line}
 use Rattle.alarm_server.proofs.session.add_sends.Given as goal
 
 abbrev pub invariant-loop-send : goal.invariant-loop-send

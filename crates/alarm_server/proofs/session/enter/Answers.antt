@@ -3,7 +3,7 @@ use Rattle.bac_values.specs.declared.report.ReportLine.TheVariants.{Entered, Cha
 use Rattle.alarm_core.specs.History.{moved_by, raised}
 use Rattle.alarm_core.specs.CoreSteps.{next_sends, next_transitions}
 use Rattle.alarm_core.specs.Verdicts.{step_verdict}
-use Rattle.alarm_server.specs.SessionSteps.{reply_lines, send_line}
+use Rattle.alarm_server.specs.Pieces.{reply_lines, send_line}
 use Rattle.alarm_server.proofs.PieceLines.{fits_is}
 use Rattle.alarm_server.proofs.session.enter.Goals as goal
 

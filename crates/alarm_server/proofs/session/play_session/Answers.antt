@@ -5,7 +5,7 @@ use Rattle.script_lines.specs.declared.line.Grammar.TheVariants.{Session}
 use Rattle.script_lines.specs.ReadingSteps.{octets_to_come}
 use Rattle.script_lines.specs.Script.{ReadsLine}
 use Rattle.alarm_server.specs.declared.status.Status.TheVariants.{ScriptRefused, ReadFault}
-use Rattle.alarm_server.specs.SessionSteps.{end_piece, piece_of}
+use Rattle.alarm_server.specs.Pieces.{end_piece, piece_of}
 use Rattle.alarm_server.specs.Status.{of_line_fault, of_unsent}
 use Rattle.alarm_server.proofs.OfUnsent.{emit_cause, is_fault, is_no_read_fault, read_cause, refuses_no_line}
 use Rattle.alarm_server.proofs.Progress.{grammar_fault, read_fault}

@@ -1,6 +1,6 @@
 use Rattle.std.proofs.Common.{◌≡◌, ◌≢◌, ℕ, ◌+◌, false, sym, ap, ◌∙◌, arith, inl, inr}
 use Rattle.std.specs.Prelude.{◌⊎◌}
-use Rattle.bac_tags.specs.Balanced.{elements_end}
+use Rattle.bac_tags.specs.BalancedSteps.{elements_end}
 use Rattle.bac_tags.proofs.Balance.{not_true, not_false, step_without, step_cut, step_over, step_into_none, step_into_some, step_application, step_closes, step_other}
 use Rattle.bac_tags.proofs.balanced.+elements_end.Goals as goal
 use Rattle.bac_tags.proofs.balanced.+elements_end.Goals.{then-not-tag-2-via-then-not-tag-2, then-not-tag-2-via-else-not-tag-2+then-tag-number}

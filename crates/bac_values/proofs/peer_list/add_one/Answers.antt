@@ -1,6 +1,6 @@
 use Rattle.std.proofs.Common.{◌∙◌, Ok, Err, List, sym, ap, subst}
 use Rattle.std.specs.List.{insert}
-use Rattle.bac_values.specs.Address.{Address}
+use Rattle.bac_values.specs.Address.{PeerData}
 use Rattle.bac_values.specs.Orders.{IsAscending, peer_with}
 use Rattle.bac_values.proofs.Placing.{searched}
 use Rattle.bac_values.proofs.Inserting.{itself, at_place, at_gap, ascends_with, made_sure}
@@ -16,7 +16,7 @@ returns-in-Err-clause-added c =
     let gap = searched itself peer slice (Err place) (subst IsAscending (sym seen) c.requires.ascending) c.in-Err.ensures.bound c.in-Err.ensures.position in
     c.insert-inserted.ensures.items
     ∙ made_sure c.insert-inserted.result _ known (c.insert-inserted.ensures.succeeds c.requires.room)
-    ∙ ap (λ (ps : List Address). insert ps place peer) (sym seen)
+    ∙ ap (λ (ps : List PeerData). insert ps place peer) (sym seen)
     ∙ at_gap peer slice place gap
     ∙ ap (peer_with peer) seen
 

@@ -1,5 +1,5 @@
 use Rattle.std.proofs.Common.{◌∙◌}
-use Rattle.bac_values.specs.Address.{Address}
+use Rattle.bac_values.specs.Address.{PeerData}
 use Rattle.bac_values.proofs.Placing.{searched}
 use Rattle.bac_values.proofs.Inserting.{found_by_search}
 use Rattle.bac_values.proofs.peer_list.is_among.Goals as goal
@@ -10,5 +10,5 @@ returns c =
     let peer = c.args.peer.now in
     let answer = c.binary_search.result in
     record {
-      among = c.is_ok.ensures.value ∙ found_by_search known peer answer (searched (λ (it : Address). it) peer known answer c.requires.ascending c.binary_search.ensures.bound c.binary_search.ensures.position);
+      among = c.is_ok.ensures.value ∙ found_by_search known peer answer (searched (λ (it : PeerData). it) peer known answer c.requires.ascending c.binary_search.ensures.bound c.binary_search.ensures.position);
     }

@@ -2,7 +2,8 @@ use Rattle.std.proofs.Common.{Err, ap, sym, ◌∙◌, inl, inr, arith}
 use Rattle.std.proofs.lemmas.Result.{err_from_is_err_and}
 use Rattle.bac_tags.specs.Values.{SpellsValue}
 use Rattle.bac_tags.specs.ReadingSteps.{value_at}
-use Rattle.bac_tags.specs.EnclosingTags.{SpellsEnclosed, enclosed_at}
+use Rattle.bac_tags.specs.EnclosingTags.{SpellsEnclosed}
+use Rattle.bac_tags.specs.EnclosingSteps.{enclosed_at}
 use Rattle.event_services.specs.NoteGrammar.{SpellsFlags}
 use Rattle.event_services.specs.NoteReadingSteps.{flags_at, commanded_at}
 use Rattle.event_services.specs.NoteTexts.{IsAfter, HoldsText, IsTextOfCommand}

@@ -1,6 +1,6 @@
 use Rattle.std.proofs.Common.{◌≡◌, false, rules, Err, ap, sym, ◌∙◌, arith}
 use Rattle.std.proofs.lemmas.Result.{err_from_is_err_and}
-use Rattle.bac_tags.specs.EnclosingTags.{is_closing}
+use Rattle.bac_tags.specs.EnclosingSteps.{is_closing}
 use Rattle.event_services.specs.NoteReadingSteps.{property_value_at, properties_at}
 use Rattle.event_services.specs.NoteTexts.{IsTextOfProperty, IsTextOfProperties}
 use Rattle.event_services.proofs.TextPlaces.{passes, inside, property_fails}

@@ -1,6 +1,6 @@
 use Rattle.std.proofs.Common.{◌∙◌, List, sym, ap}
 use Rattle.std.specs.List.{insert}
-use Rattle.outbox.specs.Posts.{PostState, empty_post}
+use Rattle.outbox.specs.Posts.{empty_post, MailboxState}
 use Rattle.outbox.specs.Outboxes.{with_peer}
 use Rattle.bac_values.proofs.Inserting.{made_sure}
 use Rattle.outbox.proofs.Learning.{at_place, at_gap}
@@ -14,7 +14,7 @@ returns-in-Err-clause-added c =
     c.insert-inserted.ensures.items
     ∙ made_sure c.insert-inserted.result _ posts (c.insert-inserted.ensures.succeeds c.requires.room)
     ∙ ap (insert posts place) c.new.ensures.empty
-    ∙ ap (λ (ps : List PostState). insert ps place (empty_post c.args.peer)) (sym seen)
+    ∙ ap (λ (ps : List MailboxState). insert ps place (empty_post c.args.peer)) (sym seen)
     ∙ at_gap c.args.peer c.deref.result.now place c.in-Err.ensures.searched
     ∙ ap (with_peer c.args.peer) seen
 

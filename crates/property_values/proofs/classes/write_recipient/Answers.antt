@@ -1,6 +1,6 @@
 use Rattle.std.proofs.Common.{◌≡◌, List, ◌++◌, None, OnOk, Result, Ok, Err, append_assoc, ap, rules, subst, ◌∙◌}
 use Rattle.bac_tags.specs.Writing.{written_bits, written_boolean, written_unsigned}
-use Rattle.bac_values.specs.BitString.{BitString, string_of_flags}
+use Rattle.bac_values.specs.BitString.{string_of_flags, BitsData}
 use Rattle.property_values.specs.ClassProperties.{days_of, written_peer, written_time}
 use Rattle.property_values.proofs.classes.write_recipient.Goals as goal
 
@@ -22,7 +22,7 @@ returns c =
     let recipient = c.args.recipient.now in
     let start = c.args.out.now.items in
     let days : c.write_bits.new.out.items ≡ start ++ written_bits None (days_of recipient) =
-    c.in_ok-write_bits.ensures.written ∙ ap (λ (string : BitString). start ++ written_bits None string) c.days_of.ensures.days in
+    c.in_ok-write_bits.ensures.written ∙ ap (λ (string : BitsData). start ++ written_bits None string) c.days_of.ensures.days in
     let from : c.write_time.new.out.items ≡ c.write_bits.new.out.items ++ written_time recipient.from = search rules in
     let to : c.write_time-2.new.out.items ≡ c.write_time.new.out.items ++ written_time recipient.to = search rules in
     let peer : c.write_peer.new.out.items ≡ c.write_time-2.new.out.items ++ written_peer recipient.peer = search rules in
@@ -30,5 +30,5 @@ returns c =
     let confirmed : c.write_bool.new.out.items ≡ c.write_unsigned.new.out.items ++ written_boolean None recipient.confirmed = search rules in
     let string : c.of_flags.result ≡ string_of_flags recipient.transitions = search rules in
     let last : OnOk c.write_bits-2.result (c.write_bits-2.new.out.items ≡ c.write_bool.new.out.items ++ written_bits None (string_of_flags recipient.transitions)) =
-    subst (λ (bits : BitString). OnOk c.write_bits-2.result (c.write_bits-2.new.out.items ≡ c.write_bool.new.out.items ++ written_bits None bits)) string c.write_bits-2.ensures.written in
+    subst (λ (bits : BitsData). OnOk c.write_bits-2.result (c.write_bits-2.new.out.items ≡ c.write_bool.new.out.items ++ written_bits None bits)) string c.write_bits-2.ensures.written in
     record { written = on_ok c.write_bits-2.result _ _ (λ g. gathered start _ _ _ _ _ _ _ _ _ _ _ _ _ _ days from to peer process confirmed g) last }

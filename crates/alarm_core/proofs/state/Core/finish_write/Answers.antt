@@ -4,10 +4,10 @@ use Rattle.event_log.specs.History.{Call}
 use Rattle.outbox.specs.Outboxes.{AreKnown, queued}
 use Rattle.event_log.specs.declared.log_site.LogSite.{LogSite}
 use Rattle.alarm_core.specs.Evaluations.{site_moment}
-use Rattle.alarm_core.specs.Logs.{KeptLog, records_of}
+use Rattle.alarm_core.specs.Logs.{records_of, SiteLogState}
 use Rattle.alarm_core.specs.CoreSteps.{evaluated_all, transitions_all}
 use Rattle.alarm_core.specs.Notes.{notes_of_transitions}
-use Rattle.alarm_core.specs.State.{DetectedObjectState, State}
+use Rattle.alarm_core.specs.State.{DetectedObjectState, CoreState}
 use Rattle.alarm_core.specs.Verdicts.{Answers, queue_verdict}
 use Rattle.alarm_core.proofs.Logging.{changed_log, entered, logs_between}
 use Rattle.alarm_core.proofs.ToldKnown.{more_known}
@@ -21,7 +21,7 @@ queue_all-requires-clause-known g c =
     let added : c.add_notes.new.notes.items ≡ c.args.before.told.notes.items ++ c.in_ok-after.after.told.notes.items = search rules in
     let later : c.in_ok-after.after.told.notes.items ≡ notes_of_transitions core.site core.classes.items transitions = search rules in
     let notes = added ∙ ap (λ ns. c.args.before.told.notes.items ++ ns) later in
-    let before : AreKnown c.args.before.told.notes.items core.outbox.posts = subst (λ (s : State). AreKnown c.args.before.told.notes.items s.outbox.posts) (sym c.self.view_is) c.requires.known in
+    let before : AreKnown c.args.before.told.notes.items core.outbox.posts = subst (λ (s : CoreState). AreKnown c.args.before.told.notes.items s.outbox.posts) (sym c.self.view_is) c.requires.known in
     subst (λ notes. AreKnown notes core.outbox.posts) (sym notes)
     (more_known core.site core.classes.items core.peers core.outbox.posts (record { peers_are = c.self.invariant.peers; knows = c.self.invariant.known })
     core.objects c.args.before.told.notes.items transitions before)
@@ -44,13 +44,13 @@ returns-clause-logs g c = λ first same.
     let old = c.args.self.now in
     let look = site_moment old.site c.args.at.now.moment in
     let change = changed_log c.args.change.now in
-    let kept : c.self.inside.logs.items ≡ old.logs = ap (λ (s : State). s.logs) c.self.view_is in
+    let kept : c.self.inside.logs.items ≡ old.logs = ap (λ (s : CoreState). s.logs) c.self.view_is in
     let second = λ (listed : LogSite). records_of old.site old.classes listed (transitions_all look old.values c.args.before.alarms.items) in
-    let firsts = λ (kept : KeptLog). first kept.site in
-    let seconds = λ (kept : KeptLog). second kept.site in
+    let firsts = λ (kept : SiteLogState). first kept.site in
+    let seconds = λ (kept : SiteLogState). second kept.site in
     let seen : c.deref.result.now ≡ c.args.before.alarms.items = search rules in
-    let made = λ (s : State) (alarms : List DetectedObjectState). map (λ (list : Vec Call Global). list.items) c.in_ok-after.after.told.records.items
-    ≡ map (λ (kept : KeptLog). records_of s.site s.classes kept.site (transitions_all (site_moment s.site c.args.at.now.moment) s.values alarms)) s.logs in
+    let made = λ (s : CoreState) (alarms : List DetectedObjectState). map (λ (list : Vec Call Global). list.items) c.in_ok-after.after.told.records.items
+    ≡ map (λ (kept : SiteLogState). records_of s.site s.classes kept.site (transitions_all (site_moment s.site c.args.at.now.moment) s.values alarms)) s.logs in
     let records : map (λ (list : Vec Call Global). list.items) c.in_ok-after.after.told.records.items ≡ map seconds old.logs =
     subst (made old) seen c.in_ok-after.ensures.records in
     let one : c.enter_all.new.logs.items ≡ map (entered first) old.logs =
@@ -74,7 +74,7 @@ returns-in_err-queue_all-clause-verdict g c =
     let notes = added ∙ ap (λ ns. c.args.before.told.notes.items ++ ns) later in
     let told : Answers result (queue_verdict c.add_notes.new.notes.items c.self.inside.outbox) = search rules in
     subst (λ notes. Answers result (queue_verdict notes old.outbox)) notes
-    (subst (λ (s : State). Answers result (queue_verdict c.add_notes.new.notes.items s.outbox)) c.self.view_is told)
+    (subst (λ (s : CoreState). Answers result (queue_verdict c.add_notes.new.notes.items s.outbox)) c.self.view_is told)
 
 pub returns-clause-verdict : goal.returns-clause-verdict
 returns-clause-verdict g c =
@@ -87,4 +87,4 @@ returns-clause-verdict g c =
     let notes = added ∙ ap (λ ns. c.args.before.told.notes.items ++ ns) later in
     let told : queue_verdict c.add_notes.new.notes.items c.self.inside.outbox ≡ Ok tt = search rules in
     subst (λ notes. queue_verdict notes old.outbox ≡ Ok tt) notes
-    (subst (λ (s : State). queue_verdict c.add_notes.new.notes.items s.outbox ≡ Ok tt) c.self.view_is told)
+    (subst (λ (s : CoreState). queue_verdict c.add_notes.new.notes.items s.outbox ≡ Ok tt) c.self.view_is told)

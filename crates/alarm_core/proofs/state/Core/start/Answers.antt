@@ -1,6 +1,6 @@
 use Rattle.std.proofs.Common.{◌≡◌, ◌∙◌, ℕ, [], map, sym, ap, subst, rules}
 use Rattle.bac_values.specs.Orders.{peers_with}
-use Rattle.civil_stamp.specs.LocalTime.{ZonedMoment}
+use Rattle.civil_stamp.specs.LocalTime.{LocalMomentData}
 use Rattle.outbox.specs.Outboxes.{new_outbox, peers_of}
 use Rattle.outbox.proofs.Making.{peers_empty}
 use Rattle.notify_class.specs.declared.class_site.ClassSite.{ClassSite}
@@ -38,7 +38,7 @@ pub returns-clause-starts : goal.returns-clause-starts
 returns-clause-starts c =
     let site = c.args.site.now in
     let start = site.device.start in
-    let detected = λ (at : ZonedMoment) (values : Values). map (λ subject. first_with at (ack_required_of site subject) values subject) (detecting_subjects site) in
+    let detected = λ (at : LocalMomentData) (values : Values). map (λ subject. first_with at (ack_required_of site subject) values subject) (detecting_subjects site) in
     let same : c.in_ok-site.site ≡ site = search rules in
     let values : c.in_ok-objects.objects ≡ first_values site = search rules in
     let at = c.new-at.result in

@@ -2,7 +2,7 @@ use Rattle.std.proofs.Common.{◌≡◌, ◌∙◌, ◌+◌, ◌≤◌, ℕ, rul
 use Rattle.alarm_core.specs.History.{raised}
 use Rattle.alarm_core.specs.CoreSteps.{acted}
 use Rattle.alarm_core.specs.Sites.{IsSite}
-use Rattle.alarm_core.specs.State.{State}
+use Rattle.alarm_core.specs.State.{CoreState}
 use Rattle.alarm_core.proofs.Acted.{stepped}
 use Rattle.alarm_core.proofs.NeverFull.{tick_never_full}
 use Rattle.alarm_core.proofs.Notified.{notifications_after}
@@ -34,7 +34,7 @@ returns-clause-state g c =
     let event = raised state.last_moment c.args.event.now in
     let moment : c.max-moment.result ≡ event.moment = search rules in
     let after : c.act.new.self ≡ acted event state = search rules in
-    let counted = λ (s : State) (m : ℕ). record s { events = s.events + 1; last_moment = m } in
+    let counted = λ (s : CoreState) (m : ℕ). record s { events = s.events + 1; last_moment = m } in
     stepped event state c.act.new.self _ after (λ k. counted (c.self-2.view_is k) (moment k))
 
 pub returns-clause-represents : goal.returns-clause-represents

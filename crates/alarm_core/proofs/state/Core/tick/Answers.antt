@@ -3,10 +3,10 @@ use Rattle.event_log.specs.History.{Call}
 use Rattle.outbox.specs.Outboxes.{AreKnown, queued}
 use Rattle.alarm_core.specs.Evaluations.{site_moment}
 use Rattle.alarm_core.specs.History.{moved_by, tick_at}
-use Rattle.alarm_core.specs.Logs.{KeptLog, records_of}
+use Rattle.alarm_core.specs.Logs.{records_of, SiteLogState}
 use Rattle.alarm_core.specs.CoreSteps.{after_calls, evaluated_all, next_notes, transitions_all}
 use Rattle.alarm_core.specs.Notes.{notes_of_transition, notes_of_transitions}
-use Rattle.alarm_core.specs.State.{DetectedObjectState, State}
+use Rattle.alarm_core.specs.State.{DetectedObjectState, CoreState}
 use Rattle.alarm_core.specs.Verdicts.{Answers, queue_verdict}
 use Rattle.alarm_core.proofs.Moved.{each_of_one_look, of_one_look}
 use Rattle.alarm_core.proofs.ToldKnown.{look_known}
@@ -29,13 +29,13 @@ returns-clause-state g c =
     let alarms : c.in_ok-look.look.alarms.items ≡ evaluated_all look old.values old.alarms = search rules in
     let notes : c.in_ok-look.look.told.notes.items ≡ notes_of_transitions old.site old.classes transitions = search rules in
     let outbox : c.queue_all.new.outbox ≡ queued c.in_ok-look.look.told.notes.items old.outbox = search rules in
-    let kept : c.self.inside.logs.items ≡ old.logs = ap (λ (s : State). s.logs) c.self.view_is in
-    let calls = λ (kept : KeptLog). records_of old.site old.classes kept.site transitions in
+    let kept : c.self.inside.logs.items ≡ old.logs = ap (λ (s : CoreState). s.logs) c.self.view_is in
+    let calls = λ (kept : SiteLogState). records_of old.site old.classes kept.site transitions in
     let seen : c.deref.result.now ≡ old.alarms = search rules in
     let made = λ (alarms : List DetectedObjectState). map (λ (list : Vec Call Global). list.items) c.in_ok-look.look.told.records.items
-    ≡ map (λ (kept : KeptLog). records_of old.site old.classes kept.site (transitions_all look old.values alarms)) old.logs in
+    ≡ map (λ (kept : SiteLogState). records_of old.site old.classes kept.site (transitions_all look old.values alarms)) old.logs in
     let records : map (λ (list : Vec Call Global). list.items) c.in_ok-look.look.told.records.items ≡ map calls old.logs = subst made seen c.in_ok-look.ensures.records in
-    let logs = c.enter_all.ensures.logs calls (records ∙ ap (map calls) (sym kept)) ∙ ap (map (λ (kept : KeptLog). record kept { log = after_calls (calls kept) kept.log })) kept in
+    let logs = c.enter_all.ensures.logs calls (records ∙ ap (map calls) (sym kept)) ∙ ap (map (λ (kept : SiteLogState). record kept { log = after_calls (calls kept) kept.log })) kept in
     ticked old c.args.at.now.moment _ c.in_ok-look.look.alarms.items c.in_ok-look.look.told.notes.items c.queue_all.new.outbox c.enter_all.new.logs.items (search rules) alarms outbox notes logs
 
 pub returns-clause-moves : goal.returns-clause-moves
@@ -53,7 +53,7 @@ returns-in_err-queue_all-clause-verdict g c =
     let notes : c.in_ok-look.look.told.notes.items ≡ notes_of_transitions old.site old.classes transitions = search rules in
     let told : Answers result (queue_verdict c.in_ok-look.look.told.notes.items c.self.inside.outbox) = search rules in
     subst (λ notes. Answers result (queue_verdict notes old.outbox)) (notes ∙ each_of_one_look (notes_of_transition old.site old.classes) transitions)
-    (subst (λ (s : State). Answers result (queue_verdict c.in_ok-look.look.told.notes.items s.outbox)) c.self.view_is told)
+    (subst (λ (s : CoreState). Answers result (queue_verdict c.in_ok-look.look.told.notes.items s.outbox)) c.self.view_is told)
 
 pub returns-clause-verdict : goal.returns-clause-verdict
 returns-clause-verdict g c =
@@ -62,4 +62,4 @@ returns-clause-verdict g c =
     let notes : c.in_ok-look.look.told.notes.items ≡ notes_of_transitions old.site old.classes transitions = search rules in
     let told : queue_verdict c.in_ok-look.look.told.notes.items c.self.inside.outbox ≡ Ok tt = search rules in
     subst (λ notes. queue_verdict notes old.outbox ≡ Ok tt) (notes ∙ each_of_one_look (notes_of_transition old.site old.classes) transitions)
-    (subst (λ (s : State). queue_verdict c.in_ok-look.look.told.notes.items s.outbox ≡ Ok tt) c.self.view_is told)
+    (subst (λ (s : CoreState). queue_verdict c.in_ok-look.look.told.notes.items s.outbox ≡ Ok tt) c.self.view_is told)

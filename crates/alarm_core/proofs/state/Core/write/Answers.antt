@@ -4,10 +4,10 @@ use Rattle.outbox.specs.Outboxes.{AreKnown}
 use Rattle.event_log.specs.declared.log_site.LogSite.{LogSite}
 use Rattle.alarm_core.specs.Evaluations.{site_moment}
 use Rattle.alarm_core.specs.History.{moved_by}
-use Rattle.alarm_core.specs.Logs.{KeptLog, records_of}
+use Rattle.alarm_core.specs.Logs.{records_of, SiteLogState}
 use Rattle.alarm_core.specs.CoreSteps.{evaluated_all, transitions_all}
 use Rattle.alarm_core.specs.Notes.{notes_of_transitions}
-use Rattle.alarm_core.specs.State.{DetectedObjectState, State}
+use Rattle.alarm_core.specs.State.{DetectedObjectState, CoreState}
 use Rattle.alarm_core.specs.Values.{written}
 use Rattle.alarm_core.specs.Verdicts.{Answers}
 use Rattle.alarm_core.proofs.ToldKnown.{look_known}
@@ -20,9 +20,9 @@ finish_write-requires-clause-known g c =
     let old = c.args.self.now in
     let look = site_moment old.site c.args.at.now.moment in
     let notes : c.in_ok-before.before.told.notes.items ≡ notes_of_transitions old.site old.classes (transitions_all look old.values old.alarms) = search rules in
-    let transitions = λ (s : State). transitions_all (site_moment s.site c.args.at.now.moment) s.values s.alarms in
+    let transitions = λ (s : CoreState). transitions_all (site_moment s.site c.args.at.now.moment) s.values s.alarms in
     subst (λ notes. AreKnown notes old.outbox.posts) (sym notes)
-    (subst (λ (s : State). AreKnown (notes_of_transitions s.site s.classes (transitions s)) s.outbox.posts) c.self.view_is
+    (subst (λ (s : CoreState). AreKnown (notes_of_transitions s.site s.classes (transitions s)) s.outbox.posts) c.self.view_is
     (look_known core.site core.classes.items core.peers core.outbox.posts (record { peers_are = c.self.invariant.peers; knows = c.self.invariant.known })
     core.objects (transitions_all (site_moment core.site c.args.at.now.moment) core.objects core.alarms.items)))
 
@@ -35,8 +35,8 @@ returns-then-is_of_log-clause-state g c =
     let first = λ (listed : LogSite). records_of old.site old.classes listed (transitions_all look old.values old.alarms) in
     let seen : c.deref.result.now ≡ old.alarms = search rules in
     let made = λ (alarms : List DetectedObjectState). map (λ (list : Vec Call Global). list.items) c.in_ok-before.before.told.records.items
-    ≡ map (λ (kept : KeptLog). records_of old.site old.classes kept.site (transitions_all look old.values alarms)) old.logs in
-    let records : map (λ (list : Vec Call Global). list.items) c.in_ok-before.before.told.records.items ≡ map (λ (kept : KeptLog). first kept.site) old.logs =
+    ≡ map (λ (kept : SiteLogState). records_of old.site old.classes kept.site (transitions_all look old.values alarms)) old.logs in
+    let records : map (λ (list : Vec Call Global). list.items) c.in_ok-before.before.told.records.items ≡ map (λ (kept : SiteLogState). first kept.site) old.logs =
     subst made seen c.in_ok-before.ensures.records in
     let same : old.values ≡ written c.args.change.now old.values = sym (c.is_of_log.ensures.log (search rules)) in
     on_both c.finish_write.result
@@ -71,9 +71,9 @@ write_object-requires-clause-known g c =
     let old = c.args.self.now in
     let look = site_moment old.site c.args.at.now.moment in
     let notes : c.in_ok-before.before.told.notes.items ≡ notes_of_transitions old.site old.classes (transitions_all look old.values old.alarms) = search rules in
-    let transitions = λ (s : State). transitions_all (site_moment s.site c.args.at.now.moment) s.values s.alarms in
+    let transitions = λ (s : CoreState). transitions_all (site_moment s.site c.args.at.now.moment) s.values s.alarms in
     subst (λ notes. AreKnown notes old.outbox.posts) (sym notes)
-    (subst (λ (s : State). AreKnown (notes_of_transitions s.site s.classes (transitions s)) s.outbox.posts) c.self.view_is
+    (subst (λ (s : CoreState). AreKnown (notes_of_transitions s.site s.classes (transitions s)) s.outbox.posts) c.self.view_is
     (look_known core.site core.classes.items core.peers core.outbox.posts (record { peers_are = c.self.invariant.peers; knows = c.self.invariant.known })
     core.objects (transitions_all (site_moment core.site c.args.at.now.moment) core.objects core.alarms.items)))
 
@@ -86,8 +86,8 @@ returns-clause-state g c =
     let first = λ (listed : LogSite). records_of old.site old.classes listed (transitions_all look old.values old.alarms) in
     let seen : c.deref.result.now ≡ old.alarms = search rules in
     let made = λ (alarms : List DetectedObjectState). map (λ (list : Vec Call Global). list.items) c.in_ok-before.before.told.records.items
-    ≡ map (λ (kept : KeptLog). records_of old.site old.classes kept.site (transitions_all look old.values alarms)) old.logs in
-    let records : map (λ (list : Vec Call Global). list.items) c.in_ok-before.before.told.records.items ≡ map (λ (kept : KeptLog). first kept.site) old.logs =
+    ≡ map (λ (kept : SiteLogState). records_of old.site old.classes kept.site (transitions_all look old.values alarms)) old.logs in
+    let records : map (λ (list : Vec Call Global). list.items) c.in_ok-before.before.told.records.items ≡ map (λ (kept : SiteLogState). first kept.site) old.logs =
     subst made seen c.in_ok-before.ensures.records in
     on_both c.write_object.result
     (written_state old c.args.at.now.moment c.args.change.now (written c.args.change.now old.values) refl c.in_ok-before.before.alarms.items before c.in_ok-before.before.told.notes.items notes c.write_object.new.self c.write_object.new.self.logs)

@@ -1,7 +1,7 @@
 use Rattle.std.proofs.Common.{◌≡◌, ◌+◌, ◌-◌, ◌<◌, ◌≤◌, ◌^◌, ◌∷◌, [], length, arith, ap, subst, sym, ◌∙◌, List, ℕ}
 use Rattle.ground_io.specs.Trace.{Adds}
 use Rattle.alarm_journal.specs.Journal.{Site, Content, framed, only_snapshot}
-use Rattle.alarm_journal.specs.Press.{Standing, Settled, Between, IsSound, behind_snapshot, other_of, selector_of}
+use Rattle.alarm_journal.specs.Press.{Settled, Between, IsSound, behind_snapshot, other_of, selector_of, PressState}
 use Rattle.alarm_journal.specs.Protocol.{AddsSome, IsTwoCutShort, two_writes}
 use Rattle.alarm_journal.specs.declared.layout.Layout.{Layout}
 use Rattle.alarm_journal.proofs.Rest.{lasts, sound_snapshot}
@@ -16,33 +16,33 @@ pub returns-in-Err-clause-any_moment : goal.returns-in-Err-clause-any_moment
 returns-in-Err-clause-any_moment g c =
     let x = c.self.inside in
     let body : List ℕ = c.args.job.now in
-    let fits : length body + 5 ≤ x.layout.half = subst (λ (s : Standing _). length body + 5 ≤ s.layout.half) (sym c.self.view_is) c.requires.fits in
+    let fits : length body + 5 ≤ x.layout.half = subst (λ (s : PressState _). length body + 5 ≤ s.layout.half) (sym c.self.view_is) c.requires.fits in
     let small = few (length body) c.framed-octets.ensures.few in
     let P : ℕ → List ℕ → ℕ → Type 0 = λ p l s. AddsSome (IsTwoCutShort p l (x.layout.areas - 1) (s ∷ [])) (g.G.Ground.told x.device) (g.G.Ground.told c.write_both.new.device) in
     let cut : P (other_of x.layout) (framed body) (selector_of x.layout) =
     subst (P (other_of x.layout) (framed body)) c.other_selector-selector.ensures.selector (subst (λ (p : ℕ). P p (framed body) c.other_selector-selector.result) c.other_start-place.ensures.start
     (subst (λ (l : List ℕ). P c.other_start-place.result l c.other_selector-selector.result) c.framed-octets.ensures.framed c.in-Err.ensures.cut_short)) in
-    subst (λ (s : Standing _). (site : Site) (content : Content) → Settled site s.layout (g.G.Ground.told s.device) content → Between site content (only_snapshot body) (g.G.Ground.told s.device) (g.G.Ground.told c.write_both.new.device)) c.self.view_is
+    subst (λ (s : PressState _). (site : Site) (content : Content) → Settled site s.layout (g.G.Ground.told s.device) content → Between site content (only_snapshot body) (g.G.Ground.told s.device) (g.G.Ground.told c.write_both.new.device)) c.self.view_is
     (λ site content settled. cut_short _ (other_of x.layout) (framed body) (x.layout.areas - 1) (selector_of x.layout ∷ []) _ _ (ready site x.layout content body (g.G.Ground.size x.device) c.self.invariant small fits _ (g.G.Ground.sized x.device) settled) cut)
 
 pub returns-clause-any_moment : goal.returns-clause-any_moment
 returns-clause-any_moment g c =
     let x = c.self.inside in
     let body : List ℕ = c.args.job.now in
-    let fits : length body + 5 ≤ x.layout.half = subst (λ (s : Standing _). length body + 5 ≤ s.layout.half) (sym c.self.view_is) c.requires.fits in
+    let fits : length body + 5 ≤ x.layout.half = subst (λ (s : PressState _). length body + 5 ≤ s.layout.half) (sym c.self.view_is) c.requires.fits in
     let small = few (length body) c.framed-octets.ensures.few in
     let P : ℕ → List ℕ → ℕ → Type 0 = λ p l s. Adds (g.G.Ground.told x.device) (g.G.Ground.told c.write_both.new.device) (two_writes p l (x.layout.areas - 1) (s ∷ [])) in
     let wrote : P (other_of x.layout) (framed body) (selector_of x.layout) =
     subst (P (other_of x.layout) (framed body)) c.other_selector-selector.ensures.selector (subst (λ (p : ℕ). P p (framed body) c.other_selector-selector.result) c.other_start-place.ensures.start
     (subst (λ (l : List ℕ). P c.other_start-place.result l c.other_selector-selector.result) c.framed-octets.ensures.framed c.in_default.ensures.wrote)) in
-    subst (λ (s : Standing _). (site : Site) (content : Content) → Settled site s.layout (g.G.Ground.told s.device) content → Between site content (only_snapshot body) (g.G.Ground.told s.device) (g.G.Ground.told c.write_both.new.device)) c.self.view_is
+    subst (λ (s : PressState _). (site : Site) (content : Content) → Settled site s.layout (g.G.Ground.told s.device) content → Between site content (only_snapshot body) (g.G.Ground.told s.device) (g.G.Ground.told c.write_both.new.device)) c.self.view_is
     (λ site content settled. done _ (other_of x.layout) (framed body) (x.layout.areas - 1) (selector_of x.layout ∷ []) _ _ (ready site x.layout content body (g.G.Ground.size x.device) c.self.invariant small fits _ (g.G.Ground.sized x.device) settled) wrote)
 
 pub returns-clause-settled : goal.returns-clause-settled
 returns-clause-settled g c =
     let x = c.self.inside in
     let body : List ℕ = c.args.job.now in
-    let fits : length body + 5 ≤ x.layout.half = subst (λ (s : Standing _). length body + 5 ≤ s.layout.half) (sym c.self.view_is) c.requires.fits in
+    let fits : length body + 5 ≤ x.layout.half = subst (λ (s : PressState _). length body + 5 ≤ s.layout.half) (sym c.self.view_is) c.requires.fits in
     let small = few (length body) c.framed-octets.ensures.few in
     let P : ℕ → List ℕ → ℕ → Type 0 = λ p l s. Adds (g.G.Ground.told x.device) (g.G.Ground.told c.write_both.new.device) (two_writes p l (x.layout.areas - 1) (s ∷ [])) in
     let wrote : P (other_of x.layout) (framed body) (selector_of x.layout) =
@@ -50,7 +50,7 @@ returns-clause-settled g c =
     (subst (λ (l : List ℕ). P c.other_start-place.result l c.other_selector-selector.result) c.framed-octets.ensures.framed c.in_default.ensures.wrote)) in
     let count : length c.framed-octets.result.now - 5 ≡ length body = omega (arith, c.framed-octets.ensures.length) in
     let layout : c.behind_snapshot-layout.result ≡ behind_snapshot x.layout (length body) = c.behind_snapshot-layout.ensures.behind ∙ ap (behind_snapshot x.layout) count in
-    subst (λ (s : Standing _). (site : Site) (content : Content) → Settled site s.layout (g.G.Ground.told s.device) content → Settled site c.behind_snapshot-layout.result (g.G.Ground.told c.write_both.new.device) (only_snapshot body)) c.self.view_is
+    subst (λ (s : PressState _). (site : Site) (content : Content) → Settled site s.layout (g.G.Ground.told s.device) content → Settled site c.behind_snapshot-layout.result (g.G.Ground.told c.write_both.new.device) (only_snapshot body)) c.self.view_is
     (λ site content settled. subst (λ (l : Layout). Settled site l (g.G.Ground.told c.write_both.new.device) (only_snapshot body)) (sym layout)
     (committed site x.layout content body (g.G.Ground.size x.device) c.self.invariant small fits _ _ (g.G.Ground.sized x.device) (ended (λ _. ⊥) (other_of x.layout) (framed body) (x.layout.areas - 1) (selector_of x.layout ∷ []) _ _ wrote) settled))
 
@@ -58,7 +58,7 @@ pub returns-clause-lasts : goal.returns-clause-lasts
 returns-clause-lasts g c =
     let x = c.self.inside in
     let body : List ℕ = c.args.job.now in
-    let fits : length body + 5 ≤ x.layout.half = subst (λ (s : Standing _). length body + 5 ≤ s.layout.half) (sym c.self.view_is) c.requires.fits in
+    let fits : length body + 5 ≤ x.layout.half = subst (λ (s : PressState _). length body + 5 ≤ s.layout.half) (sym c.self.view_is) c.requires.fits in
     let count : length c.framed-octets.result.now - 5 ≡ length body = omega (arith, c.framed-octets.ensures.length) in
     let layout : c.behind_snapshot-layout.result ≡ behind_snapshot x.layout (length body) = c.behind_snapshot-layout.ensures.behind ∙ ap (behind_snapshot x.layout) count in
     let sound = subst (λ (l : Layout). IsSound (g.G.Ground.size x.device) l) (sym layout) (sound_snapshot (g.G.Ground.size x.device) x.layout (length body) c.self.invariant fits) in

@@ -1,6 +1,6 @@
 use Rattle.std.proofs.Common.{sym, subst}
 use Rattle.event_machine.specs.Given.{point_of}
-use Rattle.event_machine.specs.AlarmSteps.{no_runs}
+use Rattle.event_machine.specs.Summary.{no_runs}
 use Rattle.event_machine.specs.Runs.{AreInRange}
 use Rattle.event_machine.proofs.Ranges.{runs_in, none_in}
 use Rattle.event_machine.proofs.alarm.Alarm.begin_runs.Goals as goal

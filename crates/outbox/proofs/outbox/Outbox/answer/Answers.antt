@@ -1,7 +1,7 @@
 use Rattle.std.proofs.Common.{◌<◌, List, length, map, sym, ◌∙◌, ap, subst, arith, if◌then◌else◌}
 use Rattle.std.specs.List.{list_any, All}
 use Rattle.bac_values.specs.Orders.{IsAscending}
-use Rattle.outbox.specs.Posts.{PostState}
+use Rattle.outbox.specs.Posts.{MailboxState}
 use Rattle.outbox.specs.Outboxes.{OutboxState, peers_of, unfinished_in, answered_by, answered, is_flight_to}
 use Rattle.outbox.specs.declared.answers.Answered.TheVariants.{Answered as Finishing, Stray}
 use Rattle.outbox.specs.Following.{Follows, after_answer}
@@ -15,8 +15,8 @@ answer_one-requires c =
     let is = c.self.invariant.1 in
     let back = sym c.deref_mut.ensures.value in
     record {
-      ascending = subst (λ (ps : List PostState). IsAscending (peers_of ps)) back is.ascending;
-      filled = subst (λ (ps : List PostState). All (λ (post : PostState). 0 < post.attempts → 0 < length post.notes) ps) back (all_filled _ is);
+      ascending = subst (λ (ps : List MailboxState). IsAscending (peers_of ps)) back is.ascending;
+      filled = subst (λ (ps : List MailboxState). All (λ (post : MailboxState). 0 < post.attempts → 0 < length post.notes) ps) back (all_filled _ is);
     }
 
 pub invariant_of-self : goal.invariant_of-self

@@ -2,7 +2,7 @@ use Rattle.std.proofs.Common.{List, sym, ◌∙◌, ap, subst, arith}
 use Rattle.std.specs.List.{All, flat_map}
 use Rattle.bac_values.specs.declared.note.Send.{Send}
 use Rattle.outbox.specs.Delivery.{Timing}
-use Rattle.outbox.specs.Posts.{PostState, IsPost, post_pumped, post_sends}
+use Rattle.outbox.specs.Posts.{IsPost, post_pumped, post_sends, MailboxState}
 use Rattle.outbox.specs.Outboxes.{OutboxState, unfinished_in, pumped, sends_of, timing_of}
 use Rattle.outbox.specs.Following.{Follows, after_pump}
 use Rattle.outbox.proofs.Keeping.{pump_keeps}
@@ -45,7 +45,7 @@ returns-clause-pumped c =
 pub returns-clause-sends : goal.returns-clause-sends
 returns-clause-sends c =
     let timing : Timing = record { timeout = c.self.inside.timeout; retries = c.self.inside.retries } in
-    let all : List PostState → List Send = flat_map (post_sends timing c.args.moment) in
+    let all : List MailboxState → List Send = flat_map (post_sends timing c.args.moment) in
     c.in_ok-sends.ensures.sends c.self.inside.timeout ∙ ap all c.deref.ensures.value ∙ ap (sends_of c.args.moment) c.self.view_is
 
 pub returns-clause-looking_back : goal.returns-clause-looking_back
@@ -59,5 +59,5 @@ returns-clause-looking_back c =
 pub returns-clause-sent : goal.returns-clause-sent
 returns-clause-sent c =
     let timing : Timing = record { timeout = c.self.inside.timeout; retries = c.self.inside.retries } in
-    let all : List PostState → List Send = flat_map (post_sends timing c.args.moment) in
+    let all : List MailboxState → List Send = flat_map (post_sends timing c.args.moment) in
     are_sent c.args.moment c.args.self.now c.in_ok-sends.sends.items (c.in_ok-sends.ensures.sends c.self.inside.timeout ∙ ap all c.deref.ensures.value ∙ ap (sends_of c.args.moment) c.self.view_is)

@@ -4,7 +4,7 @@ use Rattle.std.specs.Result.{IsErrOf}
 use Rattle.bac_values.specs.Orders.{IsAscending}
 use Rattle.outbox.specs.declared.answers.QueueFault.{QueueFault}
 use Rattle.outbox.specs.declared.answers.QueueFault.TheVariants.{Full, NoMemory}
-use Rattle.outbox.specs.Posts.{PostState}
+use Rattle.outbox.specs.Posts.{MailboxState}
 use Rattle.outbox.specs.Outboxes.{OutboxState, peers_of, unfinished_in, with_notes, queued, AreKnown}
 use Rattle.outbox.specs.Following.{Follows, after_queue}
 use Rattle.outbox.proofs.Standing.{queue_follows}
@@ -25,7 +25,7 @@ returns-then-exceeds-clause-full c =
     told_full (unfinished_in c.args.self.now.posts + length c.args.notes.items) c.args.self.now.limit c.args.notes.items (length c.args.notes.items) _ _ _ total limit c.of.ensures.same some more
 
 pub put_all-requires-clause-ascending : goal.put_all-requires-clause-ascending
-put_all-requires-clause-ascending c = subst (λ (ps : List PostState). IsAscending (peers_of ps)) (sym c.deref_mut.ensures.value) c.self.invariant.1.ascending
+put_all-requires-clause-ascending c = subst (λ (ps : List MailboxState). IsAscending (peers_of ps)) (sym c.deref_mut.ensures.value) c.self.invariant.1.ascending
 
 pub put_all-requires-clause-known : goal.put_all-requires-clause-known
 put_all-requires-clause-known c = subst (AreKnown c.args.notes.items) (sym (c.deref_mut.ensures.value ∙ ap (λ (o : OutboxState). o.posts) c.self.view_is)) c.requires.known

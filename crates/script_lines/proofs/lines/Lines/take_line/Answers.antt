@@ -1,11 +1,11 @@
 use Rattle.std.proofs.Common.{◌<◌, length, rules}
-use Rattle.script_lines.specs.ReadingSteps.{Reading}
+use Rattle.script_lines.specs.ReadingSteps.{LinesState}
 use Rattle.script_lines.proofs.TakenLine.{IsFoundBy, judged, judged_whole}
 use Rattle.script_lines.proofs.lines.Lines.take_line.Goals as goal
 
 pub returns-clause-line : goal.returns-clause-line
 returns-clause-line g c =
-    let now : Reading = record { grammar = c.self.inside.grammar; pending = c.find_end.new.pending; number = c.self.inside.number; ended = c.find_end.new.ended } in
+    let now : LinesState = record { grammar = c.self.inside.grammar; pending = c.find_end.new.pending; number = c.self.inside.number; ended = c.find_end.new.ended } in
     let some : 0 < length now.pending = search rules in
     let found : IsFoundBy now = rw c.in_ok-end.ensures.end at c.in_ok-end.ensures.found in
     rw (← c.self.view_is, c.taken_of.ensures.taken)
@@ -14,7 +14,7 @@ returns-clause-line g c =
 
 pub returns-clause-whole_lines : goal.returns-clause-whole_lines
 returns-clause-whole_lines g c = λ goes_on.
-    let now : Reading = record { grammar = c.self.inside.grammar; pending = c.find_end.new.pending; number = c.self.inside.number; ended = c.find_end.new.ended } in
+    let now : LinesState = record { grammar = c.self.inside.grammar; pending = c.find_end.new.pending; number = c.self.inside.number; ended = c.find_end.new.ended } in
     let found : IsFoundBy now = rw c.in_ok-end.ensures.end at c.in_ok-end.ensures.found in
     rw (← c.self.view_is)
     (judged_whole c.in_ok-says.says c.self.inside.pending now c.judge.new.self (g.S.Source.left c.args.source.now) (g.S.Source.left c.find_end.new.source)
