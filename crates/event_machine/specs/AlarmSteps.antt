@@ -16,7 +16,7 @@ use Rattle.event_machine.specs.Held.{key_in_detection}
 use Rattle.event_machine.specs.Detection.{is_fault, is_normal, cause_on, fault_target}
 use Rattle.event_machine.specs.AlarmRecord.{wants_ack}
 use Rattle.event_machine.specs.Runs.{places, has_gone_on}
-use Rattle.event_machine.specs.Summary.{AlarmState}
+use Rattle.event_machine.specs.Summary.{AlarmState, new_alarm, no_runs}
 
 -- an alarm, and the moves that led to it, the earliest first
 pub record Change : Type 0 where
