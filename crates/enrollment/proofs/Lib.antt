@@ -3,3 +3,4 @@ pub mod Watched
 pub mod Places
 pub mod Taking
 pub mod Seen
+pub mod Untouched

@@ -20,5 +20,5 @@ pub use copying::copy_of_enrollments;
 pub use enrollment_property::EnrollmentProperty;
 pub use enrollment_site::EnrollmentSite;
 pub use enrollments::Enrollments;
-pub use laws::takes_what_writes_make;
+pub use laws::{takes_what_writes_make, watchers_are_all_that_refer};
 pub use snapshots::algorithm_of;

@@ -20,7 +20,7 @@ never_falls first (Looked point ∷ older) course = (course.0.not_before, never_
 never_falls first (Acknowledged transition ∷ older) course = never_falls first older course
 
 -- no rule leads to FAULT
-abbrev NoneFails : List Rule → Type 0
+abbrev pub NoneFails : List Rule → Type 0
 NoneFails [] = Unit {0}
 NoneFails (rule ∷ rules) = (is_fault rule.target ≡ false) × NoneFails rules
 
@@ -52,7 +52,7 @@ range_fine Fault = tt
 range_fine HighLimit = (refl, (refl, tt))
 range_fine LowLimit = (refl, (refl, tt))
 
-none_fails : (algorithm : Algorithm) (state : EventState) → NoneFails (rules_of algorithm state)
+pub none_fails : (algorithm : Algorithm) (state : EventState) → NoneFails (rules_of algorithm state)
 none_fails ChangeOfState state = match_fine state
 none_fails ChangeOfBitstring state = match_fine state
 none_fails ChangeOfCharacterstring state = match_fine state
@@ -62,7 +62,7 @@ none_fails UnsignedOutOfRange state = limit_fine state
 none_fails UnsignedRange state = range_fine state
 
 -- what is found among such rules doesn't lead to FAULT
-abbrev Fine : Option Rule → Type 0
+abbrev pub Fine : Option Rule → Type 0
 Fine None = Unit {0}
 Fine (Some rule) = is_fault rule.target ≡ false
 
@@ -99,7 +99,7 @@ abbrev target_by : Bool → Bool → Bool → Option EventState
 target_by sound same fault = if sound then (if fault then Some Normal else None) else (if fault && same then None else Some Fault)
 
 -- the state behind a fault step
-abbrev state_by : Option EventState → EventState → EventState
+abbrev pub state_by : Option EventState → EventState → EventState
 state_by None state = state
 state_by (Some to) state = to
 
@@ -111,29 +111,29 @@ settles_by false false true state is = refl
 settles_by false true false state is = refl
 settles_by false false false state is = refl
 
-abbrev IsSettled : Reliability → EventState → Type 0
-IsSettled reliability state = fault_target reliability reliability state ≡ None
+abbrev pub FaultStays : Reliability → EventState → Type 0
+FaultStays reliability state = fault_target reliability reliability state ≡ None
 
-itself : (n : ℕ) → (n == n) ≡ true
+pub itself : (n : ℕ) → (n == n) ≡ true
 itself n = grind (arith, nat_tests)
 
 -- as it is with a reliability that is the last one
-settled_from : (reliability : Reliability) (state : EventState) → target_by (number_of_reliability reliability == 0) true (is_fault state) ≡ None → IsSettled reliability state
+settled_from : (reliability : Reliability) (state : EventState) → target_by (number_of_reliability reliability == 0) true (is_fault state) ≡ None → FaultStays reliability state
 settled_from reliability state none =
     ap (λ b. target_by (number_of_reliability reliability == 0) b (is_fault state)) (itself (number_of_reliability reliability)) ∙ none
 
-settled_to : (reliability : Reliability) (state : EventState) → IsSettled reliability state → target_by (number_of_reliability reliability == 0) true (is_fault state) ≡ None
+settled_to : (reliability : Reliability) (state : EventState) → FaultStays reliability state → target_by (number_of_reliability reliability == 0) true (is_fault state) ≡ None
 settled_to reliability state settled =
     ap (λ b. target_by (number_of_reliability reliability == 0) b (is_fault state)) (sym (itself (number_of_reliability reliability))) ∙ settled
 
-settles : (now last : Reliability) (state : EventState) → IsSettled now (state_by (fault_target now last state) state)
-settles now last state =
+pub fault_settles : (now last : Reliability) (state : EventState) → FaultStays now (state_by (fault_target now last state) state)
+fault_settles now last state =
     settled_from now (state_by (fault_target now last state) state)
     (settles_by (number_of_reliability now == 0) (number_of_reliability now == number_of_reliability last) (is_fault state) state refl)
 
 -- from one state that isn't FAULT to another
-settled_beside : (reliability : Reliability) (a b : EventState) → is_fault a ≡ false → is_fault b ≡ false → IsSettled reliability a → IsSettled reliability b
-settled_beside reliability a b free_a free_b settled =
+pub fault_stays_beside : (reliability : Reliability) (a b : EventState) → is_fault a ≡ false → is_fault b ≡ false → FaultStays reliability a → FaultStays reliability b
+fault_stays_beside reliability a b free_a free_b settled =
     settled_from reliability b
     (ap (λ f. target_by (number_of_reliability reliability == 0) true f) (free_b ∙ sym free_a) ∙ settled_to reliability a settled)
 
@@ -143,28 +143,28 @@ pub record IsKnown (newest : Point) (d : Detection) : Type 0 where
   pub alone : d.newest.inhibited ≡ true → is_fault d.state ≡ false → d.older ≡ []
   pub settled : fault_target d.reliability d.reliability d.state ≡ None
 
-known_inhibited : (normal : Bool) (d : Detection) → is_fault d.state ≡ false → IsSettled d.reliability d.state →
+known_inhibited : (normal : Bool) (d : Detection) → is_fault d.state ≡ false → FaultStays d.reliability d.state →
     IsKnown d.newest (if normal then stays (record d { older = [] }) else enters Normal false d).detection
 known_inhibited true d free settled = record { newest_is = refl; alone = λ i f. refl; settled = settled }
 known_inhibited false d free settled =
-    record { newest_is = refl; alone = λ i f. refl; settled = settled_beside d.reliability d.state Normal free refl settled }
+    record { newest_is = refl; alone = λ i f. refl; settled = fault_stays_beside d.reliability d.state Normal free refl settled }
 
-known_rule : (found : Option Rule) (d : Detection) → Fine found → d.newest.inhibited ≡ false → is_fault d.state ≡ false → IsSettled d.reliability d.state → IsKnown d.newest (rule_by found d).detection
+known_rule : (found : Option Rule) (d : Detection) → Fine found → d.newest.inhibited ≡ false → is_fault d.state ≡ false → FaultStays d.reliability d.state → IsKnown d.newest (rule_by found d).detection
 known_rule None d fine not_inhibited free settled = record { newest_is = refl; alone = λ i f. absurd cc; settled = settled }
 known_rule (Some rule) d fine not_inhibited free settled =
-    record { newest_is = refl; alone = λ i f. refl; settled = settled_beside d.reliability d.state rule.target free fine settled }
+    record { newest_is = refl; alone = λ i f. refl; settled = fault_stays_beside d.reliability d.state rule.target free fine settled }
 
-known_free : (inhibited : Bool) (found : Option Rule) (d : Detection) → Fine found → d.newest.inhibited ≡ inhibited → is_fault d.state ≡ false → IsSettled d.reliability d.state →
+known_free : (inhibited : Bool) (found : Option Rule) (d : Detection) → Fine found → d.newest.inhibited ≡ inhibited → is_fault d.state ≡ false → FaultStays d.reliability d.state →
     IsKnown d.newest (if inhibited then inhibited_step d else rule_by found d).detection
 known_free true found d fine is free settled = known_inhibited (is_normal d.state) d free settled
 known_free false found d fine is free settled = known_rule found d fine is free settled
 
-known_later : (fault : Bool) (found : Option Rule) (d : Detection) → Fine found → is_fault d.state ≡ fault → IsSettled d.reliability d.state →
+known_later : (fault : Bool) (found : Option Rule) (d : Detection) → Fine found → is_fault d.state ≡ fault → FaultStays d.reliability d.state →
     IsKnown d.newest (if fault then stays d else (if d.newest.inhibited then inhibited_step d else rule_by found d)).detection
 known_later true found d fine is settled = record { newest_is = refl; alone = λ i f. absurd cc; settled = settled }
 known_later false found d fine is settled = known_free d.newest.inhibited found d fine refl is settled
 
-known_look : (to : Option EventState) (algorithm : Algorithm) (point : Point) (d : Detection) → IsSettled point.reliability (state_by to d.state) →
+known_look : (to : Option EventState) (algorithm : Algorithm) (point : Point) (d : Detection) → FaultStays point.reliability (state_by to d.state) →
     IsKnown point (and_then (fault_by to (sees point d)) (later_step algorithm)).detection
 known_look None algorithm point d settled =
     known_later (is_fault d.state) (rule_held algorithm (sees point d)) (sees point d) (held_fine algorithm (sees point d)) refl settled
@@ -177,5 +177,5 @@ unfolding detection_at
 known algorithm first [] = record { newest_is = refl; alone = λ i f. refl; settled = refl }
 known algorithm first (Looked point ∷ older) =
     let d = detection_at algorithm first older in
-    known_look (fault_target point.reliability d.reliability d.state) algorithm point d (settles point.reliability d.reliability d.state)
+    known_look (fault_target point.reliability d.reliability d.state) algorithm point d (fault_settles point.reliability d.reliability d.state)
 known algorithm first (Acknowledged transition ∷ older) = known algorithm first older

@@ -60,7 +60,7 @@ three_come a b c x y z m one two three =
     ∙ (ap (λ r. has_come x m || (has_come y m || r)) three
     ∙ (ap (λ r. has_come x m || r) (sym (earlier_come y z m)) ∙ sym (earlier_come x (earlier y z) m))))))
 
-lasts : (algorithm : Algorithm) (point : Point) (alarm : AlarmState) →
+pub lasts : (algorithm : Algorithm) (point : Point) (alarm : AlarmState) →
     is_some (rule_lasting algorithm point alarm.state alarm.runs) ≡ has_come (next_due_of algorithm point.facts alarm) point.moment
 lasts algorithm point alarm =
     let at = lasting_at algorithm point alarm.state alarm.runs in

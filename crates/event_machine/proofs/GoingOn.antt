@@ -17,7 +17,7 @@ use Rattle.event_machine.specs.Summary.{no_runs}
 use Rattle.event_machine.specs.Laws.{RunsGoOn}
 use Rattle.event_machine.proofs.Courses.{IsKnown, known, no_rules_in_fault}
 
-key_same : (a b : ℕ) → (a == b) ≡ true → a ≡ b
+pub key_same : (a b : ℕ) → (a == b) ≡ true → a ≡ b
 key_same a b e = grind (arith, nat_tests)
 
 abbrev run_from : ℕ → ℕ → Option Run

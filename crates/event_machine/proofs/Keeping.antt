@@ -13,7 +13,7 @@ use Rattle.event_machine.specs.Detection.{Detection, Step, sees, enters, is_faul
 use Rattle.event_machine.specs.AlarmRecord.{Mark, Entered, Acked, marks_with, marks_of}
 use Rattle.event_machine.specs.Runs.{runs_of}
 use Rattle.event_machine.specs.Since.{entry_of, detection_tried}
-use Rattle.event_machine.specs.Summary.{AlarmState, alarm_with, alarm_of, IsAfter, new_alarm, no_runs}
+use Rattle.event_machine.specs.Summary.{AlarmState, alarm_with, alarm_of, IsAfter}
 use Rattle.event_machine.specs.AlarmSteps as next
 use Rattle.event_machine.specs.AlarmSteps.{Change, next_runs, acknowledged, begun, entered, relied_on, rule_lasting, later_change, inhibited_change, next_look}
 use Rattle.event_machine.specs.Laws.{KeepsCourse}

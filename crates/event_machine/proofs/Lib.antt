@@ -8,3 +8,4 @@ pub mod Lasting
 pub mod Keeping
 pub mod Resting
 pub mod Dues
+pub mod Settling

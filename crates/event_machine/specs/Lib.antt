@@ -10,4 +10,5 @@ pub mod Laws
 pub mod Given
 pub mod RestSteps
 pub mod Due
+pub mod SettledSteps
 pub mod Finding

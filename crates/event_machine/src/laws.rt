@@ -1,4 +1,4 @@
-ghost use Rattle.event_machine.specs.Laws.{KeepsCourse, RunStartTellsHeld, RunsGoOn, TellsHeld};
+ghost use Rattle.event_machine.specs.Laws.{KeepsCourse, LooksAreSkipped, RunStartTellsHeld, RunsGoOn, TellsHeld};
 ghost use Rattle.event_machine.specs.Since.{HoldsSinceEntry, KeepsPointsSince};
 
 /// The alarm that goes on from look to look is what looking back over the course gives, and so are the runs in it.
@@ -14,4 +14,10 @@ pub fn holds_since_entry()
     ensures points { KeepsPointsSince }
     ensures start { HoldsSinceEntry }
     ensures run_start { RunStartTellsHeld }
+{}
+
+/// An object that is settled needs no look before it is due: nothing would come of one. A look when it is due makes a move,
+/// and each look settles the object.
+pub fn looks_are_skipped()
+    ensures law { LooksAreSkipped }
 {}

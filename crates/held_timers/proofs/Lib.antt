@@ -4,3 +4,4 @@ pub mod Starting
 pub mod Searching
 pub mod Climbing
 pub mod Unused
+pub mod Telling

@@ -4,7 +4,9 @@
 //! one look, and a change or a search takes as many steps as the count has binary digits.
 #![tactic(auto)]
 
+mod laws;
 mod timers;
 mod tournament;
 
+pub use laws::least_tells_whether_due;
 pub use timers::Timers;

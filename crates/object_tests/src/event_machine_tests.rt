@@ -331,6 +331,57 @@ fn a_run_starts_with_its_condition_and_tells_when_its_rule_is_due(rt: HostRuntim
 }
 
 #[test]
+fn an_object_is_settled_until_what_it_sees_changes(rt: HostRuntime) {
+    let (within, above) = (Value::Signed(50), Value::Signed(90));
+    let mut alarm = begun(&limits(&within, 10), &point(0));
+    holds(&rt, is_settled(&alarm, &limits(&within, 10), &point(5_000)));
+    holds(&rt, !is_settled(&alarm, &limits(&above, 10), &point(5_000)));
+    holds(
+        &rt,
+        !is_settled(&alarm, &limits(&within, 10), &faulty(5_000)),
+    );
+    let _seen = looked(&mut alarm, &limits(&above, 10), &point(5_000));
+    holds(&rt, is_settled(&alarm, &limits(&above, 10), &point(6_000)));
+    holds(
+        &rt,
+        !is_settled(&alarm, &limits(&within, 10), &point(6_000)),
+    );
+}
+
+#[test]
+fn a_settled_object_stays_until_it_is_due_and_then_moves(rt: HostRuntime) {
+    let above = Value::Signed(90);
+    let snapshot = limits(&above, 10);
+    let mut alarm = begun(&snapshot, &point(0));
+    same(&rt, &next_due(&alarm, &snapshot), &Some(START + 10_000));
+    holds(&rt, is_settled(&alarm, &snapshot, &point(9_999)));
+    let changed = looked(&mut alarm, &snapshot, &point(9_999));
+    same(&rt, &changed, &NOTHING);
+    holds(&rt, is_settled(&alarm, &snapshot, &point(10_000)));
+    let changed = looked(&mut alarm, &snapshot, &point(10_000));
+    same(&rt, &changed.second, &moves(Normal, HighLimit));
+    holds(&rt, is_settled(&alarm, &snapshot, &point(10_000)));
+}
+
+#[test]
+fn an_inhibited_object_is_settled_in_normal(rt: HostRuntime) {
+    let above = Value::Signed(90);
+    let snapshot = limits(&above, 0);
+    let mut alarm = begun(&snapshot, &point(0));
+    let inhibited = PointFacts {
+        inhibited: true,
+        ..point(5_000)
+    };
+    let _entered = looked(&mut alarm, &snapshot, &point(0));
+    same(&rt, &alarm.state(), &HighLimit);
+    holds(&rt, !is_settled(&alarm, &snapshot, &inhibited));
+    let _left = looked(&mut alarm, &snapshot, &inhibited);
+    same(&rt, &alarm.state(), &Normal);
+    holds(&rt, is_settled(&alarm, &snapshot, &inhibited));
+    holds(&rt, !is_settled(&alarm, &snapshot, &point(5_000)));
+}
+
+#[test]
 fn the_first_rule_that_is_due_is_the_one_of_the_disabled_limit(rt: HostRuntime) {
     let above = Value::Signed(90);
     let mut alarm = begun(&limits(&above, 10), &point(0));
