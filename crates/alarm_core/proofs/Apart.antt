@@ -12,9 +12,9 @@ use Rattle.object_table.specs.Writes as row_writes
 use Rattle.enrollment.specs.declared.enrollment_site.EnrollmentSite.{EnrollmentSite}
 use Rattle.enrollment.specs.Enrollments.{IsEnrollment}
 use Rattle.enrollment.specs.Writes as site_writes
+use Rattle.enrollment.specs.Objects.{ObjectsState, written}
+use Rattle.enrollment.proofs.Parted.{same_object}
 use Rattle.alarm_core.specs.Logs.{kept_log, SiteLogState}
-use Rattle.alarm_core.specs.Values.{Values, written}
-use Rattle.alarm_core.proofs.Parted.{same_object}
 use Rattle.alarm_core.proofs.Searches.{passes}
 
 -- where no element passes a test, none is changed
@@ -40,7 +40,7 @@ no_enrollment object log site is same =
     let number : site.object.number ≡ 25 = ap (λ (i : ObjectIdData). i.number) (same_object object site.object same) ∙ log in
     absurd (omega (arith, sym number ∙ is.number))
 
-pub written_elsewhere : (change : Change) (values : Values) → change.object.number ≡ 25 → All IsRow values.rows → All IsEnrollment values.enrollments → written change values ≡ values
+pub written_elsewhere : (change : Change) (values : ObjectsState) → change.object.number ≡ 25 → All IsRow values.rows → All IsEnrollment values.enrollments → written change values ≡ values
 written_elsewhere change values log rows sites =
     let first = unchanged IsRow (λ (row : Row). is_object change.object row.site.object) (row_writes.changed change.what) (no_row change.object log) values.rows rows in
     let second = unchanged IsEnrollment (λ (site : EnrollmentSite). is_object change.object site.object) (site_writes.changed change.what) (no_enrollment change.object log) values.enrollments sites in

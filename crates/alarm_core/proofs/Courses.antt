@@ -8,14 +8,15 @@ use Rattle.algorithm_rules.specs.Facts.{Facts}
 use Rattle.event_machine.specs.Points.{Point, Incident, Acknowledged, IsCourse, newest_of}
 use Rattle.object_table.specs.Rows.{is_object}
 use Rattle.object_table.specs.declared.change.Change.{Change}
+use Rattle.enrollment.specs.declared.subject.Subject.{Subject}
+use Rattle.enrollment.specs.Objects.{ObjectsState, written, facts_at}
+use Rattle.enrollment.specs.Subjects.{is_inhibited}
 use Rattle.alarm_core.specs.declared.event.Act.{Act}
 use Rattle.alarm_core.specs.declared.event.Act.TheVariants.{Tick, Write, Ack, Pump, Answer, Edit}
 use Rattle.alarm_core.specs.declared.event.Event.{Event}
 use Rattle.alarm_core.specs.declared.site.Site.{Site}
-use Rattle.alarm_core.specs.declared.subject.Subject.{Subject}
 use Rattle.alarm_core.specs.Subjects.{ack_required_of, detecting_subjects}
-use Rattle.alarm_core.specs.Values.{Values, written}
-use Rattle.alarm_core.specs.Evaluations.{facts_at, first_point, is_inhibited, point_of, point_with, site_moment}
+use Rattle.alarm_core.specs.Evaluations.{first_point, point_of, point_with, site_moment}
 use Rattle.alarm_core.specs.History.{Occurrence, AllEvaluated, incidents_of, last_moment_of, looked_with, looks_over, occurrences_of, occurrences_with, values_after, values_with}
 use Rattle.alarm_core.specs.Allowed.{Comes, IsHistory}
 use Rattle.alarm_core.proofs.OwnSubjects.{IsOwn, own_detecting}
@@ -32,15 +33,15 @@ record IsUpTo (site : Site) (subject : Subject) (moment : ℕ) (inhibited : Bool
   reached : (newest_in site subject incidents).moment ≤ moment
 
 -- so it is with these properties after these occurrences
-abbrev IsAt : Site → Subject → ℕ → Values → List Occurrence → Type 0
+abbrev IsAt : Site → Subject → ℕ → ObjectsState → List Occurrence → Type 0
 IsAt site subject moment values w = IsUpTo site subject moment (is_inhibited subject.object values) (incidents_of site subject w)
 
 -- one more look, where there is something to look at
-abbrev looked_by : Site → Subject → ℕ → Values → Option Facts → List Incident → List Incident
+abbrev looked_by : Site → Subject → ℕ → ObjectsState → Option Facts → List Incident → List Incident
 looked_by site subject moment values facts incidents =
     looked_with (option_map (point_with (site_moment site moment) (ack_required_of site subject) subject.object values) facts) incidents
 
-look_follows : (site : Site) (subject : Subject) (moment : ℕ) (values : Values) (facts : Option Facts) (incidents : List Incident) → is_some facts ≡ true → IsCourse (first_point site subject) incidents →
+look_follows : (site : Site) (subject : Subject) (moment : ℕ) (values : ObjectsState) (facts : Option Facts) (incidents : List Incident) → is_some facts ≡ true → IsCourse (first_point site subject) incidents →
     (newest_in site subject incidents).moment ≤ moment → ((newest_in site subject incidents).inhibited ≡ true → is_inhibited subject.object values ≡ false → (newest_in site subject incidents).moment ≡ moment) →
     IsUpTo site subject moment (is_inhibited subject.object values) (looked_by site subject moment values facts incidents)
 look_follows site subject moment values (Some facts) incidents there course low at_once = record {
@@ -51,20 +52,20 @@ look_follows site subject moment values (Some facts) incidents there course low 
 look_follows site subject moment values None incidents there course low at_once = cc
 
 -- then the newest point has the moment of the look
-look_moment : (site : Site) (subject : Subject) (moment : ℕ) (values : Values) (facts : Option Facts) (incidents : List Incident) → is_some facts ≡ true →
+look_moment : (site : Site) (subject : Subject) (moment : ℕ) (values : ObjectsState) (facts : Option Facts) (incidents : List Incident) → is_some facts ≡ true →
     (newest_in site subject (looked_by site subject moment values facts incidents)).moment ≡ moment
 look_moment site subject moment values (Some facts) incidents there = refl
 look_moment site subject moment values None incidents there = cc
 
 -- the properties are still the same
-looked_at : (site : Site) (subject : Subject) (last moment : ℕ) (values : Values) (w : List Occurrence) → last ≤ moment → is_some (facts_at subject.object values) ≡ true →
+looked_at : (site : Site) (subject : Subject) (last moment : ℕ) (values : ObjectsState) (w : List Occurrence) → last ≤ moment → is_some (facts_at subject.object values) ≡ true →
     IsAt site subject last values w → IsAt site subject moment values (AllEvaluated moment values ∷ w)
 looked_at site subject last moment values w low there at =
     look_follows site subject moment values (facts_at subject.object values) (incidents_of site subject w) there at.course (omega (arith, at.reached, low))
     (λ before now. absurd (true≢false (sym before ∙ (sym at.shown ∙ now))))
 
 -- they change between two looks at one moment
-written_at : (site : Site) (subject : Subject) (moment : ℕ) (change : Change) (values : Values) (w : List Occurrence) → is_some (facts_at subject.object values) ≡ true → is_some (facts_at subject.object (written change values)) ≡ true →
+written_at : (site : Site) (subject : Subject) (moment : ℕ) (change : Change) (values : ObjectsState) (w : List Occurrence) → is_some (facts_at subject.object values) ≡ true → is_some (facts_at subject.object (written change values)) ≡ true →
     IsAt site subject moment values (AllEvaluated moment values ∷ w) → IsAt site subject moment (written change values) (AllEvaluated moment (written change values) ∷ AllEvaluated moment values ∷ w)
 written_at site subject moment change values w before there at =
     look_follows site subject moment (written change values) (facts_at subject.object (written change values)) (incidents_of site subject (AllEvaluated moment values ∷ w)) there at.course at.reached
@@ -79,7 +80,7 @@ later : (site : Site) (subject : Subject) (last moment : ℕ) (inhibited : Bool)
 later site subject last moment inhibited incidents low at = record { course = at.course; shown = at.shown; reached = omega (arith, at.reached, low) }
 
 -- one more event
-more_at : (site : Site) (subject : Subject) (last moment : ℕ) (act : Act) (values : Values) (w : List Occurrence) → last ≤ moment →
+more_at : (site : Site) (subject : Subject) (last moment : ℕ) (act : Act) (values : ObjectsState) (w : List Occurrence) → last ≤ moment →
     is_some (facts_at subject.object values) ≡ true → is_some (facts_at subject.object (values_with act values)) ≡ true →
     IsAt site subject last values w → IsAt site subject moment (values_with act values) (occurrences_with moment act values w)
 more_at site subject last moment Tick values w low before there at = looked_at site subject last moment values w low before at
@@ -127,13 +128,13 @@ course_before first None older course = course
 course_before first (Some point) older course = course.1
 
 -- and before a look
-pub had_courses : (site : Site) (moment : ℕ) (values : Values) (w : List Occurrence) → HaveCourses site (AllEvaluated moment values ∷ w) → HaveCourses site w
+pub had_courses : (site : Site) (moment : ℕ) (values : ObjectsState) (w : List Occurrence) → HaveCourses site (AllEvaluated moment values ∷ w) → HaveCourses site w
 had_courses site moment values w courses =
     All-weaker (HasCourse site (AllEvaluated moment values ∷ w)) (HasCourse site w)
     (λ subject course. course_before (first_point site subject) (point_of site subject moment values) (incidents_of site subject w) course)
     (detecting_subjects site) courses
 
 -- and before some looks
-pub courses_before : (site : Site) (moment : ℕ) (looks : List Values) (w : List Occurrence) → HaveCourses site (looks_over moment looks w) → HaveCourses site w
+pub courses_before : (site : Site) (moment : ℕ) (looks : List ObjectsState) (w : List Occurrence) → HaveCourses site (looks_over moment looks w) → HaveCourses site w
 courses_before site moment [] w courses = courses
 courses_before site moment (values ∷ later) w courses = had_courses site moment values w (courses_before site moment later (AllEvaluated moment values ∷ w) courses)

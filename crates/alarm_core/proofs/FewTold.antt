@@ -15,19 +15,20 @@ use Rattle.notify_class.specs.Chosen.{chosen_destinations}
 use Rattle.notify_class.specs.Recipients.{DestinationData}
 use Rattle.notify_class.specs.Windows.{is_in_window}
 use Rattle.notify_class.specs.declared.class.Class.{Class}
+use Rattle.enrollment.specs.declared.subject.Subject.{Subject}
+use Rattle.enrollment.specs.Subjects.{is_detecting, is_enabled, subject_in}
+use Rattle.enrollment.specs.Objects.{ObjectsState}
 use Rattle.alarm_core.specs.declared.event.Event.{Event}
 use Rattle.alarm_core.specs.declared.site.Site.{Site}
-use Rattle.alarm_core.specs.declared.subject.Subject.{Subject}
 use Rattle.alarm_core.specs.declared.transition.ObjectTransition.{ObjectTransition}
 use Rattle.alarm_core.specs.Classes.{class_in, classes_after}
 use Rattle.alarm_core.specs.CoreSteps.{change_at, evaluated_all, next_notes, states_of, transitions_all, transitions_by}
 use Rattle.alarm_core.specs.History.{Occurrence, ObjectState, StateTransition, object_transition, occurrences_of, tick_at, transition_of, values_after}
-use Rattle.alarm_core.specs.Notes.{class_for, is_enabled, notes_of_transition, notes_of_transitions, notification_of, with_class}
+use Rattle.alarm_core.specs.Notes.{class_for, notes_of_transition, notes_of_transitions, notification_of, with_class}
 use Rattle.alarm_core.specs.Evaluations.{site_moment, site_zone}
 use Rattle.alarm_core.specs.Sites.{IsSite}
 use Rattle.alarm_core.specs.State.{alarms_of, state_of, detected_object_of}
-use Rattle.alarm_core.specs.Subjects.{detecting_subjects, is_detecting, subject_in, subjects_of}
-use Rattle.alarm_core.specs.Values.{Values}
+use Rattle.alarm_core.specs.Subjects.{detecting_subjects, subjects_of}
 use Rattle.alarm_core.proofs.Flattened.{flat_map-flat_map}
 use Rattle.alarm_core.proofs.OwnSubjects.{IsOwn, own_detecting}
 use Rattle.alarm_core.proofs.Settled.{IsSettled, moved_once, settled_after}
@@ -83,10 +84,10 @@ module _ (site : Site) (classes : List Class) where
   moves_told told most few (made ∷ more ∷ moves) once = absurd (omega arith)
 
   -- the notes of a transition of an object
-  pub made_notes : ℕ → Values → List ObjectState → ObjectTransition → List Note
+  pub made_notes : ℕ → ObjectsState → List ObjectState → ObjectTransition → List Note
   made_notes moment values states transition = notes_of_transition site classes (transition_of moment values states transition)
 
-  object_told : (moment : ℕ) (values : Values) (states : List ObjectState) (w : List Occurrence) (subject : Subject) →
+  object_told : (moment : ℕ) (values : ObjectsState) (states : List ObjectState) (w : List Occurrence) (subject : Subject) →
       option_map class_of (subject_in subject.object values) ≡ Some subject.class → IsSettled site subject values w →
       length (flat_map (made_notes moment values states) (transitions_by (site_moment site moment) values (detected_object_of site w subject))) ≤ weight classes subject
   unfolding made_notes

@@ -2,7 +2,6 @@ pub mod Searches
 pub mod Flattened
 pub mod Stays
 pub mod OwnSubjects
-pub mod SubjectOrder
 pub mod KnownPeers
 pub mod NotesGo
 pub mod Delivering
@@ -22,7 +21,6 @@ pub mod ToldBy
 pub mod Looking
 pub mod RecordedBy
 pub mod Apart
-pub mod Parted
 pub mod Queued
 pub mod ToldKnown
 pub mod Acted

@@ -18,6 +18,9 @@ use Rattle.notify_class.specs.Chosen.{chosen_destinations}
 use Rattle.notify_class.specs.Recipients.{DestinationData}
 use Rattle.notify_class.specs.Windows.{is_in_window}
 use Rattle.notify_class.specs.declared.class.Class.{Class}
+use Rattle.enrollment.specs.declared.subject.Subject.{Subject}
+use Rattle.enrollment.specs.Subjects.{is_enabled, subject_in}
+use Rattle.enrollment.specs.Objects.{ObjectsState}
 use Rattle.alarm_core.specs.declared.event.Act.{Act}
 use Rattle.alarm_core.specs.declared.event.Act.TheVariants.{Tick, Write, Ack, Pump, Answer, Edit}
 use Rattle.alarm_core.specs.declared.event.Event.{Event}
@@ -25,11 +28,8 @@ use Rattle.alarm_core.specs.declared.site.Site.{Site}
 use Rattle.alarm_core.specs.Classes.{class_in, classes_after, known_peers_of}
 use Rattle.alarm_core.specs.Deliveries.{event_notes, notes_by}
 use Rattle.alarm_core.specs.History.{StateTransition, event_transitions, values_after}
-use Rattle.alarm_core.specs.Notes.{addressed, class_for, is_enabled, notes_of_acknowledgement, notes_of_transition, notes_of_transitions, notification_of, source_of, with_class}
+use Rattle.alarm_core.specs.Notes.{addressed, class_for, notes_of_acknowledgement, notes_of_transition, notes_of_transitions, notification_of, source_of, with_class}
 use Rattle.alarm_core.specs.Evaluations.{site_stamp, site_zone}
-use Rattle.alarm_core.specs.declared.subject.Subject.{Subject}
-use Rattle.alarm_core.specs.Subjects.{subject_in}
-use Rattle.alarm_core.specs.Values.{Values}
 use Rattle.alarm_core.specs.Known.{Knows, KnowsClass}
 use Rattle.alarm_core.proofs.KnownPeers.{classes_known}
 
@@ -109,7 +109,7 @@ module _ (site : Site) (known : List PeerData) (classes : List Class) (h : All (
       (λ to k. notes_go known (facts to) to.1.destinations transition moment (site_zone site) k)
       (option_and_then (with_class classes) subject) (found_known subject)
 
-  pub notes_go_by : (values : Values) (moment : ℕ) (act : Act) (transitions : List StateTransition) → All (GoesTo known) (notes_by site classes values moment act transitions)
+  pub notes_go_by : (values : ObjectsState) (moment : ℕ) (act : Act) (transitions : List StateTransition) → All (GoesTo known) (notes_by site classes values moment act transitions)
   notes_go_by values moment (Ack object transition named) transitions = acknowledgement_go moment (subject_in object values) transition named
   notes_go_by values moment Tick transitions = transitions_go transitions
   notes_go_by values moment (Write change) transitions = transitions_go transitions

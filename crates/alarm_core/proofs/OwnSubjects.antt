@@ -1,28 +1,28 @@
 -- At the start of a site each of its subjects is found as itself, there is something to look at, and its algorithm is that of its identifier.
-use Rattle.std.proofs.Common.{◌≡◌, ℕ, ◌==◌, ◌&&◌, ◌<◌, true, false, IsTrue, Some, None, is_some, List, ◌++◌, length, map, filter, get_or, ap, ◌∙◌, sym, subst, arith}
+use Rattle.std.proofs.Common.{◌≡◌, ℕ, ◌==◌, ◌&&◌, ◌<◌, true, false, Some, None, is_some, List, ◌++◌, length, map, filter, get_or, ap, ◌∙◌, sym, arith}
 use Rattle.std.specs.List.{All, find}
 use Rattle.std.specs.Option.{option_and_then, option_map}
 use Rattle.std.proofs.lemmas.Bool.{ne_eqb}
 use Rattle.std.proofs.lemmas.Bool.Decides.{nat_tests}
 use Rattle.std.proofs.lemmas.List.{get_or-map, length-map}
 use Rattle.std.proofs.lemmas.List.Elements.{All-append, All-filter, All-map}
-use Rattle.bac_values.specs.Identifier.{kind_of, ObjectIdData}
+use Rattle.bac_values.specs.Identifier.{ObjectIdData}
 use Rattle.object_table.specs.declared.object_site.ObjectSite.{ObjectSite}
 use Rattle.object_table.specs.declared.row.Row.{Row}
-use Rattle.object_table.specs.Objects.{IsObject}
 use Rattle.object_table.specs.Rows.{Ascends, first_row, is_object, object_of, row_of, rows_of}
-use Rattle.object_table.specs.Values.{is_present_value}
 use Rattle.object_table.proofs.Order.{less_is_other}
 use Rattle.object_table.proofs.Places.{find_at, find_none}
 use Rattle.enrollment.specs.declared.enrollment_site.EnrollmentSite.{EnrollmentSite}
 use Rattle.enrollment.specs.Enrollments.{IsEnrollment, identifier_of, site_of}
 use Rattle.enrollment.specs.Snapshots.{algorithm_by_site, algorithm_with, facts_by_site, facts_of_enrollment, facts_of_row, value_in}
+use Rattle.enrollment.specs.declared.subject.Subject.{Subject}
+use Rattle.enrollment.specs.Objects.{facts_at}
+use Rattle.enrollment.specs.Subjects.{is_before_enrollments, is_behind_enrollments, is_detecting, subject_by, subject_in, subject_of_enrollment, subject_of_object}
 use Rattle.alarm_core.specs.declared.site.Site.{Site}
-use Rattle.alarm_core.specs.declared.subject.Subject.{Subject}
-use Rattle.alarm_core.specs.Evaluations.{facts_at}
 use Rattle.alarm_core.specs.Sites.{IsSite}
-use Rattle.alarm_core.specs.Subjects.{detecting_subjects, is_before_enrollments, is_behind_enrollments, is_detecting, subject_by, subject_in, subject_of_enrollment, subject_of_object, subjects_of}
+use Rattle.alarm_core.specs.Subjects.{detecting_subjects, subjects_of}
 use Rattle.alarm_core.specs.Values.{first_values}
+use Rattle.enrollment.proofs.Parted.{is_other_kind}
 use Rattle.alarm_core.proofs.Searches.{find_map, is_some-map}
 
 pub record IsOwn (site : Site) (subject : Subject) : Type 0 where
@@ -50,12 +50,6 @@ module _ {X : Type 0} (object : X → ObjectIdData) (xs : List X) (ascending : A
       (λ j before. earlier_is_other j k d before low)
 
 -- ---- no value object is an enrollment
-
-no_enrollment_value : (number : ℕ) (site : ObjectSite) → IsTrue (is_present_value (kind_of number) site site.value) → number ≡ 9 → ⊥
-no_enrollment_value number site value is = let wrong : IsTrue false = subst (λ n. IsTrue (is_present_value (kind_of n) site site.value)) is value in cc
-
-pub is_other_kind : (site : ObjectSite) → IsObject site → site.object.number ≡ 9 → ⊥
-is_other_kind site allowed is = no_enrollment_value site.object.number site allowed.value is
 
 other_number : (object : ObjectIdData) → (object.number ≡ 9 → ⊥) → (site : EnrollmentSite) → IsEnrollment site → is_object object site.object ≡ false
 other_number object other site allowed =

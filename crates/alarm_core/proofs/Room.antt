@@ -19,6 +19,9 @@ use Rattle.object_table.specs.declared.row.Row.{Row}
 use Rattle.object_table.specs.Rows.{first_row, rows_of}
 use Rattle.enrollment.specs.declared.enrollment_site.EnrollmentSite.{EnrollmentSite}
 use Rattle.outbox.specs.Outboxes.{peers_of}
+use Rattle.enrollment.specs.declared.subject.Subject.{Subject}
+use Rattle.enrollment.specs.Subjects.{is_before_enrollments, is_behind_enrollments, subject_of_enrollment, subject_of_object}
+use Rattle.enrollment.specs.Objects.{ObjectsState}
 use Rattle.alarm_core.specs.declared.event.Act.{Act}
 use Rattle.alarm_core.specs.declared.event.Act.TheVariants.{Tick, Write, Ack, Pump, Answer, Edit}
 use Rattle.alarm_core.specs.declared.event.Event.{Event}
@@ -29,11 +32,10 @@ use Rattle.alarm_core.specs.Classes.{classes_after, classes_with, edited, is_mem
 use Rattle.alarm_core.specs.CoreSteps.{next_notes}
 use Rattle.alarm_core.specs.History.{tick_at, values_after, values_with}
 use Rattle.alarm_core.specs.Room.{HasRoom, instance_of}
-use Rattle.alarm_core.specs.declared.subject.Subject.{Subject}
 use Rattle.alarm_core.specs.Sites.{IsSite}
 use Rattle.alarm_core.specs.State.{state_of}
-use Rattle.alarm_core.specs.Subjects.{is_before_enrollments, is_behind_enrollments, subject_of_enrollment, subject_of_object, subjects_of}
-use Rattle.alarm_core.specs.Values.{Values, first_values}
+use Rattle.alarm_core.specs.Subjects.{subjects_of}
+use Rattle.alarm_core.specs.Values.{first_values}
 use Rattle.alarm_core.proofs.FewTold.{tick_told}
 use Rattle.alarm_core.proofs.Stays.{written_keeps, written_row}
 use Rattle.alarm_core.proofs.Shares.{IsBelow, by_class, edit_within, instances, members_in, sum_of_some}
@@ -67,7 +69,7 @@ rows_in table number = count_by (λ (row : Row). is_member row.site.class number
 abbrev sites_in : List EnrollmentSite → ℕ → ℕ
 sites_in sites number = count_by (λ (enrollment : EnrollmentSite). enrollment.class == number) sites
 
-members_with : (act : Act) (values : Values) (number : ℕ) → rows_in (values_with act values).rows number ≡ rows_in values.rows number
+members_with : (act : Act) (values : ObjectsState) (number : ℕ) → rows_in (values_with act values).rows number ≡ rows_in values.rows number
 members_with (Write change) values number =
     fold-map (λ n (row : Row). n + (if is_member row.site.class number then 1 else 0)) (written_row change) 0 values.rows
     ∙ ap (λ (test : Row → Bool). count_by test values.rows) (fun_ext (λ row. ap (λ class. is_member class number) (written_keeps change row).class))

@@ -1,5 +1,5 @@
 -- The next state is that of the longer history.
-use Rattle.std.proofs.Common.{◌≡◌, ℕ, ◌+◌, ◌≤◌, IsTrue, ◌↔◌, Bool, true, false, if◌then◌else◌, Option, Some, None, List, [], ◌∷◌, ◌++◌, length, map, Ok, refl, ap, ◌∙◌, sym, arith, append_assoc, subst}
+use Rattle.std.proofs.Common.{◌≡◌, ℕ, ◌+◌, ◌≤◌, IsTrue, ◌↔◌, Bool, true, false, if◌then◌else◌, Option, Some, None, List, [], ◌∷◌, ◌++◌, length, map, Ok, refl, ap, ◌∙◌, sym, arith, subst}
 use Rattle.std.proofs.Math.Path.{fun_ext}
 use Rattle.std.proofs.lemmas.List.{append-nil, length-append}
 use Rattle.std.specs.List.{flat_map}
@@ -11,16 +11,18 @@ use Rattle.event_machine.specs.Points.{Incident, Acknowledged, IsCourse, Point}
 use Rattle.event_machine.specs.Summary.{AlarmState, alarm_of}
 use Rattle.event_machine.specs.AlarmSteps.{acknowledged}
 use Rattle.event_machine.proofs.Keeping.{keeps_course}
-use Rattle.object_table.specs.Rows.{is_object}
+use Rattle.object_table.specs.Rows.{Ascends, is_object}
+use Rattle.enrollment.specs.declared.subject.Subject.{Subject}
+use Rattle.enrollment.specs.Objects.{ObjectsState}
+use Rattle.enrollment.specs.Subjects.{object_of}
+use Rattle.enrollment.proofs.SubjectOrder.{ascends}
 use Rattle.alarm_core.specs.declared.event.Act.{Act}
 use Rattle.alarm_core.specs.declared.event.Act.TheVariants.{Tick, Write, Ack, Pump, Answer, Edit}
 use Rattle.alarm_core.specs.declared.event.Event.{Event}
 use Rattle.alarm_core.specs.declared.site.Site.{Site}
-use Rattle.alarm_core.specs.declared.subject.Subject.{Subject}
-use Rattle.alarm_core.specs.Subjects.{ack_required_of, detecting_subjects}
-use Rattle.alarm_core.specs.Values.{Values}
+use Rattle.alarm_core.specs.Subjects.{ack_required_of, detecting_subjects, subjects_of}
 use Rattle.alarm_core.specs.Evaluations.{first_point, point_of, site_moment}
-use Rattle.alarm_core.specs.History.{Occurrence, AllEvaluated, OneAcknowledged, ObjectState, detection_of, event_looks, event_transitions, incidents_of, joined, look_transitions, looked_with, looks_of, looks_over, looks_transitions, moves_with, object_transition, object_transitions, occurrences_of, occurrences_with, states_over, tick_at, transition_of, transitions_of, values_after, values_with}
+use Rattle.alarm_core.specs.History.{Occurrence, AllEvaluated, OneAcknowledged, detection_of, event_looks, incidents_of, joined, look_transitions, looked_with, looks_of, looks_over, looks_transitions, moves_with, object_transition, object_transitions, occurrences_of, occurrences_with, states_over, tick_at, transition_of, transitions_of, values_after, values_with}
 use Rattle.outbox.specs.Outboxes.{OutboxState, unfinished_in}
 use Rattle.alarm_core.specs.Classes.{classes_after, classes_with}
 use Rattle.alarm_core.specs.Deliveries.{event_notes, notes_by, notifications_of, outbox_after}
@@ -39,7 +41,6 @@ use Rattle.alarm_core.proofs.Delivering.{first_outbox, outbox_more, sends_more}
 use Rattle.alarm_core.proofs.Queued.{within_verdict}
 use Rattle.alarm_core.proofs.Room.{tick_fits}
 use Rattle.alarm_core.proofs.Logging.{first_logs_same, logs_more}
-use Rattle.alarm_core.proofs.SubjectOrder.{ascends}
 
 -- an object with an alarm
 abbrev detected_as : Site → Subject → AlarmState → DetectedObjectState
@@ -63,11 +64,11 @@ looked_by site (Some point) subject w course =
     ap (detected_as site subject)
     (keeps_course.looks subject.algorithm (first_point site subject) (incidents_of site subject w) point (detected_object_of site w subject).alarm course refl)
 
-looked_one : (site : Site) (moment : ℕ) (values : Values) (w : List Occurrence) (subject : Subject) → IsCourse (first_point site subject) (incidents_of site subject (AllEvaluated moment values ∷ w)) →
+looked_one : (site : Site) (moment : ℕ) (values : ObjectsState) (w : List Occurrence) (subject : Subject) → IsCourse (first_point site subject) (incidents_of site subject (AllEvaluated moment values ∷ w)) →
     evaluated (site_moment site moment) values (detected_object_of site w subject) ≡ detected_object_of site (AllEvaluated moment values ∷ w) subject
 looked_one site moment values w subject course = looked_by site (point_of site subject moment values) subject w course
 
-look_stands : (site : Site) (moment : ℕ) (values : Values) (w : List Occurrence) → HaveCourses site (AllEvaluated moment values ∷ w) →
+look_stands : (site : Site) (moment : ℕ) (values : ObjectsState) (w : List Occurrence) → HaveCourses site (AllEvaluated moment values ∷ w) →
     evaluated_all (site_moment site moment) values (alarms_of site w) ≡ alarms_of site (AllEvaluated moment values ∷ w)
 look_stands site moment values w courses =
     let now = AllEvaluated moment values ∷ w in
@@ -77,7 +78,7 @@ look_stands site moment values w courses =
     (looked_one site moment values w) (detecting_subjects site) courses
 
 -- some looks
-looks_stand : (site : Site) (moment : ℕ) (looks : List Values) (w : List Occurrence) → HaveCourses site (looks_over moment looks w) →
+looks_stand : (site : Site) (moment : ℕ) (looks : List ObjectsState) (w : List Occurrence) → HaveCourses site (looks_over moment looks w) →
     after_looks (site_moment site moment) looks (alarms_of site w) ≡ alarms_of site (looks_over moment looks w)
 looks_stand site moment [] w courses = refl
 looks_stand site moment (values ∷ later) w courses =
@@ -88,7 +89,7 @@ looks_stand site moment (values ∷ later) w courses =
 states_stand : (site : Site) (w : List Occurrence) → states_of (alarms_of site w) ≡ states_over site w
 states_stand site w = map-map state_of_detected (detected_object_of site w) (detecting_subjects site)
 
-states_after_look : (site : Site) (moment : ℕ) (values : Values) (w : List Occurrence) → HaveCourses site (AllEvaluated moment values ∷ w) →
+states_after_look : (site : Site) (moment : ℕ) (values : ObjectsState) (w : List Occurrence) → HaveCourses site (AllEvaluated moment values ∷ w) →
     states_of (evaluated_all (site_moment site moment) values (alarms_of site w)) ≡ states_over site (AllEvaluated moment values ∷ w)
 states_after_look site moment values w courses = ap states_of (look_stands site moment values w courses) ∙ states_stand site (AllEvaluated moment values ∷ w)
 
@@ -100,12 +101,12 @@ moves_by_point site None subject w course = refl
 moves_by_point site (Some point) subject w course =
     keeps_course.moves subject.algorithm (first_point site subject) (incidents_of site subject w) point (detected_object_of site w subject).alarm course refl
 
-transitions_one : (site : Site) (moment : ℕ) (values : Values) (w : List Occurrence) (subject : Subject) → IsCourse (first_point site subject) (incidents_of site subject (AllEvaluated moment values ∷ w)) →
+transitions_one : (site : Site) (moment : ℕ) (values : ObjectsState) (w : List Occurrence) (subject : Subject) → IsCourse (first_point site subject) (incidents_of site subject (AllEvaluated moment values ∷ w)) →
     transitions_by (site_moment site moment) values (detected_object_of site w subject) ≡ object_transitions site moment values w subject
 transitions_one site moment values w subject course =
     ap (map (object_transition subject.object (detection_of site subject w).cause)) (moves_by_point site (point_of site subject moment values) subject w course)
 
-look_transitions_stand : (site : Site) (moment : ℕ) (values : Values) (w : List Occurrence) → HaveCourses site (AllEvaluated moment values ∷ w) →
+look_transitions_stand : (site : Site) (moment : ℕ) (values : ObjectsState) (w : List Occurrence) → HaveCourses site (AllEvaluated moment values ∷ w) →
     transitions_all (site_moment site moment) values (alarms_of site w) ≡ look_transitions site moment values w
 look_transitions_stand site moment values w courses =
     let at = site_moment site moment in
@@ -116,7 +117,7 @@ look_transitions_stand site moment values w courses =
     ∙ flat_map_agree (λ subject. IsCourse (first_point site subject) (incidents_of site subject now)) (λ subject. transitions_by at values (detected_object_of site w subject)) (object_transitions site moment values w)
     (transitions_one site moment values w) (detecting_subjects site) courses)
 
-looks_same : (site : Site) (moment : ℕ) (looks : List Values) (w : List Occurrence) → HaveCourses site (looks_over moment looks w) →
+looks_same : (site : Site) (moment : ℕ) (looks : List ObjectsState) (w : List Occurrence) → HaveCourses site (looks_over moment looks w) →
     transitions_of_looks (site_moment site moment) looks (alarms_of site w) ≡ looks_transitions site moment looks w
 looks_same site moment [] w courses = refl
 looks_same site moment (values ∷ later) w courses =
@@ -146,7 +147,7 @@ acked_all site object transition w =
     map-map (acked object transition) (detected_object_of site w) (detecting_subjects site) ∙ ap (λ f. map f (detecting_subjects site)) (fun_ext (acked_one site object transition w))
 
 -- one more event
-alarms_more : (site : Site) (moment : ℕ) (act : Act) (values : Values) (w : List Occurrence) → HaveCourses site (occurrences_with moment act values w) →
+alarms_more : (site : Site) (moment : ℕ) (act : Act) (values : ObjectsState) (w : List Occurrence) → HaveCourses site (occurrences_with moment act values w) →
     alarms_with (site_moment site moment) act values (alarms_of site w) ≡ alarms_of site (occurrences_with moment act values w)
 alarms_more site moment (Ack object transition state) values w courses = acked_all site object transition w
 alarms_more site moment Tick values w courses = looks_stand site moment (looks_of Tick values) w courses
@@ -156,7 +157,7 @@ alarms_more site moment (Answer peer invoke kind) values w courses = refl
 alarms_more site moment (Edit number recipients) values w courses = refl
 
 -- the transitions of one more event
-looks_by : (site : Site) (moment : ℕ) (act : Act) (values : Values) (w : List Occurrence) → HaveCourses site (occurrences_with moment act values w) →
+looks_by : (site : Site) (moment : ℕ) (act : Act) (values : ObjectsState) (w : List Occurrence) → HaveCourses site (occurrences_with moment act values w) →
     transitions_of_looks (site_moment site moment) (looks_of act values) (alarms_of site w) ≡ looks_transitions site moment (looks_of act values) w
 looks_by site moment Tick values w courses = looks_same site moment (looks_of Tick values) w courses
 looks_by site moment (Write change) values w courses = looks_same site moment (looks_of (Write change) values) w courses
@@ -230,6 +231,10 @@ stands_ticks site is room history is_history none moment =
 stands_runs : (site : Site) (history : List Event) → run_starts_in (state_of site history) ≡ run_starts_of site history
 stands_runs site history = map-map runs_in (detected_object_of site (occurrences_of site history)) (detecting_subjects site)
 
+-- the subjects of a site
+stands_ascending : (site : Site) → IsSite site → Ascends (map object_of (subjects_of site))
+stands_ascending site is = ascends site.objects site.enrollments is.ascending is.objects is.enrollments_ascend is.enrollments
+
 pub stands : StandsForItsHistory
 stands = record {
   starts = stands_start;
@@ -238,7 +243,7 @@ stands = record {
   notifications = stands_notes;
   sends = sends_more;
   run_starts = stands_runs;
-  ascending = ascends;
+  ascending = stands_ascending;
   ticks_fit = stands_ticks;
 }
 

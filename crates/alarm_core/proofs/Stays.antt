@@ -24,15 +24,15 @@ use Rattle.enrollment.specs.Enrollments.{identifier_of, site_of}
 use Rattle.enrollment.specs.Properties as enrollment_properties
 use Rattle.enrollment.specs.Snapshots.{HasObjects, Holds, algorithm_by_site, algorithm_with, facts_by_site, facts_of_enrollment, facts_of_object, facts_of_site, value_in}
 use Rattle.enrollment.specs.Writes as enrollments
+use Rattle.enrollment.specs.declared.subject.Subject.{Subject}
+use Rattle.enrollment.specs.Objects.{facts_at, ObjectsState, written}
+use Rattle.enrollment.specs.Subjects.{subject_by, subject_in}
 use Rattle.alarm_core.specs.declared.event.Act.{Act}
 use Rattle.alarm_core.specs.declared.event.Act.TheVariants.{Tick, Write, Ack, Pump, Answer, Edit}
 use Rattle.alarm_core.specs.declared.event.Event.{Event}
 use Rattle.alarm_core.specs.declared.site.Site.{Site}
-use Rattle.alarm_core.specs.declared.subject.Subject.{Subject}
 use Rattle.alarm_core.specs.History.{values_after, values_with}
-use Rattle.alarm_core.specs.Evaluations.{facts_at}
-use Rattle.alarm_core.specs.Subjects.{subject_by, subject_in}
-use Rattle.alarm_core.specs.Values.{Values, first_values, written}
+use Rattle.alarm_core.specs.Values.{first_values}
 use Rattle.alarm_core.proofs.Searches.{find_map, find_same, is_some-map}
 
 -- ---- value objects
@@ -162,7 +162,7 @@ has_objects change table site there = record {
   feedback = feedback_there change table site.feedback (written_site change site).feedback (written_keeps_site change site).feedback there.feedback;
 }
 
-pub holds_still : (change : Change) (values : Values) → Holds values.rows values.enrollments → Holds (written change values).rows (written change values).enrollments
+pub holds_still : (change : Change) (values : ObjectsState) → Holds values.rows values.enrollments → Holds (written change values).rows (written change values).enrollments
 holds_still change values holds =
     let table = rows.written change values.rows in
     All-map (HasObjects table) (written_site change) values.enrollments
@@ -185,7 +185,7 @@ facts_by (Some site) object change table =
     ∙ (ap (λ referred. is_some (row_of referred (rows.written change table))) (written_keeps_site change site).monitored
     ∙ (row_there site.monitored change table ∙ sym (sees site table)))
 
-pub facts_stay : (object : ObjectIdData) (change : Change) (values : Values) → is_some (facts_at object (written change values)) ≡ is_some (facts_at object values)
+pub facts_stay : (object : ObjectIdData) (change : Change) (values : ObjectsState) → is_some (facts_at object (written change values)) ≡ is_some (facts_at object values)
 facts_stay object change values =
     ap (λ found. is_some (facts_by_site found object (rows.written change values.rows))) (site_of-written object change values.enrollments)
     ∙ facts_by (site_of object values.enrollments) object change values.rows
@@ -201,22 +201,22 @@ class_by change (Some site) row = ap (λ number. Some (Some number)) (written_ke
 class_by change None (Some row) = ap Some (written_keeps change row).class
 class_by change None None = refl
 
-pub class_stays : (object : ObjectIdData) (change : Change) (values : Values) → option_map class_of (subject_in object (written change values)) ≡ option_map class_of (subject_in object values)
+pub class_stays : (object : ObjectIdData) (change : Change) (values : ObjectsState) → option_map class_of (subject_in object (written change values)) ≡ option_map class_of (subject_in object values)
 class_stays object change values =
     ap (λ found. option_map class_of (subject_by found (row_of object (rows.written change values.rows)))) (site_of-written object change values.enrollments)
     ∙ (ap (λ row. option_map class_of (subject_by (option_map (written_site change) (site_of object values.enrollments)) row)) (row_of-written object change values.rows)
     ∙ class_by change (site_of object values.enrollments) (row_of object values.rows))
 
 -- a subject is found after a write exactly where it was before
-pub subject_stays : (object : ObjectIdData) (change : Change) (values : Values) → is_some (subject_in object (written change values)) ≡ is_some (subject_in object values)
+pub subject_stays : (object : ObjectIdData) (change : Change) (values : ObjectsState) → is_some (subject_in object (written change values)) ≡ is_some (subject_in object values)
 subject_stays object change values =
     sym (is_some-map class_of (subject_in object (written change values))) ∙ (ap is_some (class_stays object change values) ∙ is_some-map class_of (subject_in object values))
 
 -- ---- the same after a history
 
 -- what no write changes is after a history what it was at the start
-module _ {X : Type 0} (f : Values → X) (stays : (change : Change) (values : Values) → f (written change values) ≡ f values) where
-  same_with : (act : Act) (values : Values) → f (values_with act values) ≡ f values
+module _ {X : Type 0} (f : ObjectsState → X) (stays : (change : Change) (values : ObjectsState) → f (written change values) ≡ f values) where
+  same_with : (act : Act) (values : ObjectsState) → f (values_with act values) ≡ f values
   same_with (Write change) values = stays change values
   same_with Tick values = refl
   same_with (Ack acknowledged transition named) values = refl
@@ -245,7 +245,7 @@ row_objects_after site history =
 pub site_objects_after : (site : Site) (history : List Event) → map identifier_of (values_after site history).enrollments ≡ map identifier_of site.enrollments
 site_objects_after site history = same_after (λ values. map identifier_of values.enrollments) (λ change values. site_objects change values.enrollments) site history
 
-holds_with : (act : Act) (values : Values) → Holds values.rows values.enrollments → Holds (values_with act values).rows (values_with act values).enrollments
+holds_with : (act : Act) (values : ObjectsState) → Holds values.rows values.enrollments → Holds (values_with act values).rows (values_with act values).enrollments
 holds_with (Write change) values holds = holds_still change values holds
 holds_with Tick values holds = holds
 holds_with (Ack acknowledged transition named) values holds = holds

@@ -29,18 +29,19 @@ use Rattle.notify_class.specs.declared.class.Class.{Class}
 use Rattle.object_table.specs.Rows.{is_object}
 use Rattle.enrollment.specs.Enrollments.{site_of}
 use Rattle.enrollment.specs.Snapshots.{algorithm_with}
+use Rattle.enrollment.specs.declared.subject.Subject.{Subject}
+use Rattle.enrollment.specs.Objects.{facts_at, reliability_at}
+use Rattle.enrollment.specs.Subjects.{is_enabled, subject_in}
 use Rattle.alarm_core.specs.declared.site.Site.{Site}
 use Rattle.event_log.specs.declared.log_site.LogSite.{LogSite}
-use Rattle.alarm_core.specs.declared.subject.Subject.{Subject}
 use Rattle.alarm_core.specs.declared.transition.ObjectTransition.{ObjectTransition}
 use Rattle.alarm_core.specs.Found.{detected_object_in}
 use Rattle.alarm_core.specs.History.{ObjectState, StateTransition, state_found, state_in}
 use Rattle.alarm_core.specs.CoreSteps.{state_of_detected, states_of}
-use Rattle.alarm_core.specs.Notes.{addressed, class_for, is_enabled, move_of, notes_of_acknowledgement, notes_of_transition, notes_of_transitions, notification_of, source_of, told_flags, told_value, values_of, with_class}
-use Rattle.alarm_core.specs.Evaluations.{facts_at, reliability_at, site_moment, site_stamp, site_zone}
+use Rattle.alarm_core.specs.Notes.{addressed, class_for, move_of, notes_of_acknowledgement, notes_of_transition, notes_of_transitions, notification_of, source_of, told_flags, told_value, values_of, with_class}
+use Rattle.alarm_core.specs.Evaluations.{site_moment, site_stamp, site_zone}
 use Rattle.alarm_core.specs.State.{DetectedObjectState}
 use Rattle.alarm_core.specs.Logs.{record_of_transition, records_of, SiteLogState}
-use Rattle.alarm_core.specs.Subjects.{subject_in}
 use Rattle.alarm_core.specs.ViewSteps.{addressed_in, notes_to, record_to, transition_in, AddressedData, SiteViewData}
 use Rattle.alarm_core.proofs.Flattened.{flat_map-flat_map}
 

@@ -9,6 +9,7 @@ use Rattle.notify_class.specs.declared.class.Class.{Class}
 use Rattle.outbox.specs.Outboxes.{AreKnown, is_known, peers_of}
 use Rattle.outbox.specs.Posts.{MailboxState}
 use Rattle.outbox.proofs.Learning.{known_addresses}
+use Rattle.enrollment.specs.Objects.{ObjectsState}
 use Rattle.alarm_core.specs.declared.event.Act.{Act}
 use Rattle.alarm_core.specs.declared.event.Act.TheVariants.{Tick}
 use Rattle.alarm_core.specs.declared.site.Site.{Site}
@@ -17,7 +18,6 @@ use Rattle.alarm_core.specs.Known.{KnowsClass}
 use Rattle.alarm_core.specs.Deliveries.{notes_by}
 use Rattle.alarm_core.specs.History.{StateTransition}
 use Rattle.alarm_core.specs.Notes.{notes_of_transitions}
-use Rattle.alarm_core.specs.Values.{Values}
 use Rattle.alarm_core.proofs.KnownPeers.{classes_known}
 use Rattle.alarm_core.proofs.NotesGo.{GoesTo, notes_go_by}
 
@@ -27,16 +27,16 @@ pub record KnowsAll (peers : List PeerData) (classes : List Class) (posts : List
   pub knows : All (KnowsClass peers) classes
 
 module _ (site : Site) (classes : List Class) (peers : List PeerData) (posts : List MailboxState) (known : KnowsAll peers classes posts) where
-  pub told_known : (values : Values) (moment : ℕ) (act : Act) (transitions : List StateTransition) → AreKnown (notes_by site classes values moment act transitions) posts
+  pub told_known : (values : ObjectsState) (moment : ℕ) (act : Act) (transitions : List StateTransition) → AreKnown (notes_by site classes values moment act transitions) posts
   told_known values moment act transitions =
       All-weaker (GoesTo peers) (λ (note : Note). IsTrue (is_known note.peer posts))
       (λ (note : Note) k. known_addresses note.peer posts ∙ subst (λ ps. IsTrue (is_among ps note.peer)) known.peers_are k)
       (notes_by site classes values moment act transitions) (notes_go_by site peers classes known.knows values moment act transitions)
 
-  pub look_known : (values : Values) (transitions : List StateTransition) → AreKnown (notes_of_transitions site classes transitions) posts
+  pub look_known : (values : ObjectsState) (transitions : List StateTransition) → AreKnown (notes_of_transitions site classes transitions) posts
   look_known values transitions = told_known values 0 Tick transitions
 
-  pub more_known : (values : Values) (notes : List Note) (transitions : List StateTransition) → AreKnown notes posts → AreKnown (notes ++ notes_of_transitions site classes transitions) posts
+  pub more_known : (values : ObjectsState) (notes : List Note) (transitions : List StateTransition) → AreKnown notes posts → AreKnown (notes ++ notes_of_transitions site classes transitions) posts
   more_known values notes transitions h =
       All-append (λ (note : Note). IsTrue (is_known note.peer posts)) notes (notes_of_transitions site classes transitions) h (look_known values transitions)
 

@@ -13,6 +13,7 @@ use Rattle.notify_class.specs.declared.destination.Destination.{Destination}
 use Rattle.notify_class.specs.Edits.{peers_of}
 use Rattle.object_table.specs.declared.change.Change.{Change}
 use Rattle.outbox.specs.Outboxes.{OutboxState, answered, learned, pumped, queued}
+use Rattle.enrollment.specs.Objects.{ObjectsState, written}
 use Rattle.alarm_core.specs.declared.event.Act.TheVariants.{Tick, Write, Ack, Pump, Answer, Edit}
 use Rattle.alarm_core.specs.Classes.{edited}
 use Rattle.alarm_core.specs.Evaluations.{site_moment}
@@ -22,7 +23,6 @@ use Rattle.alarm_core.specs.Notes.{notes_of_transition, notes_of_transitions}
 use Rattle.alarm_core.specs.CoreSteps.{acked, acted, after_calls, evaluated_all, next_notes, next_transitions, transitions_all}
 use Rattle.alarm_core.specs.declared.state.Done.{Done}
 use Rattle.alarm_core.specs.State.{DetectedObjectState, CoreState}
-use Rattle.alarm_core.specs.Values.{Values, written}
 use Rattle.alarm_core.specs.Verdicts.{queue_verdict, step_verdict}
 use Rattle.alarm_core.proofs.Moved.{each_of_one_look, each_of_two_looks, of_two_looks}
 
@@ -92,20 +92,20 @@ module _ (old : CoreState) (moment : ℕ) where
   finished before first new alarms notes outbox logs n a o t = n ∙ (λ k. record old { alarms = a k; outbox = (o ∙ ap (λ ns. queued ns old.outbox) t) k; logs = logs })
 
 -- a write of an object, or of a log, which leaves the objects' properties as they are
-module _ (old : CoreState) (moment : ℕ) (change : Change) (values : Values) (values_are : values ≡ written change old.values)
+module _ (old : CoreState) (moment : ℕ) (change : Change) (values : ObjectsState) (values_are : values ≡ written change old.values)
     (before : List DetectedObjectState) (before_is : before ≡ evaluated_all (site_moment old.site moment) old.values old.alarms)
     (notes : List Note) (notes_are : notes ≡ notes_of_transitions old.site old.classes (transitions_all (site_moment old.site moment) old.values old.alarms)) where
   -- the transitions of the first look, and of the second
   first_ones : List StateTransition
   first_ones = transitions_all (site_moment old.site moment) old.values old.alarms
 
-  second_ones : Values → List DetectedObjectState → List StateTransition
+  second_ones : ObjectsState → List DetectedObjectState → List StateTransition
   second_ones now alarms = transitions_all (site_moment old.site moment) now alarms
 
-  all_notes : Values → List DetectedObjectState → List Note → List Note
+  all_notes : ObjectsState → List DetectedObjectState → List Note → List Note
   all_notes now alarms first = first ++ notes_of_transitions old.site old.classes (second_ones now alarms)
 
-  after_both : Values → List DetectedObjectState → List Note → List SiteLogState → CoreState
+  after_both : ObjectsState → List DetectedObjectState → List Note → List SiteLogState → CoreState
   after_both now alarms first logs = record old { values = now; alarms = evaluated_all (site_moment old.site moment) now alarms; outbox = queued first old.outbox; logs = logs }
 
   -- the records of the first look, the change, and the records of the second

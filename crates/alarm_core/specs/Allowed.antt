@@ -7,10 +7,11 @@ use Rattle.notify_class.specs.Edits.{edit_verdict}
 use Rattle.notify_class.specs.declared.class.Class.{Class}
 use Rattle.object_table.specs.declared.row.Row.{Row}
 use Rattle.outbox.specs.Outboxes.{has_in_flight, peers_of, unfinished_in}
+use Rattle.enrollment.specs.declared.enrollment_site.EnrollmentSite.{EnrollmentSite}
+use Rattle.enrollment.specs.Objects.{IsTaken}
 use Rattle.alarm_core.specs.declared.event.Act.{Act}
 use Rattle.alarm_core.specs.declared.event.Act.TheVariants.{Tick, Write, Ack, Pump, Answer, Edit}
 use Rattle.alarm_core.specs.declared.event.Event.{Event}
-use Rattle.enrollment.specs.declared.enrollment_site.EnrollmentSite.{EnrollmentSite}
 use Rattle.alarm_core.specs.declared.site.Site.{Site}
 use Rattle.alarm_core.specs.Classes.{class_in, is_member}
 use Rattle.alarm_core.specs.Deliveries.{outbox_after}
@@ -19,7 +20,6 @@ use Rattle.alarm_core.specs.State.{state_of, CoreState}
 use Rattle.alarm_core.specs.Found.{found_in}
 use Rattle.alarm_core.specs.Logs.{IsTakenByLog}
 use Rattle.alarm_core.specs.Sites.{IsSite}
-use Rattle.alarm_core.specs.Values.{IsTaken}
 
 -- the kinds of PDU by which a confirmed request is answered (20.1.2): SimpleACK, Error, Reject and Abort
 abbrev pub IsAnswer : ℕ → Type 0

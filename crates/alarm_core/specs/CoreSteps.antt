@@ -1,5 +1,5 @@
 -- What one event makes of a state, without looking back over the history.
-use Rattle.std.specs.Prelude.{ℕ, ◌+◌, Bool, if◌then◌else◌, Option, Some, None, List, [], ◌∷◌, ◌++◌, map}
+use Rattle.std.specs.Prelude.{ℕ, ◌+◌, Bool, if◌then◌else◌, Option, Some, None, List, [], ◌∷◌, map}
 use Rattle.std.specs.List.{flat_map}
 use Rattle.bac_values.specs.Identifier.{ObjectIdData}
 use Rattle.bac_values.specs.declared.transition.Transition.{Transition}
@@ -16,16 +16,17 @@ use Rattle.notify_class.specs.declared.class.Class.{Class}
 use Rattle.notify_class.specs.Edits.{peers_of}
 use Rattle.outbox.specs.Outboxes.{OutboxState, answered, learned, new_outbox, pumped, queued, sends_of}
 use Rattle.object_table.specs.Rows.{is_object}
+use Rattle.enrollment.specs.declared.subject.Subject.{Subject}
+use Rattle.enrollment.specs.Objects.{ObjectsState}
 use Rattle.alarm_core.specs.declared.event.Act.{Act}
 use Rattle.alarm_core.specs.declared.event.Act.TheVariants.{Ack, Pump, Answer, Edit}
 use Rattle.alarm_core.specs.declared.event.Event.{Event}
 use Rattle.event_log.specs.declared.log_site.LogSite.{LogSite}
 use Rattle.alarm_core.specs.declared.site.Site.{Site}
 use Rattle.alarm_core.specs.Evaluations.{point_in, site_moment, start_point}
-use Rattle.alarm_core.specs.declared.subject.Subject.{Subject}
 use Rattle.alarm_core.specs.declared.transition.ObjectTransition.{ObjectTransition}
 use Rattle.alarm_core.specs.Subjects.{ack_required_of, detecting_subjects}
-use Rattle.alarm_core.specs.Values.{Values, first_values}
+use Rattle.alarm_core.specs.Values.{first_values}
 use Rattle.alarm_core.specs.History.{ObjectState, StateTransition, joined, looks_of, object_transition, transition_of, values_with}
 use Rattle.alarm_core.specs.Classes.{classes_with, first_classes, known_peers_of}
 use Rattle.alarm_core.specs.Deliveries.{notes_by}
@@ -37,14 +38,14 @@ abbrev pub change_by : Algorithm → Option Point → AlarmState → Change
 change_by algorithm None alarm = stays alarm
 change_by algorithm (Some point) alarm = next_look algorithm point alarm
 
-abbrev pub change_at : LocalMomentData → Values → DetectedObjectState → Change
+abbrev pub change_at : LocalMomentData → ObjectsState → DetectedObjectState → Change
 change_at at values detected = change_by detected.algorithm (point_in at detected.ack_required detected.object values) detected.alarm
 
-abbrev pub evaluated : LocalMomentData → Values → DetectedObjectState → DetectedObjectState
+abbrev pub evaluated : LocalMomentData → ObjectsState → DetectedObjectState → DetectedObjectState
 evaluated at values detected = record detected { alarm = (change_at at values detected).alarm }
 
 -- its transitions then
-abbrev pub transitions_by : LocalMomentData → Values → DetectedObjectState → List ObjectTransition
+abbrev pub transitions_by : LocalMomentData → ObjectsState → DetectedObjectState → List ObjectTransition
 transitions_by at values detected = map (object_transition detected.object detected.alarm.cause) (change_at at values detected).moves
 
 -- the event states of the objects
@@ -55,18 +56,18 @@ abbrev pub states_of : List DetectedObjectState → List ObjectState
 states_of alarms = map state_of_detected alarms
 
 -- one more look, at which all objects are evaluated, and its transitions
-abbrev pub evaluated_all : LocalMomentData → Values → List DetectedObjectState → List DetectedObjectState
+abbrev pub evaluated_all : LocalMomentData → ObjectsState → List DetectedObjectState → List DetectedObjectState
 evaluated_all at values alarms = map (evaluated at values) alarms
 
-abbrev pub transitions_all : LocalMomentData → Values → List DetectedObjectState → List StateTransition
+abbrev pub transitions_all : LocalMomentData → ObjectsState → List DetectedObjectState → List StateTransition
 transitions_all at values alarms = map (transition_of at.moment values (states_of (evaluated_all at values alarms))) (flat_map (transitions_by at values) alarms)
 
 -- some looks, one after the other, and the transitions of each of them
-abbrev pub after_looks : LocalMomentData → List Values → List DetectedObjectState → List DetectedObjectState
+abbrev pub after_looks : LocalMomentData → List ObjectsState → List DetectedObjectState → List DetectedObjectState
 after_looks at [] alarms = alarms
 after_looks at (values ∷ later) alarms = after_looks at later (evaluated_all at values alarms)
 
-abbrev pub transitions_of_looks : LocalMomentData → List Values → List DetectedObjectState → List (List StateTransition)
+abbrev pub transitions_of_looks : LocalMomentData → List ObjectsState → List DetectedObjectState → List (List StateTransition)
 transitions_of_looks at [] alarms = []
 transitions_of_looks at (values ∷ later) alarms = transitions_all at values alarms ∷ transitions_of_looks at later (evaluated_all at values alarms)
 
@@ -74,7 +75,7 @@ abbrev pub acked : ObjectIdData → Transition → DetectedObjectState → Detec
 acked object transition detected = if is_object object detected.object then record detected { alarm = acknowledged transition detected.alarm } else detected
 
 -- an acknowledgement, or the looks of an act
-abbrev pub alarms_with : LocalMomentData → Act → Values → List DetectedObjectState → List DetectedObjectState
+abbrev pub alarms_with : LocalMomentData → Act → ObjectsState → List DetectedObjectState → List DetectedObjectState
 alarms_with at (Ack object transition state) values alarms = map (acked object transition) alarms
 alarms_with at act values alarms = after_looks at (looks_of act values) alarms
 
@@ -128,7 +129,7 @@ abbrev pub next_state : Event → CoreState → CoreState
 next_state event state = record (acted event state) { events = state.events + 1; last_moment = event.moment }
 
 -- an object at the start, where its class wants these transitions acknowledged
-abbrev pub first_with : LocalMomentData → List Bool → Values → Subject → DetectedObjectState
+abbrev pub first_with : LocalMomentData → List Bool → ObjectsState → Subject → DetectedObjectState
 first_with at ack_required values subject = record {
   object = subject.object;
   algorithm = subject.algorithm;

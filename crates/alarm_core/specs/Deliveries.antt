@@ -9,6 +9,8 @@ use Rattle.outbox.specs.Delivery.{Timing, delivery_after, sent_at}
 use Rattle.outbox.specs.Following.{Operations, after_answer, after_pump, after_queue, no_operations}
 use Rattle.outbox.specs.Outboxes.{OutboxState}
 use Rattle.outbox.specs.Posts.{post_after}
+use Rattle.enrollment.specs.Subjects.{subject_in}
+use Rattle.enrollment.specs.Objects.{ObjectsState}
 use Rattle.alarm_core.specs.declared.event.Act.{Act}
 use Rattle.alarm_core.specs.declared.event.Act.TheVariants.{Ack, Pump, Answer, Edit}
 use Rattle.alarm_core.specs.declared.event.Event.{Event}
@@ -16,11 +18,9 @@ use Rattle.alarm_core.specs.declared.site.Site.{Site}
 use Rattle.alarm_core.specs.Classes.{classes_after, known_peers_of}
 use Rattle.alarm_core.specs.History.{StateTransition, event_transitions, values_after}
 use Rattle.alarm_core.specs.Notes.{notes_of_acknowledgement, notes_of_transitions}
-use Rattle.alarm_core.specs.Subjects.{subject_in}
-use Rattle.alarm_core.specs.Values.{Values}
 
 -- the notifications that an act gives: of each of its event-state transitions, or of its acknowledgement
-abbrev pub notes_by : Site → List Class → Values → ℕ → Act → List StateTransition → List Note
+abbrev pub notes_by : Site → List Class → ObjectsState → ℕ → Act → List StateTransition → List Note
 notes_by site classes values moment (Ack object transition named) transitions = notes_of_acknowledgement site classes moment (subject_in object values) transition named
 notes_by site classes values moment act transitions = notes_of_transitions site classes transitions
 

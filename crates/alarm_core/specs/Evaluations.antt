@@ -2,41 +2,24 @@
 use Rattle.std.specs.Prelude.{ℕ, Bool, false, pos, Option, Some, None, List, []}
 use Rattle.std.specs.Option.{option_map}
 use Rattle.bac_values.specs.Identifier.{ObjectIdData}
-use Rattle.bac_values.specs.declared.reliability.Reliability.{Reliability}
 use Rattle.bac_values.specs.declared.stamp.Stamp.{Stamp}
 use Rattle.bac_values.specs.declared.value.Value.TheVariants.{Null}
 use Rattle.algorithm_rules.specs.Facts.{Facts}
 use Rattle.civil_stamp.specs.LocalTime.{fixed_zone, local_stamp, ZoneData, LocalMomentData}
 use Rattle.event_machine.specs.Points.{Point}
-use Rattle.enrollment.specs.Reliabilities.{reliability_with}
-use Rattle.enrollment.specs.Snapshots.{facts_with}
+use Rattle.enrollment.specs.declared.subject.Subject.{Subject}
+use Rattle.enrollment.specs.Subjects.{is_inhibited}
+use Rattle.enrollment.specs.Objects.{ObjectsState, facts_at, reliability_at}
 use Rattle.alarm_core.specs.declared.site.Site.{Site}
-use Rattle.alarm_core.specs.declared.subject.Subject.{Subject}
-use Rattle.alarm_core.specs.Subjects.{ack_required_of, subject_in}
-use Rattle.alarm_core.specs.Values.{Values, first_values}
-
-abbrev pub inhibit_of : Option Subject → Bool
-inhibit_of (Some subject) = subject.inhibit
-inhibit_of None = false
-
--- Event_Algorithm_Inhibit of an object
-abbrev pub is_inhibited : ObjectIdData → Values → Bool
-is_inhibited object values = inhibit_of (subject_in object values)
-
--- its reliability: an enrollment's is that of what it refers to
-abbrev pub reliability_at : ObjectIdData → Values → Reliability
-reliability_at object values = reliability_with object values.enrollments values.rows
-
--- what its event algorithm looks at, if it is there
-abbrev pub facts_at : ObjectIdData → Values → Option Facts
-facts_at object values = facts_with object values.enrollments values.rows
+use Rattle.alarm_core.specs.Subjects.{ack_required_of}
+use Rattle.alarm_core.specs.Values.{first_values}
 
 -- the local date and time of a moment in its zone
 abbrev pub stamp_at : LocalMomentData → Stamp
 stamp_at at = local_stamp at.zone at.moment
 
 -- the point of an object that sees these facts, where its class wants these transitions acknowledged
-abbrev pub point_with : LocalMomentData → List Bool → ObjectIdData → Values → Facts → Point
+abbrev pub point_with : LocalMomentData → List Bool → ObjectIdData → ObjectsState → Facts → Point
 point_with at ack_required object values facts = record {
   moment = at.moment;
   stamp = stamp_at at;
@@ -47,7 +30,7 @@ point_with at ack_required object values facts = record {
 }
 
 -- the point of an object, if it is there
-abbrev pub point_in : LocalMomentData → List Bool → ObjectIdData → Values → Option Point
+abbrev pub point_in : LocalMomentData → List Bool → ObjectIdData → ObjectsState → Option Point
 point_in at ack_required object values = option_map (point_with at ack_required object values) (facts_at object values)
 
 -- the zone of a site
@@ -63,7 +46,7 @@ abbrev pub site_moment : Site → ℕ → LocalMomentData
 site_moment site moment = record { zone = site_zone site; moment = moment }
 
 -- the point of a subject of a site
-abbrev pub point_of : Site → Subject → ℕ → Values → Option Point
+abbrev pub point_of : Site → Subject → ℕ → ObjectsState → Option Point
 point_of site subject moment values = point_in (site_moment site moment) (ack_required_of site subject) subject.object values
 
 -- nothing to look at; each subject of a site is there
@@ -88,7 +71,7 @@ facts_or_none (Some facts) = facts
 facts_or_none None = no_facts
 
 -- the point of an object at the start
-abbrev pub start_point : LocalMomentData → List Bool → ObjectIdData → Values → Point
+abbrev pub start_point : LocalMomentData → List Bool → ObjectIdData → ObjectsState → Point
 start_point at ack_required object values = point_with at ack_required object values (facts_or_none (facts_at object values))
 
 abbrev pub first_point : Site → Subject → Point

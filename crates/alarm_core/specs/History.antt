@@ -10,15 +10,16 @@ use Rattle.event_machine.specs.declared.moves.Move.{Move}
 use Rattle.event_machine.specs.Points.{Point, Incident, Looked, Acknowledged}
 use Rattle.event_machine.specs.Detection.{Detection, detection_at, moves_at}
 use Rattle.object_table.specs.Rows.{is_object}
+use Rattle.enrollment.specs.declared.subject.Subject.{Subject}
+use Rattle.enrollment.specs.Objects.{ObjectsState, written}
 use Rattle.alarm_core.specs.declared.event.Act.{Act}
 use Rattle.alarm_core.specs.declared.event.Act.TheVariants.{Tick, Write, Ack}
 use Rattle.alarm_core.specs.declared.event.Event.{Event}
 use Rattle.alarm_core.specs.declared.site.Site.{Site}
 use Rattle.alarm_core.specs.Evaluations.{first_point, point_of}
-use Rattle.alarm_core.specs.declared.subject.Subject.{Subject}
 use Rattle.alarm_core.specs.declared.transition.ObjectTransition.{ObjectTransition}
 use Rattle.alarm_core.specs.Subjects.{detecting_subjects}
-use Rattle.alarm_core.specs.Values.{Values, first_values, written}
+use Rattle.alarm_core.specs.Values.{first_values}
 
 -- the moment of the last event, or the site's start
 abbrev pub last_moment_of : Site → List Event → ℕ
@@ -35,33 +36,33 @@ event_at moment act = record { moment = moment; act = act }
 abbrev pub tick_at : ℕ → Event
 tick_at moment = event_at moment Tick
 
-abbrev pub values_with : Act → Values → Values
+abbrev pub values_with : Act → ObjectsState → ObjectsState
 values_with (Write change) values = written change values
 values_with act values = values
 
 -- the properties of all objects after a history: the site's, each replaced by what the last write to it says
-abbrev pub values_after : Site → List Event → Values
+abbrev pub values_after : Site → List Event → ObjectsState
 values_after site [] = first_values site
 values_after site (event ∷ older) = values_with event.act (values_after site older)
 
 -- the properties that each look of an act sees, the oldest first: a tick is one look; a write is one with the properties before it, and then one with those after it; nothing else is one
-abbrev pub looks_of : Act → Values → List Values
+abbrev pub looks_of : Act → ObjectsState → List ObjectsState
 looks_of Tick values = values ∷ []
 looks_of (Write change) values = values ∷ written change values ∷ []
 looks_of act values = []
 
 -- at a look all objects are evaluated, at a moment and with the properties of that moment; or a transition of one is acknowledged
 pub data Occurrence : Type 0 where
-  AllEvaluated : ℕ → Values → Occurrence
+  AllEvaluated : ℕ → ObjectsState → Occurrence
   OneAcknowledged : ObjectIdData → Transition → Occurrence
 
 -- some looks at a moment, one after the other, behind older ones
-abbrev pub looks_over : ℕ → List Values → List Occurrence → List Occurrence
+abbrev pub looks_over : ℕ → List ObjectsState → List Occurrence → List Occurrence
 looks_over moment [] older = older
 looks_over moment (values ∷ later) older = looks_over moment later (AllEvaluated moment values ∷ older)
 
 -- an acknowledgement, or the looks of an act
-abbrev pub occurrences_with : ℕ → Act → Values → List Occurrence → List Occurrence
+abbrev pub occurrences_with : ℕ → Act → ObjectsState → List Occurrence → List Occurrence
 occurrences_with moment (Ack object transition state) values older = OneAcknowledged object transition ∷ older
 occurrences_with moment act values older = looks_over moment (looks_of act values) older
 
@@ -114,7 +115,7 @@ pub record StateTransition : Type 0 where
   pub to : EventState
   pub by_fault : Bool
   pub cause : Option ℕ
-  pub values : Values
+  pub values : ObjectsState
   pub states : List ObjectState
 
 -- a transition of an object, by the cause of the state that it left and how it moved
@@ -122,7 +123,7 @@ abbrev pub object_transition : ObjectIdData → Option ℕ → Move → ObjectTr
 object_transition object cause made = record { object = object; cause = cause; made = made }
 
 -- a transition of an object at a point with these properties, after which these are the event states
-abbrev pub transition_of : ℕ → Values → List ObjectState → ObjectTransition → StateTransition
+abbrev pub transition_of : ℕ → ObjectsState → List ObjectState → ObjectTransition → StateTransition
 transition_of moment values states transition = record {
   moment = moment;
   object = transition.object;
@@ -144,17 +145,17 @@ moves_with site subject None older = []
 moves_with site subject (Some point) older = moves_at subject.algorithm (first_point site subject) (Looked point ∷ incidents_of site subject older)
 
 -- its transitions then
-abbrev pub object_transitions : Site → ℕ → Values → List Occurrence → Subject → List ObjectTransition
+abbrev pub object_transitions : Site → ℕ → ObjectsState → List Occurrence → Subject → List ObjectTransition
 object_transitions site moment values older subject =
     map (object_transition subject.object (detection_of site subject older).cause) (moves_with site subject (point_of site subject moment values) older)
 
 -- those of all objects at one more look
-abbrev pub look_transitions : Site → ℕ → Values → List Occurrence → List StateTransition
+abbrev pub look_transitions : Site → ℕ → ObjectsState → List Occurrence → List StateTransition
 look_transitions site moment values older =
     map (transition_of moment values (states_over site (AllEvaluated moment values ∷ older))) (flat_map (object_transitions site moment values older) (detecting_subjects site))
 
 -- those of each of some looks at a moment, one after the other
-abbrev pub looks_transitions : Site → ℕ → List Values → List Occurrence → List (List StateTransition)
+abbrev pub looks_transitions : Site → ℕ → List ObjectsState → List Occurrence → List (List StateTransition)
 looks_transitions site moment [] older = []
 looks_transitions site moment (values ∷ later) older = look_transitions site moment values older ∷ looks_transitions site moment later (AllEvaluated moment values ∷ older)
 

@@ -8,10 +8,10 @@ use Rattle.bac_values.specs.Orders.{identifier_order}
 use Rattle.event_machine.specs.Detection.{is_normal}
 use Rattle.event_services.specs.declared.information.EventSummary.{EventSummary}
 use Rattle.notify_class.specs.declared.class.Class.{Class}
+use Rattle.enrollment.specs.declared.subject.Subject.{Subject}
+use Rattle.enrollment.specs.Subjects.{subject_in}
 use Rattle.alarm_core.specs.Notes.{class_for}
 use Rattle.alarm_core.specs.State.{DetectedObjectState, CoreState}
-use Rattle.alarm_core.specs.declared.subject.Subject.{Subject}
-use Rattle.alarm_core.specs.Subjects.{subject_in}
 
 -- an object is active where its event state isn't NORMAL, or a transition of it isn't acknowledged
 abbrev pub is_active : DetectedObjectState → Bool

@@ -8,12 +8,12 @@ use Rattle.bac_values.specs.declared.value.Value.{Value}
 use Rattle.object_table.specs.Rows.{Ascends}
 use Rattle.object_table.specs.Verdicts.{checked_fault, checked_set, fault_change, property_change}
 use Rattle.outbox.specs.Outboxes.{unfinished_in}
+use Rattle.enrollment.specs.Subjects.{object_of}
 use Rattle.alarm_core.specs.declared.event.Act.{Act}
 use Rattle.alarm_core.specs.declared.event.Act.TheVariants.{Tick, Write, Ack}
 use Rattle.alarm_core.specs.declared.event.Event.{Event}
 use Rattle.alarm_core.specs.declared.event.StepFault.TheVariants.{Full}
 use Rattle.alarm_core.specs.declared.site.Site.{Site}
-use Rattle.alarm_core.specs.declared.subject.Subject.{Subject}
 use Rattle.alarm_core.specs.History.{tick_at, transitions_of}
 use Rattle.alarm_core.specs.State.{state_of, CoreState}
 use Rattle.alarm_core.specs.Allowed.{Comes, IsAllowed, IsHistory}
@@ -26,10 +26,6 @@ use Rattle.alarm_core.specs.Room.{HasRoom}
 use Rattle.alarm_core.specs.Sites.{IsSite}
 use Rattle.alarm_core.specs.Subjects.{subjects_of}
 use Rattle.alarm_core.specs.Verdicts.{step_verdict}
-
--- an object by its settings
-abbrev pub object_of : Subject → ObjectIdData
-object_of subject = subject.object
 
 -- going on from event to event, as they come, is looking back over the whole history
 pub record StandsForItsHistory : Type 0 where

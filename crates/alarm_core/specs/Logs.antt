@@ -1,5 +1,5 @@
 -- The event logs of a site after a history (ANSI/ASHRAE 135-2020, 12.27).
-use Rattle.std.specs.Prelude.{ℕ, zero, ◌/◌, ◌==◌, Bool, IsTrue, IsSomeAnd, if◌then◌else◌, Option, Some, None, List, [], ◌∷◌, ◌++◌, map, find}
+use Rattle.std.specs.Prelude.{ℕ, zero, ◌/◌, ◌==◌, Bool, IsTrue, IsSomeAnd, if◌then◌else◌, Option, List, [], ◌∷◌, ◌++◌, map, find}
 use Rattle.std.specs.List.{flat_map, list_any}
 use Rattle.std.specs.Option.{option_map, option_to_list}
 use Rattle.bac_values.specs.Identifier.{ObjectIdData}
@@ -15,12 +15,12 @@ use Rattle.object_table.specs.declared.change.What.{What}
 use Rattle.object_table.specs.declared.change.What.TheVariants.{Property, FieldFault}
 use Rattle.object_table.specs.Rows.{is_object}
 pub use Rattle.property_values.specs.LogProperties.{takes, takes_value}
+use Rattle.enrollment.specs.declared.subject.Subject.{Subject}
 use Rattle.alarm_core.specs.declared.event.Act.{Act}
 use Rattle.alarm_core.specs.declared.event.Act.TheVariants.{Write}
 use Rattle.alarm_core.specs.declared.event.Event.{Event}
 use Rattle.event_log.specs.declared.log_site.LogSite.{LogSite}
 use Rattle.alarm_core.specs.declared.site.Site.{Site}
-use Rattle.alarm_core.specs.declared.subject.Subject.{Subject}
 use Rattle.alarm_core.specs.Classes.{classes_after}
 use Rattle.alarm_core.specs.History.{StateTransition, event_looks, joined}
 use Rattle.alarm_core.specs.Notes.{addressed, notification_of}

@@ -1,8 +1,8 @@
 -- What is told of an event-state transition and of an acknowledgement, and to whom (ANSI/ASHRAE 135-2020, 13.2.5 and 13.5).
-use Rattle.std.specs.Prelude.{ℕ, ◌≤◌, length, Bool, false, if◌then◌else◌, Option, Some, None, List, [], slice_index_or}
+use Rattle.std.specs.Prelude.{ℕ, ◌≤◌, length, Bool, false, if◌then◌else◌, Option, Some, None, List}
 use Rattle.std.specs.List.{flat_map}
 use Rattle.std.specs.Option.{option_and_then, option_map, option_to_list}
-use Rattle.bac_values.specs.EventStates.{place_of_transition, transition_to}
+use Rattle.bac_values.specs.EventStates.{transition_to}
 use Rattle.bac_values.specs.Identifier.{ObjectIdData}
 use Rattle.bac_values.specs.declared.event_state.EventState.{EventState}
 use Rattle.bac_values.specs.declared.note.Note.{Note}
@@ -24,22 +24,18 @@ use Rattle.reliability_eval.specs.Reliability.{reliability_in}
 use Rattle.enrollment.specs.declared.enrollment_site.EnrollmentSite.{EnrollmentSite}
 use Rattle.enrollment.specs.Enrollments.{site_of}
 use Rattle.enrollment.specs.Snapshots.{algorithm_with, value_in}
+use Rattle.enrollment.specs.Objects.{facts_at, reliability_at}
+use Rattle.enrollment.specs.declared.subject.Subject.{Subject}
+use Rattle.enrollment.specs.Subjects.{is_enabled, subject_in}
 use Rattle.alarm_core.specs.declared.site.Site.{Site}
 use Rattle.alarm_core.specs.Classes.{class_in}
 use Rattle.alarm_core.specs.Devices.{device_object}
 use Rattle.alarm_core.specs.History.{StateTransition, state_in}
-use Rattle.alarm_core.specs.Evaluations.{facts_at, reliability_at, site_stamp, site_zone}
-use Rattle.alarm_core.specs.declared.subject.Subject.{Subject}
-use Rattle.alarm_core.specs.Subjects.{subject_in}
-use Rattle.alarm_core.specs.Values.{Values}
+use Rattle.alarm_core.specs.Evaluations.{site_stamp, site_zone}
 
 -- an object's notification class
 abbrev pub class_for : Subject → List Class → Option Class
 class_for subject classes = option_and_then (λ number. class_in number classes) subject.class
-
--- whether transitions of a kind are told of (Event_Enable)
-abbrev pub is_enabled : Transition → Subject → Bool
-is_enabled transition subject = slice_index_or subject.enable (place_of_transition transition) false
 
 -- who tells of what
 abbrev pub source_of : Site → Subject → Source

@@ -3,9 +3,9 @@ use Rattle.std.specs.Prelude.{Option, List, map}
 use Rattle.bac_values.specs.Identifier.{ObjectIdData}
 use Rattle.event_machine.specs.declared.run.Run.{Run}
 use Rattle.event_machine.specs.Runs.{runs_of}
+use Rattle.enrollment.specs.declared.subject.Subject.{Subject}
 use Rattle.alarm_core.specs.declared.event.Event.{Event}
 use Rattle.alarm_core.specs.declared.site.Site.{Site}
-use Rattle.alarm_core.specs.declared.subject.Subject.{Subject}
 use Rattle.alarm_core.specs.Subjects.{detecting_subjects}
 use Rattle.alarm_core.specs.History.{detection_of, occurrences_of}
 use Rattle.alarm_core.specs.State.{DetectedObjectState, CoreState}

@@ -5,12 +5,12 @@ use Rattle.event_machine.specs.Summary.{AlarmState, alarm_of}
 use Rattle.notify_class.specs.declared.class.Class.{Class}
 use Rattle.outbox.specs.Outboxes.{OutboxState}
 use Rattle.algorithm_rules.specs.declared.table.Algorithm.{Algorithm}
+use Rattle.enrollment.specs.declared.subject.Subject.{Subject}
+use Rattle.enrollment.specs.Objects.{ObjectsState}
 use Rattle.alarm_core.specs.declared.event.Event.{Event}
 use Rattle.alarm_core.specs.declared.site.Site.{Site}
 use Rattle.alarm_core.specs.Evaluations.{first_point}
-use Rattle.alarm_core.specs.declared.subject.Subject.{Subject}
 use Rattle.alarm_core.specs.Subjects.{ack_required_of, detecting_subjects}
-use Rattle.alarm_core.specs.Values.{Values}
 use Rattle.alarm_core.specs.Classes.{classes_after}
 use Rattle.alarm_core.specs.Deliveries.{outbox_after}
 use Rattle.alarm_core.specs.Logs.{logs_after, SiteLogState}
@@ -28,7 +28,7 @@ pub record CoreState : Type 0 where
   pub site : Site
   pub events : ℕ
   pub last_moment : ℕ
-  pub values : Values
+  pub values : ObjectsState
   pub alarms : List DetectedObjectState
   pub classes : List Class
   pub outbox : OutboxState

@@ -1,68 +1,14 @@
--- The objects that have event detection: value objects with a notification class, and event enrollments (ANSI/ASHRAE 135-2020, 12.12 and 13.2).
-use Rattle.std.specs.Prelude.{ℕ, ◌==◌, nat_lt, ◌&&◌, Bool, not, replicate, false, Option, Some, None, is_some, List, ◌++◌, map, filter, find}
+-- The objects of a site that have event detection: value objects with a notification class, and event enrollments (ANSI/ASHRAE 135-2020, 12.12 and 13.2).
+use Rattle.std.specs.Prelude.{ℕ, ◌==◌, Bool, replicate, false, Option, Some, None, List, filter, find}
 use Rattle.std.specs.Option.{option_and_then}
-use Rattle.bac_values.specs.Identifier.{number_of_kind, ObjectIdData}
-use Rattle.bac_values.specs.declared.object_kind.ObjectKind.TheVariants.{EventEnrollment}
-use Rattle.object_table.specs.declared.object_site.ObjectSite.{ObjectSite}
-use Rattle.object_table.specs.declared.row.Row.{Row}
-use Rattle.object_table.specs.Rows.{row_of}
-use Rattle.enrollment.specs.declared.enrollment_site.EnrollmentSite.{EnrollmentSite}
-use Rattle.enrollment.specs.Enrollments.{site_of}
-use Rattle.enrollment.specs.Snapshots.{algorithm_for}
 use Rattle.notify_class.specs.declared.class_site.ClassSite.{ClassSite}
+use Rattle.enrollment.specs.declared.subject.Subject.{Subject}
+use Rattle.enrollment.specs.Subjects.{is_detecting, subjects_of as subjects_in}
 use Rattle.alarm_core.specs.declared.site.Site.{Site}
-use Rattle.alarm_core.specs.declared.subject.Subject.{Subject}
-use Rattle.alarm_core.specs.Values.{Values}
 
--- what is the same of both
-abbrev pub subject_of_object : ObjectSite → Subject
-subject_of_object site = record {
-  object = site.object;
-  algorithm = algorithm_for site.object;
-  class = site.class;
-  notify = site.notify;
-  enable = site.enable;
-  detection = site.detection;
-  inhibit = site.inhibit;
-}
-
-abbrev pub subject_of_enrollment : EnrollmentSite → Subject
-subject_of_enrollment site = record {
-  object = site.object;
-  algorithm = site.algorithm;
-  class = Some site.class;
-  notify = site.notify;
-  enable = site.enable;
-  detection = site.detection;
-  inhibit = site.inhibit;
-}
-
--- the value object or the enrollment with an identifier, as it is now
-abbrev pub subject_by : Option EnrollmentSite → Option Row → Option Subject
-subject_by (Some site) row = Some (subject_of_enrollment site)
-subject_by None (Some row) = Some (subject_of_object row.site)
-subject_by None None = None
-
-abbrev pub subject_in : ObjectIdData → Values → Option Subject
-subject_in object values = subject_by (site_of object values.enrollments) (row_of object values.rows)
-
--- whether an object's type has a lower number than that of enrollments
-abbrev pub is_before_enrollments : ObjectSite → Bool
-is_before_enrollments site = nat_lt site.object.number (number_of_kind EventEnrollment)
-
-abbrev pub is_behind_enrollments : ObjectSite → Bool
-is_behind_enrollments site = not (is_before_enrollments site)
-
--- those of a site at its start, by ascending identifier
+-- what event detection is set to for the value objects and the enrollments of a site at its start, by ascending identifier
 abbrev pub subjects_of : Site → List Subject
-subjects_of site =
-    map subject_of_object (filter is_before_enrollments site.objects)
-    ++ (map subject_of_enrollment site.enrollments
-    ++ map subject_of_object (filter is_behind_enrollments site.objects))
-
--- whether it has event detection, and that is enabled
-abbrev pub is_detecting : Subject → Bool
-is_detecting subject = is_some subject.class && subject.detection
+subjects_of site = subjects_in site.objects site.enrollments
 
 abbrev pub detecting_subjects : Site → List Subject
 detecting_subjects site = filter is_detecting (subjects_of site)

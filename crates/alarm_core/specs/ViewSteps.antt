@@ -12,21 +12,21 @@ use Rattle.event_services.specs.declared.notification.Notification.{Notification
 use Rattle.note_maker.specs.Notes.{notes_for}
 use Rattle.notify_class.specs.declared.class.Class.{Class}
 use Rattle.event_log.specs.declared.log_site.LogSite.{LogSite}
+use Rattle.enrollment.specs.declared.subject.Subject.{Subject}
+use Rattle.enrollment.specs.Objects.{ObjectsState}
 use Rattle.alarm_core.specs.declared.site.Site.{Site}
-use Rattle.alarm_core.specs.declared.subject.Subject.{Subject}
 use Rattle.alarm_core.specs.declared.transition.ObjectTransition.{ObjectTransition}
 use Rattle.alarm_core.specs.Evaluations.{stamp_at}
 use Rattle.alarm_core.specs.History.{ObjectState, StateTransition, transition_of}
 use Rattle.alarm_core.specs.Logs.{records_class}
 use Rattle.alarm_core.specs.Notes.{addressed, notification_of}
-use Rattle.alarm_core.specs.Values.{Values}
 
 -- a site at the moment of a look: its notification classes, and the properties and event states of all objects after it
 pub record SiteViewData : Type 0 where
   pub site : Site
   pub moment : ℕ
   pub classes : List Class
-  pub values : Values
+  pub values : ObjectsState
   pub states : List ObjectState
 
 -- a transition of the look

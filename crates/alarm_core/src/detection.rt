@@ -4,12 +4,11 @@ ghost use Rattle.bac_values.specs.Moments.{IsMoment};
 ghost use Rattle.event_machine.specs.Given.{moves_in, point_of};
 ghost use Rattle.alarm_core.specs.CoreSteps.{acked, change_at, change_by, evaluated, first_with};
 
-use crate::Subject;
 use crate::evaluation_input::{EvaluationInput, evaluation_input, first_input};
-use crate::objects::Objects;
 use algorithm_rules::Algorithm;
 use bac_values::{ObjectId, Transition, Value};
 use civil_stamp::LocalMoment;
+use enrollment::{Objects, Subject};
 use event_machine::{Alarm, Changed, Steps, begin, evaluate, is_still};
 use std::marker::Model;
 use std::sync::ledger::Ledger;

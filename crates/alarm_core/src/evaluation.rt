@@ -5,10 +5,10 @@ ghost use Rattle.alarm_core.specs.History.{object_transition};
 ghost use Rattle.alarm_core.specs.CoreSteps.{acked, evaluated, evaluated_all, transitions_by};
 
 use crate::detection::DetectedObject;
-use crate::objects::Objects;
 use crate::transition::ObjectTransition;
 use bac_values::{NoMemory, ObjectId, Transition, push};
 use civil_stamp::LocalMoment;
+use enrollment::Objects;
 use event_machine::{Move, Steps};
 use std::alloc::Global;
 use std::sync::ledger::Ledger;

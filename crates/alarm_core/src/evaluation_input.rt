@@ -4,12 +4,14 @@ ghost use Rattle.algorithm_rules.specs.Facts.{facts_of};
 ghost use Rattle.bac_values.specs.Moments.{IsMoment};
 ghost use Rattle.bac_values.specs.declared.value.Value.TheVariants.{Null};
 ghost use Rattle.event_machine.specs.Given.{point_of};
-ghost use Rattle.alarm_core.specs.Evaluations.{is_inhibited, no_facts, point_in, reliability_at, stamp_at, start_point};
+ghost use Rattle.enrollment.specs.Subjects.{is_inhibited};
+ghost use Rattle.enrollment.specs.Objects.{reliability_at};
+ghost use Rattle.alarm_core.specs.Evaluations.{no_facts, point_in, stamp_at, start_point};
 
-use crate::objects::Objects;
 use algorithm_rules::{Algorithm, Snapshot};
 use bac_values::{ObjectId, Value};
 use civil_stamp::LocalMoment;
+use enrollment::Objects;
 use event_machine::PointFacts;
 
 /// What an evaluation of an object sees: what its event algorithm looks at, and what else there is at the point.

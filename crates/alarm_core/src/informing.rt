@@ -3,10 +3,11 @@ ghost use Rattle.std.specs.Option.{option_and_then, option_copied, option_map};
 ghost use Rattle.alarm_core.specs.Notes.{class_for};
 ghost use Rattle.alarm_core.specs.Information.{enable_of, has_more, is_active, is_behind, is_told, notify_of, priority_of, summaries_of, summary_of};
 
+use crate::Core;
 use crate::detection::DetectedObject;
 use crate::notifications::class_for;
-use crate::{Core, Subject};
 use bac_values::{EventState, NoMemory, ObjectId, push};
+use enrollment::Subject;
 use event_services::EventSummary;
 use notify_class::Class;
 use std::alloc::Global;

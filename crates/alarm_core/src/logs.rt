@@ -6,6 +6,7 @@ ghost use Rattle.bac_values.specs.Identifier.{number_of_kind};
 ghost use Rattle.bac_values.specs.declared.object_kind.ObjectKind.TheVariants.{EventLog as Logging};
 ghost use Rattle.event_log.specs.History.{Call};
 ghost use Rattle.object_table.specs.Rows.{is_object};
+ghost use Rattle.enrollment.specs.Objects.{written};
 ghost use Rattle.alarm_core.specs.Logs.{call_of_change, call_of_value, call_of_what, kept_log, records_class, SiteLogState};
 ghost use Rattle.alarm_core.specs.CoreSteps.{after_calls, first_kept};
 ghost use Rattle.alarm_core.specs.Sites.{IsLogSite};
@@ -15,6 +16,7 @@ use crate::view::Addressed;
 use crate::{LogSite, Site};
 use bac_values::{NoMemory, ObjectId, PropertyId, Stamp, Value, push};
 use civil_stamp::LocalMoment;
+use enrollment::Objects;
 use event_log::{EventLog, copy_of_log};
 use event_services::write_notification;
 use notify_class::Class;
@@ -256,4 +258,13 @@ pub(crate) fn change_all(logs: &mut Vec<SiteLog>, change: &Change)
     for kept in logs.iter_mut() {
         kept.change(change);
     }
+}
+
+/// A change of an event log changes no value object and no enrollment. It does nothing.
+pub(crate) fn passes_by(objects: &Objects, change: &Change)
+    requires log { change.now.object.number ≡ number_of_kind Logging }
+    ensures same { written change.now objects.now ≡ objects.now }
+{
+    let _rows = objects.table().rows();
+    let _enrollments = objects.enrollments().rows();
 }

@@ -5,12 +5,12 @@ ghost use Rattle.event_services.specs.Notifications.{IsTold};
 ghost use Rattle.note_maker.specs.EventTypes.{transition_type};
 ghost use Rattle.enrollment.specs.Enrollments.{site_of};
 ghost use Rattle.enrollment.specs.Snapshots.{algorithm_with};
+ghost use Rattle.enrollment.specs.Subjects.{subject_in};
 ghost use Rattle.alarm_core.specs.Classes.{class_in};
 ghost use Rattle.alarm_core.specs.History.{state_in};
 ghost use Rattle.alarm_core.specs.CoreSteps.{states_of};
-ghost use Rattle.alarm_core.specs.Notes.{IsShort, class_for, flags_at, is_enabled, notes_of_acknowledgement, notification_of, out_of_service_in, source_of, told_flags, told_value, values_of};
+ghost use Rattle.alarm_core.specs.Notes.{IsShort, class_for, flags_at, notes_of_acknowledgement, notification_of, out_of_service_in, source_of, told_flags, told_value, values_of};
 ghost use Rattle.alarm_core.specs.Sites.{IsSite};
-ghost use Rattle.alarm_core.specs.Subjects.{subject_in};
 ghost use Rattle.alarm_core.specs.ViewSteps.{addressed_in, notes_to, transition_in};
 
 use crate::detection::DetectedObject;
@@ -18,9 +18,10 @@ use crate::finding::detected_object;
 use crate::identifiers::device_object;
 use crate::transition::ObjectTransition;
 use crate::view::{Addressed, SiteView};
-use crate::{EnrollmentSite, Site, Subject};
+use crate::{EnrollmentSite, Site};
 use bac_values::{EventState, NoMemory, Note, ObjectId, StatusFlags, Transition, Value, push};
 use civil_stamp::LocalMoment;
+use enrollment::Subject;
 use event_services::{EventValues, Notification};
 use note_maker::{
     Source, acknowledgement_notification, notes_of, status_flags, transition_notification,
@@ -41,13 +42,6 @@ fn source_of(site: &Site, subject: &Subject) -> Source
         algorithm: subject.algorithm,
         notify: subject.notify,
     }
-}
-
-/// Whether transitions of a kind are told of (Event_Enable).
-pub(crate) fn is_enabled(subject: &Subject, transition: Transition) -> bool
-    ensures enabled { result ≡ is_enabled transition subject.now }
-{
-    subject.enable[transition.place()]
 }
 
 fn has_instance(class: &Class, instance: u32) -> bool
@@ -183,7 +177,7 @@ fn addressed_notification<'a>(
     let Some(subject) = view.objects.subject(transition.object) else {
         return Ok(None);
     };
-    if !is_enabled(&subject, kind) {
+    if !subject.is_enabled(kind) {
         return Ok(None);
     }
     let Some(class) = class_for(&subject, view.classes) else {

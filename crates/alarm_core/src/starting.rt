@@ -1,19 +1,32 @@
 ghost use Rattle.std.specs.Prelude.{◌≡◌, ◌==◌, ◌++◌, ◌∷◌, [], IfOk, OnOk, filter, find, if◌then◌else◌, map};
 ghost use Rattle.std.specs.Option.{option_copied};
 ghost use Rattle.notify_class.specs.declared.class_site.ClassSite.{ClassSite as Listed};
+ghost use Rattle.enrollment.specs.Subjects.{is_detecting};
 ghost use Rattle.alarm_core.specs.CoreSteps.{first_with};
-ghost use Rattle.alarm_core.specs.Subjects.{ack_required_of, detecting_subjects, is_before_enrollments, is_behind_enrollments, is_detecting, site_class_of, subject_of_enrollment, subject_of_object, subjects_of};
+ghost use Rattle.alarm_core.specs.Sites.{IsSite};
+ghost use Rattle.alarm_core.specs.Subjects.{ack_required_of, detecting_subjects, site_class_of};
+ghost use Rattle.alarm_core.specs.Values.{first_values};
 
 use crate::detection::DetectedObject;
-use crate::objects::Objects;
-use crate::subjects::{
-    is_before_enrollments, is_detecting, subject_of_enrollment, subject_of_object,
-};
-use crate::{ClassSite, EnrollmentSite, Site, Subject};
+use crate::{ClassSite, Site};
 use bac_values::{NoMemory, push};
 use civil_stamp::LocalMoment;
-use object_table::ObjectSite;
+use enrollment::{Enrollments, Objects, Subject, copy_of_enrollments, subjects_of};
+use object_table::{Table, copy_of_objects};
 use std::alloc::Global;
+
+/// The properties of all objects of a site at its start.
+pub(crate) fn first_objects(alloc: Global, site: &Site) -> Result<Objects, NoMemory>
+    requires site { IsSite site.now }
+    ensures objects { IfOk result (λ objects. objects ≡ first_values site.now) }
+{
+    let objects = copy_of_objects(alloc, site.objects.as_slice())?;
+    let enrollments = copy_of_enrollments(alloc, site.enrollments.as_slice())?;
+    Ok(Objects::new(
+        Table::new(alloc, objects)?,
+        Enrollments::new(alloc, enrollments)?,
+    ))
+}
 
 fn has_instance(listed: &ClassSite, instance: u32) -> bool
     ensures same { result ≡ (listed.now.class.instance == instance) }
@@ -40,64 +53,6 @@ fn ack_required_of(site: &Site, subject: &Subject) -> [bool; 3]
     }
 }
 
-// One more, where it is to be there.
-fn add_if(subjects: &mut Vec<Subject>, subject: Subject, is_there: bool) -> Result<(), NoMemory>
-    ensures added { OnOk result (subjects.new.items ≡ subjects.old.items ++ (if is_there then subject ∷ [] else [])) }
-{
-    if is_there {
-        push(subjects, subject)?;
-    }
-    Ok(())
-}
-
-// The value objects whose types have lower numbers than enrollments.
-fn add_before(subjects: &mut Vec<Subject>, sites: &[ObjectSite]) -> Result<(), NoMemory>
-    ensures added { OnOk result (subjects.new.items ≡ subjects.old.items ++ map subject_of_object (filter is_before_enrollments sites.now)) }
-{
-    for site in sites {
-        add_if(
-            subjects,
-            subject_of_object(site),
-            is_before_enrollments(site),
-        )?;
-    }
-    Ok(())
-}
-
-fn add_enrollments(subjects: &mut Vec<Subject>, sites: &[EnrollmentSite]) -> Result<(), NoMemory>
-    ensures added { OnOk result (subjects.new.items ≡ subjects.old.items ++ map subject_of_enrollment sites.now) }
-{
-    for site in sites {
-        push(subjects, subject_of_enrollment(site))?;
-    }
-    Ok(())
-}
-
-// The other value objects.
-fn add_behind(subjects: &mut Vec<Subject>, sites: &[ObjectSite]) -> Result<(), NoMemory>
-    ensures added { OnOk result (subjects.new.items ≡ subjects.old.items ++ map subject_of_object (filter is_behind_enrollments sites.now)) }
-{
-    for site in sites {
-        add_if(
-            subjects,
-            subject_of_object(site),
-            !is_before_enrollments(site),
-        )?;
-    }
-    Ok(())
-}
-
-// The value objects and the enrollments of a site by ascending identifier.
-fn subjects_of(alloc: Global, site: &Site) -> Result<Vec<Subject>, NoMemory>
-    ensures subjects { IfOk result (λ subjects. subjects.items ≡ subjects_of site.now) }
-{
-    let mut subjects = Vec::new(alloc);
-    add_before(&mut subjects, site.objects.as_slice())?;
-    add_enrollments(&mut subjects, site.enrollments.as_slice())?;
-    add_behind(&mut subjects, site.objects.as_slice())?;
-    Ok(subjects)
-}
-
 // One more, if its event detection is enabled.
 fn add_first(
     site: &Site,
@@ -109,7 +64,7 @@ fn add_first(
     ensures added { OnOk result (alarms.new.items ≡ alarms.old.items ++
         (if is_detecting subject.now then first_with at.now (ack_required_of site.now subject.now) objects.now subject.now ∷ [] else [])) }
 {
-    if !is_detecting(subject) {
+    if !subject.is_detecting() {
         return Ok(());
     }
     let ack_required = ack_required_of(site, subject);
@@ -142,8 +97,9 @@ pub(crate) fn first_alarms(
     objects: &Objects,
     at: &LocalMoment,
 ) -> Result<Vec<DetectedObject>, NoMemory>
+    requires site { IsSite site.now }
     ensures alarms { IfOk result (λ alarms. alarms.items ≡ map (λ subject. first_with at.now (ack_required_of site.now subject) objects.now subject) (detecting_subjects site.now)) }
 {
-    let subjects = subjects_of(alloc, site)?;
+    let subjects = subjects_of(alloc, site.objects.as_slice(), site.enrollments.as_slice())?;
     alarms_of(alloc, site, objects, &subjects, at)
 }

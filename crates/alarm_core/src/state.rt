@@ -3,6 +3,7 @@ ghost use Rattle.bac_values.specs.Moments.{IsMoment};
 ghost use Rattle.bac_values.specs.Orders.{IsAscending};
 ghost use Rattle.notify_class.specs.Edits.{peers_of};
 ghost use Rattle.outbox.specs.Outboxes.{AreKnown, answered, has_in_flight, is_idle, learned, new_outbox, peers_of as peers_of_posts, pumped, queued, sends_of, unfinished_in};
+ghost use Rattle.enrollment.specs.Objects.{IsTaken, written};
 ghost use Rattle.alarm_core.specs.declared.event.Act.TheVariants.{Tick, Write, Ack};
 ghost use Rattle.alarm_core.specs.declared.event.Event.{Event as Happening};
 ghost use Rattle.alarm_core.specs.Allowed.{IsAllowed, Represents};
@@ -19,7 +20,6 @@ ghost use Rattle.alarm_core.specs.Notes.{IsShort, notes_of_transitions};
 ghost use Rattle.alarm_core.specs.Room.{HasRoom};
 ghost use Rattle.alarm_core.specs.Evaluations.{site_moment, site_zone};
 ghost use Rattle.alarm_core.specs.Sites.{IsSite};
-ghost use Rattle.alarm_core.specs.Values.{IsTaken, written};
 ghost use Rattle.std.specs.Option.{option_copied};
 ghost use Rattle.alarm_core.specs.Verdicts.{Answers, queue_verdict, step_verdict};
 
@@ -29,18 +29,17 @@ use crate::evaluation::{Evaluation, acknowledge_in, are_still, evaluate_all};
 use crate::finding::{detected_object, is_other_object};
 use crate::identifiers::device_object;
 use crate::knowing::{peers_in, peers_of};
-use crate::logs::{SiteLog, change_all, enter_all, first_logs, kept_log};
+use crate::logs::{SiteLog, change_all, enter_all, first_logs, kept_log, passes_by};
 use crate::look::{Look, add_moves, tell};
 use crate::notifications::{add_notes, notes_of_acknowledgement};
-use crate::objects::Objects;
 use crate::queueing::queue_all;
 use crate::site::copy_of_site;
-use crate::starting::first_alarms;
+use crate::starting::{first_alarms, first_objects};
 use crate::view::SiteView;
 use crate::{Act, Event, Outcome, Site, StepFault};
 use bac_values::{EventState, Items, Moved, NoMemory, ObjectId, Peer, PeerList, Send, Transition};
 use civil_stamp::{LocalMoment, Zone};
-use enrollment::Enrollments;
+use enrollment::{Enrollments, Objects};
 use event_log::EventLog;
 use event_machine::{Alarm, Found, Steps};
 use notify_class::{Class, Destination};
@@ -141,7 +140,7 @@ impl Core {
         let zone = zone_of(site);
         let start = site.device.start;
         let at = LocalMoment::new(start, &zone);
-        let objects = Objects::first(alloc, site)?;
+        let objects = first_objects(alloc, site)?;
         let alarms = first_alarms(alloc, site, &objects, &at)?;
         let classes = classes_of(alloc, site.classes.as_slice())?;
         let listed = peers_in(alloc, &classes)?;
@@ -428,7 +427,7 @@ impl Core {
         match kept_log(&self.logs, change.object) {
             Some(kept) => {
                 let _log = kept.site();
-                self.objects.passes_by(change);
+                passes_by(&self.objects, change);
                 true
             }
             None => false,

@@ -1,8 +1,8 @@
 use crate::Site;
 use crate::detection::DetectedObject;
-use crate::objects::Objects;
 use bac_values::Transition;
 use civil_stamp::LocalMoment;
+use enrollment::Objects;
 use event_services::Notification;
 use notify_class::Class;
 use std::marker::Model;

@@ -4,3 +4,5 @@ pub mod Places
 pub mod Taking
 pub mod Seen
 pub mod Untouched
+pub mod Parted
+pub mod SubjectOrder

@@ -6,4 +6,6 @@ pub mod Watchers
 pub mod References
 pub mod Reliabilities
 pub mod Snapshots
+pub mod Objects
+pub mod Subjects
 pub mod Laws

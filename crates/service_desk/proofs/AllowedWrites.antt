@@ -33,7 +33,7 @@ use Rattle.alarm_core.specs.Reading.{denied, denied_by, write_by, write_of}
 use Rattle.alarm_core.specs.Sites.{IsSite}
 use Rattle.alarm_core.specs.State.{state_of, CoreState}
 use Rattle.alarm_core.proofs.Accepted.{allows_what_checks_accept}
-use Rattle.alarm_core.proofs.Parted.{found_passes, same_object}
+use Rattle.enrollment.proofs.Parted.{found_passes, same_object}
 
 -- ---- verdicts
 

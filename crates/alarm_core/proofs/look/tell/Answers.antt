@@ -1,10 +1,9 @@
 use Rattle.std.proofs.Common.{◌≡◌, ◌∙◌, Vec, Global, map, ap, rules}
 use Rattle.std.specs.List.{flat_map}
-use Rattle.std.specs.Option.{option_to_list}
 use Rattle.event_log.specs.History.{Call}
 use Rattle.alarm_core.specs.Evaluations.{site_zone}
 use Rattle.alarm_core.specs.Logs.{SiteLogState}
-use Rattle.alarm_core.specs.ViewSteps.{addressed_in, notes_to, record_to, transition_in, SiteViewData}
+use Rattle.alarm_core.specs.ViewSteps.{notes_to, record_to, SiteViewData}
 use Rattle.alarm_core.proofs.Moved.{at_site, moved_all}
 use Rattle.alarm_core.proofs.ToldBy.{all_notes, all_records}
 use Rattle.alarm_core.proofs.look.tell.Goals as goal

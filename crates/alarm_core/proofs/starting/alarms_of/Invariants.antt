@@ -1,6 +1,7 @@
 use Rattle.std.proofs.Common.{◌≡◌, filter, map, take}
+use Rattle.enrollment.specs.Subjects.{is_detecting}
 use Rattle.alarm_core.specs.CoreSteps.{first_with}
-use Rattle.alarm_core.specs.Subjects.{ack_required_of, is_detecting}
+use Rattle.alarm_core.specs.Subjects.{ack_required_of}
 use Rattle.alarm_core.proofs.starting.alarms_of.Given as goal
 
 abbrev pub invariant-loop-subject : goal.invariant-loop-subject

@@ -1,10 +1,10 @@
 use Rattle.std.proofs.Common.{◌≡◌, [], map, sym, subst, rules}
 use Rattle.outbox.specs.Outboxes.{AreKnown, queued}
+use Rattle.enrollment.specs.Subjects.{subject_in}
 use Rattle.alarm_core.specs.declared.event.Act.TheVariants.{Ack}
 use Rattle.alarm_core.specs.History.{event_at}
 use Rattle.alarm_core.specs.CoreSteps.{acked, next_notes}
 use Rattle.alarm_core.specs.Notes.{notes_of_acknowledgement}
-use Rattle.alarm_core.specs.Subjects.{subject_in}
 use Rattle.alarm_core.proofs.ToldKnown.{told_known}
 use Rattle.alarm_core.proofs.Written.{acknowledged_state}
 use Rattle.alarm_core.proofs.state.Core.acknowledge.Goals as goal

@@ -5,11 +5,11 @@ use Rattle.event_log.specs.declared.log_site.LogSite.{LogSite}
 use Rattle.object_table.specs.declared.change.Change.{Change}
 use Rattle.object_table.specs.declared.faults.WriteFault.{WriteFault}
 use Rattle.object_table.specs.Rows.{is_object}
+use Rattle.enrollment.proofs.Parted.{same_object}
 use Rattle.alarm_core.specs.declared.event.Act.TheVariants.{Write}
 use Rattle.alarm_core.specs.Allowed.{IsAllowed}
 use Rattle.alarm_core.specs.Logs.{IsTakenByLog, kept_log, takes, SiteLogState}
 use Rattle.alarm_core.specs.State.{CoreState}
-use Rattle.alarm_core.proofs.Parted.{same_object}
 use Rattle.alarm_core.proofs.Searches.{passes}
 use Rattle.alarm_core.proofs.state.Core.check_write.Goals as goal
 

@@ -1,15 +1,16 @@
-use Rattle.std.proofs.Common.{◌≡◌, ◌∙◌, ℕ, [], map, sym, ap, subst, rules}
+use Rattle.std.proofs.Common.{◌≡◌, ◌∙◌, [], map, sym, ap, subst, rules}
 use Rattle.bac_values.specs.Orders.{peers_with}
 use Rattle.civil_stamp.specs.LocalTime.{LocalMomentData}
 use Rattle.outbox.specs.Outboxes.{new_outbox, peers_of}
 use Rattle.outbox.proofs.Making.{peers_empty}
 use Rattle.notify_class.specs.declared.class_site.ClassSite.{ClassSite}
+use Rattle.enrollment.specs.Objects.{ObjectsState}
 use Rattle.alarm_core.specs.Classes.{first_classes, known_peers_of, peers_in}
 use Rattle.alarm_core.specs.CoreSteps.{first_kept, first_with}
 use Rattle.alarm_core.specs.Evaluations.{site_moment, site_zone}
 use Rattle.alarm_core.specs.Sites.{IsSite}
 use Rattle.alarm_core.specs.Subjects.{ack_required_of, detecting_subjects}
-use Rattle.alarm_core.specs.Values.{Values, first_values}
+use Rattle.alarm_core.specs.Values.{first_values}
 use Rattle.alarm_core.proofs.Acted.{started}
 use Rattle.alarm_core.proofs.Standing.{represents_first}
 use Rattle.alarm_core.proofs.ToldKnown.{first_known}
@@ -38,7 +39,7 @@ pub returns-clause-starts : goal.returns-clause-starts
 returns-clause-starts c =
     let site = c.args.site.now in
     let start = site.device.start in
-    let detected = λ (at : LocalMomentData) (values : Values). map (λ subject. first_with at (ack_required_of site subject) values subject) (detecting_subjects site) in
+    let detected = λ (at : LocalMomentData) (values : ObjectsState). map (λ subject. first_with at (ack_required_of site subject) values subject) (detecting_subjects site) in
     let same : c.in_ok-site.site ≡ site = search rules in
     let values : c.in_ok-objects.objects ≡ first_values site = search rules in
     let at = c.new-at.result in

@@ -1,4 +1,4 @@
-use Rattle.std.proofs.Common.{◌≡◌, ◌∙◌, ◌+◌, ◌≤◌, ℕ, rules, arith}
+use Rattle.std.proofs.Common.{◌≡◌, ◌+◌, ◌≤◌, ℕ, rules, arith}
 use Rattle.alarm_core.specs.History.{raised}
 use Rattle.alarm_core.specs.CoreSteps.{acted}
 use Rattle.alarm_core.specs.Sites.{IsSite}

@@ -2,9 +2,9 @@ use Rattle.std.proofs.Common.{◌≡◌, ◌∙◌, List, Ok, Vec, Global, map, 
 use Rattle.event_log.specs.History.{Call}
 use Rattle.outbox.specs.Outboxes.{AreKnown, queued}
 use Rattle.alarm_core.specs.Evaluations.{site_moment}
-use Rattle.alarm_core.specs.History.{moved_by, tick_at}
+use Rattle.alarm_core.specs.History.{moved_by}
 use Rattle.alarm_core.specs.Logs.{records_of, SiteLogState}
-use Rattle.alarm_core.specs.CoreSteps.{after_calls, evaluated_all, next_notes, transitions_all}
+use Rattle.alarm_core.specs.CoreSteps.{after_calls, evaluated_all, transitions_all}
 use Rattle.alarm_core.specs.Notes.{notes_of_transition, notes_of_transitions}
 use Rattle.alarm_core.specs.State.{DetectedObjectState, CoreState}
 use Rattle.alarm_core.specs.Verdicts.{Answers, queue_verdict}

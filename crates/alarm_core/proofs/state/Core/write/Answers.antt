@@ -2,13 +2,13 @@ use Rattle.std.proofs.Common.{◌≡◌, List, Vec, Global, map, refl, sym, subs
 use Rattle.event_log.specs.History.{Call}
 use Rattle.outbox.specs.Outboxes.{AreKnown}
 use Rattle.event_log.specs.declared.log_site.LogSite.{LogSite}
+use Rattle.enrollment.specs.Objects.{written}
 use Rattle.alarm_core.specs.Evaluations.{site_moment}
 use Rattle.alarm_core.specs.History.{moved_by}
 use Rattle.alarm_core.specs.Logs.{records_of, SiteLogState}
 use Rattle.alarm_core.specs.CoreSteps.{evaluated_all, transitions_all}
 use Rattle.alarm_core.specs.Notes.{notes_of_transitions}
 use Rattle.alarm_core.specs.State.{DetectedObjectState, CoreState}
-use Rattle.alarm_core.specs.Values.{written}
 use Rattle.alarm_core.specs.Verdicts.{Answers}
 use Rattle.alarm_core.proofs.ToldKnown.{look_known}
 use Rattle.alarm_core.proofs.Written.{if_ok_same, on_both, written_moves, written_state, written_verdict}

@@ -1,36 +1,31 @@
-ghost use Rattle.std.specs.Prelude.{◌≡◌, ◌≤◌, IfOk, IfSome, IsFalse, IsTrue, None, length};
+ghost use Rattle.std.specs.Prelude.{◌≡◌, ◌≤◌, IfSome, IsFalse, IsTrue, None, length};
 ghost use Rattle.std.specs.Option.{option_map};
-ghost use Rattle.bac_values.specs.Identifier.{number_of_kind};
-ghost use Rattle.bac_values.specs.declared.object_kind.ObjectKind.TheVariants.{EventLog};
 ghost use Rattle.algorithm_rules.specs.Facts.{facts_of};
 ghost use Rattle.object_table.specs.Rows.{row_of};
 ghost use Rattle.enrollment.specs.Enrollments.{site_of};
+ghost use Rattle.enrollment.specs.Objects.{IsTaken, facts_at, reliability_at, written};
 ghost use Rattle.enrollment.specs.Snapshots.{algorithm_with};
-ghost use Rattle.alarm_core.specs.Evaluations.{facts_at, inhibit_of, is_inhibited, reliability_at};
-ghost use Rattle.alarm_core.specs.Sites.{IsSite};
-ghost use Rattle.alarm_core.specs.Subjects.{subject_in};
-ghost use Rattle.alarm_core.specs.Values.{IsTaken, first_values, written};
+ghost use Rattle.enrollment.specs.Subjects.{inhibit_of, is_inhibited, subject_in};
 
 use crate::subjects::{subject_of_enrollment, subject_of_object};
-use crate::{Site, Subject};
+use crate::{Enrollments, Subject};
 use algorithm_rules::Snapshot;
-use bac_values::{NoMemory, ObjectId, Reliability};
-use enrollment::{Enrollments, copy_of_enrollments};
-use object_table::{Change, Table, copy_of_objects};
-use std::alloc::Global;
+use bac_values::{ObjectId, Reliability};
+use object_table::{Change, Table};
 use std::marker::Model;
 
-/// The properties of all objects, which writes change: those of the value objects and those of the event enrollments.
-#[derive(Drop)]
-pub(crate) struct Objects {
+/// The properties of all objects, value objects and event enrollments alike, as the writes have left them (ANSI/ASHRAE
+/// 135-2020, 12.12). Contracts see the two lists. Nothing takes memory.
+#[derive(Debug, Drop)]
+pub struct Objects {
     table: Table,
     enrollments: Enrollments,
 }
 
 impl Model for Objects {
-    ghost use Rattle.alarm_core.specs.Values.{Values};
+    ghost use Rattle.enrollment.specs.Objects.{ObjectsState};
 
-    ghost Value = { Values };
+    ghost Value = { ObjectsState };
 
     ghost view = { λ objects. record {
       rows = objects.table;
@@ -48,35 +43,29 @@ fn is_inhibited(subject: Option<Subject>) -> bool
 }
 
 impl Objects {
-    /// Those of a site at its start.
-    pub(crate) fn first(alloc: Global, site: &Site) -> Result<Objects, NoMemory>
-        requires site { IsSite site.now }
-        ensures objects { IfOk result (λ objects. objects ≡ first_values site.now) }
+    /// These value objects and enrollments together.
+    pub fn new(table: Table, enrollments: Enrollments) -> Objects
+        ensures objects { result ≡ record { rows = table; enrollments = enrollments } }
     {
-        let objects = copy_of_objects(alloc, site.objects.as_slice())?;
-        let enrollments = copy_of_enrollments(alloc, site.enrollments.as_slice())?;
-        Ok(Objects {
-            table: Table::new(alloc, objects)?,
-            enrollments: Enrollments::new(alloc, enrollments)?,
-        })
+        Objects { table, enrollments }
     }
 
-    /// The value objects.
-    pub(crate) fn table(&self) -> &Table
+    /// The value objects, ascending.
+    pub fn table(&self) -> &Table
         ensures table { result.now ≡ self.now.rows }
     {
         &self.table
     }
 
-    /// The event enrollments.
-    pub(crate) fn enrollments(&self) -> &Enrollments
+    /// The event enrollments, ascending.
+    pub fn enrollments(&self) -> &Enrollments
         ensures enrollments { result.now ≡ self.now.enrollments }
     {
         &self.enrollments
     }
 
-    /// What the event detection of an object is set to, if it is there.
-    pub(crate) fn subject(&self, object: ObjectId) -> Option<Subject>
+    /// What the event detection of an object is set to, if it is there (13.2).
+    pub fn subject(&self, object: ObjectId) -> Option<Subject>
         ensures subject { result ≡ subject_in object self.now }
         ensures algorithm { IfSome result (λ subject. subject.algorithm ≡ algorithm_with object self.now.enrollments) }
     {
@@ -89,8 +78,8 @@ impl Objects {
         }
     }
 
-    /// What the event algorithm of an object looks at, if it is there.
-    pub(crate) fn snapshot(&self, object: ObjectId) -> Option<Snapshot<'_>>
+    /// What the event algorithm of an object looks at, if it is there (13.3).
+    pub fn snapshot(&self, object: ObjectId) -> Option<Snapshot<'_>>
         ensures algorithm { IfSome result (λ snapshot. snapshot.algorithm ≡ algorithm_with object self.now.enrollments) }
         ensures facts { option_map facts_of result ≡ facts_at object self.now }
         ensures few { IfSome result (λ snapshot. length snapshot.alarm_values.now ≤ 32) }
@@ -98,15 +87,16 @@ impl Objects {
         self.enrollments.snapshot_of(&self.table, object)
     }
 
-    /// The reliability of an object.
-    pub(crate) fn reliability(&self, object: ObjectId) -> Reliability
+    /// The reliability of an object: that of a value object is its own, and an enrollment has a fault where its monitored
+    /// object or its feedback has one. There is no fault where the object isn't there.
+    pub fn reliability(&self, object: ObjectId) -> Reliability
         ensures reliability { result ≡ reliability_at object self.now }
     {
         self.enrollments.reliability_of(&self.table, object)
     }
 
-    /// Event_Algorithm_Inhibit of an object.
-    pub(crate) fn is_inhibited(&self, object: ObjectId) -> bool
+    /// Event_Algorithm_Inhibit of an object; one that isn't there isn't inhibited.
+    pub fn is_inhibited(&self, object: ObjectId) -> bool
         ensures inhibited { result ≡ is_inhibited object self.now }
     {
         is_inhibited(self.subject(object))
@@ -127,7 +117,7 @@ impl Objects {
     }
 
     /// Makes a change that an object takes, and gives the change that takes it back.
-    pub(crate) fn apply(&mut self, change: Change) -> Change
+    pub fn apply(&mut self, change: Change) -> Change
         requires taken { IsTaken change self.old }
         ensures objects { self.new ≡ written change self.old }
         ensures undo { written result self.new ≡ self.old }
@@ -138,14 +128,5 @@ impl Objects {
         } else {
             self.enrollments.apply(change)
         }
-    }
-
-    /// A change of an event log changes no property of these objects. It does nothing.
-    pub(crate) fn passes_by(&self, change: &Change)
-        requires log { change.now.object.number ≡ number_of_kind EventLog }
-        ensures same { written change.now self.now ≡ self.now }
-    {
-        let _rows = self.table.rows();
-        let _enrollments = self.enrollments.rows();
     }
 }

@@ -2,8 +2,8 @@ use Rattle.std.proofs.Common.{◌≡◌, Some, rules}
 use Rattle.object_table.specs.Objects.{IsObject}
 use Rattle.object_table.specs.Rows.{row_of}
 use Rattle.enrollment.specs.Enrollments.{IsEnrollment, site_of}
-use Rattle.alarm_core.proofs.Parted.{apart}
-use Rattle.alarm_core.proofs.objects.Objects.is_value_object.Goals as goal
+use Rattle.enrollment.proofs.Parted.{apart}
+use Rattle.enrollment.proofs.objects.Objects.is_value_object.Goals as goal
 
 pub unreachable-requires : goal.unreachable-requires
 unreachable-requires c =

@@ -1,6 +1,6 @@
 use Rattle.std.proofs.Common.{◌≡◌, ◌++◌, map, take}
-use Rattle.alarm_core.specs.Subjects.{subject_of_enrollment}
-use Rattle.alarm_core.proofs.starting.add_enrollments.Given as goal
+use Rattle.enrollment.specs.Subjects.{subject_of_enrollment}
+use Rattle.enrollment.proofs.subjects.add_enrollments.Given as goal
 
 abbrev pub invariant-loop-site : goal.invariant-loop-site
 invariant-loop-site l = l.subjects.items ≡ l.initial.subjects.items ++ map subject_of_enrollment (take l.site-index l.sites)

@@ -13,7 +13,7 @@ use Rattle.enrollment.specs.declared.enrollment_site.EnrollmentSite.{EnrollmentS
 use Rattle.enrollment.specs.Enrollments.{IsEnrollment, site_of}
 use Rattle.enrollment.specs.Snapshots.{algorithm_by_site, algorithm_for}
 use Rattle.enrollment.specs.Writes as site_writes
-use Rattle.alarm_core.specs.Values.{Values, written}
+use Rattle.enrollment.specs.Objects.{ObjectsState, written}
 
 -- what a search finds passes its test
 picked : {X : Type 0} (test : X → Bool) (y x : X) (rest : Option X) → (rest ≡ Some x → test x ≡ true) → (b : Bool) → test y ≡ b → cond b (Some y) rest ≡ Some x → test x ≡ true
@@ -38,11 +38,13 @@ site_is_of object sites site e = same_object object site.object (found_passes (�
 no_object : (site : ObjectSite) → IsObjectOf (kind_of 9) site → ⊥
 no_object site is = true≢false (sym is.value)
 
+pub is_other_kind : (site : ObjectSite) → IsObject site → site.object.number ≡ 9 → ⊥
+is_other_kind site is number = no_object site (subst (λ n. IsObjectOf (kind_of n) site) number is)
+
 pub apart : (object : ObjectIdData) (rows : List Row) (row : Row) (sites : List EnrollmentSite) (site : EnrollmentSite) → row_of object rows ≡ Some row → site_of object sites ≡ Some site →
     IsObject row.site → IsEnrollment site → ⊥
 apart object rows row sites site r s is it =
-    let number : row.site.object.number ≡ 9 = ap (λ (i : ObjectIdData). i.number) (row_is_of object rows row r ∙ sym (site_is_of object sites site s)) ∙ it.number in
-    no_object row.site (subst (λ n. IsObjectOf (kind_of n) row.site) number is)
+    is_other_kind row.site is (ap (λ (i : ObjectIdData). i.number) (row_is_of object rows row r ∙ sym (site_is_of object sites site s)) ∙ it.number)
 
 -- a write of an object that isn't there changes nothing
 passed : {X : Type 0} (test : X → Bool) (f : X → X) (x : X) (rest : Option X) (others xs : List X) → (rest ≡ None → others ≡ xs) → (b : Bool) → test x ≡ b → cond b (Some x) rest ≡ None →
@@ -61,20 +63,20 @@ pub enrollments_stay : (change : Change) (sites : List EnrollmentSite) → site_
 enrollments_stay change sites e = unwritten (λ (site : EnrollmentSite). is_object change.object site.object) (site_writes.changed change.what) sites e
 
 -- a write of a value object, and one of an enrollment
-pub written_rows : (change : Change) (values : Values) → site_of change.object values.enrollments ≡ None → (after : List Row) → after ≡ row_writes.written change values.rows →
+pub written_rows : (change : Change) (values : ObjectsState) → site_of change.object values.enrollments ≡ None → (after : List Row) → after ≡ row_writes.written change values.rows →
     record { rows = after; enrollments = values.enrollments } ≡ written change values
 written_rows change values e after a = λ k. record { rows = a k; enrollments = sym (enrollments_stay change values.enrollments e) k }
 
-pub written_enrollments : (change : Change) (values : Values) → row_of change.object values.rows ≡ None → (after : List EnrollmentSite) → after ≡ site_writes.written change values.enrollments →
+pub written_enrollments : (change : Change) (values : ObjectsState) → row_of change.object values.rows ≡ None → (after : List EnrollmentSite) → after ≡ site_writes.written change values.enrollments →
     record { rows = values.rows; enrollments = after } ≡ written change values
 written_enrollments change values e after a = λ k. record { rows = sym (rows_stay change values.rows e) k; enrollments = a k }
 
 -- and what takes it back
-pub undone_rows : (undo : Change) (values : Values) → site_of undo.object values.enrollments ≡ None → (after : List Row) → row_writes.written undo after ≡ values.rows →
+pub undone_rows : (undo : Change) (values : ObjectsState) → site_of undo.object values.enrollments ≡ None → (after : List Row) → row_writes.written undo after ≡ values.rows →
     written undo (record { rows = after; enrollments = values.enrollments }) ≡ values
 undone_rows undo values e after a = λ k. record { rows = a k; enrollments = enrollments_stay undo values.enrollments e k }
 
-pub undone_enrollments : (undo : Change) (values : Values) → row_of undo.object values.rows ≡ None → (after : List EnrollmentSite) → site_writes.written undo after ≡ values.enrollments →
+pub undone_enrollments : (undo : Change) (values : ObjectsState) → row_of undo.object values.rows ≡ None → (after : List EnrollmentSite) → site_writes.written undo after ≡ values.enrollments →
     written undo (record { rows = values.rows; enrollments = after }) ≡ values
 undone_enrollments undo values e after a = λ k. record { rows = rows_stay undo values.rows e k; enrollments = a k }
 

@@ -2,8 +2,8 @@ use Rattle.std.proofs.Common.{◌≡◌, ◌∙◌, Some, None, rules}
 use Rattle.object_table.specs.Rows.{row_of}
 use Rattle.enrollment.specs.Enrollments.{site_of}
 use Rattle.enrollment.specs.Snapshots.{algorithm_for}
-use Rattle.alarm_core.proofs.Parted.{own_algorithm}
-use Rattle.alarm_core.proofs.objects.Objects.subject.Goals as goal
+use Rattle.enrollment.proofs.Parted.{own_algorithm}
+use Rattle.enrollment.proofs.objects.Objects.subject.Goals as goal
 
 pub returns-in-Some-row-clause-algorithm : goal.returns-in-Some-row-clause-algorithm
 returns-in-Some-row-clause-algorithm c =

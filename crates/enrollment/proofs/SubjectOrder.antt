@@ -1,4 +1,4 @@
--- The subjects of a site stand in the order of their identifiers.
+-- The subjects of value objects and enrollments stand in the order of their identifiers.
 use Rattle.std.proofs.Common.{◌≡◌, ℕ, ◌<◌, ◌≤◌, nat_lt, Bool, true, false, true≢false, not, List, [], ◌∷◌, ◌++◌, map, filter, get_or, refl, sym, suc, arith}
 use Rattle.std.specs.List.{All, AllPairs}
 use Rattle.std.specs.declared.cmp.Ordering.TheVariants.{Less}
@@ -10,14 +10,12 @@ use Rattle.bac_values.specs.Identifier.{ObjectIdData}
 use Rattle.bac_values.specs.Orders.{identifier_order}
 use Rattle.object_table.specs.declared.object_site.ObjectSite.{ObjectSite}
 use Rattle.object_table.specs.Objects.{IsObject}
-use Rattle.object_table.specs.Rows.{Ascends, object_of as identifier_in}
-use Rattle.enrollment.specs.Enrollments.{identifier_of}
-use Rattle.alarm_core.specs.declared.site.Site.{Site}
-use Rattle.alarm_core.specs.declared.subject.Subject.{Subject}
-use Rattle.alarm_core.specs.Laws.{object_of}
-use Rattle.alarm_core.specs.Sites.{IsSite}
-use Rattle.alarm_core.specs.Subjects.{is_before_enrollments, is_behind_enrollments, subject_of_enrollment, subject_of_object, subjects_of}
-use Rattle.alarm_core.proofs.OwnSubjects.{is_other_kind}
+use Rattle.object_table.specs.Rows.{Ascends, AscendsById, object_of as identifier_in}
+use Rattle.enrollment.specs.declared.enrollment_site.EnrollmentSite.{EnrollmentSite}
+use Rattle.enrollment.specs.declared.subject.Subject.{Subject}
+use Rattle.enrollment.specs.Enrollments.{AscendById, IsEnrollment, identifier_of}
+use Rattle.enrollment.specs.Subjects.{is_before_enrollments, is_behind_enrollments, object_of, subject_of_enrollment, subject_of_object, subjects_of}
+use Rattle.enrollment.proofs.Parted.{is_other_kind}
 
 -- ---- pairs of a list
 
@@ -75,44 +73,45 @@ above_nine n low other = by_tests (nat_lt 9 n) refl
     by_tests true e = ltb-true 9 n e
     by_tests false e = let high = ltb-false 9 n e in absurd (other (omega (arith, low, high)))
 
--- ---- the subjects of a site
+-- ---- the subjects of both
 
-module _ (site : Site) (is : IsSite site) where
+module _ (objects : List ObjectSite) (enrollments : List EnrollmentSite) (objects_are : AscendsById objects) (objects_allowed : All IsObject objects)
+    (enrollments_are : AscendById enrollments) (enrollments_allowed : All IsEnrollment enrollments) where
   before : List Subject
-  before = map subject_of_object (filter is_before_enrollments site.objects)
+  before = map subject_of_object (filter is_before_enrollments objects)
 
   between : List Subject
-  between = map subject_of_enrollment site.enrollments
+  between = map subject_of_enrollment enrollments
 
   behind : List Subject
-  behind = map subject_of_object (filter is_behind_enrollments site.objects)
+  behind = map subject_of_object (filter is_behind_enrollments objects)
 
-  objects_ascend : (test : ObjectSite → Bool) → AllPairs IsBelowSubject (map subject_of_object (filter test site.objects))
+  objects_ascend : (test : ObjectSite → Bool) → AllPairs IsBelowSubject (map subject_of_object (filter test objects))
   objects_ascend test =
-      pairs_map IsBelowSubject subject_of_object (filter test site.objects)
-      (AllPairs-filter (λ (a b : ObjectSite). IsBelow a.object b.object) test site.objects (map_pairs IsBelow identifier_in site.objects is.ascending))
+      pairs_map IsBelowSubject subject_of_object (filter test objects)
+      (AllPairs-filter (λ (a b : ObjectSite). IsBelow a.object b.object) test objects (map_pairs IsBelow identifier_in objects objects_are))
 
   enrollments_ascend : AllPairs IsBelowSubject between
   unfolding between
-  enrollments_ascend = pairs_map IsBelowSubject subject_of_enrollment site.enrollments (map_pairs IsBelow identifier_of site.enrollments is.enrollments_ascend)
+  enrollments_ascend = pairs_map IsBelowSubject subject_of_enrollment enrollments (map_pairs IsBelow identifier_of enrollments enrollments_are)
 
   before_numbers : AllNumbered (λ n. n < 9) before
   unfolding before
   before_numbers =
-      let kept = filter is_before_enrollments site.objects in
-      All-map (λ (subject : Subject). subject.object.number < 9) subject_of_object kept (λ k d low. ltb-true _ 9 (filter_passes is_before_enrollments site.objects k d low))
+      let kept = filter is_before_enrollments objects in
+      All-map (λ (subject : Subject). subject.object.number < 9) subject_of_object kept (λ k d low. ltb-true _ 9 (filter_passes is_before_enrollments objects k d low))
 
   between_numbers : AllNumbered (λ n. n ≡ 9) between
   unfolding between
-  between_numbers = All-map (λ (subject : Subject). subject.object.number ≡ 9) subject_of_enrollment site.enrollments (λ k d low. (is.enrollments k d low).number)
+  between_numbers = All-map (λ (subject : Subject). subject.object.number ≡ 9) subject_of_enrollment enrollments (λ k d low. (enrollments_allowed k d low).number)
 
   behind_numbers : AllNumbered (λ n. 9 < n) behind
   unfolding behind
   behind_numbers =
-      let kept = filter is_behind_enrollments site.objects in
+      let kept = filter is_behind_enrollments objects in
       All-map (λ (subject : Subject). 9 < subject.object.number) subject_of_object kept
-      (λ k d low. above_nine _ (ltb-false _ 9 (is_not _ (filter_passes is_behind_enrollments site.objects k d low)))
-      (is_other_kind _ (All-filter is_behind_enrollments IsObject site.objects is.objects k d low)))
+      (λ k d low. above_nine _ (ltb-false _ 9 (is_not _ (filter_passes is_behind_enrollments objects k d low)))
+      (is_other_kind _ (All-filter is_behind_enrollments IsObject objects objects_allowed k d low)))
 
   later_numbers : AllNumbered (λ n. 9 ≤ n) (between ++ behind)
   later_numbers =
@@ -129,6 +128,6 @@ module _ (site : Site) (is : IsSite site) where
       (across (λ n. n ≡ 9) (λ n. 9 < n) (λ m n p q. omega (arith, p, q)) between behind between_numbers behind_numbers))
       (across (λ n. n < 9) (λ n. 9 ≤ n) (λ m n p q. omega (arith, p, q)) before (between ++ behind) before_numbers later_numbers)
 
-  pub ascends : Ascends (map object_of (subjects_of site))
+  pub ascends : Ascends (map object_of (subjects_of objects enrollments))
   unfolding before between behind
-  ascends = pairs_map IsBelow object_of (subjects_of site) subjects_ascend
+  ascends = pairs_map IsBelow object_of (subjects_of objects enrollments) subjects_ascend
