@@ -1,11 +1,11 @@
 -- What the event-state detection of an object sees (ANSI/ASHRAE 135-2020, 13.2 and 13.3).
-use Rattle.std.specs.Prelude.{ℕ, Bool, false, pos, Option, Some, None, List, []}
-use Rattle.std.specs.Option.{option_map}
+use Rattle.std.specs.Prelude.{ℕ, ℤ, Bool, false, pos, Option, Some, None, List, []}
+use Rattle.std.specs.Option.{option_map, unwrap_or}
 use Rattle.bac_values.specs.Identifier.{ObjectIdData}
 use Rattle.bac_values.specs.declared.stamp.Stamp.{Stamp}
 use Rattle.bac_values.specs.declared.value.Value.TheVariants.{Null}
 use Rattle.algorithm_rules.specs.Facts.{Facts}
-use Rattle.civil_stamp.specs.LocalTime.{fixed_zone, local_stamp, ZoneData, LocalMomentData}
+use Rattle.civil_stamp.specs.LocalTime.{ZoneData, LocalMomentData, fixed_zone, local_stamp, rule_zone}
 use Rattle.event_machine.specs.Points.{Point}
 use Rattle.enrollment.specs.declared.subject.Subject.{Subject}
 use Rattle.enrollment.specs.Subjects.{is_inhibited}
@@ -33,9 +33,14 @@ point_with at ack_required object values facts = record {
 abbrev pub point_in : LocalMomentData → List Bool → ObjectIdData → ObjectsState → Option Point
 point_in at ack_required object values = option_map (point_with at ack_required object values) (facts_at object values)
 
+-- the zone of a zone rule, if a site has one, and otherwise the one that is so many minutes ahead of UTC all year
+abbrev pub zone_with : Option (List ℕ) → ℤ → ZoneData
+zone_with None minutes = fixed_zone minutes
+zone_with (Some rule) minutes = unwrap_or (rule_zone rule) (fixed_zone minutes)
+
 -- the zone of a site
 abbrev pub site_zone : Site → ZoneData
-site_zone site = fixed_zone site.device.zone_minutes
+site_zone site = zone_with site.device.zone_rule site.device.zone_minutes
 
 -- the local date and time of a moment at a site
 abbrev pub site_stamp : Site → ℕ → Stamp

@@ -110,7 +110,10 @@ fn zone_of(site: &Site) -> Zone
     requires site { IsSite site.now }
     ensures zone { result ≡ site_zone site.now }
 {
-    Zone::fixed(site.device.zone_minutes).unwrap()
+    match &site.device.zone_rule {
+        Some(rule) => Zone::rule(rule.as_str()).unwrap(),
+        None => Zone::fixed(site.device.zone_minutes).unwrap(),
+    }
 }
 
 // Nothing waits for the peers of some classes.
@@ -176,6 +179,13 @@ impl Core {
         ensures device { result ≡ device_object self.now.site }
     {
         device_object(&self.site)
+    }
+
+    /// The zone of its local time.
+    pub fn zone(&self) -> &Zone
+        ensures zone { result.now ≡ site_zone self.now.site }
+    {
+        &self.zone
     }
 
     /// The alarm of an object; one whose event detection isn't enabled has that of an object that never moved.

@@ -1,4 +1,4 @@
-ghost use Rattle.std.specs.Prelude.{◌≡◌, ◌≤◌, ◌<◌, ◌^◌, IfOk, OnOk, pos};
+ghost use Rattle.std.specs.Prelude.{◌≡◌, ◌≤◌, ◌<◌, ◌^◌, IfOk, None, OnOk, pos};
 ghost use Rattle.bac_values.specs.Moments.{IsMoment};
 ghost use Rattle.object_table.specs.Objects.{IsObject};
 ghost use Rattle.alarm_core.specs.Allowed.{IsAllowed};
@@ -54,6 +54,7 @@ fn device(alloc: Global, outbox: u32) -> Result<DeviceSite, Fail>
     ensures instance { IfOk result (λ site. site.instance ≡ 1001) }
     ensures start { IfOk result (λ site. site.start ≡ 1700000000000) }
     ensures zone { IfOk result (λ site. site.zone_minutes ≡ pos 0) }
+    ensures rule { IfOk result (λ site. site.zone_rule ≡ None) }
     ensures timeout { IfOk result (λ site. site.apdu_timeout ≡ 3000) }
     ensures retries { IfOk result (λ site. site.retries ≡ 3) }
     ensures outbox { IfOk result (λ site. site.outbox ≡ outbox) }
@@ -64,6 +65,7 @@ fn device(alloc: Global, outbox: u32) -> Result<DeviceSite, Fail>
         vendor: 999,
         start: 1_700_000_000_000,
         zone_minutes: 0,
+        zone_rule: None,
         apdu_timeout: 3000,
         retries: 3,
         outbox,

@@ -1,4 +1,4 @@
-ghost use Rattle.std.specs.Prelude.{◌≡◌, IfOk, pos};
+ghost use Rattle.std.specs.Prelude.{◌≡◌, IfOk, None, pos};
 ghost use Rattle.alarm_core.specs.Sites.{IsLogSite, IsSite};
 
 use crate::alarm_core_plant::{Play, play_on};
@@ -76,6 +76,7 @@ fn device(alloc: Global) -> Result<DeviceSite, Fail>
     ensures instance { IfOk result (λ site. site.instance ≡ 1001) }
     ensures start { IfOk result (λ site. site.start ≡ 1700000000000) }
     ensures zone { IfOk result (λ site. site.zone_minutes ≡ pos 0) }
+    ensures rule { IfOk result (λ site. site.zone_rule ≡ None) }
     ensures timeout { IfOk result (λ site. site.apdu_timeout ≡ 3000) }
     ensures retries { IfOk result (λ site. site.retries ≡ 3) }
     ensures outbox { IfOk result (λ site. site.outbox ≡ 256) }
@@ -86,6 +87,7 @@ fn device(alloc: Global) -> Result<DeviceSite, Fail>
         vendor: 999,
         start: 1_700_000_000_000,
         zone_minutes: 0,
+        zone_rule: None,
         apdu_timeout: 3000,
         retries: 3,
         outbox: 256,

@@ -13,6 +13,9 @@ pub struct DeviceSite {
     pub start: u64,
     /// How many minutes its local time is ahead of UTC, from -840 to 840.
     pub zone_minutes: i16,
+    /// The zone rule that its local time follows, with daylight saving time, as the TZ variable of POSIX has it: from 1 to
+    /// 64 ASCII octets. None: local time is `zone_minutes` ahead of UTC all year.
+    pub zone_rule: Option<Text>,
     /// For how many milliseconds it waits for an answer to a confirmed notification, from 1 to 3,600,000.
     pub apdu_timeout: u32,
     /// How often it sends a confirmed notification again, at most 15 times.

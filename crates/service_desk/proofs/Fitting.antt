@@ -27,6 +27,7 @@ use Rattle.service_desk.specs.declared.replies.Requester.{Requester}
 use Rattle.service_desk.specs.Decisions.{acknowledge_with, change_decision, information_with, read_reply, read_with, verdict_decision, write_with}
 use Rattle.service_desk.specs.Laws.{EachReplyFits, FitsRequester, RepliesFit}
 use Rattle.service_desk.specs.Information.{information_room}
+use Rattle.service_desk.specs.Ranges.{rule_zone_of}
 use Rattle.service_desk.proofs.Sends.{abort_fits, simple_ack_fits, within_max_apdu_fits, information_reply_fits, range_decided_fits, error_fits, reject_fits}
 
 either : (test : Bool) (m n least : ℕ) → least ≤ m → least ≤ n → least ≤ (if test then m else n)
@@ -84,5 +85,5 @@ each_fits state moment requester parameters second takes =
     branch requester (requester.service == 0) _ _ (acknowledge_fits state moment requester (acknowledge_request_of parameters) least)
     (branch requester (requester.service == 12) _ _ (read_fits state requester (read_property_of parameters) least)
     (branch requester (requester.service == 15) _ _ (write_fits state moment requester (write_property_of parameters) least)
-    (branch requester (requester.service == 26) _ _ (range_decided_fits requester (has_object state) (λ object. log_in object state.logs) parameters least)
+    (branch requester (requester.service == 26) _ _ (range_decided_fits requester (rule_zone_of state.site) (has_object state) (λ object. log_in object state.logs) parameters least)
     (branch requester (requester.service == 29) _ _ (information_fits state requester (information_request_of parameters) least) (reject_fits requester 9 least)))))

@@ -17,6 +17,7 @@ use Rattle.event_services.specs.declared.information.EventSummary.{EventSummary}
 use Rattle.service_desk.specs.declared.replies.Requester.{Requester}
 use Rattle.service_desk.specs.Information.{information_reply}
 use Rattle.service_desk.specs.Laws.{FitsRequester}
+use Rattle.civil_stamp.specs.LocalTime.{ZoneData}
 use Rattle.service_desk.specs.Ranges.{buffer_answer, has_zero_count, object_answer, range_answer, range_decided, range_reply, range_with, records_that_fit, requested_range}
 use Rattle.service_desk.specs.Replies.{abort, simple_ack, within_max_apdu, error_numbered, reject, reply_to}
 
@@ -56,26 +57,26 @@ pub range_reply_fits : (requester : Requester) (request : RangeRequest) (log : E
 range_reply_fits requester request log range least =
     either requester (nat_lt 0 range.count && nat_eq (records_that_fit requester request log range) 0) _ _ (abort_fits requester segmentation_not_supported_reason least) (within_max_apdu_fits requester _ least)
 
-buffer_answer_fits : (requester : Requester) (request : RangeRequest) (log : EventLogState) → 50 ≤ requester.max_apdu → FitsRequester requester (buffer_answer requester request log)
-buffer_answer_fits requester request log least =
+buffer_answer_fits : (requester : Requester) (zone : Option ZoneData) (request : RangeRequest) (log : EventLogState) → 50 ≤ requester.max_apdu → FitsRequester requester (buffer_answer requester zone request log)
+buffer_answer_fits requester zone request log least =
     either requester (is_some request.index) _ _ (error_fits requester property_is_not_an_array_error.class property_is_not_an_array_error.code least)
-    (either requester (has_zero_count request.range) _ _ (error_fits requester value_out_of_range_error.class value_out_of_range_error.code least) (range_reply_fits requester request log (requested_range request.range log) least))
+    (either requester (has_zero_count request.range) _ _ (error_fits requester value_out_of_range_error.class value_out_of_range_error.code least) (range_reply_fits requester request log (requested_range zone request.range log) least))
 
-object_answer_fits : (requester : Requester) (request : RangeRequest) (log : Option EventLogState) → 50 ≤ requester.max_apdu → FitsRequester requester (object_answer requester request log)
-object_answer_fits requester request None least = error_fits requester unknown_property_error.class unknown_property_error.code least
-object_answer_fits requester request (Some log) least =
-    either requester (nat_eq request.property.0 log_buffer_property) _ _ (buffer_answer_fits requester request log least) (error_fits requester unknown_property_error.class unknown_property_error.code least)
+object_answer_fits : (requester : Requester) (zone : Option ZoneData) (request : RangeRequest) (log : Option EventLogState) → 50 ≤ requester.max_apdu → FitsRequester requester (object_answer requester zone request log)
+object_answer_fits requester zone request None least = error_fits requester unknown_property_error.class unknown_property_error.code least
+object_answer_fits requester zone request (Some log) least =
+    either requester (nat_eq request.property.0 log_buffer_property) _ _ (buffer_answer_fits requester zone request log least) (error_fits requester unknown_property_error.class unknown_property_error.code least)
 
-pub range_answer_fits : (requester : Requester) (request : RangeRequest) (there : Bool) (log : Option EventLogState) → 50 ≤ requester.max_apdu → FitsRequester requester (range_answer requester request there log)
-range_answer_fits requester request there log least =
-    either requester there _ _ (object_answer_fits requester request log least) (error_fits requester unknown_object_error.class unknown_object_error.code least)
+pub range_answer_fits : (requester : Requester) (zone : Option ZoneData) (request : RangeRequest) (there : Bool) (log : Option EventLogState) → 50 ≤ requester.max_apdu → FitsRequester requester (range_answer requester zone request there log)
+range_answer_fits requester zone request there log least =
+    either requester there _ _ (object_answer_fits requester zone request log least) (error_fits requester unknown_object_error.class unknown_object_error.code least)
 
-range_with_fits : (requester : Requester) (is_there : ObjectIdData → Bool) (log_of : ObjectIdData → Option EventLogState) (read : Result RangeRequest Malformed) → 50 ≤ requester.max_apdu →
-    FitsRequester requester (range_with requester is_there log_of read)
-range_with_fits requester is_there log_of (Err refusal) least = reject_fits requester refusal.reject least
-range_with_fits requester is_there log_of (Ok request) least = range_answer_fits requester request (is_there request.object) (log_of request.object) least
+range_with_fits : (requester : Requester) (zone : Option ZoneData) (is_there : ObjectIdData → Bool) (log_of : ObjectIdData → Option EventLogState) (read : Result RangeRequest Malformed) → 50 ≤ requester.max_apdu →
+    FitsRequester requester (range_with requester zone is_there log_of read)
+range_with_fits requester zone is_there log_of (Err refusal) least = reject_fits requester refusal.reject least
+range_with_fits requester zone is_there log_of (Ok request) least = range_answer_fits requester zone request (is_there request.object) (log_of request.object) least
 
 -- the answer to ReadRange
-pub range_decided_fits : (requester : Requester) (is_there : ObjectIdData → Bool) (log_of : ObjectIdData → Option EventLogState) (parameters : List ℕ) → 50 ≤ requester.max_apdu →
-    FitsRequester requester (range_decided requester is_there log_of parameters)
-range_decided_fits requester is_there log_of parameters least = range_with_fits requester is_there log_of (read_range_of parameters) least
+pub range_decided_fits : (requester : Requester) (zone : Option ZoneData) (is_there : ObjectIdData → Bool) (log_of : ObjectIdData → Option EventLogState) (parameters : List ℕ) → 50 ≤ requester.max_apdu →
+    FitsRequester requester (range_decided requester zone is_there log_of parameters)
+range_decided_fits requester zone is_there log_of parameters least = range_with_fits requester zone is_there log_of (read_range_of parameters) least

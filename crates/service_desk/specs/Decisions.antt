@@ -52,7 +52,7 @@ use Rattle.service_desk.specs.declared.decision.Decision.{Decision}
 use Rattle.service_desk.specs.declared.decision.Decision.TheVariants.{Ignore, Idle, Refuse, Reply, Enter}
 use Rattle.service_desk.specs.declared.replies.Requester.{Requester}
 use Rattle.service_desk.specs.Information.{information_reply, information_room}
-use Rattle.service_desk.specs.Ranges.{range_decided}
+use Rattle.service_desk.specs.Ranges.{range_decided, rule_zone_of}
 use Rattle.service_desk.specs.Replies.{abort_to, abort, simple_ack, complex_ack, error_numbered, reject, reply_to}
 
 -- a tick is an event where some object would move
@@ -131,9 +131,9 @@ write_with state moment requester (Ok request) = change_decision moment requeste
 abbrev pub write_decision : CoreState → ℕ → Requester → List ℕ → Decision
 write_decision state moment requester parameters = write_with state moment requester (write_property_of parameters)
 
--- ReadRange (15.8): whether there is such an object, and its log, where it is one
+-- ReadRange (15.8): the zone of the site's rule, whether there is such an object, and its log, where it is one
 abbrev pub range_decision : CoreState → Requester → List ℕ → Decision
-range_decision state requester parameters = Reply (range_decided requester (has_object state) (λ object. log_in object state.logs) parameters)
+range_decision state requester parameters = Reply (range_decided requester (rule_zone_of state.site) (has_object state) (λ object. log_in object state.logs) parameters)
 
 -- GetEventInformation (13.12)
 abbrev pub information_with : CoreState → Requester → Result (Option ObjectIdData) Malformed → Decision

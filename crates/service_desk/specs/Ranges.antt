@@ -1,10 +1,12 @@
 -- Ranges of a log, as they are answered (ANSI/ASHRAE 135-2020, 15.8).
-use Rattle.std.specs.Prelude.{ℕ, zero, suc, ◌+◌, ◌==◌, ◌&&◌, nat_lt, nat_le, Bool, true, false, ℤ, pos, negsuc, if◌then◌else◌, Option, Some, None, is_some, Result, Ok, Err, List, [], ◌∷◌, ◌++◌, length, take, drop, flat_map, slice_get}
+use Rattle.std.specs.Prelude.{ℕ, zero, suc, ◌+◌, ◌==◌, ◌&&◌, nat_lt, nat_le, Bool, true, false, ℤ, pos, negsuc, if◌then◌else◌, Option, Some, None, option_map, is_some, Result, Ok, Err, List, [], ◌∷◌, ◌++◌, length, take, drop, flat_map, slice_get}
 use Rattle.bac_values.specs.Errors.{property_is_not_an_array_error, unknown_object_error, unknown_property_error, value_out_of_range_error}
 use Rattle.bac_values.specs.Identifier.{ObjectIdData}
 use Rattle.bac_values.specs.Properties.{log_buffer_property}
 use Rattle.bac_values.specs.Reasons.{segmentation_not_supported_reason}
 use Rattle.bac_values.specs.declared.note.Send.{Send}
+use Rattle.bac_values.specs.declared.stamp.Stamp.{Stamp}
+use Rattle.civil_stamp.specs.LocalTime.{ZoneData, hundredths_in}
 use Rattle.bac_tags.specs.Writing.{written_stamp, written_tag}
 use Rattle.apdu_frame.specs.Writing.{written_complex_ack}
 use Rattle.bac_tags.specs.declared.malformed.Malformed.{Malformed}
@@ -17,7 +19,9 @@ use Rattle.property_services.specs.Writing.{written_range_ack}
 use Rattle.event_log.specs.declared.log_range.LogRange.{LogRange}
 use Rattle.event_log.specs.declared.log_record.LogRecord.{LogRecord}
 use Rattle.event_log.specs.Log.{EventLogState}
-use Rattle.event_log.specs.Ranges.{place_by_time, place_of_position, place_of_sequence, range_from, range_of}
+use Rattle.event_log.specs.Ranges.{place_by_hundredths, place_by_time, place_of_position, place_of_sequence, range_from, range_of}
+use Rattle.alarm_core.specs.declared.site.Site.{Site}
+use Rattle.alarm_core.specs.Evaluations.{site_zone}
 use Rattle.service_desk.specs.declared.replies.Requester.{Requester}
 use Rattle.service_desk.specs.Replies.{abort, complex_ack, error, reject}
 
@@ -26,12 +30,26 @@ unfoldable pub written_item : LogRecord → List ℕ
 written_item entry =
     written_tag (opening 0) ++ written_stamp entry.stamp ++ written_tag (closing 0) ++ written_tag (opening 1) ++ written_tag (opening 1) ++ entry.body ++ written_tag (closing 1) ++ written_tag (closing 1)
 
--- the records that a request asks for
-abbrev pub requested_range : RangeBy → EventLogState → LogRange
-requested_range All log = range_of 0 (length log.records)
-requested_range (Position reference count) log = range_from count (length log.records) (place_of_position reference (length log.records))
-requested_range (Sequence reference count) log = range_from count (length log.records) (place_of_sequence reference log.records)
-requested_range (Time reference count) log = range_from count (length log.records) (place_by_time count reference log.records)
+-- the zone of a site with a zone rule
+abbrev pub rule_zone_of : Site → Option ZoneData
+rule_zone_of site = option_map (λ rule. site_zone site) site.device.zone_rule
+
+-- where a range by hundredths begins or ends; nowhere where a stamp is no civil date and time, and so has none
+abbrev pub place_if_civil : ℤ → Option ℤ → List LogRecord → Option ℕ
+place_if_civil count None records = None
+place_if_civil count (Some hundredths) records = place_by_hundredths count hundredths records
+
+-- where a range by time begins or ends: where there is a zone rule, a local time may come twice, and it is when the clock showed the reference that is looked for; everywhere else it is the reference itself
+abbrev pub place_by_clock : Option ZoneData → ℤ → Stamp → List LogRecord → Option ℕ
+place_by_clock None count reference records = place_by_time count reference records
+place_by_clock (Some zone) count reference records = place_if_civil count (hundredths_in zone reference) records
+
+-- the records that a request asks for, at a site with this zone by a rule, if it has one
+abbrev pub requested_range : Option ZoneData → RangeBy → EventLogState → LogRange
+requested_range clock All log = range_of 0 (length log.records)
+requested_range clock (Position reference count) log = range_from count (length log.records) (place_of_position reference (length log.records))
+requested_range clock (Sequence reference count) log = range_from count (length log.records) (place_of_sequence reference log.records)
+requested_range clock (Time reference count) log = range_from count (length log.records) (place_by_clock clock count reference log.records)
 
 -- so many records from a place on
 abbrev pub items_from : ℕ → ℕ → EventLogState → List LogRecord
@@ -101,25 +119,25 @@ abbrev pub has_zero_count : RangeBy → Bool
 has_zero_count range = is_zero_count (count_of range)
 
 -- of a log: Log_Buffer is no array, and a count isn't 0
-abbrev pub buffer_answer : Requester → RangeRequest → EventLogState → Send
-buffer_answer requester request log =
+abbrev pub buffer_answer : Requester → Option ZoneData → RangeRequest → EventLogState → Send
+buffer_answer requester clock request log =
     if is_some request.index then error requester property_is_not_an_array_error
     else (if has_zero_count request.range then error requester value_out_of_range_error
-    else range_reply requester request log (requested_range request.range log))
+    else range_reply requester request log (requested_range clock request.range log))
 
 -- of an object: only the Log_Buffer of a log has a range
-abbrev pub object_answer : Requester → RangeRequest → Option EventLogState → Send
-object_answer requester request None = error requester unknown_property_error
-object_answer requester request (Some log) = if request.property.0 == log_buffer_property then buffer_answer requester request log else error requester unknown_property_error
+abbrev pub object_answer : Requester → Option ZoneData → RangeRequest → Option EventLogState → Send
+object_answer requester clock request None = error requester unknown_property_error
+object_answer requester clock request (Some log) = if request.property.0 == log_buffer_property then buffer_answer requester clock request log else error requester unknown_property_error
 
 -- by whether there is such an object, and its log, where it is one
-abbrev pub range_answer : Requester → RangeRequest → Bool → Option EventLogState → Send
-range_answer requester request there log = if there then object_answer requester request log else error requester unknown_object_error
+abbrev pub range_answer : Requester → Option ZoneData → RangeRequest → Bool → Option EventLogState → Send
+range_answer requester clock request there log = if there then object_answer requester clock request log else error requester unknown_object_error
 
--- ReadRange (15.8), by which objects there are, and their logs
-abbrev pub range_with : Requester → (ObjectIdData → Bool) → (ObjectIdData → Option EventLogState) → Result RangeRequest Malformed → Send
-range_with requester is_there log_of (Err refusal) = reject requester refusal.reject
-range_with requester is_there log_of (Ok request) = range_answer requester request (is_there request.object) (log_of request.object)
+-- ReadRange (15.8), by the zone of the site's rule, which objects there are, and their logs
+abbrev pub range_with : Requester → Option ZoneData → (ObjectIdData → Bool) → (ObjectIdData → Option EventLogState) → Result RangeRequest Malformed → Send
+range_with requester clock is_there log_of (Err refusal) = reject requester refusal.reject
+range_with requester clock is_there log_of (Ok request) = range_answer requester clock request (is_there request.object) (log_of request.object)
 
-abbrev pub range_decided : Requester → (ObjectIdData → Bool) → (ObjectIdData → Option EventLogState) → List ℕ → Send
-range_decided requester is_there log_of parameters = range_with requester is_there log_of (read_range_of parameters)
+abbrev pub range_decided : Requester → Option ZoneData → (ObjectIdData → Bool) → (ObjectIdData → Option EventLogState) → List ℕ → Send
+range_decided requester clock is_there log_of parameters = range_with requester clock is_there log_of (read_range_of parameters)

@@ -4,13 +4,15 @@ ghost use Rattle.bac_values.specs.Services.{longest_apdu};
 ghost use Rattle.bac_tags.specs.Writing.{unsigned_size};
 ghost use Rattle.property_services.specs.Writing.{written_range_ack};
 ghost use Rattle.service_desk.specs.Decisions.{range_decision};
-ghost use Rattle.service_desk.specs.Ranges.{buffer_answer, first_sequence, greatest, has_zero_count, items_from, names_sequence, object_answer, range_answer, range_body, range_flags, range_reply, range_sent, records_that_fit, requested_range, written_item};
+ghost use Rattle.service_desk.specs.Ranges.{buffer_answer, first_sequence, greatest, has_zero_count, items_from, names_sequence, object_answer, place_by_clock, range_answer, range_body, range_flags, range_reply, range_sent, records_that_fit, requested_range, rule_zone_of, written_item};
+ghost use Rattle.event_log.specs.Ranges.{range_from};
 
 use crate::Decision;
 use crate::replies::Requester;
 use alarm_core::Core;
 use bac_tags::{unsigned_size, write_closing, write_opening, write_stamp};
-use bac_values::{AbortReason, NoMemory, PropertyId, Send, ServiceError};
+use bac_values::{AbortReason, NoMemory, PropertyId, Send, ServiceError, Stamp};
+use civil_stamp::{Zone, hundredths_of};
 use event_log::{EventLog, LogRange, LogRecord};
 use property_services::{RangeBy, RangeRequest, read_read_range, write_range_ack};
 use std::alloc::Global;
@@ -68,10 +70,34 @@ fn leading_with_room(
     Ok(LeadingRecords { count, octets })
 }
 
-// The records of a log that a request asks for.
+// The zone of a site with a zone rule.
+fn rule_zone(core: &Core) -> Option<&Zone>
+    ensures zone { option_copied result ≡ rule_zone_of core.now.site }
+{
+    match core.site().device.zone_rule {
+        Some(_) => Some(core.zone()),
+        None => None,
+    }
+}
+
+// The records by time: with a zone rule by when its clock showed the reference, of which there are none where it is no civil
+// date and time.
+fn range_by_clock(zone: Option<&Zone>, reference: &Stamp, count: i32, log: &EventLog) -> LogRange
+    ensures range { let length = length log.now.records in result ≡ range_from count length (place_by_clock (option_copied zone.entry) count reference.now log.now.records) }
+{
+    let Some(zone) = zone else {
+        return log.range_by_time(reference, count);
+    };
+    match hundredths_of(reference, zone) {
+        Some(hundredths) => log.range_by_hundredths(hundredths, count),
+        None => LogRange { first: 0, count: 0 },
+    }
+}
+
+// The records of a log that a request asks for, by the zone of the site's rule.
 #[tactic(auto, using(crate::proofs::RequestedRange::requested_range_within))]
-fn requested_range(range: &RangeBy, log: &EventLog) -> LogRange
-    ensures range { result ≡ requested_range range.now log.now }
+fn requested_range(zone: Option<&Zone>, range: &RangeBy, log: &EventLog) -> LogRange
+    ensures range { result ≡ requested_range (option_copied zone.entry) range.now log.now }
     ensures within { result.first + result.count ≤ length log.now.records }
 {
     match range {
@@ -81,7 +107,7 @@ fn requested_range(range: &RangeBy, log: &EventLog) -> LogRange
         },
         RangeBy::Position { reference, count } => log.range_by_position(*reference, *count),
         RangeBy::Sequence { reference, count } => log.range_by_sequence(*reference, *count),
-        RangeBy::Time { reference, count } => log.range_by_time(reference, *count),
+        RangeBy::Time { reference, count } => range_by_clock(zone, reference, *count, log),
     }
 }
 
@@ -203,13 +229,14 @@ fn range_sent(
 fn range_reply(
     alloc: Global,
     requester: &Requester,
+    zone: Option<&Zone>,
     request: &RangeRequest,
     log: &EventLog,
 ) -> Result<Send, NoMemory>
     requires most { requester.now.max_apdu ≤ longest_apdu }
-    ensures reply { IfOk result (λ send. send ≡ range_reply requester.now request.now log.now (requested_range request.now.range log.now)) }
+    ensures reply { IfOk result (λ send. send ≡ range_reply requester.now request.now log.now (requested_range (option_copied zone.entry) request.now.range log.now)) }
 {
-    let range = requested_range(&request.range, log);
+    let range = requested_range(zone, &request.range, log);
     let leading = leading_records(alloc, requester, request, log, range)?;
     range_sent(alloc, requester, request, log, range, &leading)
 }
@@ -230,11 +257,12 @@ fn has_zero_count(range: &RangeBy) -> bool
 fn buffer_answer(
     alloc: Global,
     requester: &Requester,
+    zone: Option<&Zone>,
     request: &RangeRequest,
     log: &EventLog,
 ) -> Result<Send, NoMemory>
     requires most { requester.now.max_apdu ≤ longest_apdu }
-    ensures reply { IfOk result (λ send. send ≡ buffer_answer requester.now request.now log.now) }
+    ensures reply { IfOk result (λ send. send ≡ buffer_answer requester.now (option_copied zone.entry) request.now log.now) }
 {
     if request.index.is_some() {
         return requester.error(alloc, ServiceError::PROPERTY_IS_NOT_AN_ARRAY);
@@ -242,42 +270,45 @@ fn buffer_answer(
     if has_zero_count(&request.range) {
         return requester.error(alloc, ServiceError::VALUE_OUT_OF_RANGE);
     }
-    range_reply(alloc, requester, request, log)
+    range_reply(alloc, requester, zone, request, log)
 }
 
 // A property of an object, which may be a log.
 fn object_answer(
     alloc: Global,
     requester: &Requester,
+    zone: Option<&Zone>,
     request: &RangeRequest,
     log: Option<&EventLog>,
 ) -> Result<Send, NoMemory>
     requires most { requester.now.max_apdu ≤ longest_apdu }
-    ensures reply { IfOk result (λ send. send ≡ object_answer requester.now request.now (option_copied log.entry)) }
+    ensures reply { IfOk result (λ send. send ≡ object_answer requester.now (option_copied zone.entry) request.now (option_copied log.entry)) }
 {
     match log {
         Some(found) if request.property == PropertyId::LOG_BUFFER => {
-            buffer_answer(alloc, requester, request, found)
+            buffer_answer(alloc, requester, zone, request, found)
         }
         _ => requester.error(alloc, ServiceError::UNKNOWN_PROPERTY),
     }
 }
 
-/// The answer to ReadRange (ANSI/ASHRAE 135-2020, 15.8), by whether the object is there, and its log, where it is one.
+/// The answer to ReadRange (ANSI/ASHRAE 135-2020, 15.8), by the zone of the site's rule, whether the object is there, and
+/// its log, where it is one.
 pub(crate) fn range_answer(
     alloc: Global,
     requester: &Requester,
+    zone: Option<&Zone>,
     request: &RangeRequest,
     is_there: bool,
     log: Option<&EventLog>,
 ) -> Result<Send, NoMemory>
     requires most { requester.now.max_apdu ≤ longest_apdu }
-    ensures reply { IfOk result (λ send. send ≡ range_answer requester.now request.now is_there (option_copied log.entry)) }
+    ensures reply { IfOk result (λ send. send ≡ range_answer requester.now (option_copied zone.entry) request.now is_there (option_copied log.entry)) }
 {
     if !is_there {
         return requester.error(alloc, ServiceError::UNKNOWN_OBJECT);
     }
-    object_answer(alloc, requester, request, log)
+    object_answer(alloc, requester, zone, request, log)
 }
 
 /// ReadRange (ANSI/ASHRAE 135-2020, 15.8).
@@ -294,7 +325,7 @@ pub(crate) fn read_range(
         Ok(request) => {
             let is_there = core.has_object(request.object);
             let log = core.log(request.object);
-            range_answer(alloc, requester, &request, is_there, log)?
+            range_answer(alloc, requester, rule_zone(core), &request, is_there, log)?
         }
         Err(refusal) => requester.reject(alloc, refusal.reject)?,
     };

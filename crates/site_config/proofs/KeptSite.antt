@@ -1,9 +1,9 @@
 -- The site of a text keeps to what a site keeps to.
 use Rattle.std.proofs.Common.{◌≡◌, ◌≤◌, ℕ, ℤ, pos, List, [], ◌∷◌, length, true, false, Bool, Option, Some, None, Ok, Err, if◌then◌else◌, refl, arith}
-use Rattle.std.specs.Prelude.{codes, Result, neg_ℤ, nat_lt, IfOk}
+use Rattle.std.specs.Prelude.{codes, Result, neg_ℤ, nat_lt, IfOk, IfSome, IsTrue}
 use Rattle.std.specs.List.{All, AllByRecursion}
 use Rattle.std.proofs.lemmas.List.Elements.{All-nil, All-map, All-weaker}
-use Rattle.toml.specs.Data.{Members, as_bool, get_member, Items, no_items, item, table, array, string, integer, float, boolean, datetime}
+use Rattle.toml.specs.Data.{Data, Members, as_bool, get_member, Items, no_items, item, table, array, string, integer, float, boolean, datetime}
 use Rattle.bac_values.specs.Identifier.{ObjectIdData}
 use Rattle.bac_values.specs.Moments.{IsMoment}
 use Rattle.bac_values.specs.declared.object_kind.ObjectKind.TheVariants as kinds
@@ -16,7 +16,7 @@ use Rattle.outbox.specs.Outboxes.{AreSettings}
 use Rattle.property_values.specs.declared.device_site.DeviceSite.{DeviceSite}
 use Rattle.alarm_core.specs.declared.site.Site.{Site}
 use Rattle.alarm_core.specs.Room.{HasRoom}
-use Rattle.alarm_core.specs.Sites.{HasInstance, IsLogSite, IsSite}
+use Rattle.alarm_core.specs.Sites.{HasInstance, IsLogSite, IsSite, IsSiteRule, is_zone_rule}
 use Rattle.enrollment.specs.Enrollments.{IsEnrollment}
 use Rattle.enrollment.specs.Snapshots.{HasObjects}
 use Rattle.site_config.specs.declared.class.ClassItem.{ClassItem}
@@ -29,20 +29,20 @@ use Rattle.site_config.specs.declared.fault.SiteFault.TheVariants.{TooLong, NoMe
 use Rattle.toml_items.specs.declared.item_fault.ItemFault.{ItemFault}
 use Rattle.site_config.specs.declared.keys.Keys.TheVariants as keys
 use Rattle.toml_items.specs.Answers.{Gives}
-use Rattle.site_config.specs.Devices.{device_of, object_with, name_of}
+use Rattle.site_config.specs.Devices.{device_of, object_with, name_of, zone_rule_beside, zone_rule_of}
 use Rattle.site_config.specs.Drafts.{draft_of}
 use Rattle.site_config.specs.Identifiers.{id_of_class, id_of_object, id_of_enrollment, id_of_log, identifiers, least_twice}
 use Rattle.site_config.specs.Items.{class_item, destination_item, object_item, enrollment_item, log_item}
 use Rattle.site_config.specs.Keys.{has_key}
 use Rattle.site_config.specs.Limits.{limits_of}
-use Rattle.toml_items.specs.Members.{required, or_else, first_unknown, refused_key}
+use Rattle.toml_items.specs.Members.{required, or_else, optional, optional_value, valid_value, value_if_there, value_or, first_unknown, refused_key}
 use Rattle.site_config.specs.Objects.{keys_of_object, object_of}
 use Rattle.site_config.specs.Notes.{members_of, notes_of}
 use Rattle.site_config.specs.References.{enrollment_dangles, least_dangling}
 use Rattle.site_config.specs.Sections.{placed, device_item, device_from, device_table, device_section, lesser_key, items_of, next_number, section_from, section_of, section_name, tables_at}
 use Rattle.site_config.specs.Sites.{document_of, site_or_no_toml, site_of_document, site_of_draft, site_of, duplicate_of, dangling_of, notes_fit, verdict_on, in_order, with_destinations}
 use Rattle.site_config.specs.Values.{instance_in}
-use Rattle.toml_items.specs.Values.{moment_in, unsigned_in, whole_in}
+use Rattle.toml_items.specs.Values.{moment_in, text_in, unsigned_in, whole_in}
 use Rattle.toml_items.specs.Lists.{three_in}
 use Rattle.site_config.proofs.Ascending.{fold_ascends, fold_keeps}
 use Rattle.site_config.proofs.KeptEnrollments.{KeepsKeys, enrollment_kept, log_kept}
@@ -51,7 +51,7 @@ use Rattle.site_config.proofs.KeptReferences.{same_ids, none_dangles, are_enroll
 use Rattle.site_config.proofs.KeptRoom.{HasClassId, fit_within, room_kept}
 use Rattle.site_config.proofs.Numbers.{instance_kept}
 use Rattle.toml_items.proofs.Numbers.{moment_kept, unsigned_kept, whole_kept}
-use Rattle.toml_items.proofs.Steps.{after, ok_is, required_keeps, or_else_keeps}
+use Rattle.toml_items.proofs.Steps.{after, found, ok_is, required_keeps, or_else_keeps}
 
 -- an item without its place
 unplaced : {A : Type 0} (section : Section) (number : ℕ) (read : Result A ItemFault) (x : A) → placed section number read ≡ Ok x → read ≡ Ok x
@@ -110,12 +110,43 @@ class_kept ms made h =
     let known = after (refused_key (first_unknown (has_key keys.Class) ms)) (λ _. class_of ms) made h in
     class_part_kept ms made known.next_is
 
+-- ---- the zone rule
+
+rule_is : (text rule : List ℕ) → zone_rule_of text ≡ Some rule → IsTrue (is_zone_rule rule)
+rule_is text rule h = by (is_zone_rule text) refl h
+  where
+    by : (test : Bool) → is_zone_rule text ≡ test → (if test then Some text else None) ≡ Some rule → IsTrue (is_zone_rule rule)
+    by true is e = let same : text ≡ rule = cc in rw (← same) is
+    by false is e = absurd cc
+
+-- no minutes stand beside a rule
+beside_is : (minutes : Option Data) (d : Data) (rule : List ℕ) → zone_rule_beside minutes d ≡ Some rule → (minutes ≡ None) × IsTrue (is_zone_rule rule)
+beside_is None d rule h = let f = found (text_in d) zone_rule_of rule h in (refl, rule_is f.value rule f.next_is)
+beside_is (Some m) d rule h = absurd cc
+
+no_minutes : (read : Data → Option ℤ) (minutes : Option Data) (zone : ℤ) → minutes ≡ None → value_or (pos 0) read (codes "zone_minutes") minutes ≡ Ok zone → zone ≡ pos 0
+no_minutes read None zone none h = cc
+no_minutes read (Some d) zone none h = absurd cc
+
+rule_kept : (read : Data → Option ℤ) (minutes given : Option Data) (zone : ℤ) (rule : Option (List ℕ)) →
+    value_or (pos 0) read (codes "zone_minutes") minutes ≡ Ok zone → value_if_there (zone_rule_beside minutes) (codes "zone_rule") given ≡ Ok rule → IfSome rule (IsSiteRule zone)
+rule_kept read minutes None zone rule m h = let none : None ≡ rule = cc in rw (← none) tt
+rule_kept read minutes (Some d) zone rule m h = by (zone_rule_beside minutes d) refl h
+  where
+    by : (part : Option (List ℕ)) → zone_rule_beside minutes d ≡ part → optional_value (valid_value (codes "zone_rule") part) ≡ Ok rule → IfSome rule (IsSiteRule zone)
+    by None is e = absurd cc
+    by (Some text) is e =
+        let same : Some text ≡ rule = cc in
+        let (none, is_rule) = beside_is minutes d text is in
+        rw (← same) (record { rule = is_rule; alone = no_minutes read minutes zone none m })
+
 -- ---- the device
 
 record IsDevice (device : DeviceSite) : Type 0 where
   instance : device.instance ≤ 4194302
   start : IsMoment device.start
   zone : IsZone device.zone_minutes
+  rule : IfSome device.zone_rule (IsSiteRule device.zone_minutes)
   settings : AreSettings device.outbox device.apdu_timeout device.retries
 
 device_kept : (ms : Members) (device : DeviceSite) → device_of ms ≡ Ok device → IsDevice device
@@ -126,10 +157,11 @@ device_kept ms device h =
     let vendor = after (or_else 0 (unsigned_in 0 65535) (codes "vendor") ms) _ device name.next_is in
     let start = after (required moment_in (codes "start") ms) _ device vendor.next_is in
     let zone = after (or_else (pos 0) (whole_in (neg_ℤ (pos 840)) (pos 840)) (codes "zone_minutes") ms) _ device start.next_is in
-    let timeout = after (or_else 3000 (unsigned_in 1 3600000) (codes "apdu_timeout") ms) _ device zone.next_is in
+    let rule = after (optional (zone_rule_beside (get_member (codes "zone_minutes") ms)) (codes "zone_rule") ms) _ device zone.next_is in
+    let timeout = after (or_else 3000 (unsigned_in 1 3600000) (codes "apdu_timeout") ms) _ device rule.next_is in
     let retries = after (or_else 3 (unsigned_in 0 15) (codes "retries") ms) _ device timeout.next_is in
     let outbox = after (or_else 256 (unsigned_in 64 16384) (codes "outbox") ms) _ device retries.next_is in
-    let whole : DeviceSite = record { instance = instance.value; name = name.value; vendor = vendor.value; start = start.value; zone_minutes = zone.value; apdu_timeout = timeout.value; retries = retries.value; outbox = outbox.value } in
+    let whole : DeviceSite = record { instance = instance.value; name = name.value; vendor = vendor.value; start = start.value; zone_minutes = zone.value; zone_rule = rule.value; apdu_timeout = timeout.value; retries = retries.value; outbox = outbox.value } in
     let is : whole ≡ device = ok_is whole device outbox.next_is in
     let M : ℕ → Type 0 = IsMoment in
     let Z : ℤ → Type 0 = IsZone in
@@ -142,6 +174,7 @@ device_kept ms device h =
       instance = required_keeps I instance_in instance_kept (codes "instance") ms instance.value instance.first_is;
       start = required_keeps M moment_in moment_kept (codes "start") ms start.value start.first_is;
       zone = or_else_keeps Z (whole_in (neg_ℤ (pos 840)) (pos 840)) (whole_kept (neg_ℤ (pos 840)) (pos 840)) (codes "zone_minutes") (pos 0) usual ms zone.value zone.first_is;
+      rule = rule_kept (whole_in (neg_ℤ (pos 840)) (pos 840)) (get_member (codes "zone_minutes") ms) (get_member (codes "zone_rule") ms) zone.value rule.value zone.first_is rule.first_is;
       settings = record {
         fits = or_else_keeps Limit (unsigned_in 64 16384) (λ d n e. (unsigned_kept 64 16384 d n e).1) (codes "outbox") 256 (omega arith) ms outbox.value outbox.first_is;
         ends = or_else_keeps Timeout (unsigned_in 1 3600000) (λ d n e. (unsigned_kept 1 3600000 d n e).1) (codes "apdu_timeout") 3000 (omega arith) ms timeout.value timeout.first_is;
@@ -210,6 +243,7 @@ of_draft_kept : (draft : Draft) → IsDraft draft → AllByRecursion (λ site. e
 of_draft_kept draft kept refer = record {
   start = kept.device.start;
   zone = kept.device.zone;
+  rule = kept.device.rule;
   instance = kept.device.instance;
   settings = kept.device.settings;
   classes = All-map HasInstance (with_destinations draft.destinations) (in_order id_of_class draft.classes)

@@ -12,7 +12,7 @@ abbrev pub section_names : List (List ℕ)
 section_names = codes "device" ∷ codes "class" ∷ codes "destination" ∷ codes "object" ∷ codes "enrollment" ∷ codes "log" ∷ []
 
 abbrev pub device_keys : List (List ℕ)
-device_keys = codes "instance" ∷ codes "name" ∷ codes "vendor" ∷ codes "start" ∷ codes "zone_minutes" ∷ codes "apdu_timeout" ∷ codes "retries" ∷ codes "outbox" ∷ []
+device_keys = codes "instance" ∷ codes "name" ∷ codes "vendor" ∷ codes "start" ∷ codes "zone_minutes" ∷ codes "zone_rule" ∷ codes "apdu_timeout" ∷ codes "retries" ∷ codes "outbox" ∷ []
 
 abbrev pub class_keys : List (List ℕ)
 class_keys = codes "instance" ∷ codes "name" ∷ codes "priority" ∷ codes "ack_required" ∷ []

@@ -42,12 +42,13 @@ const SECTIONS: [&str; 6] = [
     "log",
 ];
 
-const DEVICE: [&str; 8] = [
+const DEVICE: [&str; 9] = [
     "instance",
     "name",
     "vendor",
     "start",
     "zone_minutes",
+    "zone_rule",
     "apdu_timeout",
     "retries",
     "outbox",

@@ -151,6 +151,7 @@ fn expect_device(rt: &impl Abort, device: &DeviceSite) {
     same(rt, &device.vendor, &999);
     same(rt, &device.start, &1_700_000_000_000);
     same(rt, &device.zone_minutes, &0);
+    holds(rt, device.zone_rule.is_none());
     same(rt, &device.apdu_timeout, &3000);
     same(rt, &device.retries, &3);
     same(rt, &device.outbox, &256);
@@ -599,6 +600,30 @@ fn the_example_of_a_plant_is_a_site(rt: HostRuntime) -> Result<(), Fail> {
     same(&rt, &site.logs.as_slice().len(), &1);
     expect_watch(&rt, site.classes.as_slice());
     Ok(())
+}
+
+/// The example with a zone rule goes by that rule.
+fn expect_rule(rt: &impl Abort, alloc: Global, rule: &str) -> Result<(), Fail> {
+    let key = format!(in alloc; "zone_rule = \"{rule}\"")?;
+    let text = PLANT.replacen(alloc, "zone_minutes = 60", key.as_str(), 1)?;
+    let site = site_of(alloc, &[text.as_str()])?;
+    same(rt, &site.device.zone_minutes, &0);
+    let read = match &site.device.zone_rule {
+        Some(found) => found.as_str() == rule,
+        None => false,
+    };
+    holds(rt, read);
+    Ok(())
+}
+
+#[test]
+fn a_zone_rule_is_read(rt: HostRuntime) -> Result<(), Fail> {
+    let alloc = rt.alloc();
+    expect_rule(&rt, alloc, "CET-1CEST,M3.5.0,M10.5.0/3")?;
+    expect_rule(&rt, alloc, "JST-9")?;
+    // As long as a rule may be: 64 octets.
+    let long = "<AAAAAAAAAAAAAAA>-01<BBBBBBBBBBBBBBB>-02,M03.5.0,M10.5.0/3:00:00";
+    expect_rule(&rt, alloc, long)
 }
 
 /// The bit string value, whose mask has the first two bits.

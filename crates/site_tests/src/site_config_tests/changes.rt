@@ -80,6 +80,62 @@ fn a_device_is_refused(rt: HostRuntime) -> Result<(), Fail> {
     Ok(())
 }
 
+/// Keys that stand in the place of `zone_minutes` and of what follows it, and aren't a zone rule, or not one alone.
+const ZONES: [Change; 9] = [
+    (
+        "zone_minutes = 60",
+        "zone_rule = \"X\"",
+        "bad-value device 0 zone_rule",
+    ),
+    (
+        "zone_minutes = 60",
+        "zone_rule = \"\"",
+        "bad-value device 0 zone_rule",
+    ),
+    (
+        "zone_minutes = 60",
+        "zone_rule = 60",
+        "bad-value device 0 zone_rule",
+    ),
+    (
+        "zone_minutes = 60",
+        "zone_rule = \"CET-1CEST\"",
+        "bad-value device 0 zone_rule",
+    ),
+    (
+        "zone_minutes = 60",
+        "zone_rule = \"<AAAAAAAAAAAAAAA>-01<BBBBBBBBBBBBBBB>-02,M03.5.0,M10.5.0/03:00:00\"",
+        "bad-value device 0 zone_rule",
+    ),
+    (
+        "zone_minutes = 60",
+        "zone_minutes = 0\nzone_rule = \"CET-1CEST,M3.5.0,M10.5.0/3\"",
+        "bad-value device 0 zone_rule",
+    ),
+    (
+        "zone_minutes = 60",
+        "zone_rule = \"CET-1CEST,M3.5.0,M10.5.0/3\"\nzone_minutes = 841",
+        "bad-value device 0 zone_minutes",
+    ),
+    (
+        "zone_minutes = 60\napdu_timeout = 3000",
+        "zone_rule = \"X\"\napdu_timeout = 0",
+        "bad-value device 0 zone_rule",
+    ),
+    (
+        "zone_minutes = 60\napdu_timeout = 3000",
+        "zone_rule = \"CET-1CEST,M3.5.0,M10.5.0/3\"\napdu_timeout = 0",
+        "bad-value device 0 apdu_timeout",
+    ),
+];
+
+#[test]
+fn a_zone_rule_is_refused(rt: HostRuntime) -> Result<(), Fail> {
+    let told = told_otherwise(rt.alloc(), &ZONES)?;
+    same(&rt, &told.as_str(), &"");
+    Ok(())
+}
+
 /// Classes and destinations that aren't one.
 const CLASSES_AND_DESTINATIONS: [Change; 17] = [
     (

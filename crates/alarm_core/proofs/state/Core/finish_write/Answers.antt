@@ -19,7 +19,11 @@ queue_all-requires-clause-known g c =
     let core = c.self.inside in
     let transitions = transitions_all (site_moment core.site c.args.at.now.moment) core.objects c.args.before.alarms.items in
     let added : c.add_notes.new.notes.items ≡ c.args.before.told.notes.items ++ c.in_ok-after.after.told.notes.items = search rules in
-    let later : c.in_ok-after.after.told.notes.items ≡ notes_of_transitions core.site core.classes.items transitions = search rules in
+    let seen : c.deref.result.now ≡ c.args.before.alarms.items = search rules in
+    let told = λ (s : CoreState) (alarms : List DetectedObjectState). c.in_ok-after.after.told.notes.items
+    ≡ notes_of_transitions s.site s.classes (transitions_all (site_moment s.site c.args.at.now.moment) s.values alarms) in
+    let later : c.in_ok-after.after.told.notes.items ≡ notes_of_transitions core.site core.classes.items transitions =
+    subst (λ (s : CoreState). told s c.args.before.alarms.items) (sym c.self.view_is) (subst (told c.args.self.now) seen c.in_ok-after.ensures.notes) in
     let notes = added ∙ ap (λ ns. c.args.before.told.notes.items ++ ns) later in
     let before : AreKnown c.args.before.told.notes.items core.outbox.posts = subst (λ (s : CoreState). AreKnown c.args.before.told.notes.items s.outbox.posts) (sym c.self.view_is) c.requires.known in
     subst (λ notes. AreKnown notes core.outbox.posts) (sym notes)
