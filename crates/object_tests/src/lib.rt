@@ -41,3 +41,5 @@ mod object_table_tests;
 mod outbox_tests;
 #[cfg(test)]
 mod reliability_eval_tests;
+#[cfg(test)]
+mod state_codec_tests;

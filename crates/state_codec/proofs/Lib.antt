@@ -1,0 +1,11 @@
+pub mod Behind
+pub mod Texts
+pub mod PartLaws
+pub mod ValueLaws
+pub mod Lists
+pub mod DestinationLaws
+pub mod Written
+pub mod ActLaws
+pub mod EventLaws
+pub mod LengthLaws
+pub mod AllowedLaws

@@ -1,0 +1,4 @@
+pub mod Records
+pub mod ReadingSteps
+pub mod Types
+pub mod Laws

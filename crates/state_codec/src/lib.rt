@@ -1,0 +1,19 @@
+//! Events in octets: the records that a journal keeps of them, each in one spelling.
+//!
+//! A reader takes what stands at the front of octets, and leaves what is behind it; so one part is read behind another.
+#![tactic(auto)]
+
+mod act;
+mod destination;
+mod event;
+mod fault;
+mod laws;
+mod parts;
+mod reading;
+mod types;
+mod value;
+mod writing;
+
+pub use event::{read_event, write_event};
+pub use fault::CodecFault;
+pub use laws::{allowed_event_has_record, records_are_short, records_have_one_spelling};
