@@ -1,6 +1,6 @@
 -- A session of a site from no event on, by the history of its events in the place of its state.
 use Rattle.std.proofs.Common.{◌≡◌, ℕ, Option, Some, None, Result, Ok, Err, List, [], IfOk, IfSome, ap, ◌∙◌, subst}
-use Rattle.ground_io.specs.Trace.{Told, Adds, WhereTold}
+use Rattle.ground_io.specs.Trace.{Told, WhereTold}
 use Rattle.script_lines.specs.declared.line.Grammar.TheVariants.{Session}
 use Rattle.script_lines.specs.Script.{lines_of}
 use Rattle.alarm_core.specs.declared.site.Site.{Site}
@@ -11,7 +11,7 @@ use Rattle.alarm_core.proofs.Standing.{stands}
 use Rattle.bac_values.specs.declared.report.ReportLine.{ReportLine}
 use Rattle.alarm_server.specs.declared.status.Status.{Status}
 use Rattle.alarm_server.specs.declared.tally.Tally.{Tally}
-use Rattle.alarm_server.specs.Emission.{sent, Ends}
+use Rattle.alarm_server.specs.Emission.{Going, sent}
 use Rattle.alarm_server.specs.Report.{front_pieces, report_of}
 use Rattle.alarm_server.specs.SessionSteps.{session_over, state_front}
 use Rattle.alarm_server.specs.Pieces.{piece_text}
@@ -38,16 +38,16 @@ pub tally_by_history : (site : Site) → IsSite site → (core : CoreState) → 
 tally_by_history site is core started text (Ok tally) h = by_history site is core started text (λ ps. tally ≡ tally_of ps) h
 tally_by_history site is core started text (Err status) h = tt
 
-pub stops_by_history : (site : Site) → IsSite site → (core : CoreState) → core ≡ first_state site → (text left : Option (List ℕ)) (old new : Option Told) →
-    WhereTold text left (λ t rest. StopsReading piece_text (state_front core) Session t rest old new) → WhereTold text left (λ t rest. StopsReading piece_text (front_pieces site []) Session t rest old new)
-stops_by_history site is core started None left old new h = tt
-stops_by_history site is core started (Some t) None old new h = absurd h
-stops_by_history site is core started (Some t) (Some rest) old new h = record {
+pub stops_by_history : (Goes : Going) (site : Site) → IsSite site → (core : CoreState) → core ≡ first_state site → (text left : Option (List ℕ)) (old new : Option Told) →
+    WhereTold text left (λ t rest. StopsReading Goes piece_text (state_front core) Session t rest old new) → WhereTold text left (λ t rest. StopsReading Goes piece_text (front_pieces site []) Session t rest old new)
+stops_by_history Goes site is core started None left old new h = tt
+stops_by_history Goes site is core started (Some t) None old new h = absurd h
+stops_by_history Goes site is core started (Some t) (Some rest) old new h = record {
   whole = h.whole;
   begun = h.begun;
   read = h.read;
   whole_lines = h.whole_lines;
   accepted = h.accepted;
   no_line_feed = h.no_line_feed;
-  emitted = subst (λ ps. Adds old new (sent piece_text ps)) (fronts site is core started h.whole) h.emitted;
+  emitted = subst (λ ps. Goes old new (sent piece_text ps)) (fronts site is core started h.whole) h.emitted;
 }

@@ -8,7 +8,7 @@ use Rattle.bac_values.specs.Identifier.{ObjectIdData}
 use Rattle.bac_values.specs.declared.value.Value.{Value}
 use Rattle.bac_values.specs.declared.value.Value.TheVariants.{Signed}
 use Rattle.bac_values.specs.declared.report.ReportLine.{ReportLine}
-use Rattle.ground_io.specs.Trace.{Told}
+use Rattle.ground_io.specs.Trace.{Told, Adds}
 use Rattle.event_machine.specs.Points.{Point, Incident, Looked, newest_of}
 use Rattle.script_lines.specs.declared.line.Line.{Line}
 use Rattle.script_lines.specs.Line.{IsTrialInput}
@@ -18,7 +18,7 @@ use Rattle.alarm_server.specs.Looks.{point_at, seen_again, seen_with, looks_give
 use Rattle.alarm_server.specs.Emission.{Sends}
 use Rattle.alarm_server.specs.Trial.{looks_over, newest_moves, transitions_of, SendsTransitions}
 use Rattle.alarm_server.specs.Watched.{HasSeen, WatchState}
-use Rattle.alarm_server.proofs.Sending.{front_more, sends_then}
+use Rattle.alarm_server.proofs.Sending.{adds, front_more, sends_then}
 
 transitions_of-next : (first : Point) (incident : Incident) (older : List Incident) → transitions_of first (incident ∷ older) ≡ transitions_of first older ++ newest_moves first (incident ∷ older)
 unfolding transitions_of
@@ -49,28 +49,28 @@ pub seen_on : (first : Point) (later : List Incident) (seen point : Point) (watc
 seen_on first later seen point watched same known = subst (λ p. HasSeen first (Looked p ∷ later) watched) same known
 
 -- the moves at one more look
-pub transitions_on : {A : Type 0} (r : Result A Unsent) (first : Point) (later : List Incident) (seen point : Point) (a b : Option Told) → seen ≡ point → Sends report_text r (newest_moves first (Looked seen ∷ later)) a b → SendsTransitions r first later (Looked point ∷ later) a b
+pub transitions_on : {A : Type 0} (r : Result A Unsent) (first : Point) (later : List Incident) (seen point : Point) (a b : Option Told) → seen ≡ point → Sends Adds report_text r (newest_moves first (Looked seen ∷ later)) a b → SendsTransitions Adds r first later (Looked point ∷ later) a b
 transitions_on r first later seen point a b same sends = (
   newest_moves first (Looked point ∷ later),
   transitions_of-next first (Looked point) later,
-  subst (λ p. Sends report_text r (newest_moves first (Looked p ∷ later)) a b) same sends,
+  subst (λ p. Sends Adds report_text r (newest_moves first (Looked p ∷ later)) a b) same sends,
 )
 
 -- moves went out, and then those of more points, or a front of them
-pub transitions_then : {A B : Type 0} (x : B) (r : Result A Unsent) (first : Point) (later more most : List Incident) (a b c : Option Told) → SendsTransitions {A = B} (Ok x) first later more a b → SendsTransitions r first more most b c → SendsTransitions r first later most a c
+pub transitions_then : {A B : Type 0} (x : B) (r : Result A Unsent) (first : Point) (later more most : List Incident) (a b c : Option Told) → SendsTransitions {A = B} Adds (Ok x) first later more a b → SendsTransitions Adds r first more most b c → SendsTransitions Adds r first later most a c
 transitions_then x r first later more most a b c (moves, all, out) (others, rest, sends) = (
   moves ++ others,
   rest ∙ (ap (λ l. l ++ others) all ∙ append_assoc (transitions_of first later) moves others),
-  sends_then report_text r a b c moves others out sends,
+  sends_then Adds adds report_text r a b c moves others out sends,
 )
 
 -- a fault while the moves of some points go out, before those of one more
-pub transitions_fault : (A : Type 0) (fault : Unsent) (first : Point) (later more : List Incident) (incident : Incident) (a b : Option Told) → SendsTransitions {A = A} (Err fault) first later more a b → SendsTransitions {A = A} (Err fault) first later (incident ∷ more) a b
+pub transitions_fault : (A : Type 0) (fault : Unsent) (first : Point) (later more : List Incident) (incident : Incident) (a b : Option Told) → SendsTransitions {A = A} Adds (Err fault) first later more a b → SendsTransitions {A = A} Adds (Err fault) first later (incident ∷ more) a b
 transitions_fault A fault first later more incident a b (moves, all, front) =
     let next = newest_moves first (incident ∷ more) in (
       moves ++ next,
       transitions_of-next first incident more ∙ (ap (λ l. l ++ next) all ∙ append_assoc (transitions_of first later) moves next),
-      front_more report_text fault a b moves next front,
+      front_more Adds report_text fault a b moves next front,
     )
 
 -- the moves over more points go on from those before
@@ -126,7 +126,7 @@ tick_only (Fault object reliability) h never = absurd h
 tick_only (Datagram peer octets) h never = absurd h
 
 -- a fault while the moves of an event's first look go out
-pub event_fault : (A : Type 0) (fault : Unsent) (input : Input) (moment : ℕ) (first : Point) (later : List Incident) (a b : Option Told) → IsTrialInput input → SendsTransitions {A = A} (Err fault) first later (Looked (seen_again moment (newest_of first later)) ∷ later) a b → SendsTransitions {A = A} (Err fault) first later (looks_after moment input first later) a b
+pub event_fault : (A : Type 0) (fault : Unsent) (input : Input) (moment : ℕ) (first : Point) (later : List Incident) (a b : Option Told) → IsTrialInput input → SendsTransitions {A = A} Adds (Err fault) first later (Looked (seen_again moment (newest_of first later)) ∷ later) a b → SendsTransitions {A = A} Adds (Err fault) first later (looks_after moment input first later) a b
 event_fault A fault Tick moment first later a b h sends = sends
 event_fault A fault (Set object value) moment first later a b h sends =
     let again = seen_again moment (newest_of first later) in

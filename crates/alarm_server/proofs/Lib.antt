@@ -1,4 +1,5 @@
 pub mod Sending
+pub mod Emitting
 pub mod Spelled
 pub mod Fronts
 pub mod Course

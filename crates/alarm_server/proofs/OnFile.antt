@@ -7,25 +7,25 @@ use Rattle.site_config.specs.declared.fault.SiteFault.TheVariants as site_fault
 use Rattle.site_config.specs.Sites.{site_of}
 use Rattle.alarm_server.specs.declared.status.Status.{Status}
 use Rattle.alarm_server.specs.declared.status.Status.TheVariants.{Done, Usage, SiteRefused, ScriptRefused, ReadFault, EmitFault, NoMemory}
-use Rattle.alarm_server.specs.Emission.{Ends}
+use Rattle.alarm_server.specs.Emission.{Going, Ends}
 use Rattle.alarm_server.specs.OnFile.{EndsOnFile, EndsOnSite, RefusesFile}
 use Rattle.alarm_server.specs.Report.{report_of}
 use Rattle.alarm_server.specs.Pieces.{piece_text}
 use Rattle.alarm_server.specs.Status.{IsSiteFault, of_site_fault}
 use Rattle.alarm_server.specs.Text.{most_octets}
-use Rattle.alarm_server.proofs.Sending.{adds_nothing}
+use Rattle.alarm_server.proofs.Sending.{Composes}
 use Rattle.alarm_server.proofs.Texts.{front_says}
 
 -- ---- nothing went out
 
-ends_on_site : (site : Site) (ended : Status) (script : List ℕ) (told : Option Told) → IsSiteFault ended → Ends piece_text ended (report_of site [] script) told told
-ends_on_site site Done script told fault = absurd fault
-ends_on_site site Usage script told fault = absurd fault
-ends_on_site site (SiteRefused f) script told fault = adds_nothing told
-ends_on_site site (ScriptRefused line) script told fault = absurd fault
-ends_on_site site ReadFault script told fault = ([], report_of site [] script, refl, adds_nothing told)
-ends_on_site site EmitFault script told fault = absurd fault
-ends_on_site site NoMemory script told fault = ([], report_of site [] script, refl, adds_nothing told)
+ends_on_site : (Goes : Going) → Composes Goes → (site : Site) (ended : Status) (script : List ℕ) (told : Option Told) → IsSiteFault ended → Ends Goes piece_text ended (report_of site [] script) told told
+ends_on_site Goes composes site Done script told fault = absurd fault
+ends_on_site Goes composes site Usage script told fault = absurd fault
+ends_on_site Goes composes site (SiteRefused f) script told fault = composes.nothing told
+ends_on_site Goes composes site (ScriptRefused line) script told fault = absurd fault
+ends_on_site Goes composes site ReadFault script told fault = ([], report_of site [] script, refl, composes.nothing told)
+ends_on_site Goes composes site EmitFault script told fault = absurd fault
+ends_on_site Goes composes site NoMemory script told fault = ([], report_of site [] script, refl, composes.nothing told)
 
 -- it is the text's own fault, or the text wasn't read
 own_fault : (octets : List ℕ) (fault : SiteFault) (ended : Status) → site_of octets ≡ Err fault → IsSiteFault ended → ((f : SiteFault) → ended ≡ SiteRefused f → RefusesFile (Some octets) f) →
@@ -38,14 +38,14 @@ own_fault octets fault ReadFault says site refused = inr (inl refl)
 own_fault octets fault EmitFault says site refused = absurd site
 own_fault octets fault NoMemory says site refused = inr (inr refl)
 
-ends_by : (octets script : List ℕ) (ended : Status) (told : Option Told) (says : Result Site SiteFault) → site_of octets ≡ says → IsSiteFault ended → ((f : SiteFault) → ended ≡ SiteRefused f → RefusesFile (Some octets) f) → EndsOnSite ended says script told told
-ends_by octets script ended told (Ok site) says fault refused = ends_on_site site ended script told fault
-ends_by octets script ended told (Err f) says fault refused = (own_fault octets f ended says fault refused, adds_nothing told)
+ends_by : (Goes : Going) → Composes Goes → (octets script : List ℕ) (ended : Status) (told : Option Told) (says : Result Site SiteFault) → site_of octets ≡ says → IsSiteFault ended → ((f : SiteFault) → ended ≡ SiteRefused f → RefusesFile (Some octets) f) → EndsOnSite Goes ended says script told told
+ends_by Goes composes octets script ended told (Ok site) says fault refused = ends_on_site Goes composes site ended script told fault
+ends_by Goes composes octets script ended told (Err f) says fault refused = (own_fault octets f ended says fault refused, composes.nothing told)
 
-pub ends_unopened : (site script : Option (List ℕ)) (ended : Status) (told : Option Told) → IsSiteFault ended → ((f : SiteFault) → ended ≡ SiteRefused f → RefusesFile site f) → EndsOnFile ended site script told told
-ends_unopened None script ended told fault refused = tt
-ends_unopened (Some octets) None ended told fault refused = tt
-ends_unopened (Some octets) (Some text) ended told fault refused = ends_by octets text ended told (site_of octets) refl fault refused
+pub ends_unopened : (Goes : Going) → Composes Goes → (site script : Option (List ℕ)) (ended : Status) (told : Option Told) → IsSiteFault ended → ((f : SiteFault) → ended ≡ SiteRefused f → RefusesFile site f) → EndsOnFile Goes ended site script told told
+ends_unopened Goes composes None script ended told fault refused = tt
+ends_unopened Goes composes (Some octets) None ended told fault refused = tt
+ends_unopened Goes composes (Some octets) (Some text) ended told fault refused = ends_by Goes composes octets text ended told (site_of octets) refl fault refused
 
 -- ---- what is read is as good as the whole text
 

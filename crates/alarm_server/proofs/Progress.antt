@@ -24,7 +24,7 @@ use Rattle.alarm_server.specs.Emission.{sent, SendsUpTo, Ends}
 use Rattle.alarm_server.specs.Status.{of_line_fault, of_unsent}
 use Rattle.alarm_server.specs.Script.{spelled_in, refused_in, refused_line}
 use Rattle.alarm_server.specs.Trial.{first_point, looks_over, transitions_of, end_by, report_over, front_transitions, SendsTransitions}
-use Rattle.alarm_server.proofs.Sending.{adds_nothing, sent_then, front_then, front_more}
+use Rattle.alarm_server.proofs.Sending.{adds, sent_then, front_then, front_more}
 use Rattle.alarm_server.proofs.Spelled.{spelled_gives, spells_none, spells_refused, spells_same}
 use Rattle.alarm_server.proofs.Fronts.{front_accepted, front_lines, lines_of-whole, takes_then}
 use Rattle.alarm_server.proofs.Course.{transitions_of-none, looks_over-none, looks_over-append, looks_over-next, transitions_over_more}
@@ -67,7 +67,7 @@ begins settings text told watched first = record {
   later = [];
   points = sym (looks_over-none (first_point settings) []);
   seen = first;
-  out = rw (transitions_of-none (first_point settings)) (adds_nothing told);
+  out = rw (transitions_of-none (first_point settings)) (adds.nothing told);
   remains = remains_all text;
   whole = λ h. takes_none text;
 }
@@ -101,12 +101,12 @@ report_all settings lines number script octets later points r none =
     ∙ ap (λ ps. transitions_of first ps ++ end) (ap (looks_over first later) none ∙ looks_over-none first later)
 
 -- want of memory before the first line
-pub ends_at_once : (settings : Settings) (text : Option (List ℕ)) (told : Option Told) → IfSome text (λ t. Ends report_text status.NoMemory (report_over settings (lines_of t)) told told)
+pub ends_at_once : (settings : Settings) (text : Option (List ℕ)) (told : Option Told) → IfSome text (λ t. Ends Adds report_text status.NoMemory (report_over settings (lines_of t)) told told)
 ends_at_once settings None told = tt
-ends_at_once settings (Some script) told = ([], report_over settings (lines_of script), refl, adds_nothing told)
+ends_at_once settings (Some script) told = ([], report_over settings (lines_of script), refl, adds.nothing told)
 
 -- a fault while a line is read
-pub ends_at_line : (settings : Settings) (text come come' : Option (List ℕ)) (old new : Option Told) (number number' : ℕ) (ended : Bool) (watched : WatchState) (fault : LineFault) → Progress settings text come old new number ended watched → WhereTold come come' (ReadsLine Trial number number' (Err fault)) → IfSome text (λ t. Ends report_text (of_line_fault fault) (report_over settings (lines_of t)) old new)
+pub ends_at_line : (settings : Settings) (text come come' : Option (List ℕ)) (old new : Option Told) (number number' : ℕ) (ended : Bool) (watched : WatchState) (fault : LineFault) → Progress settings text come old new number ended watched → WhereTold come come' (ReadsLine Trial number number' (Err fault)) → IfSome text (λ t. Ends Adds report_text (of_line_fault fault) (report_over settings (lines_of t)) old new)
 ends_at_line settings None come come' old new number number' ended watched fault p read = tt
 ends_at_line settings (Some t) None come' old new number number' ended watched fault p read = absurd p.remains
 ends_at_line settings (Some t) (Some octets) None old new number number' ended watched fault p read = absurd read
@@ -141,7 +141,7 @@ read_fault (Grammar n) e = absurd cc
 read_fault Read e = refl
 read_fault NoMemory e = absurd cc
 
-ends_front : (fault : Unsent) (lines : List ReportLine) (old new : Option Told) → SendsUpTo report_text fault lines old new → Ends report_text (of_unsent fault) lines old new
+ends_front : (fault : Unsent) (lines : List ReportLine) (old new : Option Told) → SendsUpTo Adds report_text fault lines old new → Ends Adds report_text (of_unsent fault) lines old new
 ends_front unsent.Lost lines old new h = h
 ends_front unsent.NoMemory lines old new h = h
 
@@ -157,7 +157,7 @@ remains_next lines number number' line script octets rest r (next, is) =
     }
 
 -- a fault while the moves of a line go out
-pub ends_at_event : (settings : Settings) (text come come' : Option (List ℕ)) (old new new' : Option Told) (number number' : ℕ) (ended : Bool) (watched : WatchState) (line : Line) (fault : Unsent) → Progress settings text come old new number ended watched → WhereTold come come' (ReadsLine Trial number number' (Ok (Some line))) → ((later : List Incident) → HasSeen (first_point settings) later watched → SendsTransitions {A = Unit {0}} (Err fault) (first_point settings) later (looks_after line.moment line.input (first_point settings) later) new new') → IfSome text (λ t. Ends report_text (of_unsent fault) (report_over settings (lines_of t)) old new')
+pub ends_at_event : (settings : Settings) (text come come' : Option (List ℕ)) (old new new' : Option Told) (number number' : ℕ) (ended : Bool) (watched : WatchState) (line : Line) (fault : Unsent) → Progress settings text come old new number ended watched → WhereTold come come' (ReadsLine Trial number number' (Ok (Some line))) → ((later : List Incident) → HasSeen (first_point settings) later watched → SendsTransitions {A = Unit {0}} Adds (Err fault) (first_point settings) later (looks_after line.moment line.input (first_point settings) later) new new') → IfSome text (λ t. Ends Adds report_text (of_unsent fault) (report_over settings (lines_of t)) old new')
 ends_at_event settings None come come' old new new' number number' ended watched line fault p read sends = tt
 ends_at_event settings (Some t) None come' old new new' number number' ended watched line fault p read sends = absurd p.remains
 ends_at_event settings (Some t) (Some octets) None old new new' number number' ended watched line fault p read sends = absurd read
@@ -170,11 +170,11 @@ ends_at_event settings (Some t) (Some octets) (Some rest) old new new' number nu
     let front = report_front settings (p.lines ++ line ∷ []) number' t rest (looks_after line.moment line.input first p.later) points next in
     let all = front.1 ∙ ap (λ l. l ++ front.0) event.1 in
     ends_front fault (report_over settings (lines_of t)) old new'
-    (subst (λ lines. SendsUpTo report_text fault lines old new') (sym all)
-    (front_more report_text fault old new' (before ++ event.0) front.0 (front_then report_text fault old new new' before event.0 p.out event.2)))
+    (subst (λ lines. SendsUpTo Adds report_text fault lines old new') (sym all)
+    (front_more Adds report_text fault old new' (before ++ event.0) front.0 (front_then Adds adds report_text fault old new new' before event.0 p.out event.2)))
 
 -- one more line
-pub goes_on : (settings : Settings) (text come come' : Option (List ℕ)) (old new new' : Option Told) (number number' : ℕ) (ended ended' : Bool) (watched watched' : WatchState) (line : Line) → Progress settings text come old new number ended watched → WhereTold come come' (ReadsLine Trial number number' (Ok (Some line))) → (ended' ≡ false → ended ≡ false) → (ended' ≡ false → WhereTold come come' (TakesLines number number')) → ((later : List Incident) → HasSeen (first_point settings) later watched → HasSeen (first_point settings) (looks_after line.moment line.input (first_point settings) later) watched') → ((later : List Incident) → HasSeen (first_point settings) later watched → SendsTransitions {A = Unit {0}} (Ok tt) (first_point settings) later (looks_after line.moment line.input (first_point settings) later) new new') → Progress settings text come' old new' number' ended' watched'
+pub goes_on : (settings : Settings) (text come come' : Option (List ℕ)) (old new new' : Option Told) (number number' : ℕ) (ended ended' : Bool) (watched watched' : WatchState) (line : Line) → Progress settings text come old new number ended watched → WhereTold come come' (ReadsLine Trial number number' (Ok (Some line))) → (ended' ≡ false → ended ≡ false) → (ended' ≡ false → WhereTold come come' (TakesLines number number')) → ((later : List Incident) → HasSeen (first_point settings) later watched → HasSeen (first_point settings) (looks_after line.moment line.input (first_point settings) later) watched') → ((later : List Incident) → HasSeen (first_point settings) later watched → SendsTransitions {A = Unit {0}} Adds (Ok tt) (first_point settings) later (looks_after line.moment line.input (first_point settings) later) new new') → Progress settings text come' old new' number' ended' watched'
 goes_on settings text come come' old new new' number number' ended ended' watched watched' line p read stays taken seen sends =
     let first = first_point settings in
     let event = sends p.later p.seen in
@@ -184,7 +184,7 @@ goes_on settings text come come' old new new' number number' ended ended' watche
       later = looks_after line.moment line.input first p.later;
       points = looks_over-next first [] p.later p.lines line p.points;
       seen = seen p.later p.seen;
-      out = subst (λ lines. Adds old new' (sent report_text lines)) (sym event.1) (sent_then report_text old new new' before event.0 p.out event.2);
+      out = subst (λ lines. Adds old new' (sent report_text lines)) (sym event.1) (sent_then Adds adds report_text old new new' before event.0 p.out event.2);
       remains = where_then text come come' (Remains p.lines number) (ReadsLine Trial number number' (Ok (Some line))) (Remains (p.lines ++ line ∷ []) number')
           (λ script octets rest r q. remains_next p.lines number number' line script octets rest r q) p.remains read;
       whole = λ e. where_then text come come' (TakesLines 0 number) (TakesLines number number') (TakesLines 0 number')
@@ -200,13 +200,13 @@ report_end settings octets script number number' lines later points r next =
     ∙ (ap (λ o. moves ++ end_by o (number + length (lines_of octets))) h.refused ∙ ap (λ n. moves ++ TrialEnd n ∷ []) h.count)
 
 -- the script's end
-pub ends : (settings : Settings) (text come come' : Option (List ℕ)) (old new new' : Option Told) (number number' : ℕ) (ended : Bool) (watched : WatchState) → Progress settings text come old new number ended watched → WhereTold come come' (ReadsLine Trial number number' (Ok None)) → Adds new new' (sent report_text (TrialEnd number' ∷ [])) → IfSome text (λ t. Ends report_text status.Done (report_over settings (lines_of t)) old new')
+pub ends : (settings : Settings) (text come come' : Option (List ℕ)) (old new new' : Option Told) (number number' : ℕ) (ended : Bool) (watched : WatchState) → Progress settings text come old new number ended watched → WhereTold come come' (ReadsLine Trial number number' (Ok None)) → Adds new new' (sent report_text (TrialEnd number' ∷ [])) → IfSome text (λ t. Ends Adds report_text status.Done (report_over settings (lines_of t)) old new')
 ends settings None come come' old new new' number number' ended watched p read last = tt
 ends settings (Some t) None come' old new new' number number' ended watched p read last = absurd p.remains
 ends settings (Some t) (Some octets) None old new new' number number' ended watched p read last = absurd read
 ends settings (Some t) (Some octets) (Some rest) old new new' number number' ended watched p read last =
     let all = report_end settings octets t number number' p.lines p.later p.points p.remains read.0 in
-    subst (λ lines. Adds old new' (sent report_text lines)) (sym all) (sent_then report_text old new new' (transitions_of (first_point settings) p.later) (TrialEnd number' ∷ []) p.out last)
+    subst (λ lines. Adds old new' (sent report_text lines)) (sym all) (sent_then Adds adds report_text old new new' (transitions_of (first_point settings) p.later) (TrialEnd number' ∷ []) p.out last)
 
 -- at its end, every line of the script is in the grammar
 pub accepts : (settings : Settings) (text come come' : Option (List ℕ)) (old new : Option Told) (number number' : ℕ) (ended : Bool) (watched : WatchState) → Progress settings text come old new number ended watched → WhereTold come come' (ReadsLine Trial number number' (Ok None)) → IfSome text (λ t. refused_line Trial t ≡ None)
@@ -217,17 +217,17 @@ accepts settings (Some t) (Some octets) (Some rest) old new number number' ended
     p.remains.refused ∙ (spells_none Trial (lines_of octets) number number' read.0).refused
 
 -- a fault while the last line goes out
-pub ends_at_end : (settings : Settings) (text come come' : Option (List ℕ)) (old new new' : Option Told) (number number' : ℕ) (ended : Bool) (watched : WatchState) (fault : Unsent) → Progress settings text come old new number ended watched → WhereTold come come' (ReadsLine Trial number number' (Ok None)) → SendsUpTo report_text fault (TrialEnd number' ∷ []) new new' → IfSome text (λ t. Ends report_text (of_unsent fault) (report_over settings (lines_of t)) old new')
+pub ends_at_end : (settings : Settings) (text come come' : Option (List ℕ)) (old new new' : Option Told) (number number' : ℕ) (ended : Bool) (watched : WatchState) (fault : Unsent) → Progress settings text come old new number ended watched → WhereTold come come' (ReadsLine Trial number number' (Ok None)) → SendsUpTo Adds report_text fault (TrialEnd number' ∷ []) new new' → IfSome text (λ t. Ends Adds report_text (of_unsent fault) (report_over settings (lines_of t)) old new')
 ends_at_end settings None come come' old new new' number number' ended watched fault p read last = tt
 ends_at_end settings (Some t) None come' old new new' number number' ended watched fault p read last = absurd p.remains
 ends_at_end settings (Some t) (Some octets) None old new new' number number' ended watched fault p read last = absurd read
 ends_at_end settings (Some t) (Some octets) (Some rest) old new new' number number' ended watched fault p read last =
     let all = report_end settings octets t number number' p.lines p.later p.points p.remains read.0 in
     ends_front fault (report_over settings (lines_of t)) old new'
-    (subst (λ lines. SendsUpTo report_text fault lines old new') (sym all) (front_then report_text fault old new new' (transitions_of (first_point settings) p.later) (TrialEnd number' ∷ []) p.out last))
+    (subst (λ lines. SendsUpTo Adds report_text fault lines old new') (sym all) (front_then Adds adds report_text fault old new new' (transitions_of (first_point settings) p.later) (TrialEnd number' ∷ []) p.out last))
 
 -- the source failed: the lines that were taken are those of the whole lines that were read
-stops_where : (settings : Settings) (t octets rest pending : List ℕ) (old new : Option Told) (number number' : ℕ) (lines : List Line) (later : List Incident) → later ≡ looks_over (first_point settings) [] lines → Adds old new (sent report_text (transitions_of (first_point settings) later)) → Remains lines number t octets → next_in Trial number' (lines_of (pending ++ rest)) ≡ next_in Trial number (lines_of octets) → TakesLines 0 number' t (pending ++ rest) → position is_line_feed pending ≡ None → StopsReading report_text (front_transitions settings) Trial t rest old new
+stops_where : (settings : Settings) (t octets rest pending : List ℕ) (old new : Option Told) (number number' : ℕ) (lines : List Line) (later : List Incident) → later ≡ looks_over (first_point settings) [] lines → Adds old new (sent report_text (transitions_of (first_point settings) later)) → Remains lines number t octets → next_in Trial number' (lines_of (pending ++ rest)) ≡ next_in Trial number (lines_of octets) → TakesLines 0 number' t (pending ++ rest) → position is_line_feed pending ≡ None → StopsReading Adds report_text (front_transitions settings) Trial t rest old new
 stops_where settings t octets rest pending old new number number' lines later points out r next taken no_feed =
     let h = spells_same Trial number' number (lines_of (pending ++ rest)) (lines_of octets) next in
     let parts : lines_of t ≡ lines_of taken.taken ++ lines_of (pending ++ rest) = ap lines_of taken.front ∙ lines_of-whole taken.taken (pending ++ rest) taken.whole in
@@ -247,7 +247,7 @@ stops_where settings t octets rest pending old new number number' lines later po
       emitted = subst (λ lines. Adds old new (sent report_text lines)) moves out;
     }
 
-pub stops_reading : (settings : Settings) (text come left : Option (List ℕ)) (pending : List ℕ) (old new : Option Told) (number number' : ℕ) (ended ended' : Bool) (watched : WatchState) → Progress settings text come old new number ended watched → WhereTold come (prepend_known pending left) (ReadsLine Trial number number' (Err Read)) → (ended' ≡ false → ended ≡ false) → (ended' ≡ false → WhereTold come (prepend_known pending left) (TakesLines number number')) → (ended' ≡ false) × (position is_line_feed pending ≡ None) → WhereTold text left (λ t rest. StopsReading report_text (front_transitions settings) Trial t rest old new)
+pub stops_reading : (settings : Settings) (text come left : Option (List ℕ)) (pending : List ℕ) (old new : Option Told) (number number' : ℕ) (ended ended' : Bool) (watched : WatchState) → Progress settings text come old new number ended watched → WhereTold come (prepend_known pending left) (ReadsLine Trial number number' (Err Read)) → (ended' ≡ false → ended ≡ false) → (ended' ≡ false → WhereTold come (prepend_known pending left) (TakesLines number number')) → (ended' ≡ false) × (position is_line_feed pending ≡ None) → WhereTold text left (λ t rest. StopsReading Adds report_text (front_transitions settings) Trial t rest old new)
 stops_reading settings None come left pending old new number number' ended ended' watched p read stays taken waits = tt
 stops_reading settings (Some t) None left pending old new number number' ended ended' watched p read stays taken waits = absurd p.remains
 stops_reading settings (Some t) (Some octets) None pending old new number number' ended ended' watched p read stays taken waits = absurd read

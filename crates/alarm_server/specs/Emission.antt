@@ -3,11 +3,33 @@ use Rattle.std.specs.Prelude.{◌≡◌, ℕ, List, [], ◌∷◌, ◌++◌, map
 use Rattle.bac_values.specs.Address.{console}
 use Rattle.ground_io.specs.declared.entry.Entry.{Entry}
 use Rattle.ground_io.specs.declared.entry.Entry.TheVariants as entry
+use Rattle.ground_io.specs.Sent.{emissions}
 use Rattle.ground_io.specs.Trace.{Told, Adds}
 use Rattle.alarm_server.specs.declared.emission.Unsent.{Unsent}
 use Rattle.alarm_server.specs.declared.emission.Unsent.TheVariants.{Lost, NoMemory}
 use Rattle.alarm_server.specs.declared.status.Status.{Status}
 use Rattle.alarm_server.specs.declared.status.Status.TheVariants as status
+
+-- These emissions came, in this order, and between them the disk may have been written and synced.
+abbrev pub Emits : Option Told → Option Told → List Entry → Type 0
+Emits old new entries = (more : List Entry) × Adds old new more × (emissions more ≡ entries)
+
+-- all of these entries are emissions, lost ones too
+abbrev pub AreEmissions : List Entry → Type 0
+AreEmissions [] = Unit {0}
+AreEmissions (entry.Wrote place octets ∷ entries) = ⊥
+AreEmissions (entry.Broke place tried left ∷ entries) = ⊥
+AreEmissions (entry.Synced ∷ entries) = ⊥
+AreEmissions (entry.Emitted peer octets ∷ entries) = AreEmissions entries
+AreEmissions (entry.Lost peer octets ∷ entries) = AreEmissions entries
+
+-- the disk was neither written nor synced
+abbrev pub LeavesDisk : Option Told → Option Told → Type 0
+LeavesDisk old new = (more : List Entry) × Adds old new more × AreEmissions more
+
+-- How what went out shows in what a ground tells before and after: by `Adds` where nothing else happened to it, by `Emits` where its disk may have been written as well.
+abbrev pub Going : Type 1
+Going = Option Told → Option Told → List Entry → Type 0
 
 -- pieces that went out
 abbrev pub sent : {X : Type 0} → (X → List ℕ) → List X → List Entry
@@ -18,30 +40,30 @@ abbrev pub lost : {X : Type 0} → (X → List ℕ) → X → List Entry
 lost text piece = entry.Lost console (text piece) ∷ []
 
 -- a front of these pieces went out, and no more of them
-abbrev pub SendsFront : {X : Type 0} → (X → List ℕ) → List X → Option Told → Option Told → Type 0
-SendsFront {X} text pieces old new = (front : List X) × (back : List X) × (pieces ≡ front ++ back) × Adds old new (sent text front)
+abbrev pub SendsFront : {X : Type 0} → Going → (X → List ℕ) → List X → Option Told → Option Told → Type 0
+SendsFront {X} Goes text pieces old new = (front : List X) × (back : List X) × (pieces ≡ front ++ back) × Goes old new (sent text front)
 
 -- a front of these pieces went out, and the next one was lost
-abbrev pub LosesNext : {X : Type 0} → (X → List ℕ) → List X → Option Told → Option Told → Type 0
-LosesNext {X} text pieces old new =
-    (front : List X) × (next : X) × (back : List X) × (pieces ≡ front ++ next ∷ back) × Adds old new (sent text front ++ lost text next)
+abbrev pub LosesNext : {X : Type 0} → Going → (X → List ℕ) → List X → Option Told → Option Told → Type 0
+LosesNext {X} Goes text pieces old new =
+    (front : List X) × (next : X) × (back : List X) × (pieces ≡ front ++ next ∷ back) × Goes old new (sent text front ++ lost text next)
 
 -- these pieces were to go out, and something was in the way
-abbrev pub SendsUpTo : {X : Type 0} → (X → List ℕ) → Unsent → List X → Option Told → Option Told → Type 0
-SendsUpTo text Lost pieces old new = LosesNext text pieces old new
-SendsUpTo text NoMemory pieces old new = SendsFront text pieces old new
+abbrev pub SendsUpTo : {X : Type 0} → Going → (X → List ℕ) → Unsent → List X → Option Told → Option Told → Type 0
+SendsUpTo Goes text Lost pieces old new = LosesNext Goes text pieces old new
+SendsUpTo Goes text NoMemory pieces old new = SendsFront Goes text pieces old new
 
 -- these pieces were to go out, and they did, or something was in the way
-abbrev pub Sends : {X A : Type 0} → (X → List ℕ) → Result A Unsent → List X → Option Told → Option Told → Type 0
-Sends text (Ok x) pieces old new = Adds old new (sent text pieces)
-Sends text (Err fault) pieces old new = SendsUpTo text fault pieces old new
+abbrev pub Sends : {X A : Type 0} → Going → (X → List ℕ) → Result A Unsent → List X → Option Told → Option Told → Type 0
+Sends Goes text (Ok x) pieces old new = Goes old new (sent text pieces)
+Sends Goes text (Err fault) pieces old new = SendsUpTo Goes text fault pieces old new
 
 -- what a program that ended so has emitted of its report
-abbrev pub Ends : {X : Type 0} → (X → List ℕ) → Status → List X → Option Told → Option Told → Type 0
-Ends text status.Done pieces old new = Adds old new (sent text pieces)
-Ends text status.Usage pieces old new = Adds old new []
-Ends text (status.SiteRefused fault) pieces old new = Adds old new []
-Ends text (status.ScriptRefused line) pieces old new = Adds old new (sent text pieces)
-Ends text status.ReadFault pieces old new = SendsFront text pieces old new
-Ends text status.EmitFault pieces old new = LosesNext text pieces old new
-Ends text status.NoMemory pieces old new = SendsFront text pieces old new
+abbrev pub Ends : {X : Type 0} → Going → (X → List ℕ) → Status → List X → Option Told → Option Told → Type 0
+Ends Goes text status.Done pieces old new = Goes old new (sent text pieces)
+Ends Goes text status.Usage pieces old new = Goes old new []
+Ends Goes text (status.SiteRefused fault) pieces old new = Goes old new []
+Ends Goes text (status.ScriptRefused line) pieces old new = Goes old new (sent text pieces)
+Ends Goes text status.ReadFault pieces old new = SendsFront Goes text pieces old new
+Ends Goes text status.EmitFault pieces old new = LosesNext Goes text pieces old new
+Ends Goes text status.NoMemory pieces old new = SendsFront Goes text pieces old new

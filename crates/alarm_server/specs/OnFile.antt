@@ -1,6 +1,6 @@
 -- A session on a site's file: what goes out, what is accepted, and where one of its sources stops being read. The sources are seen by their octets, where they tell them.
 use Rattle.std.specs.Prelude.{◌≡◌, ◌≢◌, ◌⊎◌, ℕ, Option, None, Result, Ok, Err, List, [], IfSome, IsOk}
-use Rattle.ground_io.specs.Trace.{Told, Adds, WhereTold}
+use Rattle.ground_io.specs.Trace.{Told, WhereTold}
 use Rattle.script_lines.specs.declared.line.Grammar.TheVariants as grammar
 use Rattle.alarm_core.specs.declared.site.Site.{Site}
 use Rattle.site_config.specs.declared.fault.SiteFault.{SiteFault}
@@ -8,20 +8,20 @@ use Rattle.site_config.specs.declared.fault.SiteFault.TheVariants as site_fault
 use Rattle.site_config.specs.Sites.{site_of}
 use Rattle.alarm_server.specs.declared.status.Status.{Status}
 use Rattle.alarm_server.specs.declared.status.Status.TheVariants.{SiteRefused, ReadFault, NoMemory}
-use Rattle.alarm_server.specs.Emission.{Ends}
+use Rattle.alarm_server.specs.Emission.{Going, Ends}
 use Rattle.alarm_server.specs.Report.{front_pieces, report_of}
 use Rattle.alarm_server.specs.Script.{refused_line}
 use Rattle.alarm_server.specs.Pieces.{piece_text}
 use Rattle.alarm_server.specs.Stopping.{StopsReading}
 
 -- What went out, by the site that the file's text is: its report from no event on. Where the text is no site nothing went out, and the session ended with the text's fault, or before it was found.
-abbrev pub EndsOnSite : Status → Result Site SiteFault → List ℕ → Option Told → Option Told → Type 0
-EndsOnSite ended (Ok site) script old new = Ends piece_text ended (report_of site [] script) old new
-EndsOnSite ended (Err fault) script old new =
-    ((ended ≡ SiteRefused fault) ⊎ ((ended ≡ ReadFault) ⊎ (ended ≡ NoMemory))) × Adds old new []
+abbrev pub EndsOnSite : Going → Status → Result Site SiteFault → List ℕ → Option Told → Option Told → Type 0
+EndsOnSite Goes ended (Ok site) script old new = Ends Goes piece_text ended (report_of site [] script) old new
+EndsOnSite Goes ended (Err fault) script old new =
+    ((ended ≡ SiteRefused fault) ⊎ ((ended ≡ ReadFault) ⊎ (ended ≡ NoMemory))) × Goes old new []
 
-abbrev pub EndsOnFile : Status → Option (List ℕ) → Option (List ℕ) → Option Told → Option Told → Type 0
-EndsOnFile ended site script old new = IfSome site (λ octets. IfSome script (λ text. EndsOnSite ended (site_of octets) text old new))
+abbrev pub EndsOnFile : Going → Status → Option (List ℕ) → Option (List ℕ) → Option Told → Option Told → Type 0
+EndsOnFile Goes ended site script old new = IfSome site (λ octets. IfSome script (λ text. EndsOnSite Goes ended (site_of octets) text old new))
 
 -- the file's text is a site, and every line of the script is in the grammar
 abbrev pub AcceptsOnFile : Option (List ℕ) → Option (List ℕ) → Type 0
@@ -32,12 +32,12 @@ abbrev pub RefusesFile : Option (List ℕ) → SiteFault → Type 0
 RefusesFile site fault = (fault ≢ site_fault.NoMemory) × IfSome site (λ octets. site_of octets ≡ Err fault)
 
 -- the script of a session of this site stopped being read, and what its whole lines give went out; there is no session where the text is no site
-abbrev pub StopsInScript : Result Site SiteFault → List ℕ → List ℕ → Option Told → Option Told → Type 0
-StopsInScript (Ok site) script rest old new = StopsReading piece_text (front_pieces site []) grammar.Session script rest old new
-StopsInScript (Err fault) script rest old new = ⊥
+abbrev pub StopsInScript : Going → Result Site SiteFault → List ℕ → List ℕ → Option Told → Option Told → Type 0
+StopsInScript Goes (Ok site) script rest old new = StopsReading Goes piece_text (front_pieces site []) grammar.Session script rest old new
+StopsInScript Goes (Err fault) script rest old new = ⊥
 
 -- either the file failed, and nothing went out; or the script did
-abbrev pub StopsOnFile : Type 0 → Type 0 → Option (List ℕ) → Option (List ℕ) → Option (List ℕ) → Option Told → Option Told → Type 0
-StopsOnFile FileFailed ScriptFailed site script rest old new =
-    (FileFailed × Adds old new [])
-    ⊎ (ScriptFailed × IfSome site (λ octets. WhereTold script rest (λ text rest. StopsInScript (site_of octets) text rest old new)))
+abbrev pub StopsOnFile : Going → Type 0 → Type 0 → Option (List ℕ) → Option (List ℕ) → Option (List ℕ) → Option Told → Option Told → Type 0
+StopsOnFile Goes FileFailed ScriptFailed site script rest old new =
+    (FileFailed × Goes old new [])
+    ⊎ (ScriptFailed × IfSome site (λ octets. WhereTold script rest (λ text rest. StopsInScript Goes (site_of octets) text rest old new)))

@@ -10,7 +10,7 @@ use Rattle.site_config.specs.Sites.{site_of}
 use Rattle.alarm_server.specs.declared.command.Command.{Command}
 use Rattle.alarm_server.specs.declared.command.Command.TheVariants.{Trial, Session, Workload}
 use Rattle.alarm_server.specs.declared.status.Status.{Status}
-use Rattle.alarm_server.specs.Emission.{Ends}
+use Rattle.alarm_server.specs.Emission.{Emits, Ends, LeavesDisk}
 use Rattle.alarm_server.specs.OnFile.{AcceptsOnFile, EndsOnFile, RefusesFile, StopsOnFile}
 use Rattle.alarm_server.specs.Script.{refused_line}
 use Rattle.alarm_server.specs.Stopping.{StopsReading}
@@ -19,9 +19,9 @@ use Rattle.alarm_server.specs.Workloads.{AcceptsGenerated, RefusesGenerated, Ref
 
 -- what went out of the report; nothing where the words are of no form
 abbrev pub EndsAs : Option Command → Status → Option (List ℕ) → Option (List ℕ) → Option Told → Option Told → Type 0
-EndsAs (Some (Trial settings)) ended site script old new = IfSome script (λ text. Ends report_text ended (report_over settings (lines_of text)) old new)
-EndsAs (Some Session) ended site script old new = EndsOnFile ended site script old new
-EndsAs (Some (Workload seed count)) ended site script old new = Ends report_text ended (summary_of seed count) old new
+EndsAs (Some (Trial settings)) ended site script old new = IfSome script (λ text. Ends Adds report_text ended (report_over settings (lines_of text)) old new)
+EndsAs (Some Session) ended site script old new = EndsOnFile Emits ended site script old new
+EndsAs (Some (Workload seed count)) ended site script old new = Ends Adds report_text ended (summary_of seed count) old new
 EndsAs None ended site script old new = Adds old new []
 
 -- the script was read to its end; a workload has none
@@ -55,8 +55,8 @@ RefusesSiteAs None site fault = ⊥
 -- where a source failed: what the lines give went out whose line feeds were read
 abbrev pub StopsAs : Option Command → Type 0 → Type 0 → Option (List ℕ) → Option (List ℕ) → Option (List ℕ) → Option Told → Option Told → Type 0
 StopsAs (Some (Trial settings)) SiteFailed ScriptFailed site script rest old new =
-    ScriptFailed × WhereTold script rest (λ text rest. StopsReading report_text (front_transitions settings) grammar.Trial text rest old new)
-StopsAs (Some Session) SiteFailed ScriptFailed site script rest old new = StopsOnFile SiteFailed ScriptFailed site script rest old new
+    ScriptFailed × WhereTold script rest (λ text rest. StopsReading Adds report_text (front_transitions settings) grammar.Trial text rest old new)
+StopsAs (Some Session) SiteFailed ScriptFailed site script rest old new = StopsOnFile Emits SiteFailed ScriptFailed site script rest old new
 StopsAs (Some (Workload seed count)) SiteFailed ScriptFailed site script rest old new = ⊥
 StopsAs None SiteFailed ScriptFailed site script rest old new = ⊥
 
@@ -73,3 +73,10 @@ LeavesScript (Some (Trial settings)) site Same = ⊤
 LeavesScript (Some Session) site Same = IfSome site (λ octets. OnErr (site_of octets) Same)
 LeavesScript (Some (Workload seed count)) site Same = Same
 LeavesScript None site Same = Same
+
+-- A session leaves the disk alone. Of the others, what goes out is all that happens to the ground.
+abbrev pub LeavesDiskAs : Option Command → Option Told → Option Told → Type 0
+LeavesDiskAs (Some Session) old new = LeavesDisk old new
+LeavesDiskAs (Some (Trial settings)) old new = ⊤
+LeavesDiskAs (Some (Workload seed count)) old new = ⊤
+LeavesDiskAs None old new = ⊤

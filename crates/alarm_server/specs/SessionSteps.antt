@@ -1,13 +1,13 @@
 -- A session, line by line: what each line comes to, and the pieces of the report.
-use Rattle.std.specs.Prelude.{ℕ, ◌+◌, Option, Some, None, List, [], ◌∷◌, ◌++◌, length}
+use Rattle.std.specs.Prelude.{ℕ, Option, Some, None, List, [], ◌∷◌, ◌++◌, length}
 use Rattle.bac_values.specs.declared.report.ReportLine.{ReportLine}
-use Rattle.bac_values.specs.declared.report.ReportLine.TheVariants as say
 use Rattle.script_lines.specs.declared.line.Grammar.TheVariants.{Session}
 use Rattle.script_lines.specs.declared.line.Line.{Line}
 use Rattle.script_lines.specs.Script.{lines_of}
 use Rattle.alarm_core.specs.declared.event.Event.{Event}
 use Rattle.alarm_core.specs.CoreSteps.{next_state}
 use Rattle.alarm_core.specs.State.{CoreState}
+use Rattle.alarm_server.specs.Pieces.{decision_for, event_in, open_piece, piece_of, session_end}
 use Rattle.alarm_server.specs.Script.{spelled_in, refused_in}
 
 abbrev pub state_by : CoreState → Option Event → CoreState

@@ -17,7 +17,7 @@ use Rattle.alarm_server.specs.declared.settings.Settings.{Settings}
 use Rattle.alarm_server.specs.declared.emission.Unsent.{Unsent}
 use Rattle.alarm_server.specs.Looks.{point_at, looks_after}
 use Rattle.alarm_server.specs.Script.{spelled_in, refused_in}
-use Rattle.alarm_server.specs.Emission.{Sends}
+use Rattle.alarm_server.specs.Emission.{Going, Sends}
 
 -- the first point is at the start of the year 2000, and the object's first value is its lower limit
 abbrev pub first_point : Settings → Point
@@ -59,6 +59,6 @@ abbrev pub front_transitions : Settings → List ℕ → List ReportLine
 front_transitions settings front = transitions_over settings (spelled_in Trial 0 (lines_of front))
 
 -- The transitions at the points that are new in a longer course were to go out, and they did, or something was in the way.
-abbrev pub SendsTransitions : {A : Type 0} → Result A Unsent → Point → List Incident → List Incident → Option Told → Option Told → Type 0
-SendsTransitions result first later more old new =
-    (lines : List ReportLine) × (transitions_of first more ≡ transitions_of first later ++ lines) × Sends report_text result lines old new
+abbrev pub SendsTransitions : {A : Type 0} → Going → Result A Unsent → Point → List Incident → List Incident → Option Told → Option Told → Type 0
+SendsTransitions Goes result first later more old new =
+    (lines : List ReportLine) × (transitions_of first more ≡ transitions_of first later ++ lines) × Sends Goes report_text result lines old new

@@ -1,6 +1,7 @@
 ghost use Rattle.std.specs.Prelude.{◌≡◌, ◌∷◌, [], IsErrOf};
 ghost use Rattle.script_lines.specs.Report.{report_text};
 ghost use Rattle.ground_io.specs.Counts.{HasCause};
+ghost use Rattle.ground_io.specs.Trace.{Adds};
 ghost use Rattle.alarm_server.specs.declared.emission.Unsent.TheVariants as unsent;
 ghost use Rattle.alarm_server.specs.Emission.{Sends};
 
@@ -36,7 +37,7 @@ impl From<Failed> for Unsent {
 
 /// Emits a line to the console.
 pub fn emit<G: Ground>(alloc: Global, device: &mut G, line: &ReportLine) -> Result<(), Unsent>
-    ensures sends { Sends report_text result (line.now ∷ []) (G.told device.old) (G.told device.new) }
+    ensures sends { Sends Adds report_text result (line.now ∷ []) (G.told device.old) (G.told device.new) }
     ensures size { G.size device.new ≡ G.size device.old }
     ensures disk { G.disk_faults device.new ≡ G.disk_faults device.old }
     ensures cause { HasCause (G.emit_faults device.old) (G.emit_faults device.new) (IsErrOf result Unsent.Lost) }

@@ -24,7 +24,9 @@ mod workload;
 use crate::paths::paths_of;
 use crate::run::run;
 use crate::status::Status;
+use crate::text::read_text;
 use ground_io::{FileGround, StdSource};
+use site_config::{SiteFault, line_of_refusal};
 use std::fs::File;
 use std::io::Read;
 use std::process::ExitCode;
@@ -88,20 +90,47 @@ fn ends_with(rt: &HostRuntime, status: Status) -> io::Result<ExitCode> {
     Ok(ExitCode::from(status.code()))
 }
 
-// Runs what the words ask for, with a site's text from a reader.
-fn run_with<R: Read + Drop>(rt: &HostRuntime, words: &[String], site: R) -> io::Result<ExitCode> {
+// Runs what the words ask for, with a site's text from a reader, and answers how that ended.
+fn run_with<R: Read + Drop>(rt: &HostRuntime, words: &[String], site: R) -> io::Result<Status> {
     let mut site = StdSource::new(site);
     let mut script = StdSource::new(rt.reader());
     let console = FileGround::new(None, io::writer(rt), None)?;
     let (console, status) = run(rt.alloc(), words, &mut site, &mut script, console);
     drop(console);
-    ends_with(rt, status)
+    Ok(status)
+}
+
+// The number of the line in which the reader of TOML refuses the text of a file, which is read once more.
+fn line_refused(rt: &HostRuntime, path: &str) -> Option<u32> {
+    let file = File::open(rt, path).ok()?;
+    let text = read_text(rt.alloc(), &mut StdSource::new(file)).ok()?;
+    line_of_refusal(rt.alloc(), text.as_slice())
+}
+
+// Says how a run on the file of that path ended, and in which line where the file is no TOML.
+fn ends_on_file(rt: &HostRuntime, path: &str, status: Status) -> io::Result<ExitCode> {
+    let not_toml = Status::SiteRefused {
+        fault: SiteFault::NotToml,
+    };
+    let line = if status == not_toml {
+        line_refused(rt, path)
+    } else {
+        None
+    };
+    let code = ends_with(rt, status)?;
+    if let Some(line) = line {
+        eprintln!(rt; "line {line}")?;
+    }
+    Ok(code)
 }
 
 // Runs what the words ask for, with the site's text from the file of that path.
 fn run_on_file(rt: &HostRuntime, words: &[String], path: &str) -> io::Result<ExitCode> {
     match File::open(rt, path) {
-        Ok(file) => run_with(rt, words, file),
+        Ok(file) => {
+            let status = run_with(rt, words, file)?;
+            ends_on_file(rt, path, status)
+        }
         Err(_refused) => {
             eprintln!(rt; "cannot open")?;
             Ok(ExitCode::from(1))
@@ -120,6 +149,9 @@ fn main(rt: HostRuntime) -> io::Result<ExitCode> {
     };
     match paths.site.and_then(|place| words.get(place)) {
         Some(path) => run_on_file(&rt, &words, path.as_str()),
-        None => run_with(&rt, &words, io::empty()),
+        None => {
+            let status = run_with(&rt, &words, io::empty())?;
+            ends_with(&rt, status)
+        }
     }
 }

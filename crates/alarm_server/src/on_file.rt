@@ -7,7 +7,7 @@ ghost use Rattle.alarm_core.specs.Sites.{IsSite};
 ghost use Rattle.site_config.specs.declared.fault.SiteFault.{SiteFault};
 ghost use Rattle.site_config.specs.Sites.{site_of};
 ghost use Rattle.alarm_server.specs.Causes.{HasCauseInEither};
-ghost use Rattle.alarm_server.specs.Emission.{Ends};
+ghost use Rattle.alarm_server.specs.Emission.{Emits, Ends, LeavesDisk};
 ghost use Rattle.alarm_server.specs.OnFile.{AcceptsOnFile, EndsOnFile, RefusesFile, StopsOnFile};
 ghost use Rattle.alarm_server.specs.Report.{front_pieces, report_of};
 ghost use Rattle.alarm_server.specs.Script.{refused_line};
@@ -47,14 +47,15 @@ pub fn play_site<T: Source, G: Ground>(
 ) -> Result<Tally, Status>
     requires site { IsSite site.now }
     ensures ends { IfSome (T.left script.old) (λ text.
-        Ends piece_text (status_of result) (report_of site.now [] text) (G.told device.old) (G.told device.new)) }
+        Ends Emits piece_text (status_of result) (report_of site.now [] text) (G.told device.old) (G.told device.new)) }
     ensures tally { IfOk result (λ tally. IfSome (T.left script.old) (λ text. tally ≡ tally_of (report_of site.now [] text))) }
     ensures to_end { OnOk result (IsAtEnd (T.left script.new)) }
     ensures accepted { OnOk result (IfSome (T.left script.old) (λ text. refused_line Session text ≡ None)) }
     ensures refused { (line : ℕ) → result ≡ Err (Status.ScriptRefused line) →
         IfSome (T.left script.old) (λ text. refused_line Session text ≡ Some line) }
     ensures stops { result ≡ Err Status.ReadFault → WhereTold (T.left script.old) (T.left script.new)
-        (λ text rest. StopsReading piece_text (front_pieces site.now []) Session text rest (G.told device.old) (G.told device.new)) }
+        (λ text rest. StopsReading Emits piece_text (front_pieces site.now []) Session text rest (G.told device.old) (G.told device.new)) }
+    ensures alone { LeavesDisk (G.told device.old) (G.told device.new) }
     ensures fault { IfErr result IsPlayFault }
     ensures size { G.size device.new ≡ G.size device.old }
     ensures disk { G.disk_faults device.new ≡ G.disk_faults device.old }
@@ -74,7 +75,7 @@ pub fn session<S: Source, T: Source, G: Ground>(
     device: &mut G,
 ) -> Result<(), Status>
     // What went out: the whole report of the site, or a front of it, as the status says.
-    ensures ends { EndsOnFile (status_of result) (S.left site.old) (T.left script.old) (G.told device.old) (G.told device.new) }
+    ensures ends { EndsOnFile Emits (status_of result) (S.left site.old) (T.left script.old) (G.told device.old) (G.told device.new) }
 
     // A session that is played to its end has a site, and no line that is refused.
     ensures to_end { OnOk result (IsAtEnd (T.left script.new)) }
@@ -87,10 +88,13 @@ pub fn session<S: Source, T: Source, G: Ground>(
     ensures unread { IfSome (S.left site.old) (λ octets. OnErr (site_of octets) (script.new ≡ script.old)) }
 
     // With ReadFault either the site's source failed and nothing else was done, or the script's failed.
-    ensures stops { result ≡ Err Status.ReadFault → StopsOnFile
+    ensures stops { result ≡ Err Status.ReadFault → StopsOnFile Emits
         ((script.new ≡ script.old) × Rose (S.faults site.old) (S.faults site.new))
         (Rose (T.faults script.old) (T.faults script.new))
         (S.left site.old) (T.left script.old) (T.left script.new) (G.told device.old) (G.told device.new) }
+
+    // The disk is left alone.
+    ensures alone { LeavesDisk (G.told device.old) (G.told device.new) }
     ensures fault { IfErr result IsFault }
     ensures size { G.size device.new ≡ G.size device.old }
     ensures disk { G.disk_faults device.new ≡ G.disk_faults device.old }

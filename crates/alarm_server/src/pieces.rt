@@ -1,5 +1,6 @@
 ghost use Rattle.std.specs.Prelude.{◌≡◌, ◌∷◌, [], IfOk, IsErrOf};
 ghost use Rattle.ground_io.specs.Counts.{HasCause};
+ghost use Rattle.ground_io.specs.Trace.{Adds};
 ghost use Rattle.alarm_server.specs.Emission.{Sends};
 ghost use Rattle.alarm_server.specs.Pieces.{piece_text};
 
@@ -26,7 +27,7 @@ pub fn emit_piece<G: Ground>(
     device: &mut G,
     piece: &[ReportLine],
 ) -> Result<(), Unsent>
-    ensures sends { Sends piece_text result (piece.now ∷ []) (G.told device.old) (G.told device.new) }
+    ensures sends { Sends Adds piece_text result (piece.now ∷ []) (G.told device.old) (G.told device.new) }
     ensures size { G.size device.new ≡ G.size device.old }
     ensures disk { G.disk_faults device.new ≡ G.disk_faults device.old }
     ensures cause { HasCause (G.emit_faults device.old) (G.emit_faults device.new) (IsErrOf result Unsent.Lost) }

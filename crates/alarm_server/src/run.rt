@@ -3,7 +3,7 @@ ghost use Rattle.ground_io.specs.Counts.{HasCause, Rose};
 ghost use Rattle.site_config.specs.declared.fault.SiteFault.{SiteFault};
 ghost use Rattle.alarm_server.specs.Causes.{HasCauseInEither};
 ghost use Rattle.alarm_server.specs.Commands.{command_of};
-ghost use Rattle.alarm_server.specs.Outcomes.{AcceptsAs, EndsAs, LeavesScript, LeavesSite, ReadsToEnd, RefusesAs, RefusesSiteAs, StopsAs};
+ghost use Rattle.alarm_server.specs.Outcomes.{AcceptsAs, EndsAs, LeavesDiskAs, LeavesScript, LeavesSite, ReadsToEnd, RefusesAs, RefusesSiteAs, StopsAs};
 ghost use Rattle.alarm_server.specs.Status.{IsFault, status_of};
 
 use crate::command::{Command, read_command};
@@ -33,6 +33,7 @@ fn carry_out<S: Source, T: Source, G: Ground>(
         (S.left site.old) (T.left script.old) (T.left script.new) (G.told device.old) (G.told device.new) }
     ensures site { LeavesSite (Some command.now) (site.new ≡ site.old) }
     ensures unread { LeavesScript (Some command.now) (S.left site.old) (script.new ≡ script.old) }
+    ensures alone { LeavesDiskAs (Some command.now) (G.told device.old) (G.told device.new) }
     ensures fault { IfErr result IsFault }
     ensures size { G.size device.new ≡ G.size device.old }
     ensures disk { G.disk_faults device.new ≡ G.disk_faults device.old }
@@ -93,6 +94,7 @@ pub fn run<S: Source, T: Source, G: Ground>(
     ensures emit_cause { HasCause (G.emit_faults device) (G.emit_faults result.0) (result.1 ≡ Status.EmitFault) }
 
     // The disk is left alone.
+    ensures alone { LeavesDiskAs (command_of (map string_bytes words.now)) (G.told device) (G.told result.0) }
     ensures size { G.size result.0 ≡ G.size device }
     ensures disk { G.disk_faults result.0 ≡ G.disk_faults device }
 {

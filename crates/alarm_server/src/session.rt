@@ -2,14 +2,14 @@ ghost use Rattle.std.specs.Prelude.{◌≡◌, ℕ, ◌<◌, ◌^◌, ◌∷◌,
 ghost use Rattle.std.specs.Io.KnownBytes.{IsAtEnd};
 ghost use Rattle.bac_values.specs.Moments.{IsMoment};
 ghost use Rattle.ground_io.specs.Counts.{HasCause};
-ghost use Rattle.ground_io.specs.Trace.{WhereTold};
+ghost use Rattle.ground_io.specs.Trace.{Adds, WhereTold};
 ghost use Rattle.script_lines.specs.declared.line.Grammar.TheVariants.{Session};
 ghost use Rattle.script_lines.specs.Script.{lines_of};
 ghost use Rattle.alarm_core.specs.Allowed.{IsAllowed};
 ghost use Rattle.alarm_core.specs.History.{moved_by, raised};
 ghost use Rattle.alarm_core.specs.CoreSteps.{next_sends, next_state, next_transitions};
 ghost use Rattle.alarm_core.specs.Verdicts.{Answers, step_verdict};
-ghost use Rattle.alarm_server.specs.Emission.{Ends, Sends};
+ghost use Rattle.alarm_server.specs.Emission.{Emits, Ends, LeavesDisk, Sends};
 ghost use Rattle.alarm_server.specs.Script.{refused_line, spelled_in};
 ghost use Rattle.alarm_server.specs.SessionSteps.{session_over, state_by, state_front, state_over, state_with};
 ghost use Rattle.alarm_server.specs.Pieces.{end_piece, event_in, open_piece, piece_by, piece_of, piece_text, reply_lines, send_line};
@@ -178,7 +178,8 @@ fn play_line<G: Ground>(
     requires moment { IsMoment line.now.moment }
     ensures state { OnOk result (core.new ≡ state_with core.old line.now) }
     ensures tally { OnOk result (tally.new ≡ tally_with (piece_of core.old line.now) tally.old) }
-    ensures sends { Sends piece_text result (piece_of core.old line.now ∷ []) (G.told device.old) (G.told device.new) }
+    ensures sends { Sends Emits piece_text result (piece_of core.old line.now ∷ []) (G.told device.old) (G.told device.new) }
+    ensures alone { LeavesDisk (G.told device.old) (G.told device.new) }
     ensures size { G.size device.new ≡ G.size device.old }
     ensures disk { G.disk_faults device.new ≡ G.disk_faults device.old }
     ensures cause { HasCause (G.emit_faults device.old) (G.emit_faults device.new) (IsErrOf result Unsent.Lost) }
@@ -190,7 +191,7 @@ fn play_line<G: Ground>(
 
 // Emits the first piece.
 fn begin<G: Ground>(alloc: Global, core: &Core, device: &mut G) -> Result<(), Unsent>
-    ensures sends { Sends piece_text result (open_piece core.now ∷ []) (G.told device.old) (G.told device.new) }
+    ensures sends { Sends Adds piece_text result (open_piece core.now ∷ []) (G.told device.old) (G.told device.new) }
     ensures size { G.size device.new ≡ G.size device.old }
     ensures disk { G.disk_faults device.new ≡ G.disk_faults device.old }
     ensures cause { HasCause (G.emit_faults device.old) (G.emit_faults device.new) (IsErrOf result Unsent.Lost) }
@@ -202,7 +203,7 @@ fn begin<G: Ground>(alloc: Global, core: &Core, device: &mut G) -> Result<(), Un
 
 // Emits the last piece.
 fn end<G: Ground>(alloc: Global, device: &mut G, lines: u64, core: &Core) -> Result<(), Unsent>
-    ensures sends { Sends piece_text result (end_piece lines core.now ∷ []) (G.told device.old) (G.told device.new) }
+    ensures sends { Sends Adds piece_text result (end_piece lines core.now ∷ []) (G.told device.old) (G.told device.new) }
     ensures size { G.size device.new ≡ G.size device.old }
     ensures disk { G.disk_faults device.new ≡ G.disk_faults device.old }
     ensures cause { HasCause (G.emit_faults device.old) (G.emit_faults device.new) (IsErrOf result Unsent.Lost) }
@@ -221,7 +222,7 @@ pub fn play_session<T: Source, G: Ground>(
     device: &mut G,
 ) -> Result<Tally, Status>
     ensures ends { IfSome (T.left script.old) (λ text.
-        Ends piece_text (status_of result) (session_over core.old (lines_of text)) (G.told device.old) (G.told device.new)) }
+        Ends Emits piece_text (status_of result) (session_over core.old (lines_of text)) (G.told device.old) (G.told device.new)) }
     ensures tally { IfOk result (λ tally. IfSome (T.left script.old) (λ text. tally ≡ tally_of (session_over core.old (lines_of text)))) }
     ensures state { OnOk result (IfSome (T.left script.old) (λ text. core.new ≡ state_over core.old (spelled_in Session 0 (lines_of text)))) }
     ensures to_end { OnOk result (IsAtEnd (T.left script.new)) }
@@ -229,7 +230,8 @@ pub fn play_session<T: Source, G: Ground>(
     ensures refused { (line : ℕ) → result ≡ Err (Status.ScriptRefused line) →
         IfSome (T.left script.old) (λ text. refused_line Session text ≡ Some line) }
     ensures stops { result ≡ Err Status.ReadFault → WhereTold (T.left script.old) (T.left script.new)
-        (λ text rest. StopsReading piece_text (state_front core.old) Session text rest (G.told device.old) (G.told device.new)) }
+        (λ text rest. StopsReading Emits piece_text (state_front core.old) Session text rest (G.told device.old) (G.told device.new)) }
+    ensures alone { LeavesDisk (G.told device.old) (G.told device.new) }
     ensures fault { IfErr result IsPlayFault }
     ensures size { G.size device.new ≡ G.size device.old }
     ensures disk { G.disk_faults device.new ≡ G.disk_faults device.old }

@@ -6,7 +6,7 @@ ghost use Rattle.script_lines.specs.Report.{report_text};
 ghost use Rattle.alarm_server.specs.Stopping.{StopsReading};
 ghost use Rattle.std.specs.Io.KnownBytes.{IsAtEnd};
 ghost use Rattle.ground_io.specs.Counts.{HasCause};
-ghost use Rattle.ground_io.specs.Trace.{WhereTold};
+ghost use Rattle.ground_io.specs.Trace.{Adds, WhereTold};
 ghost use Rattle.script_lines.specs.Line.{IsTrialLine};
 ghost use Rattle.script_lines.specs.Script.{lines_of};
 ghost use Rattle.bac_values.specs.Moments.{IsMoment};
@@ -36,7 +36,7 @@ fn emit_move<G: Ground>(
     moment: u64,
     moved: Option<Move>,
 ) -> Result<(), Unsent>
-    ensures sends { Sends report_text result (map (move_line moment) (option_to_list moved)) (G.told device.old) (G.told device.new) }
+    ensures sends { Sends Adds report_text result (map (move_line moment) (option_to_list moved)) (G.told device.old) (G.told device.new) }
     ensures size { G.size device.new ≡ G.size device.old }
     ensures disk { G.disk_faults device.new ≡ G.disk_faults device.old }
     ensures cause { HasCause (G.emit_faults device.old) (G.emit_faults device.new) (IsErrOf result Unsent.Lost) }
@@ -59,7 +59,7 @@ fn emit_moves<G: Ground>(
     moment: u64,
     changed: Changed,
 ) -> Result<(), Unsent>
-    ensures sends { Sends report_text result (map (move_line moment) (moves_in changed)) (G.told device.old) (G.told device.new) }
+    ensures sends { Sends Adds report_text result (map (move_line moment) (moves_in changed)) (G.told device.old) (G.told device.new) }
     ensures size { G.size device.new ≡ G.size device.old }
     ensures disk { G.disk_faults device.new ≡ G.disk_faults device.old }
     ensures cause { HasCause (G.emit_faults device.old) (G.emit_faults device.new) (IsErrOf result Unsent.Lost) }
@@ -83,7 +83,7 @@ fn look_at<G: Ground>(
     ensures seen { (first : Point) (later : List Incident) → HasSeen first later watch.old →
         HasSeen first (Looked (point_at watch.old.settings moment (Signed value)) ∷ later) watch.new }
     ensures sends { (first : Point) (later : List Incident) → HasSeen first later watch.old →
-        Sends report_text result (newest_moves first (Looked (point_at watch.old.settings moment (Signed value)) ∷ later)) (G.told device.old) (G.told device.new) }
+        Sends Adds report_text result (newest_moves first (Looked (point_at watch.old.settings moment (Signed value)) ∷ later)) (G.told device.old) (G.told device.new) }
     ensures size { G.size device.new ≡ G.size device.old }
     ensures disk { G.disk_faults device.new ≡ G.disk_faults device.old }
     ensures cause { HasCause (G.emit_faults device.old) (G.emit_faults device.new) (IsErrOf result Unsent.Lost) }
@@ -103,7 +103,7 @@ fn take<G: Ground>(
     ensures seen { (first : Point) (later : List Incident) → HasSeen first later watch.old →
         OnOk result (HasSeen first (looks_after line.moment line.input first later) watch.new) }
     ensures sends { (first : Point) (later : List Incident) → HasSeen first later watch.old →
-        SendsTransitions result first later (looks_after line.moment line.input first later) (G.told device.old) (G.told device.new) }
+        SendsTransitions Adds result first later (looks_after line.moment line.input first later) (G.told device.old) (G.told device.new) }
     ensures size { G.size device.new ≡ G.size device.old }
     ensures disk { G.disk_faults device.new ≡ G.disk_faults device.old }
     ensures cause { HasCause (G.emit_faults device.old) (G.emit_faults device.new) (IsErrOf result Unsent.Lost) }
@@ -128,13 +128,13 @@ pub fn play<T: Source, G: Ground>(
     device: &mut G,
 ) -> Result<(), Status>
     ensures ends { IfSome (T.left script.old) (λ text.
-        Ends report_text (status_of result) (report_over settings (lines_of text)) (G.told device.old) (G.told device.new)) }
+        Ends Adds report_text (status_of result) (report_over settings (lines_of text)) (G.told device.old) (G.told device.new)) }
     ensures to_end { OnOk result (IsAtEnd (T.left script.new)) }
     ensures accepted { OnOk result (IfSome (T.left script.old) (λ text. refused_line Trial text ≡ None)) }
     ensures refused { (line : ℕ) → result ≡ Err (Status.ScriptRefused line) →
         IfSome (T.left script.old) (λ text. refused_line Trial text ≡ Some line) }
     ensures stops { result ≡ Err Status.ReadFault → WhereTold (T.left script.old) (T.left script.new)
-        (λ text rest. StopsReading report_text (front_transitions settings) Trial text rest (G.told device.old) (G.told device.new)) }
+        (λ text rest. StopsReading Adds report_text (front_transitions settings) Trial text rest (G.told device.old) (G.told device.new)) }
     ensures fault { IfErr result IsPlayFault }
     ensures size { G.size device.new ≡ G.size device.old }
     ensures disk { G.disk_faults device.new ≡ G.disk_faults device.old }

@@ -1,5 +1,6 @@
 ghost use Rattle.std.specs.Prelude.{◌≡◌, ◌≢◌, ◌∷◌, ℕ, [], OnOk, IfErr, IfOk, IsErrOf};
 ghost use Rattle.ground_io.specs.Counts.{HasCause};
+ghost use Rattle.ground_io.specs.Trace.{Adds};
 ghost use Rattle.script_lines.specs.Report.{report_text};
 ghost use Rattle.alarm_core.specs.Sites.{IsSite};
 ghost use Rattle.site_config.specs.declared.fault.SiteFault.{SiteFault};
@@ -69,7 +70,7 @@ pub fn workload<G: Ground>(
     count: u32,
     device: &mut G,
 ) -> Result<(), Status>
-    ensures ends { Ends report_text (status_of result) (summary_of seed count) (G.told device.old) (G.told device.new) }
+    ensures ends { Ends Adds report_text (status_of result) (summary_of seed count) (G.told device.old) (G.told device.new) }
     ensures accepted { OnOk result (AcceptsGenerated seed count) }
     ensures refused { (line : ℕ) → result ≡ Err (Status.ScriptRefused line) → RefusesGenerated seed count line }
     ensures refuses_site { (fault : SiteFault) → result ≡ Err (Status.SiteRefused fault) → RefusesGeneratedSite fault }

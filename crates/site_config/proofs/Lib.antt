@@ -12,3 +12,4 @@ pub mod KeptObjects
 pub mod KeptEnrollments
 pub mod KeptReferences
 pub mod KeptSite
+pub mod TextLines

@@ -18,3 +18,4 @@ pub mod References
 pub mod Notes
 pub mod Sites
 pub mod FaultTexts
+pub mod TextLines

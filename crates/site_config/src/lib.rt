@@ -28,9 +28,11 @@ mod objects;
 mod order;
 mod place;
 mod references;
+mod refusal;
 mod sections;
 mod site;
 mod values;
 
 pub use fault::{Counted, Section, SiteFault, SitePlace};
+pub use refusal::line_of_refusal;
 pub use site::read_site;

@@ -10,9 +10,16 @@ use std::process::Abort;
 use std::test::Fail;
 
 mod changes;
+mod files;
 mod plant;
+mod plant_tests;
 mod refusals;
+mod zone_rule_tests;
 
+use files::{
+    FULL_PLANT, LOGGED_TANK, ONE_MODE, ONE_MODE_IN_FAULT, ONE_TANK, SIX_KINDS, TANK_AT_ONCE,
+    THREE_TANKS, TWO_TANKS, WATCHED_FLOW,
+};
 use plant::PLANT;
 
 /// The device, the class and the destination of a plant.
@@ -106,8 +113,9 @@ fn is_without_class(site: &ObjectSite) -> bool {
 }
 
 /// Whether the object has the class and the delay, and else what an object with a class has by itself.
-fn is_alarmed(site: &ObjectSite, class: u32, time_delay: u32) -> bool {
-    is_plain(site)
+fn is_in_class(site: &ObjectSite, class: u32, time_delay: u32) -> bool {
+    !site.out_of_service
+        && !site.reliability_inhibit
         && site.class == Some(class)
         && site.notify == 0
         && site.enable == [true, true, true]
@@ -123,7 +131,8 @@ fn is_alarmed(site: &ObjectSite, class: u32, time_delay: u32) -> bool {
 fn is_tank(site: &ObjectSite, instance: u32, class: u32, time_delay: u32) -> bool {
     let value = Value::Signed(50);
     is_object(site, ObjectKind::IntegerValue, instance, "Tank", &value)
-        && is_alarmed(site, class, time_delay)
+        && is_plain(site)
+        && is_in_class(site, class, time_delay)
         && site.low == 20
         && site.high == 80
         && site.deadband == 5
@@ -145,7 +154,7 @@ fn is_always_told(destination: &Destination, ip: u32, process: u32, confirmed: b
 
 // What is looked at in a site is looked at by functions that borrow it, each of which looks at a part.
 
-fn expect_device(rt: &impl Abort, device: &DeviceSite) {
+fn expect_device_but_outbox(rt: &impl Abort, device: &DeviceSite) {
     same(rt, &device.instance, &1001);
     same(rt, &device.name.as_str(), &"Plant");
     same(rt, &device.vendor, &999);
@@ -154,6 +163,10 @@ fn expect_device(rt: &impl Abort, device: &DeviceSite) {
     holds(rt, device.zone_rule.is_none());
     same(rt, &device.apdu_timeout, &3000);
     same(rt, &device.retries, &3);
+}
+
+fn expect_device(rt: &impl Abort, device: &DeviceSite) {
+    expect_device_but_outbox(rt, device);
     same(rt, &device.outbox, &256);
 }
 
@@ -167,23 +180,60 @@ fn expect_class(rt: &impl Abort, class: &ClassSite) {
     holds(rt, is_always_told(&destinations[0], 0x0A00_0005, 1, true));
 }
 
-/// One class, and a tank.
-fn expect_defaults(rt: &impl Abort, site: &Site) {
+/// The device, and one class with its destination.
+fn expect_surroundings(rt: &impl Abort, site: &Site) {
     expect_device(rt, &site.device);
     let classes = site.classes.as_slice();
     counts(rt, classes.len(), 1);
     expect_class(rt, &classes[0]);
-    let objects = site.objects.as_slice();
-    counts(rt, objects.len(), 1);
-    holds(rt, is_tank(&objects[0], 1, 7, 10));
+}
+
+/// There is neither an enrollment nor a log.
+fn expect_objects_alone(rt: &impl Abort, site: &Site) {
     holds(rt, site.enrollments.as_slice().is_empty());
     holds(rt, site.logs.as_slice().is_empty());
 }
 
+/// The objects are tanks with these instances, classes and delays.
+fn expect_tanks(rt: &impl Abort, objects: &[ObjectSite], wanted: &[(u32, u32, u32)]) {
+    same(rt, &objects.len(), &wanted.len());
+    for (object, (instance, class, time_delay)) in objects.iter().zip(wanted.iter()) {
+        holds(rt, is_tank(object, *instance, *class, *time_delay));
+    }
+}
+
+/// The device and the class, tanks with these instances, classes and delays, and nothing else.
+fn expect_tanks_alone(rt: &impl Abort, site: &Site, wanted: &[(u32, u32, u32)]) {
+    expect_surroundings(rt, site);
+    expect_tanks(rt, site.objects.as_slice(), wanted);
+    expect_objects_alone(rt, site);
+}
+
 #[test]
-fn a_site_is_read_with_its_defaults(rt: HostRuntime) -> Result<(), Fail> {
-    let site = site_of(rt.alloc(), &[SURROUNDINGS, TANK])?;
-    expect_defaults(&rt, &site);
+fn one_tank_is_read_with_its_defaults(rt: HostRuntime) -> Result<(), Fail> {
+    let site = site_of(rt.alloc(), &[ONE_TANK])?;
+    expect_tanks_alone(&rt, &site, &[(1, 7, 10)]);
+    Ok(())
+}
+
+#[test]
+fn a_tank_may_be_without_delay(rt: HostRuntime) -> Result<(), Fail> {
+    let site = site_of(rt.alloc(), &[TANK_AT_ONCE])?;
+    expect_tanks_alone(&rt, &site, &[(1, 7, 0)]);
+    Ok(())
+}
+
+#[test]
+fn two_tanks_are_read(rt: HostRuntime) -> Result<(), Fail> {
+    let site = site_of(rt.alloc(), &[TWO_TANKS])?;
+    expect_tanks_alone(&rt, &site, &[(1, 7, 0), (2, 7, 10)]);
+    Ok(())
+}
+
+#[test]
+fn three_tanks_are_read(rt: HostRuntime) -> Result<(), Fail> {
+    let site = site_of(rt.alloc(), &[THREE_TANKS])?;
+    expect_tanks_alone(&rt, &site, &[(1, 7, 10), (2, 7, 10), (3, 7, 10)]);
     Ok(())
 }
 
@@ -215,83 +265,12 @@ deadband = 5
 time_delay = 0
 ";
 
-/// The objects are tanks with these instances, classes and delays.
-fn expect_tanks(rt: &impl Abort, objects: &[ObjectSite], wanted: &[(u32, u32, u32)]) {
-    same(rt, &objects.len(), &wanted.len());
-    for (object, (instance, class, time_delay)) in objects.iter().zip(wanted.iter()) {
-        holds(rt, is_tank(object, *instance, *class, *time_delay));
-    }
-}
-
-#[test]
-fn a_tank_may_be_without_delay(rt: HostRuntime) -> Result<(), Fail> {
-    let site = site_of(rt.alloc(), &[SURROUNDINGS, PROMPT_TANK])?;
-    expect_tanks(&rt, site.objects.as_slice(), &[(1, 7, 0)]);
-    Ok(())
-}
-
 #[test]
 fn objects_ascend_whatever_their_order_in_the_text(rt: HostRuntime) -> Result<(), Fail> {
     let site = site_of(rt.alloc(), &[SURROUNDINGS, SECOND_TANK, PROMPT_TANK])?;
     expect_tanks(&rt, site.objects.as_slice(), &[(1, 7, 0), (2, 7, 10)]);
     Ok(())
 }
-
-/// The third of three tanks.
-const THIRD_TANK: &str = "
-[[object]]
-kind = \"integer-value\"
-instance = 3
-name = \"Tank\"
-value = 50
-class = 7
-low = 20
-high = 80
-deadband = 5
-time_delay = 10
-";
-
-#[test]
-fn three_tanks_are_read(rt: HostRuntime) -> Result<(), Fail> {
-    let site = site_of(rt.alloc(), &[SURROUNDINGS, TANK, SECOND_TANK, THIRD_TANK])?;
-    let wanted = [(1, 7, 10), (2, 7, 10), (3, 7, 10)];
-    expect_tanks(&rt, site.objects.as_slice(), &wanted);
-    Ok(())
-}
-
-/// Objects of every other kind than the tank's, without a class.
-const OTHER_KINDS: &str = "
-[[object]]
-kind = \"positive-integer-value\"
-instance = 1
-name = \"Flow\"
-value = 50
-
-[[object]]
-kind = \"binary-value\"
-instance = 1
-name = \"Pump\"
-value = \"inactive\"
-
-[[object]]
-kind = \"multi-state-value\"
-instance = 1
-name = \"Mode\"
-value = 1
-states = 5
-
-[[object]]
-kind = \"bitstring-value\"
-instance = 1
-name = \"Bits\"
-value = \"0000\"
-
-[[object]]
-kind = \"characterstring-value\"
-instance = 1
-name = \"Note\"
-value = \"ok\"
-";
 
 /// The object is the first of a kind, with this name and value, and without a class.
 fn expect_other(rt: &impl Abort, site: &ObjectSite, kind: ObjectKind, name: &str, value: &Value) {
@@ -326,26 +305,21 @@ fn expect_kinds(rt: &impl Abort, objects: &[ObjectSite], text: &Value, bits: &Va
     );
 }
 
-#[test]
-fn objects_of_every_kind_are_read(rt: HostRuntime) -> Result<(), Fail> {
-    let text = Value::Text(bac_values::Text::new(rt.alloc(), "ok")?);
+/// The device and the class, an object of each kind, and nothing else.
+fn expect_kinds_alone(rt: &impl Abort, alloc: Global, site: &Site) -> Result<(), Fail> {
+    let text = Value::Text(bac_values::Text::new(alloc, "ok")?);
     let bits = Value::Bits(Bits::new(4, 0)?);
-    let site = site_of(rt.alloc(), &[SURROUNDINGS, TANK, OTHER_KINDS])?;
-    expect_kinds(&rt, site.objects.as_slice(), &text, &bits);
+    expect_surroundings(rt, site);
+    expect_kinds(rt, site.objects.as_slice(), &text, &bits);
+    expect_objects_alone(rt, site);
     Ok(())
 }
 
-/// A multi-state value with two alarm values.
-const MODE: &str = "
-[[object]]
-kind = \"multi-state-value\"
-instance = 1
-value = 1
-states = 5
-alarm_values = [2, 3]
-class = 7
-time_delay = 5
-";
+#[test]
+fn objects_of_every_kind_are_read(rt: HostRuntime) -> Result<(), Fail> {
+    let site = site_of(rt.alloc(), &[SIX_KINDS])?;
+    expect_kinds_alone(&rt, rt.alloc(), &site)
+}
 
 /// Two alarm values, 2 and 3.
 fn expect_two_and_three(rt: &impl Abort, values: &[Value]) {
@@ -354,91 +328,76 @@ fn expect_two_and_three(rt: &impl Abort, values: &[Value]) {
     holds(rt, values[1] == Value::Unsigned(3));
 }
 
+/// Whether the object has no limits.
+fn is_without_limits(site: &ObjectSite) -> bool {
+    site.low == 0
+        && site.high == 0
+        && site.deadband == 0
+        && site.limit_enable == [false, false]
+        && site.fault_low.is_none()
+        && site.fault_high.is_none()
+}
+
+/// A multi-state value of five states, of which 2 and 3 are alarms after five seconds.
 fn expect_mode(rt: &impl Abort, mode: &ObjectSite) {
     let value = Value::Unsigned(1);
     let kind = ObjectKind::MultiStateValue;
     holds(rt, is_object(mode, kind, 1, "multi-state-value:1", &value));
-    holds(rt, is_alarmed(mode, 7, 5));
-    holds(rt, mode.low == 0 && mode.high == 0 && mode.deadband == 0);
-    holds(rt, mode.limit_enable == [false, false]);
+    holds(rt, is_in_class(mode, 7, 5));
+    holds(rt, is_without_limits(mode));
     same(rt, &mode.states, &5);
     expect_two_and_three(rt, mode.alarm_values.as_slice());
 }
 
-fn expect_mode_alone(rt: &impl Abort, objects: &[ObjectSite]) {
+/// The device and the class, the mode with these fault values, and nothing else.
+fn expect_mode_alone(rt: &impl Abort, site: &Site, faults: &[Value]) {
+    expect_surroundings(rt, site);
+    let objects = site.objects.as_slice();
     counts(rt, objects.len(), 1);
     expect_mode(rt, &objects[0]);
+    holds(rt, objects[0].fault_values.as_slice() == faults);
+    expect_objects_alone(rt, site);
 }
 
 #[test]
 fn alarm_values_stand_in_the_order_of_the_text(rt: HostRuntime) -> Result<(), Fail> {
-    let site = site_of(rt.alloc(), &[SURROUNDINGS, MODE])?;
-    expect_mode_alone(&rt, site.objects.as_slice());
+    let site = site_of(rt.alloc(), &[ONE_MODE])?;
+    expect_mode_alone(&rt, &site, &[]);
     Ok(())
 }
 
-/// A second class with a destination of its own, one more destination of the first, and a tank in each class.
-const TWO_CLASSES: &str = "
-[[class]]
-instance = 8
-priority = [100, 90, 200]
-ack_required = [true, true, false]
-
-[[destination]]
-class = 8
-address = \"10.0.0.6:47808\"
-process = 1
-confirmed = true
-
-[[destination]]
-class = 7
-address = \"10.0.0.7:47808\"
-
-[[object]]
-kind = \"integer-value\"
-instance = 1
-name = \"Tank\"
-value = 50
-class = 8
-low = 20
-high = 80
-deadband = 5
-time_delay = 0
-
-[[object]]
-kind = \"integer-value\"
-instance = 2
-name = \"Tank\"
-value = 50
-class = 7
-low = 20
-high = 80
-deadband = 5
-time_delay = 0
-";
-
-/// The site of two classes, with the smallest outbox.
-fn site_of_two_classes(alloc: Global) -> Result<Site, Fail> {
-    let mut text = SURROUNDINGS.replacen(alloc, "vendor = 999", "vendor = 999\noutbox = 64", 1)?;
-    text.push_str(TWO_CLASSES)?;
-    Ok(read_site(alloc, text.as_str().as_bytes())?)
+#[test]
+fn a_state_may_be_a_fault(rt: HostRuntime) -> Result<(), Fail> {
+    let site = site_of(rt.alloc(), &[ONE_MODE_IN_FAULT])?;
+    expect_mode_alone(&rt, &site, &[Value::Unsigned(1)]);
+    Ok(())
 }
 
 fn expect_two_classes(rt: &impl Abort, classes: &[ClassSite]) {
     counts(rt, classes.len(), 2);
+    same(rt, &classes[0].name.as_str(), &"notification-class:7");
     same(rt, &classes[0].class.instance, &7);
+    holds(rt, classes[0].class.priority == [100, 90, 200]);
+    holds(rt, classes[0].class.ack_required == [true, true, false]);
     same(rt, &classes[1].class.instance, &8);
     same(rt, &classes[1].name.as_str(), &"notification-class:8");
     holds(rt, classes[1].class.priority == [100, 90, 200]);
     holds(rt, classes[1].class.ack_required == [true, true, false]);
 }
 
+/// The device with the smallest outbox.
+fn expect_small_outbox(rt: &impl Abort, device: &DeviceSite) {
+    expect_device_but_outbox(rt, device);
+    same(rt, &device.outbox, &64);
+}
+
 #[test]
 fn objects_are_in_the_one_class_or_the_other(rt: HostRuntime) -> Result<(), Fail> {
-    let site = site_of_two_classes(rt.alloc())?;
-    same(&rt, &site.device.outbox, &64);
+    let site = site_of(rt.alloc(), &[FULL_PLANT])?;
+    expect_small_outbox(&rt, &site.device);
     expect_two_classes(&rt, site.classes.as_slice());
     expect_tanks(&rt, site.objects.as_slice(), &[(1, 8, 0), (2, 7, 0)]);
+    expect_objects_alone(&rt, &site);
     Ok(())
 }
 
@@ -460,7 +419,7 @@ fn expect_destinations_of_both(rt: &impl Abort, classes: &[ClassSite]) {
 
 #[test]
 fn classes_have_their_destinations_in_order(rt: HostRuntime) -> Result<(), Fail> {
-    let site = site_of_two_classes(rt.alloc())?;
+    let site = site_of(rt.alloc(), &[FULL_PLANT])?;
     expect_destinations_of_both(&rt, site.classes.as_slice());
     Ok(())
 }
@@ -485,24 +444,6 @@ fn classes_ascend_whatever_their_order_in_the_text(rt: HostRuntime) -> Result<()
     expect_three_and_seven(&rt, site.classes.as_slice());
     Ok(())
 }
-
-/// A flow, and an enrollment on it.
-const RANGE: &str = "
-[[object]]
-kind = \"positive-integer-value\"
-instance = 1
-name = \"Flow\"
-value = 50
-
-[[enrollment]]
-instance = 1
-name = \"Range\"
-class = 7
-algorithm = \"unsigned-range\"
-monitored = \"positive-integer-value:1\"
-low = 20
-high = 80
-";
 
 /// A tank, and a flow without a class.
 fn expect_tank_and_flow(rt: &impl Abort, objects: &[ObjectSite]) {
@@ -543,22 +484,19 @@ fn expect_range_alone(rt: &impl Abort, enrollments: &[EnrollmentSite]) -> Result
     expect_range(rt, &enrollments[0])
 }
 
-#[test]
-fn an_enrollment_is_read(rt: HostRuntime) -> Result<(), Fail> {
-    let site = site_of(rt.alloc(), &[SURROUNDINGS, PROMPT_TANK, RANGE])?;
-    expect_tank_and_flow(&rt, site.objects.as_slice());
-    holds(&rt, site.logs.as_slice().is_empty());
-    expect_range_alone(&rt, site.enrollments.as_slice())
+/// The device and the class, the tank, the flow and the enrollment, and nothing else.
+fn expect_watched_flow(rt: &impl Abort, site: &Site) -> Result<(), Fail> {
+    expect_surroundings(rt, site);
+    expect_tank_and_flow(rt, site.objects.as_slice());
+    holds(rt, site.logs.as_slice().is_empty());
+    expect_range_alone(rt, site.enrollments.as_slice())
 }
 
-/// A log of the class.
-const LOG: &str = "
-[[log]]
-instance = 1
-name = \"Log\"
-size = 2
-classes = [7]
-";
+#[test]
+fn an_enrollment_is_read(rt: HostRuntime) -> Result<(), Fail> {
+    let site = site_of(rt.alloc(), &[WATCHED_FLOW])?;
+    expect_watched_flow(&rt, &site)
+}
 
 fn expect_log(rt: &impl Abort, logs: &[LogSite]) -> Result<(), Fail> {
     let object = ObjectId::of_kind(ObjectKind::EventLog, 1)?;
@@ -572,87 +510,16 @@ fn expect_log(rt: &impl Abort, logs: &[LogSite]) -> Result<(), Fail> {
     Ok(())
 }
 
+/// The device and the class, the tank and the log, and nothing else.
+fn expect_logged_tank(rt: &impl Abort, site: &Site) -> Result<(), Fail> {
+    expect_surroundings(rt, site);
+    expect_tanks(rt, site.objects.as_slice(), &[(1, 7, 10)]);
+    holds(rt, site.enrollments.as_slice().is_empty());
+    expect_log(rt, site.logs.as_slice())
+}
+
 #[test]
 fn a_log_is_read(rt: HostRuntime) -> Result<(), Fail> {
-    let site = site_of(rt.alloc(), &[SURROUNDINGS, TANK, LOG])?;
-    expect_tanks(&rt, site.objects.as_slice(), &[(1, 7, 10)]);
-    holds(&rt, site.enrollments.as_slice().is_empty());
-    expect_log(&rt, site.logs.as_slice())
-}
-
-/// The class of the control room and of the night watch, and another.
-fn expect_watch(rt: &impl Abort, classes: &[ClassSite]) {
-    counts(rt, classes.len(), 2);
-    let destinations = classes[0].class.destinations.as_slice();
-    counts(rt, destinations.len(), 4);
-    let watch = &destinations[1];
-    same(rt, &watch.days, &0b001_1111);
-    same(rt, &watch.from, &6_480_000);
-    holds(rt, watch.transitions == [true, true, false]);
-}
-
-#[test]
-fn the_example_of_a_plant_is_a_site(rt: HostRuntime) -> Result<(), Fail> {
-    let site = site_of(rt.alloc(), &[PLANT])?;
-    same(&rt, &site.device.zone_minutes, &60);
-    same(&rt, &site.objects.as_slice().len(), &8);
-    same(&rt, &site.enrollments.as_slice().len(), &2);
-    same(&rt, &site.logs.as_slice().len(), &1);
-    expect_watch(&rt, site.classes.as_slice());
-    Ok(())
-}
-
-/// The example with a zone rule goes by that rule.
-fn expect_rule(rt: &impl Abort, alloc: Global, rule: &str) -> Result<(), Fail> {
-    let key = format!(in alloc; "zone_rule = \"{rule}\"")?;
-    let text = PLANT.replacen(alloc, "zone_minutes = 60", key.as_str(), 1)?;
-    let site = site_of(alloc, &[text.as_str()])?;
-    same(rt, &site.device.zone_minutes, &0);
-    let read = match &site.device.zone_rule {
-        Some(found) => found.as_str() == rule,
-        None => false,
-    };
-    holds(rt, read);
-    Ok(())
-}
-
-#[test]
-fn a_zone_rule_is_read(rt: HostRuntime) -> Result<(), Fail> {
-    let alloc = rt.alloc();
-    expect_rule(&rt, alloc, "CET-1CEST,M3.5.0,M10.5.0/3")?;
-    expect_rule(&rt, alloc, "JST-9")?;
-    // As long as a rule may be: 64 octets.
-    let long = "<AAAAAAAAAAAAAAA>-01<BBBBBBBBBBBBBBB>-02,M03.5.0,M10.5.0/3:00:00";
-    expect_rule(&rt, alloc, long)
-}
-
-/// The bit string value, whose mask has the first two bits.
-fn expect_mask(rt: &impl Abort, valves: &ObjectSite) -> Result<(), Fail> {
-    let mask = Bits::new(4, 0b0011)?;
-    holds(rt, valves.mask == Some(mask));
-    Ok(())
-}
-
-/// The positive integer value.
-fn expect_level(rt: &impl Abort, level: &ObjectSite) {
-    same(rt, &level.notify, &1);
-    holds(rt, level.limit_enable == [true, false]);
-    holds(rt, level.time_delay_normal == Some(10));
-}
-
-fn expect_values(rt: &impl Abort, objects: &[ObjectSite]) -> Result<(), Fail> {
-    counts(rt, objects.len(), 8);
-    holds(rt, objects[0].alarm_value == Some(Value::Enumerated(1)));
-    holds(
-        rt,
-        objects[6].fault_low == Some(-50) && objects[6].fault_high == Some(150),
-    );
-    expect_level(rt, &objects[7]);
-    expect_mask(rt, &objects[4])
-}
-
-#[test]
-fn objects_of_the_plant_have_their_values(rt: HostRuntime) -> Result<(), Fail> {
-    let site = site_of(rt.alloc(), &[PLANT])?;
-    expect_values(&rt, site.objects.as_slice())
+    let site = site_of(rt.alloc(), &[LOGGED_TANK])?;
+    expect_logged_tank(&rt, &site)
 }

@@ -1,4 +1,4 @@
-/// The text of `examples/plant.toml`, which `checks/plant` compares with it.
+/// The text of `examples/plant.toml`; `checks/sites` compares them.
 pub const PLANT: &str =
     "# A boiler house with a tank, its pumps and a door, as one site. docs/SITE.md says what each key means.
 

@@ -2,7 +2,7 @@ ghost use Rattle.std.specs.Prelude.{◌≤◌};
 
 use super::{PLANT, SURROUNDINGS, TANK, joined};
 use crate::comparing::same;
-use site_config::read_site;
+use site_config::{line_of_refusal, read_site};
 use std::alloc::Global;
 use std::process::Abort;
 use std::test::Fail;
@@ -283,4 +283,31 @@ fn one_tick_may_fill_the_outbox_and_no_more(rt: HostRuntime) -> Result<(), Fail>
     expect_of_many(&rt, rt.alloc(), head, (63, MORE_TANKS, "\n"), "read")?;
     let refused = "site refused: too-many notes";
     expect_of_many(&rt, rt.alloc(), head, (64, MORE_TANKS, "\n"), refused)
+}
+
+/// The TOML reader refuses the text in this line.
+fn expect_line(rt: &impl Abort, alloc: Global, text: &[u8], wanted: Option<u32>) {
+    same(rt, &line_of_refusal(alloc, text), &wanted);
+}
+
+#[test]
+fn the_line_that_is_no_toml_is_told(rt: HostRuntime) -> Result<(), Fail> {
+    let alloc = rt.alloc();
+    expect_line(&rt, alloc, b"x =", Some(1));
+    expect_line(
+        &rt,
+        alloc,
+        b"[device]\ninstance = 1001\nname = \"Plant\n",
+        Some(3),
+    );
+    expect_line(
+        &rt,
+        alloc,
+        b"[device]\ninstance = 1\ninstance = 2\n",
+        Some(3),
+    );
+    expect_line(&rt, alloc, b"[device]\n\n# \xff\n", Some(3));
+    expect_line(&rt, alloc, b"[device]\ninstance = 1001\n", None);
+    expect_line(&rt, alloc, b"", None);
+    Ok(())
 }

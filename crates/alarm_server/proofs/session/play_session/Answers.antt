@@ -1,12 +1,14 @@
-use Rattle.std.proofs.Common.{◌≡◌, Err, ap, subst, ◌∙◌, arith, refl}
+use Rattle.std.proofs.Common.{◌≡◌, ◌∷◌, [], Err, ap, subst, ◌∙◌, arith, refl}
 use Rattle.std.proofs.lemmas.Result.{err_from_is_err_and}
 use Rattle.ground_io.specs.Trace.{WhereTold}
 use Rattle.script_lines.specs.declared.line.Grammar.TheVariants.{Session}
 use Rattle.script_lines.specs.ReadingSteps.{octets_to_come}
 use Rattle.script_lines.specs.Script.{ReadsLine}
 use Rattle.alarm_server.specs.declared.status.Status.TheVariants.{ScriptRefused, ReadFault}
-use Rattle.alarm_server.specs.Pieces.{end_piece, piece_of}
+use Rattle.alarm_server.specs.Pieces.{end_piece, open_piece, piece_of, piece_text}
+use Rattle.alarm_server.specs.Emission.{Emits}
 use Rattle.alarm_server.specs.Status.{of_line_fault, of_unsent}
+use Rattle.alarm_server.proofs.Emitting.{emits, emits_sent, emits_up_to, leaves_at_once, leaves_sent, leaves_then, leaves_up_to}
 use Rattle.alarm_server.proofs.OfUnsent.{emit_cause, is_fault, is_no_read_fault, read_cause, refuses_no_line}
 use Rattle.alarm_server.proofs.Progress.{grammar_fault, read_fault}
 use Rattle.alarm_server.proofs.SessionProgress.{accepts, begins, ends, ends_at_end, ends_at_first, ends_at_line, ends_at_once, ends_at_piece, goes_on, reaches, refused_first, stops_reading, tallies}
@@ -15,18 +17,27 @@ use Rattle.alarm_server.proofs.session.play_session.Goals as goal
 pub returns-in_err-lines-clause-ends : goal.returns-in_err-lines-clause-ends
 returns-in_err-lines-clause-ends g c =
     let p = err_from_is_err_and c.from_residual.result c.from_residual.ensures.1 in
-    rw (p.1, p.2) (ends_at_once c.args.core.now (g.T.Source.left c.args.script.now) (g.G.Ground.told c.args.device.now))
+    rw (p.1, p.2) (ends_at_once Emits emits c.args.core.now (g.T.Source.left c.args.script.now) (g.G.Ground.told c.args.device.now))
+
+pub returns-in_err-lines-clause-alone : goal.returns-in_err-lines-clause-alone
+returns-in_err-lines-clause-alone g c = leaves_at_once (g.G.Ground.told c.args.device.now)
 
 pub returns-in_err-begin-clause-ends : goal.returns-in_err-begin-clause-ends
 returns-in_err-begin-clause-ends g c =
     let p = err_from_is_err_and c.from_residual-in_err-begin.result c.from_residual-in_err-begin.ensures.1 in
-    rw (p.1, p.2) (ends_at_first c.args.core.now (g.T.Source.left c.args.script.now) (g.G.Ground.told c.args.device.now) (g.G.Ground.told c.begin.new.device) c.in_err-begin.field-0.0 c.in_err-begin.ensures.sends)
+    rw (p.1, p.2) (ends_at_first Emits emits c.args.core.now (g.T.Source.left c.args.script.now) (g.G.Ground.told c.args.device.now) (g.G.Ground.told c.begin.new.device) c.in_err-begin.field-0.0
+    (emits_up_to piece_text c.in_err-begin.field-0.0 (open_piece c.args.core.now ∷ []) (g.G.Ground.told c.args.device.now) (g.G.Ground.told c.begin.new.device) c.in_err-begin.ensures.sends))
+
+pub returns-in_err-begin-clause-alone : goal.returns-in_err-begin-clause-alone
+returns-in_err-begin-clause-alone g c = leaves_up_to piece_text c.in_err-begin.field-0.0 (open_piece c.args.core.now ∷ []) (g.G.Ground.told c.args.device.now) (g.G.Ground.told c.begin.new.device) c.in_err-begin.ensures.sends
 
 pub loop-lines-init : goal.loop-lines-init
 loop-lines-init g c =
     rw c.in_ok-lines.ensures.start
     (record {
-      progress = begins c.args.core.now (g.T.Source.left c.args.script.now) (g.G.Ground.told c.args.device.now) (g.G.Ground.told c.begin.new.device) c.new-tally.result c.new-tally.ensures.nothing c.in_ok-begin.ensures.sends;
+      progress = begins Emits emits c.args.core.now (g.T.Source.left c.args.script.now) (g.G.Ground.told c.args.device.now) (g.G.Ground.told c.begin.new.device) c.new-tally.result c.new-tally.ensures.nothing
+          (emits_sent piece_text (open_piece c.args.core.now ∷ []) (g.G.Ground.told c.args.device.now) (g.G.Ground.told c.begin.new.device) c.in_ok-begin.ensures.sends);
+      alone = leaves_sent piece_text (open_piece c.args.core.now ∷ []) (g.G.Ground.told c.args.device.now) (g.G.Ground.told c.begin.new.device) c.in_ok-begin.ensures.sends;
       grammar = refl;
       source = λ e. absurd cc;
       size = c.begin.ensures.size;
@@ -41,7 +52,7 @@ returns-in_err-line-clause-ends g c =
     let here = c.loop-lines in
     let next = c.next_line.new in
     rw (p.1, p.2)
-    (ends_at_line c.args.core.now (g.T.Source.left c.args.script.now) (octets_to_come here.lines (g.T.Source.left here.script)) (octets_to_come next.self (g.T.Source.left next.source)) (g.G.Ground.told c.args.device.now) (g.G.Ground.told here.device) here.lines.number next.self.number here.lines.ended here.core here.tally c.in_err-line.field-0.0 here.invariant.progress (rw here.invariant.grammar at c.in_err-line.ensures.line))
+    (ends_at_line Emits emits c.args.core.now (g.T.Source.left c.args.script.now) (octets_to_come here.lines (g.T.Source.left here.script)) (octets_to_come next.self (g.T.Source.left next.source)) (g.G.Ground.told c.args.device.now) (g.G.Ground.told here.device) here.lines.number next.self.number here.lines.ended here.core here.tally c.in_err-line.field-0.0 here.invariant.progress (rw here.invariant.grammar at c.in_err-line.ensures.line))
 
 pub returns-in_err-line-clause-refused : goal.returns-in_err-line-clause-refused
 returns-in_err-line-clause-refused g c = λ line e.
@@ -53,7 +64,7 @@ returns-in_err-line-clause-refused g c = λ line e.
     let come = octets_to_come here.lines (g.T.Source.left here.script) in
     let come' = octets_to_come next.self (g.T.Source.left next.source) in
     let read = subst (λ f. WhereTold come come' (ReadsLine Session here.lines.number next.self.number (Err f))) fault (rw here.invariant.grammar at c.in_err-line.ensures.line) in
-    refused_first c.args.core.now (g.T.Source.left c.args.script.now) come come' (g.G.Ground.told c.args.device.now) (g.G.Ground.told here.device) here.lines.number next.self.number here.lines.ended here.core here.tally line here.invariant.progress read
+    refused_first Emits emits c.args.core.now (g.T.Source.left c.args.script.now) come come' (g.G.Ground.told c.args.device.now) (g.G.Ground.told here.device) here.lines.number next.self.number here.lines.ended here.core here.tally line here.invariant.progress read
 
 pub returns-in_err-line-clause-stops : goal.returns-in_err-line-clause-stops
 returns-in_err-line-clause-stops g c = λ e.
@@ -65,7 +76,7 @@ returns-in_err-line-clause-stops g c = λ e.
     let come = octets_to_come here.lines (g.T.Source.left here.script) in
     let come' = octets_to_come next.self (g.T.Source.left next.source) in
     let read = subst (λ f. WhereTold come come' (ReadsLine Session here.lines.number next.self.number (Err f))) fault (rw here.invariant.grammar at c.in_err-line.ensures.line) in
-    stops_reading c.args.core.now (g.T.Source.left c.args.script.now) come (g.T.Source.left next.source) next.self.pending (g.G.Ground.told c.args.device.now) (g.G.Ground.told here.device) here.lines.number next.self.number here.lines.ended next.self.ended here.core here.tally here.invariant.progress read c.next_line.ensures.ended c.next_line.ensures.whole_lines (c.next_line.ensures.waits (c.in_err-line.was ∙ ap Err fault))
+    stops_reading Emits emits c.args.core.now (g.T.Source.left c.args.script.now) come (g.T.Source.left next.source) next.self.pending (g.G.Ground.told c.args.device.now) (g.G.Ground.told here.device) here.lines.number next.self.number here.lines.ended next.self.ended here.core here.tally here.invariant.progress read c.next_line.ensures.ended c.next_line.ensures.whole_lines (c.next_line.ensures.waits (c.in_err-line.was ∙ ap Err fault))
 
 pub returns-in_err-play_line-clause-ends : goal.returns-in_err-play_line-clause-ends
 returns-in_err-play_line-clause-ends g c =
@@ -75,7 +86,12 @@ returns-in_err-play_line-clause-ends g c =
     let read = rw (c.in-Some.is, here.invariant.grammar) at c.in_ok-line.ensures.line in
     let line = c.in-Some.line in
     rw (p.1, p.2)
-    (ends_at_piece c.args.core.now (g.T.Source.left c.args.script.now) (octets_to_come here.lines (g.T.Source.left here.script)) (octets_to_come next.self (g.T.Source.left next.source)) (g.G.Ground.told c.args.device.now) (g.G.Ground.told here.device) (g.G.Ground.told c.play_line.new.device) here.lines.number next.self.number here.lines.ended here.core here.tally line (piece_of here.core line) c.in_err-play_line.field-0.0 here.invariant.progress read refl c.in_err-play_line.ensures.sends)
+    (ends_at_piece Emits emits c.args.core.now (g.T.Source.left c.args.script.now) (octets_to_come here.lines (g.T.Source.left here.script)) (octets_to_come next.self (g.T.Source.left next.source)) (g.G.Ground.told c.args.device.now) (g.G.Ground.told here.device) (g.G.Ground.told c.play_line.new.device) here.lines.number next.self.number here.lines.ended here.core here.tally line (piece_of here.core line) c.in_err-play_line.field-0.0 here.invariant.progress read refl c.in_err-play_line.ensures.sends)
+
+pub returns-in_err-play_line-clause-alone : goal.returns-in_err-play_line-clause-alone
+returns-in_err-play_line-clause-alone g c =
+    let here = c.loop-lines in
+    leaves_then (g.G.Ground.told c.args.device.now) (g.G.Ground.told here.device) (g.G.Ground.told c.play_line.new.device) here.invariant.alone c.play_line.ensures.alone
 
 pub returns-in_err-play_line-clause-refused : goal.returns-in_err-play_line-clause-refused
 returns-in_err-play_line-clause-refused g c = λ line e.
@@ -113,7 +129,8 @@ loop-lines-preserved-in_ok-play_line g c =
     let read = rw (c.in-Some.is, here.invariant.grammar) at c.in_ok-line.ensures.line in
     let line = c.in-Some.line in
     record {
-      progress = goes_on c.args.core.now (g.T.Source.left c.args.script.now) (octets_to_come here.lines (g.T.Source.left here.script)) (octets_to_come next.self (g.T.Source.left next.source)) (g.G.Ground.told c.args.device.now) (g.G.Ground.told here.device) (g.G.Ground.told c.play_line.new.device) here.lines.number next.self.number here.lines.ended next.self.ended here.core c.play_line.new.core here.tally c.play_line.new.tally line (piece_of here.core line) here.invariant.progress read c.next_line.ensures.ended c.next_line.ensures.whole_lines c.in_ok-play_line.ensures.state refl c.in_ok-play_line.ensures.tally c.in_ok-play_line.ensures.sends;
+      progress = goes_on Emits emits c.args.core.now (g.T.Source.left c.args.script.now) (octets_to_come here.lines (g.T.Source.left here.script)) (octets_to_come next.self (g.T.Source.left next.source)) (g.G.Ground.told c.args.device.now) (g.G.Ground.told here.device) (g.G.Ground.told c.play_line.new.device) here.lines.number next.self.number here.lines.ended next.self.ended here.core c.play_line.new.core here.tally c.play_line.new.tally line (piece_of here.core line) here.invariant.progress read c.next_line.ensures.ended c.next_line.ensures.whole_lines c.in_ok-play_line.ensures.state refl c.in_ok-play_line.ensures.tally c.in_ok-play_line.ensures.sends;
+      alone = leaves_then (g.G.Ground.told c.args.device.now) (g.G.Ground.told here.device) (g.G.Ground.told c.play_line.new.device) here.invariant.alone c.play_line.ensures.alone;
       grammar = c.next_line.ensures.grammar ∙ here.invariant.grammar;
       source = c.next_line.ensures.source;
       size = c.play_line.ensures.size ∙ here.invariant.size;
@@ -129,7 +146,8 @@ loop-lines-preserved-in_ok-play_line-2 g c =
     let read = rw (c.in-Some.is, here.invariant.grammar) at c.in_ok-line.ensures.line in
     let line = c.in-Some.line in
     record {
-      progress = goes_on c.args.core.now (g.T.Source.left c.args.script.now) (octets_to_come here.lines (g.T.Source.left here.script)) (octets_to_come next.self (g.T.Source.left next.source)) (g.G.Ground.told c.args.device.now) (g.G.Ground.told here.device) (g.G.Ground.told c.play_line.new.device) here.lines.number next.self.number here.lines.ended next.self.ended here.core c.play_line.new.core here.tally c.play_line.new.tally line (piece_of here.core line) here.invariant.progress read c.next_line.ensures.ended c.next_line.ensures.whole_lines c.in_ok-play_line.ensures.state refl c.in_ok-play_line.ensures.tally c.in_ok-play_line.ensures.sends;
+      progress = goes_on Emits emits c.args.core.now (g.T.Source.left c.args.script.now) (octets_to_come here.lines (g.T.Source.left here.script)) (octets_to_come next.self (g.T.Source.left next.source)) (g.G.Ground.told c.args.device.now) (g.G.Ground.told here.device) (g.G.Ground.told c.play_line.new.device) here.lines.number next.self.number here.lines.ended next.self.ended here.core c.play_line.new.core here.tally c.play_line.new.tally line (piece_of here.core line) here.invariant.progress read c.next_line.ensures.ended c.next_line.ensures.whole_lines c.in_ok-play_line.ensures.state refl c.in_ok-play_line.ensures.tally c.in_ok-play_line.ensures.sends;
+      alone = leaves_then (g.G.Ground.told c.args.device.now) (g.G.Ground.told here.device) (g.G.Ground.told c.play_line.new.device) here.invariant.alone c.play_line.ensures.alone;
       grammar = c.next_line.ensures.grammar ∙ here.invariant.grammar;
       source = c.next_line.ensures.source;
       size = c.play_line.ensures.size ∙ here.invariant.size;
@@ -145,7 +163,8 @@ loop-lines-preserved-in_ok-play_line-3 g c =
     let read = rw (c.in-Some.is, here.invariant.grammar) at c.in_ok-line.ensures.line in
     let line = c.in-Some.line in
     record {
-      progress = goes_on c.args.core.now (g.T.Source.left c.args.script.now) (octets_to_come here.lines (g.T.Source.left here.script)) (octets_to_come next.self (g.T.Source.left next.source)) (g.G.Ground.told c.args.device.now) (g.G.Ground.told here.device) (g.G.Ground.told c.play_line.new.device) here.lines.number next.self.number here.lines.ended next.self.ended here.core c.play_line.new.core here.tally c.play_line.new.tally line (piece_of here.core line) here.invariant.progress read c.next_line.ensures.ended c.next_line.ensures.whole_lines c.in_ok-play_line.ensures.state refl c.in_ok-play_line.ensures.tally c.in_ok-play_line.ensures.sends;
+      progress = goes_on Emits emits c.args.core.now (g.T.Source.left c.args.script.now) (octets_to_come here.lines (g.T.Source.left here.script)) (octets_to_come next.self (g.T.Source.left next.source)) (g.G.Ground.told c.args.device.now) (g.G.Ground.told here.device) (g.G.Ground.told c.play_line.new.device) here.lines.number next.self.number here.lines.ended next.self.ended here.core c.play_line.new.core here.tally c.play_line.new.tally line (piece_of here.core line) here.invariant.progress read c.next_line.ensures.ended c.next_line.ensures.whole_lines c.in_ok-play_line.ensures.state refl c.in_ok-play_line.ensures.tally c.in_ok-play_line.ensures.sends;
+      alone = leaves_then (g.G.Ground.told c.args.device.now) (g.G.Ground.told here.device) (g.G.Ground.told c.play_line.new.device) here.invariant.alone c.play_line.ensures.alone;
       grammar = c.next_line.ensures.grammar ∙ here.invariant.grammar;
       source = c.next_line.ensures.source;
       size = c.play_line.ensures.size ∙ here.invariant.size;
@@ -161,7 +180,8 @@ loop-lines-preserved g c =
     let read = rw (c.in-Some.is, here.invariant.grammar) at c.in_ok-line.ensures.line in
     let line = c.in-Some.line in
     record {
-      progress = goes_on c.args.core.now (g.T.Source.left c.args.script.now) (octets_to_come here.lines (g.T.Source.left here.script)) (octets_to_come next.self (g.T.Source.left next.source)) (g.G.Ground.told c.args.device.now) (g.G.Ground.told here.device) (g.G.Ground.told c.play_line.new.device) here.lines.number next.self.number here.lines.ended next.self.ended here.core c.play_line.new.core here.tally c.play_line.new.tally line (piece_of here.core line) here.invariant.progress read c.next_line.ensures.ended c.next_line.ensures.whole_lines c.in_ok-play_line.ensures.state refl c.in_ok-play_line.ensures.tally c.in_ok-play_line.ensures.sends;
+      progress = goes_on Emits emits c.args.core.now (g.T.Source.left c.args.script.now) (octets_to_come here.lines (g.T.Source.left here.script)) (octets_to_come next.self (g.T.Source.left next.source)) (g.G.Ground.told c.args.device.now) (g.G.Ground.told here.device) (g.G.Ground.told c.play_line.new.device) here.lines.number next.self.number here.lines.ended next.self.ended here.core c.play_line.new.core here.tally c.play_line.new.tally line (piece_of here.core line) here.invariant.progress read c.next_line.ensures.ended c.next_line.ensures.whole_lines c.in_ok-play_line.ensures.state refl c.in_ok-play_line.ensures.tally c.in_ok-play_line.ensures.sends;
+      alone = leaves_then (g.G.Ground.told c.args.device.now) (g.G.Ground.told here.device) (g.G.Ground.told c.play_line.new.device) here.invariant.alone c.play_line.ensures.alone;
       grammar = c.next_line.ensures.grammar ∙ here.invariant.grammar;
       source = c.next_line.ensures.source;
       size = c.play_line.ensures.size ∙ here.invariant.size;
@@ -177,7 +197,14 @@ returns-in_err-end-clause-ends g c =
     let next = c.next_line.new in
     let read = rw (c.in_default.is, here.invariant.grammar) at c.in_ok-line.ensures.line in
     rw (p.1, p.2)
-    (ends_at_end c.args.core.now (g.T.Source.left c.args.script.now) (octets_to_come here.lines (g.T.Source.left here.script)) (octets_to_come next.self (g.T.Source.left next.source)) (g.G.Ground.told c.args.device.now) (g.G.Ground.told here.device) (g.G.Ground.told c.end.new.device) here.lines.number next.self.number here.lines.ended here.core here.tally (end_piece c.count.result here.core) c.in_err-end.field-0.0 here.invariant.progress read (ap (λ n. end_piece n here.core) c.count.ensures.number) c.in_err-end.ensures.sends)
+    (ends_at_end Emits emits c.args.core.now (g.T.Source.left c.args.script.now) (octets_to_come here.lines (g.T.Source.left here.script)) (octets_to_come next.self (g.T.Source.left next.source)) (g.G.Ground.told c.args.device.now) (g.G.Ground.told here.device) (g.G.Ground.told c.end.new.device) here.lines.number next.self.number here.lines.ended here.core here.tally (end_piece c.count.result here.core) c.in_err-end.field-0.0 here.invariant.progress read (ap (λ n. end_piece n here.core) c.count.ensures.number)
+    (emits_up_to piece_text c.in_err-end.field-0.0 (end_piece c.count.result here.core ∷ []) (g.G.Ground.told here.device) (g.G.Ground.told c.end.new.device) c.in_err-end.ensures.sends))
+
+pub returns-in_err-end-clause-alone : goal.returns-in_err-end-clause-alone
+returns-in_err-end-clause-alone g c =
+    let here = c.loop-lines in
+    leaves_then (g.G.Ground.told c.args.device.now) (g.G.Ground.told here.device) (g.G.Ground.told c.end.new.device) here.invariant.alone
+    (leaves_up_to piece_text c.in_err-end.field-0.0 (end_piece c.count.result here.core ∷ []) (g.G.Ground.told here.device) (g.G.Ground.told c.end.new.device) c.in_err-end.ensures.sends)
 
 pub returns-in_err-end-clause-refused : goal.returns-in_err-end-clause-refused
 returns-in_err-end-clause-refused g c = λ line e.
@@ -190,25 +217,32 @@ returns-clause-ends g c =
     let here = c.loop-lines in
     let next = c.next_line.new in
     let read = rw (c.in_default.is, here.invariant.grammar) at c.in_ok-line.ensures.line in
-    ends c.args.core.now (g.T.Source.left c.args.script.now) (octets_to_come here.lines (g.T.Source.left here.script)) (octets_to_come next.self (g.T.Source.left next.source)) (g.G.Ground.told c.args.device.now) (g.G.Ground.told here.device) (g.G.Ground.told c.end.new.device) here.lines.number next.self.number here.lines.ended here.core here.tally (end_piece c.count.result here.core) here.invariant.progress read (ap (λ n. end_piece n here.core) c.count.ensures.number) c.in_ok-end.ensures.sends
+    ends Emits emits c.args.core.now (g.T.Source.left c.args.script.now) (octets_to_come here.lines (g.T.Source.left here.script)) (octets_to_come next.self (g.T.Source.left next.source)) (g.G.Ground.told c.args.device.now) (g.G.Ground.told here.device) (g.G.Ground.told c.end.new.device) here.lines.number next.self.number here.lines.ended here.core here.tally (end_piece c.count.result here.core) here.invariant.progress read (ap (λ n. end_piece n here.core) c.count.ensures.number)
+    (emits_sent piece_text (end_piece c.count.result here.core ∷ []) (g.G.Ground.told here.device) (g.G.Ground.told c.end.new.device) c.in_ok-end.ensures.sends)
+
+pub returns-clause-alone : goal.returns-clause-alone
+returns-clause-alone g c =
+    let here = c.loop-lines in
+    leaves_then (g.G.Ground.told c.args.device.now) (g.G.Ground.told here.device) (g.G.Ground.told c.end.new.device) here.invariant.alone
+    (leaves_sent piece_text (end_piece c.count.result here.core ∷ []) (g.G.Ground.told here.device) (g.G.Ground.told c.end.new.device) c.in_ok-end.ensures.sends)
 
 pub returns-clause-tally : goal.returns-clause-tally
 returns-clause-tally g c =
     let here = c.loop-lines in
     let next = c.next_line.new in
     let read = rw (c.in_default.is, here.invariant.grammar) at c.in_ok-line.ensures.line in
-    tallies c.args.core.now (g.T.Source.left c.args.script.now) (octets_to_come here.lines (g.T.Source.left here.script)) (octets_to_come next.self (g.T.Source.left next.source)) (g.G.Ground.told c.args.device.now) (g.G.Ground.told here.device) here.lines.number next.self.number here.lines.ended here.core here.tally here.invariant.progress read
+    tallies Emits emits c.args.core.now (g.T.Source.left c.args.script.now) (octets_to_come here.lines (g.T.Source.left here.script)) (octets_to_come next.self (g.T.Source.left next.source)) (g.G.Ground.told c.args.device.now) (g.G.Ground.told here.device) here.lines.number next.self.number here.lines.ended here.core here.tally here.invariant.progress read
 
 pub returns-clause-state : goal.returns-clause-state
 returns-clause-state g c =
     let here = c.loop-lines in
     let next = c.next_line.new in
     let read = rw (c.in_default.is, here.invariant.grammar) at c.in_ok-line.ensures.line in
-    reaches c.args.core.now (g.T.Source.left c.args.script.now) (octets_to_come here.lines (g.T.Source.left here.script)) (octets_to_come next.self (g.T.Source.left next.source)) (g.G.Ground.told c.args.device.now) (g.G.Ground.told here.device) here.lines.number next.self.number here.lines.ended here.core here.tally here.invariant.progress read
+    reaches Emits emits c.args.core.now (g.T.Source.left c.args.script.now) (octets_to_come here.lines (g.T.Source.left here.script)) (octets_to_come next.self (g.T.Source.left next.source)) (g.G.Ground.told c.args.device.now) (g.G.Ground.told here.device) here.lines.number next.self.number here.lines.ended here.core here.tally here.invariant.progress read
 
 pub returns-clause-accepted : goal.returns-clause-accepted
 returns-clause-accepted g c =
     let here = c.loop-lines in
     let next = c.next_line.new in
     let read = rw (c.in_default.is, here.invariant.grammar) at c.in_ok-line.ensures.line in
-    accepts c.args.core.now (g.T.Source.left c.args.script.now) (octets_to_come here.lines (g.T.Source.left here.script)) (octets_to_come next.self (g.T.Source.left next.source)) (g.G.Ground.told c.args.device.now) (g.G.Ground.told here.device) here.lines.number next.self.number here.lines.ended here.core here.tally here.invariant.progress read
+    accepts Emits emits c.args.core.now (g.T.Source.left c.args.script.now) (octets_to_come here.lines (g.T.Source.left here.script)) (octets_to_come next.self (g.T.Source.left next.source)) (g.G.Ground.told c.args.device.now) (g.G.Ground.told here.device) here.lines.number next.self.number here.lines.ended here.core here.tally here.invariant.progress read

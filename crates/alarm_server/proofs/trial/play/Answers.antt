@@ -95,7 +95,7 @@ returns-in_err-emit-clause-ends g c =
     let fault = c.in_err-emit.field-0.0 in
     rw (p.1, p.2)
     (ends_at_end c.args.settings (g.T.Source.left c.args.script.now) (octets_to_come here.lines (g.T.Source.left here.script)) (octets_to_come next.self (g.T.Source.left next.source)) (g.G.Ground.told c.args.device.now) before after here.lines.number next.self.number here.lines.ended here.watch fault here.invariant.progress read
-    (subst (λ n. SendsUpTo report_text fault (TrialEnd n ∷ []) before after) c.count.ensures.number c.in_err-emit.ensures.sends))
+    (subst (λ n. SendsUpTo Adds report_text fault (TrialEnd n ∷ []) before after) c.count.ensures.number c.in_err-emit.ensures.sends))
 
 pub returns-clause-ends : goal.returns-clause-ends
 returns-clause-ends g c =
