@@ -6,7 +6,7 @@ ghost use Rattle.enrollment.specs.Enrollments.{IsEnrollment};
 
 use crate::comparing::{holds, same};
 use algorithm_rules::{Algorithm, Snapshot};
-use bac_values::{Bits, Foreign, Items, ObjectId, ObjectKind, PropertyId, Text, Value};
+use bac_values::{Bits, Foreign, Items, ObjectId, ObjectKind, PropertyId, Text, Transition, Value};
 use enrollment::*;
 use object_table::{Change, ObjectSite, Table, WriteFault};
 use std::alloc::Global;
@@ -702,4 +702,110 @@ fn each_kind_has_its_algorithm(rt: HostRuntime) {
         Algorithm::UnsignedOutOfRange,
     ];
     same(&rt, &algorithms, &wanted);
+}
+
+/// Integer value 1, positive integer value 1, and enrollments 2 and 3.
+fn all_objects(alloc: Global) -> Result<Objects, Fail> {
+    Ok(Objects::new(level_and_flow(alloc)?, mirror_and_range(alloc)?))
+}
+
+/// Whether an object is detected and tells of TO_FAULT, if it is there.
+fn detection(
+    objects: &Objects,
+    kind: ObjectKind,
+    instance: u32,
+) -> Result<Option<[bool; 2]>, Fail> {
+    match objects.subject(identifier(kind, instance)?) {
+        Some(subject) => Ok(Some([
+            subject.is_detecting(),
+            subject.is_enabled(Transition::ToFault),
+        ])),
+        None => Ok(None),
+    }
+}
+
+fn expect_detection(rt: &impl Abort, objects: &Objects) -> Result<(), Fail> {
+    same(
+        rt,
+        &detection(objects, ObjectKind::EventEnrollment, 3)?,
+        &Some([true, true]),
+    );
+    same(
+        rt,
+        &detection(objects, ObjectKind::IntegerValue, 1)?,
+        &Some([false, false]),
+    );
+    same(rt, &detection(objects, ObjectKind::IntegerValue, 9)?, &None);
+    Ok(())
+}
+
+#[test]
+fn an_object_without_a_class_is_not_detected(rt: HostRuntime) -> Result<(), Fail> {
+    expect_detection(&rt, &all_objects(rt.alloc())?)
+}
+
+/// What the algorithm of an object is, whether its value is a number, and whether it has a fault, if it is there.
+fn looks(objects: &Objects, object: ObjectId, number: u32) -> Option<(Algorithm, bool, u8)> {
+    match objects.snapshot(object) {
+        Some(seen) => Some((
+            seen.algorithm,
+            is_unsigned(seen.value, number),
+            objects.reliability(object).number(),
+        )),
+        None => None,
+    }
+}
+
+#[test]
+fn both_kinds_of_objects_are_looked_at(rt: HostRuntime) -> Result<(), Fail> {
+    let objects = all_objects(rt.alloc())?;
+    let range = looks(&objects, identifier(ObjectKind::EventEnrollment, 3)?, 90);
+    let flow = looks(
+        &objects,
+        identifier(ObjectKind::PositiveIntegerValue, 1)?,
+        90,
+    );
+    same(&rt, &range, &Some((Algorithm::UnsignedRange, true, 0)));
+    same(&rt, &flow, &Some((Algorithm::UnsignedOutOfRange, true, 0)));
+    Ok(())
+}
+
+/// Whether enrollment 2 is inhibited: before a write, after it, and after it was taken back.
+fn inhibitions(objects: &mut Objects) -> Result<[bool; 3], Fail> {
+    let mirror = identifier(ObjectKind::EventEnrollment, 2)?;
+    let before = objects.is_inhibited(mirror);
+    let property = PropertyId::EVENT_ALGORITHM_INHIBIT;
+    let change = objects
+        .enrollments()
+        .check_write(mirror, property, None, &Value::Bool(false))?;
+    let back = objects.apply(change);
+    let after = objects.is_inhibited(mirror);
+    let _ = objects.apply(back);
+    Ok([before, after, objects.is_inhibited(mirror)])
+}
+
+#[test]
+fn a_write_among_all_objects_is_taken_back(rt: HostRuntime) -> Result<(), Fail> {
+    let mut objects = all_objects(rt.alloc())?;
+    same(&rt, &inhibitions(&mut objects)?, &[true, false, true]);
+    Ok(())
+}
+
+/// The numbers of the types in the order of the objects.
+fn types(alloc: Global, objects: &Objects) -> Result<Vec<u32>, Fail> {
+    let level = level(alloc, 1, 0)?;
+    let sites = vec![in alloc; level]?;
+    let mut types = Vec::new(alloc);
+    for subject in subjects_of(alloc, &sites, objects.enrollments().rows())?.iter() {
+        types.push(u32::from(subject.object.number()))?;
+    }
+    Ok(types)
+}
+
+#[test]
+fn enrollments_stand_before_types_of_higher_numbers(rt: HostRuntime) -> Result<(), Fail> {
+    let objects = all_objects(rt.alloc())?;
+    let types = types(rt.alloc(), &objects)?;
+    holds(&rt, types.as_slice() == &[9, 9, 45][..]);
+    Ok(())
 }
