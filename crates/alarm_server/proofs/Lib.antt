@@ -13,3 +13,4 @@ pub mod ByHistory
 pub mod OnFile
 pub mod Texts
 mod OfUnsent
+pub mod GeneratedText

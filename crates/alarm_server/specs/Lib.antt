@@ -10,6 +10,7 @@ pub mod Report
 pub mod Tallies
 pub mod Text
 pub mod OnFile
+pub mod GeneratedSite
 pub mod Workloads
 pub mod Commands
 pub mod Outcomes

@@ -15,7 +15,7 @@ use Rattle.alarm_server.specs.OnFile.{AcceptsOnFile, EndsOnFile, RefusesFile, St
 use Rattle.alarm_server.specs.Script.{refused_line}
 use Rattle.alarm_server.specs.Stopping.{StopsReading}
 use Rattle.alarm_server.specs.Trial.{front_transitions, report_over}
-use Rattle.alarm_server.specs.Workloads.{AcceptsGenerated, RefusesGenerated, RefusesGeneratedSite, summary_of}
+use Rattle.alarm_server.specs.Workloads.{AcceptsGenerated, RefusesGenerated, summary_of}
 
 -- what went out of the report; nothing where the words are of no form
 abbrev pub EndsAs : Option Command → Status → Option (List ℕ) → Option (List ℕ) → Option Told → Option Told → Type 0
@@ -49,7 +49,7 @@ RefusesAs None script line = ⊥
 abbrev pub RefusesSiteAs : Option Command → Option (List ℕ) → SiteFault → Type 0
 RefusesSiteAs (Some (Trial settings)) site fault = ⊥
 RefusesSiteAs (Some Session) site fault = RefusesFile site fault
-RefusesSiteAs (Some (Workload seed count)) site fault = RefusesGeneratedSite fault
+RefusesSiteAs (Some (Workload seed count)) site fault = ⊥
 RefusesSiteAs None site fault = ⊥
 
 -- where a source failed: what the lines give went out whose line feeds were read

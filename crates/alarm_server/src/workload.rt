@@ -8,7 +8,8 @@ ghost use Rattle.site_config.specs.Sites.{site_of};
 ghost use Rattle.work_load.specs.Site.{workload_site};
 ghost use Rattle.alarm_server.specs.Emission.{Ends};
 ghost use Rattle.alarm_server.specs.Status.{IsFault, IsInnerFault, IsSiteFault, of_memory, status_of};
-ghost use Rattle.alarm_server.specs.Workloads.{AcceptsGenerated, RefusesGenerated, RefusesGeneratedSite, summary_line, summary_of};
+ghost use Rattle.alarm_server.specs.GeneratedSite.{generated_site};
+ghost use Rattle.alarm_server.specs.Workloads.{AcceptsGenerated, ReadsGenerated, RefusesGenerated, summary_line, summary_of};
 
 use crate::emission::emit;
 use crate::on_file::play_site;
@@ -22,10 +23,11 @@ use std::alloc::Global;
 use work_load::{make_script, make_site};
 
 // The generated site.
+#[tactic(auto, using(crate::proofs::GeneratedText::reads))]
 fn generated_site(alloc: Global) -> Result<Site, Status>
-    ensures site { IfOk result (λ site. site_of workload_site ≡ Ok site) }
+    ensures site { IfOk result (λ site. site ≡ generated_site) }
     ensures keeps { IfOk result IsSite }
-    ensures refuses_site { (fault : SiteFault) → result ≡ Err (Status.SiteRefused fault) → RefusesGeneratedSite fault }
+    ensures memory { IfErr result (λ status. status ≡ Status.NoMemory) }
     ensures fault { IfErr result IsInnerFault }
     ensures no_line { IfErr result IsSiteFault }
 {
@@ -50,7 +52,7 @@ fn tally_of(alloc: Global, seed: u64, count: u32) -> Result<Tally, Status>
     ensures tally { IfOk result (λ tally. summary_of seed count ≡ summary_line seed count tally ∷ []) }
     ensures accepted { OnOk result (AcceptsGenerated seed count) }
     ensures refused { (line : ℕ) → result ≡ Err (Status.ScriptRefused line) → RefusesGenerated seed count line }
-    ensures refuses_site { (fault : SiteFault) → result ≡ Err (Status.SiteRefused fault) → RefusesGeneratedSite fault }
+    ensures takes_site { (fault : SiteFault) → result ≢ Err (Status.SiteRefused fault) }
     ensures fault { IfErr result IsInnerFault }
 {
     let site = generated_site(alloc)?;
@@ -63,7 +65,8 @@ fn tally_of(alloc: Global, seed: u64, count: u32) -> Result<Tally, Status>
 }
 
 /// A session of the generated site by the script that is drawn from a seed: what goes out is one line, which tells how many
-/// lines of each kind its report has. Nothing is read.
+/// lines of each kind its report has. The site's text is never refused. Nothing is read.
+#[tactic(auto, using(crate::proofs::GeneratedText::reads))]
 pub fn workload<G: Ground>(
     alloc: Global,
     seed: u64,
@@ -71,9 +74,10 @@ pub fn workload<G: Ground>(
     device: &mut G,
 ) -> Result<(), Status>
     ensures ends { Ends Adds report_text (status_of result) (summary_of seed count) (G.told device.old) (G.told device.new) }
+    ensures reads { ReadsGenerated }
     ensures accepted { OnOk result (AcceptsGenerated seed count) }
     ensures refused { (line : ℕ) → result ≡ Err (Status.ScriptRefused line) → RefusesGenerated seed count line }
-    ensures refuses_site { (fault : SiteFault) → result ≡ Err (Status.SiteRefused fault) → RefusesGeneratedSite fault }
+    ensures takes_site { (fault : SiteFault) → result ≢ Err (Status.SiteRefused fault) }
     ensures fault { IfErr result IsFault }
     ensures unread { result ≢ Err Status.ReadFault }
     ensures size { G.size device.new ≡ G.size device.old }
