@@ -431,7 +431,8 @@ classes = [7]
 ";
 
 /// The text of `cases/summer-time.toml`.
-pub const SUMMER_TIME: &str = "# A tank without a delay, where clocks are put forward and back as in Central Europe. One recipient is told from 02:00 to
+pub const SUMMER_TIME: &str =
+    "# A tank without a delay, where clocks are put forward and back as in Central Europe. One recipient is told from 02:00 to
 # 02:59:59.99, another one at all times, and an event log holds the last eight notifications.
 
 [device]
