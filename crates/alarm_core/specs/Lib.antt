@@ -23,3 +23,6 @@ pub mod Reading
 pub mod Information
 pub mod LastLists
 pub mod Verdicts
+pub mod SiteStates
+pub mod Limits
+pub mod Parts

@@ -1,5 +1,5 @@
 -- The objects of a site that have event detection: value objects with a notification class, and event enrollments (ANSI/ASHRAE 135-2020, 12.12 and 13.2).
-use Rattle.std.specs.Prelude.{ℕ, ◌==◌, Bool, replicate, false, Option, Some, None, List, filter, find}
+use Rattle.std.specs.Prelude.{ℕ, ◌==◌, Bool, replicate, false, Option, Some, None, is_some, List, filter, find}
 use Rattle.std.specs.Option.{option_and_then}
 use Rattle.notify_class.specs.declared.class_site.ClassSite.{ClassSite}
 use Rattle.enrollment.specs.declared.subject.Subject.{Subject}
@@ -9,6 +9,13 @@ use Rattle.alarm_core.specs.declared.site.Site.{Site}
 -- what event detection is set to for the value objects and the enrollments of a site at its start, by ascending identifier
 abbrev pub subjects_of : Site → List Subject
 subjects_of site = subjects_in site.objects site.enrollments
+
+-- those that have alarms: value objects with a notification class, and enrollments
+abbrev pub has_class : Subject → Bool
+has_class subject = is_some subject.class
+
+abbrev pub alarm_subjects : Site → List Subject
+alarm_subjects site = filter has_class (subjects_of site)
 
 abbrev pub detecting_subjects : Site → List Subject
 detecting_subjects site = filter is_detecting (subjects_of site)

@@ -19,6 +19,7 @@ mod laws;
 mod logs;
 mod look;
 mod notifications;
+mod parts;
 mod queueing;
 mod reading;
 mod site;
@@ -35,6 +36,7 @@ pub use laws::{
     stands_for_its_history,
 };
 pub use notify_class::ClassSite;
+pub use parts::Parts;
 pub use property_values::{DeviceSite, ReadFault};
 pub use site::Site;
 pub use state::Core;

@@ -1,4 +1,5 @@
 pub mod Records
 pub mod ReadingSteps
 pub mod Types
+pub mod Snapshots
 pub mod Laws
