@@ -53,11 +53,11 @@ behind peer peers known ascending = sym (at_gap peer known (length known) gap) �
     gap = (
       omega arith,
       λ k d low high.
-      let next = length-append known (peer ∷ peers) in
-      let more : length (peer ∷ peers) ≡ suc (length peers) = refl in
-      subst (λ p. peer_order p peer ≡ Less) (get_or_append_left known (peer ∷ peers) d k high)
-      (subst (λ p. peer_order (get_or (known ++ peer ∷ peers) k d) p ≡ Less) (get_or_at known peer peers d (length known) refl)
-      (ascending k (length known) d high (omega (arith, next, more)))),
+          let next = length-append known (peer ∷ peers) in
+          let more : length (peer ∷ peers) ≡ suc (length peers) = refl in
+          subst (λ p. peer_order p peer ≡ Less) (get_or_append_left known (peer ∷ peers) d k high)
+          (subst (λ p. peer_order (get_or (known ++ peer ∷ peers) k d) p ≡ Less) (get_or_at known peer peers d (length known) refl)
+          (ascending k (length known) d high (omega (arith, next, more)))),
       λ k d low high. absurd (omega (arith, low, high)),
     )
 

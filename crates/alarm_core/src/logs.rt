@@ -82,7 +82,11 @@ impl SiteLog {
     }
 
     /// A log of a site, with what it holds.
-    pub(crate) fn restored(alloc: Global, site: &LogSite, log: EventLog) -> Result<SiteLog, NoMemory>
+    pub(crate) fn restored(
+        alloc: Global,
+        site: &LogSite,
+        log: EventLog,
+    ) -> Result<SiteLog, NoMemory>
         requires listed { IsLogSite site.now }
         ensures restored { IfOk result (λ kept. kept ≡ record { site = site.now; log = log }) }
     {

@@ -124,11 +124,7 @@ fn add_log(
 }
 
 // The logs of a site with what parts tell of each.
-fn restored_logs(
-    alloc: Global,
-    site: &Site,
-    logs: Vec<EventLog>,
-) -> Result<Vec<SiteLog>, NoMemory>
+fn restored_logs(alloc: Global, site: &Site, logs: Vec<EventLog>) -> Result<Vec<SiteLog>, NoMemory>
     requires listed { All IsLogSite site.now.logs }
     ensures logs { IfOk result (λ kept. kept.items ≡ map kept_by (zip site.now.logs logs.items)) }
 {

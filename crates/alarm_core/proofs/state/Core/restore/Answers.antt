@@ -35,5 +35,7 @@ returns c =
     let told : c.as_slice.result.now ≡ parts.alarms = c.as_slice.ensures.same in
     let logs : c.into_vec.result.items ≡ parts.logs = c.into_vec.ensures.same in
     let classes : c.into_vec-classes.result.items ≡ parts.classes = c.into_vec-classes.ensures.same in
-    record { restored = restored_shows site c.in_ok-site.site parts c.new-objects.result c.as_slice.result.now c.in_ok-alarms.alarms.items c.into_vec-classes.result.items c.into_vec.result.items c.in_ok-logs.logs.items
-    same values told c.in_ok-alarms.ensures.alarms classes logs c.in_ok-logs.ensures.logs }
+    record {
+      restored = restored_shows site c.in_ok-site.site parts c.new-objects.result c.as_slice.result.now c.in_ok-alarms.alarms.items c.into_vec-classes.result.items c.into_vec.result.items c.in_ok-logs.logs.items
+          same values told c.in_ok-alarms.ensures.alarms classes logs c.in_ok-logs.ensures.logs;
+    }
