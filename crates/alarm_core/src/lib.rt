@@ -5,6 +5,7 @@
 //! next event needs, and stands for the state that its history leaves (`specs/State.antt`).
 #![tactic(auto)]
 
+mod admitting;
 mod classes;
 mod detection;
 mod enrollment_content;
