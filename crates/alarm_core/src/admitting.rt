@@ -1,6 +1,7 @@
-ghost use Rattle.std.specs.Prelude.{◌≡◌, ◌↔◌, ◌×◌, ◌*◌, ◌^◌, ◌-◌, ◌≤◌, IsSome, IsTrue, Ok, List, length, min, not, filter, fold, sum_by};
+ghost use Rattle.std.specs.Prelude.{◌≡◌, ◌==◌, ◌↔◌, ◌+◌, ◌^◌, ◌-◌, ◌≤◌, IsSome, IsTrue, Ok, min, not, map, filter, fold};
 ghost use Rattle.bac_values.specs.Moments.{IsMoment};
 ghost use Rattle.notify_class.specs.Edits.{edit_verdict};
+ghost use Rattle.notify_class.specs.declared.class.Class.{Class as Listed};
 ghost use Rattle.outbox.specs.Outboxes.{peers_of as peers_of_posts};
 ghost use Rattle.alarm_core.specs.Allowed.{IsAllowed, IsAnswer, members_of, room_beside, share_of};
 ghost use Rattle.alarm_core.specs.Classes.{class_in, is_member};
@@ -45,6 +46,12 @@ fn is_member(class: Option<u32>, instance: u32) -> bool
     class == Some(instance)
 }
 
+fn added(sum: u64, share: u64) -> u64
+    ensures sum { result ≡ min (sum + share) (2 ^ 64 - 1) }
+{
+    sum.saturating_add(share)
+}
+
 impl Core {
     // How many objects have a class.
     fn members(&self, class: u32) -> u64
@@ -74,27 +81,40 @@ impl Core {
             .saturating_mul(recipients as u64)
     }
 
+    // What the other classes need of the outbox, as far as 64 bits go.
+    fn shares_beside(&self, class: u32) -> u64
+        ensures shares { result ≡ fold (λ sum share. min (sum + share) (2 ^ 64 - 1)) 0
+            (map (λ (other : Listed). min (share_of self.now other) (2 ^ 64 - 1)) (filter (λ (other : Listed). not (other.instance == class)) self.now.classes)) }
+    {
+        self.classes()
+            .iter()
+            .filter(|other| other.instance != class)
+            .map(|other| self.share(other))
+            .fold(0, added)
+    }
+
     // What the other classes leave of the outbox.
     fn room_beside(&self, class: u32) -> u32
         ensures room { result ≡ room_beside self.now class }
+        ensures within { result ≤ 16_384 }
     {
-        let others = self
-            .classes()
-            .iter()
-            .filter(|other| other.instance != class)
-            .fold(0, |sum: u64, other| sum.saturating_add(self.share(other)));
-        u64::from(self.site().device.outbox).saturating_sub(others) as u32
+        let room = u64::from(self.site().device.outbox);
+        room.saturating_sub(self.shares_beside(class)) as u32
     }
 
-    // Whether there is the class, and its list may be edited so.
-    fn allows_edit(&self, class: u32, destinations: &[Destination]) -> bool
-        ensures allowed { IsTrue result ↔ (IsSome (class_in class self.now.classes)
-            × (edit_verdict (peers_of_posts self.now.outbox.posts) destinations.now (members_of self.now class) (room_beside self.now class) ≡ Ok tt)) }
+    // Whether an edit of a class keeps to the limits.
+    fn fits(&self, class: u32, destinations: &[Destination]) -> bool
+        ensures fits { IsTrue result ↔ (edit_verdict (peers_of_posts self.now.outbox.posts) destinations.now (members_of self.now class) (room_beside self.now class) ≡ Ok tt) }
     {
         let members = self.members(class).min(u64::from(u32::MAX)) as u32;
         let room = self.room_beside(class);
+        check_edit(self.known_peers(), destinations, members, room).is_ok()
+    }
+
+    fn has_class(&self, class: u32) -> bool
+        ensures there { IsTrue result ↔ IsSome (class_in class self.now.classes) }
+    {
         class_in(class, self.classes()).is_some()
-            && check_edit(self.known_peers(), destinations, members, room).is_ok()
     }
 
     // Whether the act may come next.
@@ -117,7 +137,7 @@ impl Core {
             Act::Edit {
                 class,
                 destinations,
-            } => self.allows_edit(*class, destinations.as_slice()),
+            } => self.has_class(*class) && self.fits(*class, destinations.as_slice()),
         }
     }
 
