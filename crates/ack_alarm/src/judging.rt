@@ -1,10 +1,10 @@
 ghost use Rattle.std.specs.Prelude.{◌≡◌};
-ghost use Rattle.event_machine.specs.Finding.{as_finding, names_last, names_state};
+ghost use Rattle.event_machine.specs.Finding.{as_finding};
 ghost use Rattle.ack_alarm.specs.Verdicts.{AcceptsAllowed, acknowledgement_verdict, error_of, is_stamp, transition_named, verdict_on, verdict_with};
 
 use crate::Verdict;
 use bac_values::{EventState, ServiceError, Transition};
-use event_machine::{Alarm, Found};
+use event_machine::{Alarm, Found, names_last};
 use event_services::{AckRequest, AckStamp};
 
 fn transition_named(number: u32) -> Transition
@@ -25,31 +25,6 @@ fn is_stamp(alarm: &Alarm, transition: Transition, stamp: AckStamp) -> bool
     };
     let place = transition.place();
     alarm.last_states()[place].is_some() && alarm.stamps()[place].octets == stamp.octets
-}
-
-// Whether the state that is named is the one that was entered.
-fn names_state(last: EventState, named: EventState) -> bool
-    ensures names { result ≡ names_state last named }
-{
-    match (last, named) {
-        (EventState::Normal, EventState::Normal)
-        | (EventState::Fault, EventState::Fault)
-        | (EventState::Offnormal, EventState::Offnormal)
-        | (EventState::HighLimit, EventState::HighLimit)
-        | (EventState::LowLimit, EventState::LowLimit)
-        | (EventState::HighLimit, EventState::Offnormal)
-        | (EventState::LowLimit, EventState::Offnormal) => true,
-        _ => false,
-    }
-}
-
-fn names_last(last: Option<EventState>, named: EventState) -> bool
-    ensures names { result ≡ names_last last named }
-{
-    match last {
-        Some(last) => names_state(last, named),
-        None => false,
-    }
 }
 
 // An error, as it is answered.

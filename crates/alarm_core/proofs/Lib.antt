@@ -34,4 +34,6 @@ pub mod Accepted
 pub mod LastLists
 pub mod Restored
 pub mod RestoredCore
+pub mod Clamped
+pub mod Following
 mod Kept

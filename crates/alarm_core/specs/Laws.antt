@@ -1,5 +1,5 @@
 -- What makes the definitions believable: the next state is that of the longer history, and the run starts are in it; when a tick is never refused; which number a refusal tells; which peers are known; and which changes are allowed.
-use Rattle.std.specs.Prelude.{◌≡◌, ◌↔◌, ◌<◌, ℕ, ◌+◌, Bool, true, false, IsTrue, IsOk, None, List, [], ◌∷◌, ◌++◌, length, map, Contains, Ok, Err}
+use Rattle.std.specs.Prelude.{◌≡◌, ◌↔◌, ◌<◌, ℕ, ◌+◌, Bool, true, false, IsTrue, IsOk, None, List, [], ◌∷◌, ◌++◌, length, map, reverse, Contains, Ok, Err}
 use Rattle.bac_values.specs.Address.{PeerData}
 use Rattle.bac_values.specs.Identifier.{ObjectIdData}
 use Rattle.bac_values.specs.Orders.{IsAscending}
@@ -16,10 +16,11 @@ use Rattle.alarm_core.specs.declared.event.StepFault.TheVariants.{Full}
 use Rattle.alarm_core.specs.declared.site.Site.{Site}
 use Rattle.alarm_core.specs.History.{tick_at, transitions_of}
 use Rattle.alarm_core.specs.State.{state_of, CoreState}
-use Rattle.alarm_core.specs.Allowed.{Comes, IsAllowed, IsHistory}
+use Rattle.alarm_core.specs.Allowed.{Comes, IsAllowed, IsHistory, Represents}
 use Rattle.alarm_core.specs.Classes.{known_peers_of, listed_peers}
 use Rattle.alarm_core.specs.Deliveries.{event_sends, notifications_of, outbox_after}
 use Rattle.alarm_core.specs.CoreSteps.{first_state, next_notes, next_sends, next_state, next_transitions}
+use Rattle.alarm_core.specs.FollowingSteps.{AreAllowed, state_over}
 use Rattle.alarm_core.specs.RunStarts.{run_starts_in, run_starts_of}
 use Rattle.alarm_core.specs.Reading.{write_of}
 use Rattle.alarm_core.specs.Room.{HasRoom}
@@ -71,3 +72,8 @@ pub record AllowsWhatChecksAccept : Type 0 where
   pub field_faults : (state : CoreState) (object : ObjectIdData) (reliability : ℕ) →
       IsAllowed state (Write (fault_change object reliability)) ↔ IsOk (checked_fault state.values.rows object reliability)
   pub sets : (state : CoreState) (object : ObjectIdData) (value : Value) → IsOk (checked_set state.values.rows object value) → IsAllowed state (Write (property_change object present_value_property value))
+
+-- the state over some events, each of which may follow on those before it, is that of the history with all of them
+abbrev pub StandsOverEvents : Type 0
+StandsOverEvents = (state : CoreState) (history events : List Event) → IsSite state.site → Represents state history → AreAllowed state events →
+    Represents (state_over state events) (reverse events ++ history)

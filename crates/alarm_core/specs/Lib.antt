@@ -16,6 +16,7 @@ pub mod Room
 pub mod CoreSteps
 pub mod ViewSteps
 pub mod RunStarts
+pub mod FollowingSteps
 pub mod Laws
 pub mod EnrollmentProperties
 pub mod Contents

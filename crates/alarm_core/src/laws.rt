@@ -1,5 +1,5 @@
 ghost use Rattle.alarm_core.specs.LastLists.{ReadsTheLastList};
-ghost use Rattle.alarm_core.specs.Laws.{AllowsWhatChecksAccept, CountsTheLongerHistory, KnowsListedPeers, StandsForItsHistory};
+ghost use Rattle.alarm_core.specs.Laws.{AllowsWhatChecksAccept, CountsTheLongerHistory, KnowsListedPeers, StandsForItsHistory, StandsOverEvents};
 
 /// Going on from event to event, as they come, gives the state and the event-state transitions that looking back over the
 /// whole history gives, its notifications and what it sends; the run starts that looking back gives are in that state; and
@@ -28,4 +28,10 @@ pub fn knows_listed_peers()
 /// what gives an object's value where the check of a fault from the field accepts it.
 pub fn allows_what_checks_accept()
     ensures changes { AllowsWhatChecksAccept }
+{}
+
+/// The state over a list of events, the oldest first, each of which may follow on those before it, is the one that looking
+/// back over the history with all of them gives.
+pub fn stands_over_events()
+    ensures events { StandsOverEvents }
 {}

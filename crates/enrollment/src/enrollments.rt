@@ -1,4 +1,4 @@
-ghost use Rattle.std.specs.Prelude.{◌≡◌, ◌↔◌, ◌≤◌, All, IfErr, IfOk, IfSome, IsNone, None, OnErr, length};
+ghost use Rattle.std.specs.Prelude.{◌≡◌, ◌↔◌, ◌≤◌, All, IfErr, IfOk, IfSome, IsNone, IsTrue, None, OnErr, length};
 ghost use Rattle.std.specs.Option.{option_copied, option_map};
 ghost use Rattle.algorithm_rules.specs.Facts.{facts_of};
 ghost use Rattle.object_table.specs.Rows.{Ascends, row_of};
@@ -14,7 +14,7 @@ use crate::references::References;
 use crate::reliabilities::reliability_of_enrollment;
 use crate::settings::put;
 use crate::snapshots::{snapshot_of_enrollment, snapshot_of_object};
-use crate::verdicts::{check_property, copy_of};
+use crate::verdicts::{check_property, copy_of, takes};
 use algorithm_rules::Snapshot;
 use bac_values::{NoMemory, ObjectId, PropertyId, Reliability, Value};
 use object_table::{Change, Table, What, WriteFault};
@@ -102,6 +102,13 @@ impl Enrollments {
                 value: copy_of(value),
             },
         })
+    }
+
+    /// Whether there is the enrollment of a change, and it takes it.
+    pub fn takes(&self, change: &Change) -> bool
+        ensures takes { IsTrue result ↔ IsTaken change.now self.now }
+    {
+        self.row(change.object).is_some() && takes(&change.what)
     }
 
     /// Makes a change that an enrollment takes, and gives the change that takes it back.

@@ -1,4 +1,4 @@
-ghost use Rattle.std.specs.Prelude.{◌≡◌, ◌≤◌, IfSome, IsFalse, IsTrue, None, length};
+ghost use Rattle.std.specs.Prelude.{◌≡◌, ◌↔◌, ◌≤◌, IfSome, IsFalse, IsTrue, None, length};
 ghost use Rattle.std.specs.Option.{option_map};
 ghost use Rattle.algorithm_rules.specs.Facts.{facts_of};
 ghost use Rattle.object_table.specs.Rows.{row_of};
@@ -114,6 +114,13 @@ impl Objects {
             },
             None => false,
         }
+    }
+
+    /// Whether there is the value object or the enrollment of a change, and it takes it.
+    pub fn takes(&self, change: &Change) -> bool
+        ensures takes { IsTrue result ↔ IsTaken change.now self.now }
+    {
+        self.table.takes(change) || self.enrollments.takes(change)
     }
 
     /// Makes a change that an object takes, and gives the change that takes it back.

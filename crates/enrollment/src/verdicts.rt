@@ -1,10 +1,31 @@
 ghost use Rattle.std.specs.Prelude.{◌≡◌, ◌||◌, IfErr, IsTrue};
 ghost use Rattle.object_table.specs.Values.{are_flags, is_truth};
 ghost use Rattle.enrollment.specs.Verdicts.{IsError, can_be, write_verdict, writable_tag};
+ghost use Rattle.enrollment.specs.Writes.{takes, takes_value};
 
 use crate::EnrollmentProperty;
 use bac_values::{ApplicationTag, PropertyId, Value};
-use object_table::{WriteFault, check_index, check_value};
+use object_table::{What, WriteFault, check_index, check_value};
+
+/// Whether an enrollment takes a change.
+pub fn takes(what: &What) -> bool
+    ensures takes { result ≡ takes what.now }
+{
+    match what {
+        What::Property { property, value } => takes_value(*property, value),
+        What::FieldFault { .. } => false,
+    }
+}
+
+// Whether a property can be written and be the value.
+fn takes_value(property: PropertyId, value: &Value) -> bool
+    ensures takes { result ≡ takes_value property.0 value.now }
+{
+    match EnrollmentProperty::of_number(property.0) {
+        Some(property) => can_be(property, value),
+        None => false,
+    }
+}
 
 /// Whether an enrollment takes a write of a property; the first error that applies is told.
 pub fn check_property(

@@ -5,6 +5,7 @@
 //! program keeps of it is its alarm. In it stands, of each rule of the object's state, since when its condition has held.
 #![tactic(auto)]
 
+mod acknowledging;
 mod alarm;
 mod due;
 mod found;
@@ -21,6 +22,7 @@ mod running;
 mod settled;
 mod steps;
 
+pub use acknowledging::{may_acknowledge, names_last};
 pub use alarm::Alarm;
 pub use due::next_due;
 pub use found::Found;

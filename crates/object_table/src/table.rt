@@ -1,4 +1,4 @@
-ghost use Rattle.std.specs.Prelude.{◌≡◌, All, IfOk, IfSome, None, OnErr};
+ghost use Rattle.std.specs.Prelude.{◌≡◌, ◌↔◌, All, IfOk, IfSome, IsTrue, None, OnErr};
 ghost use Rattle.std.specs.Option.{option_copied, option_map};
 ghost use Rattle.object_table.specs.Objects.{IsObject, IsRow};
 ghost use Rattle.object_table.specs.Rows.{AscendsById, RowsAscend, StandsAt, row_of, rows_of};
@@ -6,7 +6,7 @@ ghost use Rattle.object_table.specs.Verdicts.{AnswersWrite, checked_fault, check
 ghost use Rattle.object_table.specs.Writes.{IsTaken, written};
 
 use crate::settings::put;
-use crate::values::is_field_fault;
+use crate::values::{is_field_fault, takes};
 use crate::verdicts::{check_object, check_present_value};
 use crate::{Change, ObjectSite, Row, What, WriteFault};
 use bac_values::{NoMemory, ObjectId, PropertyId, SetFault, Value};
@@ -40,6 +40,15 @@ impl Table {
     {
         let rows = first_rows(alloc, objects)?;
         Ok(Table { rows })
+    }
+
+    /// A table of these rows, which have what writes and faults have left in them.
+    pub fn restore(rows: Vec<Row>) -> Table
+        requires ascending { RowsAscend rows.items }
+        requires allowed { All IsRow rows.items }
+        ensures rows { result ≡ rows.items }
+    {
+        Table { rows }
     }
 
     /// The objects, ascending.
@@ -134,6 +143,16 @@ impl Table {
                 reliability: reliability as u8,
             },
         })
+    }
+
+    /// Whether the table has the object of a change, and the object takes it.
+    pub fn takes(&self, change: &Change) -> bool
+        ensures takes { IsTrue result ↔ IsTaken change.now self.now }
+    {
+        match self.row(change.object) {
+            Some(row) => takes(&change.what, &row.site),
+            None => false,
+        }
     }
 
     /// Makes a change that an object of the table takes, and gives the change that takes it back.

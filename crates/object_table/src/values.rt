@@ -1,8 +1,31 @@
 ghost use Rattle.std.specs.Prelude.{◌≡◌, ℕ};
-ghost use Rattle.object_table.specs.Values.{are_flags, can_be, has_length_of, is_binary_value, is_field_fault, is_number, is_present_value, is_state, is_text, is_truth, is_unsigned};
+ghost use Rattle.object_table.specs.Values.{are_flags, can_be, has_length_of, is_binary_value, is_field_fault, is_number, is_present_value, is_state, is_text, is_truth, is_unsigned, takes_value};
+ghost use Rattle.object_table.specs.Writes.{takes};
 
-use crate::{ObjectProperty, ObjectSite};
-use bac_values::{ObjectKind, Reliability, Value};
+use crate::properties::has;
+use crate::{ObjectProperty, ObjectSite, What};
+use bac_values::{ObjectKind, PropertyId, Reliability, Value};
+
+/// Whether an object takes a change.
+pub fn takes(what: &What, site: &ObjectSite) -> bool
+    ensures takes { result ≡ takes what.now site.now }
+{
+    match what {
+        What::Property { property, value } => takes_value(site, *property, value),
+        What::FieldFault { reliability } => is_field_fault(u32::from(*reliability)),
+    }
+}
+
+/// Whether a property of an object can be written and be the value.
+fn takes_value(site: &ObjectSite, property: PropertyId, value: &Value) -> bool
+    ensures takes { result ≡ takes_value property.0 value.now site.now }
+{
+    let kind = site.object.kind();
+    match ObjectProperty::of_number(property.0) {
+        Some(property) => has(kind, site, property) && can_be(kind, site, property, value),
+        None => false,
+    }
+}
 
 /// Whether a property that may be written can be the value.
 pub fn can_be(

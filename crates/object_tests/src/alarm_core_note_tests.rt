@@ -1,7 +1,5 @@
-ghost use Rattle.std.specs.Prelude.{◌≡◌, IfOk, IsSome, IsTrue};
+ghost use Rattle.std.specs.Prelude.{IfOk};
 ghost use Rattle.object_table.specs.Objects.{IsObject};
-ghost use Rattle.alarm_core.specs.Allowed.{members_of, room_beside};
-ghost use Rattle.alarm_core.specs.Classes.{class_in};
 
 use crate::alarm_core_plant::{
     Play, START, answer, is_sent, operator, plant, play_on, pump, set, take, told,
@@ -9,14 +7,14 @@ use crate::alarm_core_plant::{
 use crate::comparing::holds;
 use alarm_core::*;
 use bac_values::{Items, ObjectId, ObjectKind, Peer, PropertyId, Text, Value};
-use notify_class::{Destination, check_edit};
+use notify_class::Destination;
 use object_table::ObjectSite;
 use std::alloc::Global;
 use std::process::Abort;
 use std::test::Fail;
 
 /// The notification of HIGH_LIMIT at the start, to be confirmed with invoke ID 0.
-const HIGH_LIMIT: [u8; 65] = [
+pub(crate) const HIGH_LIMIT: [u8; 65] = [
     0x81, 0x0a, 0x00, 0x41, 0x01, 0x04, 0x00, 0x05, 0x00, 0x02, 0x09, 0x01, 0x1c, 0x02, 0x00, 0x03,
     0xe9, 0x2c, 0x0b, 0x40, 0x00, 0x01, 0x3e, 0x2e, 0xa4, 0x7b, 0x0b, 0x0e, 0x02, 0xb4, 0x16, 0x0d,
     0x14, 0x00, 0x2f, 0x3f, 0x49, 0x07, 0x59, 0x64, 0x69, 0x0f, 0x89, 0x00, 0x99, 0x01, 0xa9, 0x00,
@@ -25,12 +23,12 @@ const HIGH_LIMIT: [u8; 65] = [
 ];
 
 /// Another recipient, whom the site doesn't list.
-fn guard() -> Peer {
+pub(crate) fn guard() -> Peer {
     Peer::local(167_772_166, 47808)
 }
 
 /// An integer value of 50 with limits 20 and 80.
-fn tank(alloc: Global) -> Result<ObjectSite, Fail>
+pub(crate) fn tank(alloc: Global) -> Result<ObjectSite, Fail>
     ensures object { IfOk result (λ site. IsObject site) }
 {
     Ok(ObjectSite {
@@ -60,7 +58,7 @@ fn tank(alloc: Global) -> Result<ObjectSite, Fail>
     })
 }
 
-fn rise(core: &mut Core) -> Result<Result<Outcome, StepFault>, Fail> {
+pub(crate) fn rise(core: &mut Core) -> Result<Result<Outcome, StepFault>, Fail> {
     set(core, ObjectKind::IntegerValue, Value::Signed(90))
 }
 
@@ -116,36 +114,17 @@ const BOTH: [u8; 62] = [
     0x06, 0x0a, 0x00, 0x00, 0x06, 0xba, 0xc0, 0x1f, 0x21, 0x02, 0x11, 0x82, 0x05, 0xe0,
 ];
 
-/// Whether there is no other class, and one object alone is its member.
-fn is_alone(core: &Core, class: u32) -> bool
-    ensures class { IsTrue result → IsSome (class_in class core.now.classes) }
-    ensures members { IsTrue result → members_of core.now class ≡ 1 }
-    ensures room { IsTrue result → room_beside core.now class ≡ core.now.site.device.outbox }
-{
-    match (core.classes(), core.table().rows()) {
-        ([only], [row]) => {
-            only.instance == class
-                && row.site.class == Some(class)
-                && core.site().enrollments.as_slice().is_empty()
-        }
-        _ => false,
-    }
-}
-
 /// The class of the operators gets a list, which is allowed, at the start. Nothing moves, and nothing is sent.
 fn edit(rt: &impl Abort, core: &mut Core, list: Vec<Destination>) -> Result<(), Fail> {
-    let class = 7;
-    let room = core.site().device.outbox;
-    let is_edit = check_edit(core.known_peers(), &list, 1, room).is_ok();
-    if !is_alone(core, class) || !is_edit {
+    let act = Act::Edit {
+        class: 7,
+        destinations: Items::of(list),
+    };
+    let event = Event { moment: START, act };
+    if !core.admits(&event) {
         return Err(Fail::new("it isn't allowed"));
     }
-    let destinations = Items::of(list);
-    let act = Act::Edit {
-        class,
-        destinations,
-    };
-    let outcome = take(core, START, act)??;
+    let outcome = take(core, event.moment, event.act)??;
     holds(
         rt,
         outcome.moves.as_slice().is_empty() && outcome.sends.as_slice().is_empty(),

@@ -6,7 +6,7 @@ use crate::comparing::holds;
 use alarm_core::*;
 use bac_values::{Items, Mac, ObjectId, ObjectKind, Peer, PropertyId, Text, Value};
 use notify_class::{Class, Destination};
-use object_table::WriteFault;
+use object_table::{Change, What, WriteFault};
 use std::alloc::Global;
 use std::process::Abort;
 use std::test::Fail;
@@ -194,6 +194,36 @@ fn errors_come(
             is_error(alloc, core, object, *property, *index, *class, *code),
         );
     }
+}
+
+/// Whether a value may be written to a property of the log.
+fn logs_take(core: &Core, property: PropertyId, value: Value) -> Result<bool, Fail> {
+    let object = ObjectId::of_kind(ObjectKind::EventLog, 1)?;
+    let what = What::Property { property, value };
+    let change = Change { object, what };
+    let moment = core.last_moment();
+    let act = Act::Write { change };
+    Ok(core.admits(&Event { moment, act }))
+}
+
+/// A log is turned off and cleared, and that is all.
+struct LogWrites;
+
+impl Play for LogWrites {
+    fn play(&self, rt: &impl Abort, _alloc: Global, core: &mut Core) -> Result<(), Fail> {
+        holds(rt, logs_take(core, PropertyId::ENABLE, Value::Bool(false))?);
+        let count = PropertyId::RECORD_COUNT;
+        holds(rt, logs_take(core, count, Value::Unsigned(0))?);
+        holds(rt, !logs_take(core, count, Value::Unsigned(1))?);
+        let stop = PropertyId::STOP_WHEN_FULL;
+        holds(rt, !logs_take(core, stop, Value::Bool(true))?);
+        Ok(())
+    }
+}
+
+#[test]
+fn a_change_that_a_log_takes_is_admitted(rt: HostRuntime) -> Result<(), Fail> {
+    play_at_plant(&rt, rt.alloc(), &LogWrites)
 }
 
 /// An object of the plant, and what its properties, the elements of its arrays, and reads that fail are answered by.

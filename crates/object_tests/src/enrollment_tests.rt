@@ -8,7 +8,7 @@ use crate::comparing::{holds, same};
 use algorithm_rules::{Algorithm, Snapshot};
 use bac_values::{Bits, Foreign, Items, ObjectId, ObjectKind, PropertyId, Text, Transition, Value};
 use enrollment::*;
-use object_table::{Change, ObjectSite, Table, WriteFault};
+use object_table::{Change, ObjectSite, Table, What, WriteFault};
 use std::alloc::Global;
 use std::process::Abort;
 use std::test::Fail;
@@ -302,6 +302,29 @@ fn event_enable_is_three_bits(rt: HostRuntime) -> Result<(), Fail> {
 fn inhibition_is_true_or_false(rt: HostRuntime) -> Result<(), Fail> {
     let list = followers(rt.alloc())?;
     expect_inhibiting(&rt, &list)
+}
+
+/// Whether an enrollment takes a value of Event_Algorithm_Inhibit.
+fn takes(list: &Enrollments, instance: u32, value: Value) -> Result<bool, Fail> {
+    let object = identifier(ObjectKind::EventEnrollment, instance)?;
+    let property = PropertyId::EVENT_ALGORITHM_INHIBIT;
+    let what = What::Property { property, value };
+    Ok(list.takes(&Change { object, what }))
+}
+
+fn expect_taken(rt: &impl Abort, list: &Enrollments) -> Result<(), Fail> {
+    same(rt, &takes(list, 1, Value::Bool(true))?, &true);
+    same(rt, &takes(list, 1, Value::Unsigned(1))?, &false);
+    same(rt, &takes(list, 3, Value::Bool(true))?, &false);
+    Ok(())
+}
+
+#[test]
+fn an_enrollment_that_is_there_takes_what_its_properties_can_be(
+    rt: HostRuntime,
+) -> Result<(), Fail> {
+    let list = followers(rt.alloc())?;
+    expect_taken(&rt, &list)
 }
 
 /// Event_Enable and Event_Algorithm_Inhibit of an enrollment.

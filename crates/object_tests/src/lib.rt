@@ -4,6 +4,8 @@
 #![tactic(auto)]
 
 #[cfg(test)]
+mod alarm_core_admitting_tests;
+#[cfg(test)]
 mod alarm_core_fault_tests;
 #[cfg(test)]
 mod alarm_core_note_tests;

@@ -82,6 +82,29 @@ fn table_of(alloc: Global, first: ObjectSite, second: ObjectSite) -> Result<Tabl
     Ok(Table::new(alloc, vec![in alloc; first, second]?)?)
 }
 
+fn has_faults(table: &Table, faults: [u8; 2]) -> bool {
+    match table.rows() {
+        [first, second] => [first.field_fault, second.field_fault] == faults,
+        _ => false,
+    }
+}
+
+#[test]
+fn restored_rows_keep_their_field_faults(rt: HostRuntime) -> Result<(), Fail> {
+    let alloc = rt.alloc();
+    let first = Row {
+        site: pump(alloc)?,
+        field_fault: 7,
+    };
+    let second = Row {
+        site: tank(alloc)?,
+        field_fault: 0,
+    };
+    let table = Table::restore(vec![in alloc; first, second]?);
+    holds(&rt, has_faults(&table, [7, 0]));
+    Ok(())
+}
+
 fn is_error(answer: Result<Change, WriteFault>, class: u8, code: u8) -> bool {
     match answer {
         Err(

@@ -26,6 +26,6 @@ pub use encoding::{
     array_of_stamps, boolean, enumerated, four_flags, object, text, three_flags, unsigned,
 };
 pub use log_properties::LogProperty;
-pub use logs::{log_content, log_write};
+pub use logs::{log_content, log_takes, log_write};
 pub use objects::row_content;
 pub use reading::{part_of, size_of};

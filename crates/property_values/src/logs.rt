@@ -69,6 +69,16 @@ fn can_be(property: PropertyId, value: &Value) -> bool
     }
 }
 
+/// Whether a log takes a change.
+pub fn log_takes(what: &What) -> bool
+    ensures takes { result ≡ takes what.now }
+{
+    match what {
+        What::Property { property, value } => can_be(*property, value),
+        What::FieldFault { .. } => false,
+    }
+}
+
 // Whether a log takes a write of a property; the first error that applies is told.
 fn check_log(property: PropertyId, index: Option<u32>, value: &Value) -> Result<(), WriteFault>
     ensures verdict { (site : Site) (log : EventLogState) → result ≡ write_with (log_content site log property.0) property.0 index value.now }

@@ -1,0 +1,172 @@
+use crate::alarm_core_note_tests::{HIGH_LIMIT, guard, rise, tank};
+use crate::alarm_core_plant::{Play, START, operator, plant, play_on, pump, told};
+use crate::comparing::holds;
+use alarm_core::*;
+use bac_values::{
+    EventState, Items, LAST_MOMENT, ObjectId, ObjectKind, Peer, PropertyId, Transition, Value,
+};
+use notify_class::Destination;
+use object_table::{Change, What};
+use std::alloc::Global;
+use std::process::Abort;
+use std::test::Fail;
+
+fn at(core: &Core, moment: u64, act: Act) -> bool {
+    core.admits(&Event { moment, act })
+}
+
+/// Moments are in range, and not before the last one.
+struct Moments;
+
+impl Play for Moments {
+    fn play(&self, rt: &impl Abort, _alloc: Global, core: &mut Core) -> Result<(), Fail> {
+        holds(rt, at(core, START, Act::Tick));
+        holds(rt, at(core, LAST_MOMENT, Act::Pump));
+        holds(rt, !at(core, START - 1, Act::Tick));
+        holds(rt, !at(core, LAST_MOMENT + 1, Act::Pump));
+        Ok(())
+    }
+}
+
+#[test]
+fn a_moment_in_range_that_is_not_before_the_last_one_is_admitted(
+    rt: HostRuntime,
+) -> Result<(), Fail> {
+    let site = plant(rt.alloc(), tank(rt.alloc())?, 64)?;
+    play_on(&rt, rt.alloc(), &site, &Moments)
+}
+
+/// Whether a change of an integer value may come.
+fn changes(core: &Core, instance: u32, what: What) -> Result<bool, Fail> {
+    let object = ObjectId::of_kind(ObjectKind::IntegerValue, instance)?;
+    let change = Change { object, what };
+    Ok(at(core, START, Act::Write { change }))
+}
+
+fn writes(core: &Core, instance: u32, property: PropertyId, value: Value) -> Result<bool, Fail> {
+    changes(core, instance, What::Property { property, value })
+}
+
+fn faults(core: &Core, reliability: u8) -> Result<bool, Fail> {
+    changes(core, 1, What::FieldFault { reliability })
+}
+
+/// An object takes what its properties can be, and the reliabilities of the field.
+struct Writes;
+
+impl Play for Writes {
+    fn play(&self, rt: &impl Abort, _alloc: Global, core: &mut Core) -> Result<(), Fail> {
+        let value = PropertyId::PRESENT_VALUE;
+        holds(rt, writes(core, 1, value, Value::Signed(7))?);
+        holds(rt, !writes(core, 1, value, Value::Unsigned(7))?);
+        holds(rt, !writes(core, 2, value, Value::Signed(7))?);
+        let kind = PropertyId::OBJECT_TYPE;
+        holds(rt, !writes(core, 1, kind, Value::Enumerated(45))?);
+        holds(rt, faults(core, 7)? && !faults(core, 1)?);
+        Ok(())
+    }
+}
+
+#[test]
+fn a_change_that_the_object_takes_is_admitted(rt: HostRuntime) -> Result<(), Fail> {
+    let site = plant(rt.alloc(), tank(rt.alloc())?, 64)?;
+    play_on(&rt, rt.alloc(), &site, &Writes)
+}
+
+fn acknowledges(core: &Core, transition: Transition, state: EventState) -> Result<bool, Fail> {
+    let object = ObjectId::of_kind(ObjectKind::IntegerValue, 1)?;
+    let act = Act::Ack {
+        object,
+        transition,
+        state,
+    };
+    Ok(at(core, START, act))
+}
+
+/// What came is acknowledged with the state that it entered, or with OFFNORMAL for a limit.
+struct Acknowledgements;
+
+impl Play for Acknowledgements {
+    fn play(&self, rt: &impl Abort, _alloc: Global, core: &mut Core) -> Result<(), Fail> {
+        let offnormal = Transition::ToOffnormal;
+        holds(rt, !acknowledges(core, offnormal, EventState::HighLimit)?);
+        let _moved = rise(core)??;
+        holds(rt, acknowledges(core, offnormal, EventState::HighLimit)?);
+        holds(rt, acknowledges(core, offnormal, EventState::Offnormal)?);
+        holds(rt, !acknowledges(core, offnormal, EventState::LowLimit)?);
+        let normal = Transition::ToNormal;
+        holds(rt, !acknowledges(core, normal, EventState::Normal)?);
+        Ok(())
+    }
+}
+
+#[test]
+fn an_acknowledgement_of_what_came_is_admitted(rt: HostRuntime) -> Result<(), Fail> {
+    let site = plant(rt.alloc(), tank(rt.alloc())?, 64)?;
+    play_on(&rt, rt.alloc(), &site, &Acknowledgements)
+}
+
+fn answers(core: &Core, peer: Peer, invoke: u8, kind: u8) -> bool {
+    at(core, START, Act::Answer { peer, invoke, kind })
+}
+
+/// The recipient of a notification in flight answers it by an ACK, an Error, a Reject or an Abort.
+struct Answers;
+
+impl Play for Answers {
+    fn play(&self, rt: &impl Abort, _alloc: Global, core: &mut Core) -> Result<(), Fail> {
+        let _moved = rise(core)??;
+        holds(rt, !answers(core, operator(), 0, 2));
+        pump(rt, core, &HIGH_LIMIT)?;
+        for kind in [2, 5, 6, 7] {
+            holds(rt, answers(core, operator(), 0, kind));
+        }
+        holds(rt, !answers(core, operator(), 0, 3));
+        holds(rt, !answers(core, operator(), 1, 2));
+        holds(rt, !answers(core, guard(), 0, 2));
+        Ok(())
+    }
+}
+
+#[test]
+fn an_answer_to_what_is_in_flight_is_admitted(rt: HostRuntime) -> Result<(), Fail> {
+    let site = plant(rt.alloc(), tank(rt.alloc())?, 64)?;
+    play_on(&rt, rt.alloc(), &site, &Answers)
+}
+
+fn edits(core: &Core, class: u32, list: Vec<Destination>) -> bool {
+    let destinations = Items::of(list);
+    let act = Act::Edit {
+        class,
+        destinations,
+    };
+    at(core, START, act)
+}
+
+/// So many recipients, each the operator.
+fn recipients(alloc: Global, count: u32) -> Result<Vec<Destination>, Fail> {
+    let mut list = Vec::new(alloc);
+    for process in 0..count {
+        list.push(told(operator(), process))?;
+    }
+    Ok(list)
+}
+
+/// A class of one object has room for two recipients.
+struct Edits;
+
+impl Play for Edits {
+    fn play(&self, rt: &impl Abort, alloc: Global, core: &mut Core) -> Result<(), Fail> {
+        holds(rt, edits(core, 7, recipients(alloc, 0)?));
+        holds(rt, edits(core, 7, recipients(alloc, 2)?));
+        holds(rt, !edits(core, 7, recipients(alloc, 3)?));
+        holds(rt, !edits(core, 8, recipients(alloc, 1)?));
+        Ok(())
+    }
+}
+
+#[test]
+fn an_edit_within_the_limits_is_admitted(rt: HostRuntime) -> Result<(), Fail> {
+    let site = plant(rt.alloc(), tank(rt.alloc())?, 2)?;
+    play_on(&rt, rt.alloc(), &site, &Edits)
+}
