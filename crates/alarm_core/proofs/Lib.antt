@@ -34,4 +34,5 @@ pub mod Accepted
 pub mod LastLists
 pub mod Restored
 pub mod RestoredCore
+pub mod RestoredParts
 mod Kept
