@@ -36,4 +36,5 @@ pub mod Restored
 pub mod RestoredCore
 pub mod Clamped
 pub mod Following
+pub mod RestoredParts
 mod Kept
