@@ -64,8 +64,9 @@ impl Core {
             .filter(|row| is_member(row.site.class, class))
             .count();
         let enrollments = self
-            .enrollments()
-            .rows()
+            .site()
+            .enrollments
+            .as_slice()
             .iter()
             .filter(|enrollment| enrollment.class == class)
             .count();
