@@ -56,6 +56,6 @@ edit_clamped known recipients most room members small =
     let many = nat_lt most_destinations (length recipients) in
     let would = length (known_with known (peers_of recipients)) in
     subst (λ notes. IsOk (with_limits many (nat_lt most_peers would) (nat_lt room (min members most * length recipients)) (length recipients) would (min members most * length recipients))
-        ↔ (with_limits many (nat_lt most_peers would) notes (length recipients) would (members * length recipients) ≡ Ok tt))
+    ↔ (with_limits many (nat_lt most_peers would) notes (length recipients) would (members * length recipients) ≡ Ok tt))
     (clamped most room members (length recipients) small)
     (same_verdict many (nat_lt most_peers would) (nat_lt room (min members most * length recipients)) (length recipients) would (min members most * length recipients) (members * length recipients))

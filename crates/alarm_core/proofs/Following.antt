@@ -49,5 +49,5 @@ stands_over_events state history (event ∷ later) is r (may, others) =
     let new = next_state event state in
     let now : Represents new (event ∷ history) = represents_after history state new event is r refl may.not_before may.moment may.allowed (fits_after state event history is r may) in
     let order : reverse later ++ (event ∷ history) ≡ reverse (event ∷ later) ++ history =
-        sym (ap (λ (l : List Event). l ++ history) (reverse-append (event ∷ []) later) ∙ append_assoc (reverse later) (event ∷ []) history) in
+    sym (ap (λ (l : List Event). l ++ history) (reverse-append (event ∷ []) later) ∙ append_assoc (reverse later) (event ∷ []) history) in
     subst (λ (h : List Event). Represents (state_over new later) h) order (stands_over_events new (event ∷ history) later is now others)

@@ -147,8 +147,6 @@ impl Core {
     pub fn admits(&self, event: &Event) -> bool
         ensures admits { IsTrue result ↔ ((self.now.last_moment ≤ event.now.moment) × IsMoment event.now.moment × IsAllowed self.now event.now.act) }
     {
-        self.last_moment() <= event.moment
-            && is_moment(event.moment)
-            && self.allows(&event.act)
+        self.last_moment() <= event.moment && is_moment(event.moment) && self.allows(&event.act)
     }
 }

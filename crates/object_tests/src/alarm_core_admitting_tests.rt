@@ -43,7 +43,12 @@ fn admits_change(core: &Core, instance: u32, what: What) -> Result<bool, Fail> {
     Ok(admits(core, START, Act::Write { change }))
 }
 
-fn admits_write(core: &Core, instance: u32, property: PropertyId, value: Value) -> Result<bool, Fail> {
+fn admits_write(
+    core: &Core,
+    instance: u32,
+    property: PropertyId,
+    value: Value,
+) -> Result<bool, Fail> {
     admits_change(core, instance, What::Property { property, value })
 }
 
@@ -73,7 +78,11 @@ fn a_change_that_the_object_takes_is_admitted(rt: HostRuntime) -> Result<(), Fai
     play_on(&rt, rt.alloc(), &site, &Writes)
 }
 
-fn admits_acknowledgement(core: &Core, transition: Transition, state: EventState) -> Result<bool, Fail> {
+fn admits_acknowledgement(
+    core: &Core,
+    transition: Transition,
+    state: EventState,
+) -> Result<bool, Fail> {
     let object = ObjectId::of_kind(ObjectKind::IntegerValue, 1)?;
     let act = Act::Ack {
         object,
@@ -89,13 +98,28 @@ struct Acknowledgements;
 impl Play for Acknowledgements {
     fn play(&self, rt: &impl Abort, _alloc: Global, core: &mut Core) -> Result<(), Fail> {
         let offnormal = Transition::ToOffnormal;
-        holds(rt, !admits_acknowledgement(core, offnormal, EventState::HighLimit)?);
+        holds(
+            rt,
+            !admits_acknowledgement(core, offnormal, EventState::HighLimit)?,
+        );
         let _moved = rise(core)??;
-        holds(rt, admits_acknowledgement(core, offnormal, EventState::HighLimit)?);
-        holds(rt, admits_acknowledgement(core, offnormal, EventState::Offnormal)?);
-        holds(rt, !admits_acknowledgement(core, offnormal, EventState::LowLimit)?);
+        holds(
+            rt,
+            admits_acknowledgement(core, offnormal, EventState::HighLimit)?,
+        );
+        holds(
+            rt,
+            admits_acknowledgement(core, offnormal, EventState::Offnormal)?,
+        );
+        holds(
+            rt,
+            !admits_acknowledgement(core, offnormal, EventState::LowLimit)?,
+        );
         let normal = Transition::ToNormal;
-        holds(rt, !admits_acknowledgement(core, normal, EventState::Normal)?);
+        holds(
+            rt,
+            !admits_acknowledgement(core, normal, EventState::Normal)?,
+        );
         Ok(())
     }
 }

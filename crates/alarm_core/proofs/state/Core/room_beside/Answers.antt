@@ -1,4 +1,4 @@
-use Rattle.std.proofs.Common.{◌≡◌, ◌==◌, not, filter, ◌∙◌, ap, arith}
+use Rattle.std.proofs.Common.{◌==◌, not, filter, ◌∙◌, ap, arith}
 use Rattle.notify_class.specs.declared.class.Class.{Class}
 use Rattle.alarm_core.specs.declared.site.Site.{Site}
 use Rattle.alarm_core.specs.Allowed.{share_of}
