@@ -32,6 +32,6 @@ pub mod Listed
 pub mod Counting
 pub mod Accepted
 pub mod LastLists
-pub mod Clamped
+pub mod Adding
 pub mod Following
 mod Kept

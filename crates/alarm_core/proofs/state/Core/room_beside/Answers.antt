@@ -2,7 +2,7 @@ use Rattle.std.proofs.Common.{◌==◌, not, filter, ◌∙◌, ap, arith}
 use Rattle.notify_class.specs.declared.class.Class.{Class}
 use Rattle.alarm_core.specs.declared.site.Site.{Site}
 use Rattle.alarm_core.specs.Allowed.{share_of}
-use Rattle.alarm_core.proofs.Clamped.{folded}
+use Rattle.alarm_core.proofs.Adding.{folded}
 use Rattle.alarm_core.proofs.state.Core.room_beside.Goals as goal
 
 pub returns-clause-room : goal.returns-clause-room
