@@ -17,15 +17,17 @@ use Rattle.alarm_core.specs.Verdicts.{step_verdict}
 use Rattle.alarm_core.proofs.Counting.{counts_the_longer_history}
 use Rattle.alarm_core.proofs.Standing.{comes_after, represents_after, stands}
 
-clash : (would limit : ℕ) → Ok tt ≡ Err (Full would limit) → would ≤ limit
-clash would limit h = cc
+-- no verdict is both
+clash : (verdict : Result (Unit {0}) StepFault) (would limit : ℕ) → verdict ≡ Ok tt → verdict ≡ Err (Full would limit) → would ≤ limit
+clash (Ok passed) would limit ok full = cc
+clash (Err fault) would limit ok full = cc
 
 -- where a refusal is told wherever there are more than may be, and none is told, there are no more
 not_more : (verdict : Result (Unit {0}) StepFault) (would limit : ℕ) → verdict ≡ Ok tt → (limit < would → verdict ≡ Err (Full would limit)) → would ≤ limit
 not_more verdict would limit ok full = by (nat_lt limit would) refl
   where
     by : (more : Bool) → nat_lt limit would ≡ more → would ≤ limit
-    by true e = clash would limit (sym ok ∙ full (ltb-true limit would e))
+    by true e = clash verdict would limit ok (full (ltb-true limit would e))
     by false e = ltb-false limit would e
 
 -- what isn't refused as full leaves no more unfinished than may be
@@ -47,5 +49,5 @@ stands_over_events state history (event ∷ later) is r (may, others) =
     let new = next_state event state in
     let now : Represents new (event ∷ history) = represents_after history state new event is r refl may.not_before may.moment may.allowed (fits_after state event history is r may) in
     let order : reverse later ++ (event ∷ history) ≡ reverse (event ∷ later) ++ history =
-        sym (ap (λ (l : List Event). l ++ history) (reverse-append (event ∷ []) later) ∙ append_assoc (reverse later) (event ∷ []) history) in
+    sym (ap (λ (l : List Event). l ++ history) (reverse-append (event ∷ []) later) ∙ append_assoc (reverse later) (event ∷ []) history) in
     subst (λ (h : List Event). Represents (state_over new later) h) order (stands_over_events new (event ∷ history) later is now others)

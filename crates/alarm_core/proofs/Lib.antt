@@ -34,7 +34,7 @@ pub mod Accepted
 pub mod LastLists
 pub mod Restored
 pub mod RestoredCore
-pub mod Clamped
+pub mod Adding
 pub mod Following
 pub mod RestoredParts
 mod Kept

@@ -64,8 +64,9 @@ impl Core {
             .filter(|row| is_member(row.site.class, class))
             .count();
         let enrollments = self
-            .enrollments()
-            .rows()
+            .site()
+            .enrollments
+            .as_slice()
             .iter()
             .filter(|enrollment| enrollment.class == class)
             .count();
@@ -146,8 +147,6 @@ impl Core {
     pub fn admits(&self, event: &Event) -> bool
         ensures admits { IsTrue result ↔ ((self.now.last_moment ≤ event.now.moment) × IsMoment event.now.moment × IsAllowed self.now event.now.act) }
     {
-        self.last_moment() <= event.moment
-            && is_moment(event.moment)
-            && self.allows(&event.act)
+        self.last_moment() <= event.moment && is_moment(event.moment) && self.allows(&event.act)
     }
 }

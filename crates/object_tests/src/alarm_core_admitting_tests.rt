@@ -11,7 +11,7 @@ use std::alloc::Global;
 use std::process::Abort;
 use std::test::Fail;
 
-fn at(core: &Core, moment: u64, act: Act) -> bool {
+fn admits(core: &Core, moment: u64, act: Act) -> bool {
     core.admits(&Event { moment, act })
 }
 
@@ -20,10 +20,10 @@ struct Moments;
 
 impl Play for Moments {
     fn play(&self, rt: &impl Abort, _alloc: Global, core: &mut Core) -> Result<(), Fail> {
-        holds(rt, at(core, START, Act::Tick));
-        holds(rt, at(core, LAST_MOMENT, Act::Pump));
-        holds(rt, !at(core, START - 1, Act::Tick));
-        holds(rt, !at(core, LAST_MOMENT + 1, Act::Pump));
+        holds(rt, admits(core, START, Act::Tick));
+        holds(rt, admits(core, LAST_MOMENT, Act::Pump));
+        holds(rt, !admits(core, START - 1, Act::Tick));
+        holds(rt, !admits(core, LAST_MOMENT + 1, Act::Pump));
         Ok(())
     }
 }
@@ -37,18 +37,23 @@ fn a_moment_in_range_that_is_not_before_the_last_one_is_admitted(
 }
 
 /// Whether a change of an integer value may come.
-fn changes(core: &Core, instance: u32, what: What) -> Result<bool, Fail> {
+fn admits_change(core: &Core, instance: u32, what: What) -> Result<bool, Fail> {
     let object = ObjectId::of_kind(ObjectKind::IntegerValue, instance)?;
     let change = Change { object, what };
-    Ok(at(core, START, Act::Write { change }))
+    Ok(admits(core, START, Act::Write { change }))
 }
 
-fn writes(core: &Core, instance: u32, property: PropertyId, value: Value) -> Result<bool, Fail> {
-    changes(core, instance, What::Property { property, value })
+fn admits_write(
+    core: &Core,
+    instance: u32,
+    property: PropertyId,
+    value: Value,
+) -> Result<bool, Fail> {
+    admits_change(core, instance, What::Property { property, value })
 }
 
-fn faults(core: &Core, reliability: u8) -> Result<bool, Fail> {
-    changes(core, 1, What::FieldFault { reliability })
+fn admits_fault(core: &Core, reliability: u8) -> Result<bool, Fail> {
+    admits_change(core, 1, What::FieldFault { reliability })
 }
 
 /// An object takes what its properties can be, and the reliabilities of the field.
@@ -57,12 +62,12 @@ struct Writes;
 impl Play for Writes {
     fn play(&self, rt: &impl Abort, _alloc: Global, core: &mut Core) -> Result<(), Fail> {
         let value = PropertyId::PRESENT_VALUE;
-        holds(rt, writes(core, 1, value, Value::Signed(7))?);
-        holds(rt, !writes(core, 1, value, Value::Unsigned(7))?);
-        holds(rt, !writes(core, 2, value, Value::Signed(7))?);
+        holds(rt, admits_write(core, 1, value, Value::Signed(7))?);
+        holds(rt, !admits_write(core, 1, value, Value::Unsigned(7))?);
+        holds(rt, !admits_write(core, 2, value, Value::Signed(7))?);
         let kind = PropertyId::OBJECT_TYPE;
-        holds(rt, !writes(core, 1, kind, Value::Enumerated(45))?);
-        holds(rt, faults(core, 7)? && !faults(core, 1)?);
+        holds(rt, !admits_write(core, 1, kind, Value::Enumerated(45))?);
+        holds(rt, admits_fault(core, 7)? && !admits_fault(core, 1)?);
         Ok(())
     }
 }
@@ -73,14 +78,18 @@ fn a_change_that_the_object_takes_is_admitted(rt: HostRuntime) -> Result<(), Fai
     play_on(&rt, rt.alloc(), &site, &Writes)
 }
 
-fn acknowledges(core: &Core, transition: Transition, state: EventState) -> Result<bool, Fail> {
+fn admits_acknowledgement(
+    core: &Core,
+    transition: Transition,
+    state: EventState,
+) -> Result<bool, Fail> {
     let object = ObjectId::of_kind(ObjectKind::IntegerValue, 1)?;
     let act = Act::Ack {
         object,
         transition,
         state,
     };
-    Ok(at(core, START, act))
+    Ok(admits(core, START, act))
 }
 
 /// What came is acknowledged with the state that it entered, or with OFFNORMAL for a limit.
@@ -89,13 +98,28 @@ struct Acknowledgements;
 impl Play for Acknowledgements {
     fn play(&self, rt: &impl Abort, _alloc: Global, core: &mut Core) -> Result<(), Fail> {
         let offnormal = Transition::ToOffnormal;
-        holds(rt, !acknowledges(core, offnormal, EventState::HighLimit)?);
+        holds(
+            rt,
+            !admits_acknowledgement(core, offnormal, EventState::HighLimit)?,
+        );
         let _moved = rise(core)??;
-        holds(rt, acknowledges(core, offnormal, EventState::HighLimit)?);
-        holds(rt, acknowledges(core, offnormal, EventState::Offnormal)?);
-        holds(rt, !acknowledges(core, offnormal, EventState::LowLimit)?);
+        holds(
+            rt,
+            admits_acknowledgement(core, offnormal, EventState::HighLimit)?,
+        );
+        holds(
+            rt,
+            admits_acknowledgement(core, offnormal, EventState::Offnormal)?,
+        );
+        holds(
+            rt,
+            !admits_acknowledgement(core, offnormal, EventState::LowLimit)?,
+        );
         let normal = Transition::ToNormal;
-        holds(rt, !acknowledges(core, normal, EventState::Normal)?);
+        holds(
+            rt,
+            !admits_acknowledgement(core, normal, EventState::Normal)?,
+        );
         Ok(())
     }
 }
@@ -106,8 +130,8 @@ fn an_acknowledgement_of_what_came_is_admitted(rt: HostRuntime) -> Result<(), Fa
     play_on(&rt, rt.alloc(), &site, &Acknowledgements)
 }
 
-fn answers(core: &Core, peer: Peer, invoke: u8, kind: u8) -> bool {
-    at(core, START, Act::Answer { peer, invoke, kind })
+fn admits_answer(core: &Core, peer: Peer, invoke: u8, kind: u8) -> bool {
+    admits(core, START, Act::Answer { peer, invoke, kind })
 }
 
 /// The recipient of a notification in flight answers it by an ACK, an Error, a Reject or an Abort.
@@ -116,14 +140,14 @@ struct Answers;
 impl Play for Answers {
     fn play(&self, rt: &impl Abort, _alloc: Global, core: &mut Core) -> Result<(), Fail> {
         let _moved = rise(core)??;
-        holds(rt, !answers(core, operator(), 0, 2));
+        holds(rt, !admits_answer(core, operator(), 0, 2));
         pump(rt, core, &HIGH_LIMIT)?;
         for kind in [2, 5, 6, 7] {
-            holds(rt, answers(core, operator(), 0, kind));
+            holds(rt, admits_answer(core, operator(), 0, kind));
         }
-        holds(rt, !answers(core, operator(), 0, 3));
-        holds(rt, !answers(core, operator(), 1, 2));
-        holds(rt, !answers(core, guard(), 0, 2));
+        holds(rt, !admits_answer(core, operator(), 0, 3));
+        holds(rt, !admits_answer(core, operator(), 1, 2));
+        holds(rt, !admits_answer(core, guard(), 0, 2));
         Ok(())
     }
 }
@@ -134,13 +158,13 @@ fn an_answer_to_what_is_in_flight_is_admitted(rt: HostRuntime) -> Result<(), Fai
     play_on(&rt, rt.alloc(), &site, &Answers)
 }
 
-fn edits(core: &Core, class: u32, list: Vec<Destination>) -> bool {
+fn admits_edit(core: &Core, class: u32, list: Vec<Destination>) -> bool {
     let destinations = Items::of(list);
     let act = Act::Edit {
         class,
         destinations,
     };
-    at(core, START, act)
+    admits(core, START, act)
 }
 
 /// So many recipients, each the operator.
@@ -157,10 +181,10 @@ struct Edits;
 
 impl Play for Edits {
     fn play(&self, rt: &impl Abort, alloc: Global, core: &mut Core) -> Result<(), Fail> {
-        holds(rt, edits(core, 7, recipients(alloc, 0)?));
-        holds(rt, edits(core, 7, recipients(alloc, 2)?));
-        holds(rt, !edits(core, 7, recipients(alloc, 3)?));
-        holds(rt, !edits(core, 8, recipients(alloc, 1)?));
+        holds(rt, admits_edit(core, 7, recipients(alloc, 0)?));
+        holds(rt, admits_edit(core, 7, recipients(alloc, 2)?));
+        holds(rt, !admits_edit(core, 7, recipients(alloc, 3)?));
+        holds(rt, !admits_edit(core, 8, recipients(alloc, 1)?));
         Ok(())
     }
 }
