@@ -33,3 +33,7 @@ pub mod Counting
 pub mod Accepted
 pub mod LastLists
 mod Kept
+pub mod KeptDetections
+pub mod KeptAlarms
+pub mod KeptObjects
+pub mod KeptRows

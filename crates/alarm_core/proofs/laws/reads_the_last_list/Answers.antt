@@ -1,3 +1,6 @@
+use Rattle.alarm_core.proofs.KeptRows.{rows_kept, enrollments_kept}
+use Rattle.alarm_core.proofs.KeptObjects.{known_kept}
+use Rattle.alarm_core.proofs.KeptAlarms.{alarm_is}
 use Rattle.alarm_core.proofs.LastLists.{reads_the_last_list}
 use Rattle.alarm_core.proofs.laws.reads_the_last_list.Goals as goal
 
