@@ -37,3 +37,4 @@ pub mod KeptDetections
 pub mod KeptAlarms
 pub mod KeptObjects
 pub mod KeptRows
+pub mod KeptPoints

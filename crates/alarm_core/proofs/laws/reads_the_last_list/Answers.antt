@@ -1,3 +1,4 @@
+use Rattle.alarm_core.proofs.KeptPoints.{alarms_kept}
 use Rattle.alarm_core.proofs.KeptRows.{rows_kept, enrollments_kept}
 use Rattle.alarm_core.proofs.KeptObjects.{known_kept}
 use Rattle.alarm_core.proofs.KeptAlarms.{alarm_is}
