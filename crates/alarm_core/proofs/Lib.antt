@@ -38,3 +38,4 @@ pub mod KeptAlarms
 pub mod KeptObjects
 pub mod KeptRows
 pub mod KeptPoints
+pub mod KeptClasses
