@@ -39,3 +39,4 @@ pub mod KeptObjects
 pub mod KeptRows
 pub mod KeptPoints
 pub mod KeptClasses
+pub mod KeptOutbox

@@ -1,3 +1,4 @@
+use Rattle.alarm_core.proofs.KeptOutbox.{outbox_kept, recipients_known}
 use Rattle.alarm_core.proofs.KeptClasses.{classes_kept, peers_kept_few}
 use Rattle.alarm_core.proofs.KeptPoints.{alarms_kept}
 use Rattle.alarm_core.proofs.KeptRows.{rows_kept, enrollments_kept}
