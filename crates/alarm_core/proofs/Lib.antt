@@ -40,3 +40,5 @@ pub mod KeptRows
 pub mod KeptPoints
 pub mod KeptClasses
 pub mod KeptOutbox
+pub mod KeptLogs
+pub mod KeptStamps

@@ -1,5 +1,5 @@
 pub mod Looking
-mod Numbering
+pub mod Numbering
 mod Places
 mod Sequences
 mod Latest

@@ -1,3 +1,5 @@
+use Rattle.alarm_core.proofs.KeptStamps.{fixed_hundredths}
+use Rattle.alarm_core.proofs.KeptLogs.{such_log}
 use Rattle.alarm_core.proofs.KeptOutbox.{outbox_kept, recipients_known}
 use Rattle.alarm_core.proofs.KeptClasses.{classes_kept, peers_kept_few}
 use Rattle.alarm_core.proofs.KeptPoints.{alarms_kept}
