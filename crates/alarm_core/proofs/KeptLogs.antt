@@ -35,7 +35,7 @@ use Rattle.alarm_core.specs.Logs.{behind, call_of_act, call_of_change, call_of_v
 use Rattle.alarm_core.specs.Notes.{addressed, notification_of}
 use Rattle.alarm_core.specs.SiteStates.{IsLogOf, IsRecordOf}
 use Rattle.alarm_core.specs.Sites.{IsLogSite, IsSite}
-use Rattle.alarm_core.specs.Subjects.{detecting_subjects}
+use Rattle.alarm_core.proofs.KeptLooks.{GivesSuch, event_such, joined_such}
 
 -- ---- one log
 
@@ -142,55 +142,24 @@ module _ (P : LogRecord → Type 0) where
         (told_such classes listed transition (addressed classes transition) (All-head TellsSuch transition transitions all))
         (records_such classes listed transitions (All-tail TellsSuch transition transitions all))
 
-    joined_such : (looks : List (List StateTransition)) → All (All TellsSuch) looks → All TellsSuch (joined looks)
-    joined_such [] all = All-nil TellsSuch
-    joined_such (first ∷ later) all = All-append TellsSuch first (joined later) (All-head (All TellsSuch) first later all) (joined_such later (All-tail (All TellsSuch) first later all))
-
     calls_such : (classes : List Class) (listed : LogSite) (act : Act) (looks : List (List StateTransition)) → All (All TellsSuch) looks → All MakesSuch (calls_by site classes listed act looks)
     calls_such classes listed act [] all = All-nil MakesSuch
     calls_such classes listed act (first ∷ later) all =
         All-append MakesSuch (records_of site classes listed first) (call_of_act listed act ++ records_of site classes listed (joined later))
         (records_such classes listed first (All-head (All TellsSuch) first later all))
         (All-append MakesSuch (call_of_act listed act) (records_of site classes listed (joined later)) (act_such listed act)
-        (records_such classes listed (joined later) (joined_such later (All-tail (All TellsSuch) first later all))))
-
-    -- any transition at a moment with these properties
-    abbrev pub GivesSuch : ℕ → ObjectsState → Type 0
-    GivesSuch moment values = (states : List ObjectState) (transition : ObjectTransition) → TellsSuch (transition_of moment values states transition)
-
-    mapped_such : (moment : ℕ) (values : ObjectsState) (states : List ObjectState) (transitions : List ObjectTransition) → GivesSuch moment values → All TellsSuch (map (transition_of moment values states) transitions)
-    mapped_such moment values states [] gives = All-nil TellsSuch
-    mapped_such moment values states (transition ∷ transitions) gives =
-        All-cons TellsSuch (transition_of moment values states transition) (map (transition_of moment values states) transitions) (gives states transition) (mapped_such moment values states transitions gives)
-
-    looks_such : (moment : ℕ) (looks : List ObjectsState) (w : List Occurrence) → All (GivesSuch moment) looks → All (All TellsSuch) (looks_transitions site moment looks w)
-    looks_such moment [] w all = All-nil (All TellsSuch)
-    looks_such moment (values ∷ later) w all =
-        let now = AllEvaluated moment values ∷ w in
-        All-cons (All TellsSuch) (look_transitions site moment values w) (looks_transitions site moment later now)
-        (mapped_such moment values (states_over site now) (flat_map (object_transitions site moment values w) (detecting_subjects site)) (All-head (GivesSuch moment) values later all))
-        (looks_such moment later now (All-tail (GivesSuch moment) values later all))
-
-    act_looks : (moment : ℕ) (act : Act) (values : ObjectsState) → GivesSuch moment values → GivesSuch moment (values_with act values) → All (GivesSuch moment) (looks_of act values)
-    act_looks moment Tick values before after = All-cons (GivesSuch moment) values [] before (All-nil (GivesSuch moment))
-    act_looks moment (Write change) values before after =
-        let now = values_with (Write change) values in
-        All-cons (GivesSuch moment) values (now ∷ []) before (All-cons (GivesSuch moment) now [] after (All-nil (GivesSuch moment)))
-    act_looks moment (Ack object transition named) values before after = All-nil (GivesSuch moment)
-    act_looks moment Pump values before after = All-nil (GivesSuch moment)
-    act_looks moment (Answer peer invoke kind) values before after = All-nil (GivesSuch moment)
-    act_looks moment (Edit number recipients) values before after = All-nil (GivesSuch moment)
+        (records_such classes listed (joined later) (joined_such TellsSuch later (All-tail (All TellsSuch) first later all))))
 
     -- ---- over a history
 
-    module _ (gives : (moment : ℕ) → IsMoment moment → (history : List Event) → IsHistory site history → All FitsEvent history → GivesSuch moment (values_after site history)) where
+    module _ (gives : (moment : ℕ) → IsMoment moment → (history : List Event) → IsHistory site history → All FitsEvent history → GivesSuch TellsSuch moment (values_after site history)) where
       all_calls : (listed : LogSite) (history : List Event) → IsHistory site history → All FitsEvent history → All MakesSuch (calls_of site listed history)
       all_calls listed [] h fits = All-nil MakesSuch
       all_calls listed (event ∷ older) h fits =
           let older_fits = All-tail FitsEvent event older fits in
-          let looks = act_looks event.moment event.act (values_after site older) (gives event.moment h.1 older h.4 older_fits) (gives event.moment h.1 (event ∷ older) h fits) in
+          let looks = event_such TellsSuch site event older (gives event.moment h.1 older h.4 older_fits) (gives event.moment h.1 (event ∷ older) h fits) in
           behind_such (calls_by site (classes_after site older) listed event.act (event_looks site event older)) (calls_of site listed older)
-          (calls_such (classes_after site older) listed event.act (event_looks site event older) (looks_such event.moment (looks_of event.act (values_after site older)) (occurrences_of site older) looks))
+          (calls_such (classes_after site older) listed event.act (event_looks site event older) looks)
           (all_calls listed older h.4 older_fits)
 
       pub such_log : (listed : LogSite) → IsLogSite listed → (history : List Event) → IsHistory site history → All FitsEvent history →

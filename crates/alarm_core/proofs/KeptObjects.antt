@@ -16,7 +16,7 @@ use Rattle.object_table.specs.declared.object_property.ObjectProperty.{ObjectPro
 use Rattle.object_table.specs.declared.object_property.ObjectProperty.TheVariants.{PresentValue, OutOfService, ReliabilityEvaluationInhibit, TimeDelay, TimeDelayNormal, HighLimit, LowLimit, Deadband, LimitEnable, AlarmValue, EventEnable, EventAlgorithmInhibit}
 use Rattle.object_table.specs.declared.object_site.ObjectSite.{ObjectSite}
 use Rattle.object_table.proofs.Keeping.{alarm_written, three_flags_of}
-use Rattle.alarm_core.specs.Fits.{FitsNumber}
+use Rattle.alarm_core.specs.Fits.{FitsValue}
 use Rattle.alarm_core.specs.SiteStates.{with_settings_of}
 
 -- an object differs from another in what may be written alone
@@ -177,7 +177,7 @@ module _ (site : ObjectSite) (h : IsObject site) where
   three : length site.enable ≡ 3
   three = three_flags_of (kind_in site) site h
 
-  pub known_kept : (property : ObjectProperty) (value : Value) → FitsNumber value → IsTrue (takes_known (kind_in site) site (Some property) value) → IsObject (set_known property value site)
+  pub known_kept : (property : ObjectProperty) (value : Value) → FitsValue value → IsTrue (takes_known (kind_in site) site (Some property) value) → IsObject (set_known property value site)
   known_kept PresentValue value fits taken =
       object_with (kind_in site) site (record site { value = value }) refl h (present_again (kind_in site) site value taken)
       (any_keys (kind_in site) site.class site value site.out_of_service site.reliability_inhibit h.alarm)

@@ -40,5 +40,7 @@ pub mod KeptRows
 pub mod KeptPoints
 pub mod KeptClasses
 pub mod KeptOutbox
+pub mod KeptLooks
 pub mod KeptLogs
 pub mod KeptStamps
+pub mod KeptShort

@@ -1,3 +1,4 @@
+use Rattle.alarm_core.proofs.KeptShort.{notes_short, record_short, tells_short}
 use Rattle.alarm_core.proofs.KeptStamps.{fixed_hundredths}
 use Rattle.alarm_core.proofs.KeptLogs.{such_log}
 use Rattle.alarm_core.proofs.KeptOutbox.{outbox_kept, recipients_known}
