@@ -44,3 +44,4 @@ pub mod KeptLooks
 pub mod KeptLogs
 pub mod KeptStamps
 pub mod KeptShort
+pub mod KeptSites

@@ -1,5 +1,5 @@
 ghost use Rattle.alarm_core.specs.LastLists.{ReadsTheLastList};
-ghost use Rattle.alarm_core.specs.Laws.{AllowsWhatChecksAccept, CountsTheLongerHistory, KnowsListedPeers, StandsForItsHistory};
+ghost use Rattle.alarm_core.specs.Laws.{AllowsWhatChecksAccept, CountsTheLongerHistory, KeepsToItsSite, KnowsListedPeers, StandsForItsHistory};
 
 /// Going on from event to event, as they come, gives the state and the event-state transitions that looking back over the
 /// whole history gives, its notifications and what it sends; the run starts that looking back gives are in that state; and
@@ -28,4 +28,11 @@ pub fn knows_listed_peers()
 /// what gives an object's value where the check of a fault from the field accepts it.
 pub fn allows_what_checks_accept()
     ensures changes { AllowsWhatChecksAccept }
+{}
+
+/// The state that a history leaves is one that the state of its site may be, as a snapshot of it keeps to: its properties are
+/// such as writes take, its alarms such as the algorithms of its objects make them, and its lists, its outbox and its logs
+/// are within their limits.
+pub fn keeps_to_its_site()
+    ensures states { KeepsToItsSite }
 {}

@@ -32,8 +32,8 @@ pub use enrollment::EnrollmentSite;
 pub use event::{Act, Event, Outcome, StepFault};
 pub use event_log::LogSite;
 pub use laws::{
-    allows_what_checks_accept, counts_the_longer_history, knows_listed_peers, reads_the_last_list,
-    stands_for_its_history,
+    allows_what_checks_accept, counts_the_longer_history, keeps_to_its_site, knows_listed_peers,
+    reads_the_last_list, stands_for_its_history,
 };
 pub use notify_class::ClassSite;
 pub use parts::Parts;
