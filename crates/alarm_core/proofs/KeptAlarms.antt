@@ -1,5 +1,5 @@
 -- The alarm of an object after a course is one that an alarm of its algorithm may be.
-use Rattle.std.proofs.Common.{◌≡◌, ℕ, zero, suc, ◌<◌, ◌≤◌, Bool, true, false, cond, if◌then◌else◌, Option, Some, None, List, [], ◌∷◌, length, find, refl, ap, ◌∙◌, sym, arith}
+use Rattle.std.proofs.Common.{◌≡◌, ℕ, zero, suc, ◌<◌, ◌≤◌, Bool, true, false, cond, if◌then◌else◌, Option, Some, None, List, [], ◌∷◌, length, find, refl, arith}
 use Rattle.std.specs.List.{All, slice_get, take_while}
 use Rattle.std.specs.Option.{IfSome, option_and_then}
 use Rattle.std.proofs.lemmas.List.Elements.{All-nil, All-cons, All-head, All-tail}
@@ -18,7 +18,7 @@ use Rattle.event_machine.specs.Held.{is_key, key_in_detection, run_of}
 use Rattle.event_machine.specs.Points.{Point, Incident}
 use Rattle.event_machine.specs.Runs.{earliest, run_at, run_start_of, run_with}
 use Rattle.event_machine.specs.Summary.{alarm_of}
-use Rattle.alarm_core.specs.SiteStates.{IsAlarmOf, IsLastState, IsRunAt, IsRunOf}
+use Rattle.alarm_core.specs.SiteStates.{IsAlarmOf, IsLastState, IsRunAt}
 use Rattle.alarm_core.proofs.KeptDetections.{AreSeen, IsFit, IsSeen, Suits, detection_fit}
 
 -- ---- the states that transitions last entered

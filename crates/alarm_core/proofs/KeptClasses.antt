@@ -1,6 +1,6 @@
 -- The notification classes of a site keep to what it says of them, and so few peers are known as may be, whatever edits are allowed.
-use Rattle.std.proofs.Common.{◌≡◌, ℕ, ◌==◌, ◌+◌, ◌*◌, ◌<◌, ◌≤◌, Bool, true, false, true≢false, ◌||◌, nat_lt, if◌then◌else◌, Result, Ok, Err, List, [], ◌∷◌, ◌++◌, length, map, refl, sym, ap, ◌∙◌, subst, arith, length-append, inl, inr}
-use Rattle.std.specs.List.{All, AllZip, list_any, flat_map}
+use Rattle.std.proofs.Common.{◌≡◌, ℕ, ◌==◌, ◌+◌, ◌*◌, ◌≤◌, Bool, true, false, ◌||◌, nat_lt, if◌then◌else◌, Result, Ok, Err, List, [], ◌∷◌, ◌++◌, length, map, refl, sym, ap, ◌∙◌, subst, arith, length-append, inl, inr}
+use Rattle.std.specs.List.{All, AllZip}
 use Rattle.std.proofs.lemmas.Bool.{cases_Bool, ltb-false}
 use Rattle.std.proofs.lemmas.List.{length-map}
 use Rattle.std.proofs.lemmas.List.Elements.{All-head, All-tail}
@@ -14,7 +14,7 @@ use Rattle.notify_class.specs.declared.class.Class.{Class}
 use Rattle.notify_class.specs.declared.class_site.ClassSite.{ClassSite}
 use Rattle.notify_class.specs.declared.edit.EditFault.{EditFault}
 use Rattle.notify_class.specs.declared.edit.EditFault.TheVariants.{TooMany, TooManyPeers, TooManyNotes}
-use Rattle.outbox.specs.Outboxes.{is_known, peers_of as peers_of_posts, with_peer, with_peers}
+use Rattle.outbox.specs.Outboxes.{is_known, peers_of as peers_of_posts, with_peer}
 use Rattle.outbox.specs.Posts.{MailboxState, empty_post}
 use Rattle.outbox.proofs.Learning.{known_addresses, known_same, shuffled, with_all}
 use Rattle.outbox.proofs.Making.{peers_empty}
@@ -25,7 +25,7 @@ use Rattle.alarm_core.specs.declared.site.Site.{Site}
 use Rattle.alarm_core.specs.Allowed.{IsAllowed, IsHistory, members_of, room_beside}
 use Rattle.alarm_core.specs.Classes.{classes_after, classes_with, edited, first_classes, known_peers_of, learned_with, peers_in}
 use Rattle.alarm_core.specs.Deliveries.{outbox_after}
-use Rattle.alarm_core.specs.Limits.{HasFewDestinations, KeepsLimits, most_classes}
+use Rattle.alarm_core.specs.Limits.{HasFewDestinations, KeepsLimits}
 use Rattle.alarm_core.specs.SiteStates.{IsClassOf}
 use Rattle.alarm_core.specs.State.{state_of}
 use Rattle.alarm_core.proofs.Delivering.{kept, peers_kept}

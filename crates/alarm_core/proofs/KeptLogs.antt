@@ -1,6 +1,6 @@
 -- The logs of a site keep to what it says of them, and each of their records to what a record of it may be.
-use Rattle.std.proofs.Common.{◌≡◌, ℕ, ◌/◌, ◌-◌, ◌≤◌, ◌<◌, ◌==◌, zero, Bool, true, false, if◌then◌else◌, Option, Some, None, List, [], ◌∷◌, ◌++◌, length, map, refl, sym, ap, ◌∙◌, subst, arith}
-use Rattle.std.specs.List.{All, AllZip, flat_map}
+use Rattle.std.proofs.Common.{ℕ, ◌/◌, ◌-◌, ◌<◌, ◌==◌, zero, Bool, true, false, if◌then◌else◌, Option, Some, None, List, [], ◌∷◌, ◌++◌, length, sym, subst, arith}
+use Rattle.std.specs.List.{All, flat_map}
 use Rattle.std.specs.Option.{option_to_list}
 use Rattle.std.proofs.lemmas.List.Elements.{All-nil, All-cons, All-head, All-tail, All-append, All-drop}
 use Rattle.bac_values.specs.Moments.{IsMoment}
@@ -12,29 +12,25 @@ use Rattle.event_log.proofs.Looking.{log_after-next, new_after}
 use Rattle.event_log.proofs.Numbering.{is_log_with_entry}
 use Rattle.event_services.specs.Notifications.{written_notification}
 use Rattle.notify_class.specs.declared.class.Class.{Class}
-use Rattle.object_table.specs.declared.change.Change.{Change}
 use Rattle.object_table.specs.declared.change.What.{What}
 use Rattle.object_table.specs.declared.change.What.TheVariants.{Property, FieldFault}
 use Rattle.object_table.specs.Rows.{is_object}
 use Rattle.bac_values.specs.Properties.{enable_property, record_count_property}
 use Rattle.bac_values.specs.declared.value.Value.{Value}
 use Rattle.bac_values.specs.declared.value.Value.TheVariants.{Bool as Truth, Unsigned}
-use Rattle.enrollment.specs.Objects.{ObjectsState}
 use Rattle.enrollment.specs.declared.subject.Subject.{Subject}
 use Rattle.alarm_core.specs.declared.event.Act.{Act}
 use Rattle.alarm_core.specs.declared.event.Act.TheVariants.{Tick, Write, Ack, Pump, Answer, Edit}
 use Rattle.alarm_core.specs.declared.event.Event.{Event}
 use Rattle.alarm_core.specs.declared.site.Site.{Site}
-use Rattle.alarm_core.specs.declared.transition.ObjectTransition.{ObjectTransition}
 use Rattle.alarm_core.specs.Allowed.{IsHistory}
 use Rattle.alarm_core.specs.Classes.{classes_after}
 use Rattle.alarm_core.specs.Evaluations.{site_stamp}
 use Rattle.alarm_core.specs.Fits.{FitsEvent}
-use Rattle.alarm_core.specs.History.{ObjectState, Occurrence, StateTransition, AllEvaluated, event_looks, joined, look_transitions, looks_of, looks_transitions, object_transitions, occurrences_of, states_over, transition_of, values_after, values_with}
-use Rattle.alarm_core.specs.Logs.{behind, call_of_act, call_of_change, call_of_value, call_of_what, calls_by, calls_of, first_log, kept_log_of, logs_after, record_of_transition, records_class, records_of}
+use Rattle.alarm_core.specs.History.{StateTransition, event_looks, joined, values_after}
+use Rattle.alarm_core.specs.Logs.{behind, call_of_act, call_of_value, call_of_what, calls_by, calls_of, kept_log_of, record_of_transition, records_class, records_of}
 use Rattle.alarm_core.specs.Notes.{addressed, notification_of}
-use Rattle.alarm_core.specs.SiteStates.{IsLogOf, IsRecordOf}
-use Rattle.alarm_core.specs.Sites.{IsLogSite, IsSite}
+use Rattle.alarm_core.specs.Sites.{IsLogSite}
 use Rattle.alarm_core.proofs.KeptLooks.{GivesSuch, event_such, joined_such}
 
 -- ---- one log

@@ -1,5 +1,5 @@
 -- What is so of every transition at a moment and with the properties of that moment is so of each transition of an event.
-use Rattle.std.proofs.Common.{ℕ, List, [], ◌∷◌, ◌++◌, map}
+use Rattle.std.proofs.Common.{ℕ, List, [], ◌∷◌, map}
 use Rattle.std.specs.List.{All, flat_map}
 use Rattle.std.proofs.lemmas.List.Elements.{All-nil, All-cons, All-head, All-tail, All-append}
 use Rattle.enrollment.specs.Objects.{ObjectsState}

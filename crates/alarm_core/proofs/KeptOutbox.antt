@@ -1,11 +1,10 @@
 -- What waits for the peers that a site knows is an outbox after every history.
-use Rattle.std.proofs.Common.{◌≡◌, ℕ, ◌+◌, ◌≤◌, List, [], ◌∷◌, ◌++◌, length, refl, sym, ap, ◌∙◌, subst, arith}
+use Rattle.std.proofs.Common.{◌≡◌, ℕ, ◌≤◌, List, [], ◌∷◌, sym, subst, arith}
 use Rattle.std.specs.List.{All}
 use Rattle.bac_values.specs.Address.{PeerData}
 use Rattle.bac_values.specs.Moments.{IsMoment}
 use Rattle.bac_values.specs.declared.note.Note.{Note}
 use Rattle.notify_class.specs.Edits.{peers_of}
-use Rattle.notify_class.specs.declared.class.Class.{Class}
 use Rattle.outbox.specs.Outboxes.{AreKnown, IsOutbox, OutboxState, peers_of as peers_of_posts, unfinished_in}
 use Rattle.outbox.proofs.Keeping.{answer_keeps, pump_keeps}
 use Rattle.outbox.proofs.Learning.{learn_keeps}

@@ -1,5 +1,5 @@
 -- The alarms of a site after a history: each is one that an alarm of its object may be.
-use Rattle.std.proofs.Common.{◌≡◌, ℕ, zero, suc, ◌+◌, ◌<◌, ◌≤◌, Bool, true, false, true≢false, cond, if◌then◌else◌, Option, Some, None, IsTrue, IsNone, is_some, List, [], ◌∷◌, length, map, nat_lt, refl, sym, ap, ◌∙◌, subst, arith}
+use Rattle.std.proofs.Common.{◌≡◌, ℕ, ◌<◌, ◌≤◌, Bool, true, false, true≢false, cond, if◌then◌else◌, Option, Some, None, IsNone, is_some, List, [], ◌∷◌, length, map, nat_lt, refl, sym, ap, ◌∙◌, subst, arith}
 use Rattle.std.specs.List.{All, AllZip, position, position_or_len}
 use Rattle.std.specs.Option.{IfSome, option_and_then, option_map, option_map_or}
 use Rattle.std.proofs.lemmas.Bool.{ltb-true}
@@ -10,11 +10,10 @@ use Rattle.bac_values.specs.declared.object_kind.ObjectKind.{ObjectKind}
 use Rattle.bac_values.specs.declared.object_kind.ObjectKind.TheVariants.{BinaryValue, BitStringValue, CharacterStringValue, IntegerValue, PositiveIntegerValue}
 use Rattle.bac_values.specs.declared.transition.Transition.{Transition}
 use Rattle.bac_values.specs.declared.value.Value.{Value}
-use Rattle.algorithm_rules.specs.declared.table.Algorithm.{Algorithm}
 use Rattle.algorithm_rules.specs.declared.table.Algorithm.TheVariants.{CommandFailure}
 use Rattle.algorithm_rules.specs.Facts.{Facts}
 use Rattle.algorithm_rules.specs.Matches.{alarms_among, matched_in, matches}
-use Rattle.event_machine.specs.Points.{Point, Incident, Acknowledged}
+use Rattle.event_machine.specs.Points.{Incident, Acknowledged}
 use Rattle.object_table.specs.declared.object_site.ObjectSite.{ObjectSite}
 use Rattle.object_table.specs.declared.row.Row.{Row}
 use Rattle.object_table.specs.Objects.{IsObject, KeepsAlarmKeys, KeepsAlarmValue}
@@ -23,7 +22,7 @@ use Rattle.object_table.specs.Rows.{first_row, is_object, row_of, rows_of}
 use Rattle.enrollment.specs.declared.enrollment_site.EnrollmentSite.{EnrollmentSite}
 use Rattle.enrollment.specs.Enrollments.{IsEnrollment, site_of}
 use Rattle.enrollment.specs.Objects.{ObjectsState, facts_at}
-use Rattle.enrollment.specs.Snapshots.{algorithm_by_site, algorithm_of, facts_by_site, facts_of_enrollment, facts_of_object, facts_of_row, value_in}
+use Rattle.enrollment.specs.Snapshots.{algorithm_by_site, algorithm_of, facts_by_site, facts_of_enrollment, facts_of_row, value_in}
 use Rattle.enrollment.specs.declared.subject.Subject.{Subject}
 use Rattle.enrollment.proofs.Parted.{site_is_of}
 use Rattle.alarm_core.specs.declared.event.Act.{Act}
@@ -31,16 +30,16 @@ use Rattle.alarm_core.specs.declared.event.Act.TheVariants.{Tick, Write, Ack, Pu
 use Rattle.alarm_core.specs.declared.event.Event.{Event}
 use Rattle.alarm_core.specs.declared.site.Site.{Site}
 use Rattle.alarm_core.specs.Allowed.{IsHistory}
-use Rattle.alarm_core.specs.Evaluations.{facts_or_none, first_point, point_of, point_with, site_moment}
+use Rattle.alarm_core.specs.Evaluations.{facts_or_none, first_point, point_with, site_moment}
 use Rattle.alarm_core.specs.Fits.{FitsEvent}
-use Rattle.alarm_core.specs.History.{Occurrence, AllEvaluated, OneAcknowledged, incidents_of, last_moment_of, looked_with, occurrences_of, occurrences_with, values_after, values_with}
+use Rattle.alarm_core.specs.History.{Occurrence, AllEvaluated, incidents_of, last_moment_of, looked_with, occurrences_of, occurrences_with, values_after, values_with}
 use Rattle.alarm_core.specs.SiteStates.{IsAlarmOf, IsDetectedOf, IsRowOf, alarm_values_in, alarm_values_of}
 use Rattle.alarm_core.specs.Sites.{IsSite}
 use Rattle.alarm_core.specs.State.{alarms_of, detected_object_of, state_of}
 use Rattle.alarm_core.specs.Subjects.{ack_required_of, detecting_subjects}
 use Rattle.alarm_core.specs.Values.{first_values}
 use Rattle.alarm_core.proofs.KeptAlarms.{alarm_is}
-use Rattle.alarm_core.proofs.KeptDetections.{AreSeen, IsSeen, Suits}
+use Rattle.alarm_core.proofs.KeptDetections.{AreSeen, Suits}
 use Rattle.alarm_core.proofs.KeptRows.{rows_kept}
 use Rattle.alarm_core.proofs.NotesGo.{found}
 use Rattle.alarm_core.proofs.OwnSubjects.{IsOwn, own_detecting}

@@ -1,5 +1,5 @@
 -- The value objects and the enrollments of a site keep to what it says of them, whatever writes they take.
-use Rattle.std.proofs.Common.{◌≡◌, ℕ, ◌<◌, ◌⊎◌, inl, inr, ◌&&◌, Bool, true, false, true≢false, if◌then◌else◌, Option, Some, None, IsTrue, IsSomeAnd, is_some, List, [], ◌∷◌, length, map, get_or, refl, sym, ap, ◌∙◌, subst}
+use Rattle.std.proofs.Common.{◌≡◌, ℕ, ◌<◌, inl, inr, ◌&&◌, Bool, true, false, true≢false, if◌then◌else◌, Option, Some, None, IsTrue, IsSomeAnd, is_some, List, [], ◌∷◌, length, map, get_or, refl, sym, ap, ◌∙◌, subst}
 use Rattle.std.specs.List.{All, AllZip}
 use Rattle.std.proofs.lemmas.List.Elements.{All-nil, All-cons, All-head, All-tail}
 use Rattle.bac_values.specs.Identifier.{ObjectIdData, kind_of}
@@ -13,16 +13,16 @@ use Rattle.object_table.specs.declared.object_property.ObjectProperty.{ObjectPro
 use Rattle.object_table.specs.declared.object_property.ObjectProperty.TheVariants.{PresentValue, OutOfService, ReliabilityEvaluationInhibit, TimeDelay, TimeDelayNormal, HighLimit, LowLimit, Deadband, LimitEnable, AlarmValue, EventEnable, EventAlgorithmInhibit}
 use Rattle.object_table.specs.declared.object_site.ObjectSite.{ObjectSite}
 use Rattle.object_table.specs.declared.row.Row.{Row}
-use Rattle.object_table.specs.Objects.{IsObject, IsObjectOf, IsRow}
+use Rattle.object_table.specs.Objects.{IsObject, IsObjectOf}
 use Rattle.object_table.specs.Properties.{kind_in, property_of}
-use Rattle.object_table.specs.Rows.{Ascends, first_row, is_object, object_in, row_of, rows_of}
+use Rattle.object_table.specs.Rows.{Ascends, is_object, object_in, row_of, rows_of}
 use Rattle.object_table.specs.Values.{takes_known}
 use Rattle.object_table.specs.Writes as rows
 use Rattle.enrollment.specs.declared.enrollment_property.EnrollmentProperty.{EnrollmentProperty}
 use Rattle.enrollment.specs.declared.enrollment_property.EnrollmentProperty.TheVariants as of_enrollments
 use Rattle.enrollment.specs.declared.enrollment_site.EnrollmentSite.{EnrollmentSite}
-use Rattle.enrollment.specs.Enrollments.{IsEnrollment, site_of}
-use Rattle.enrollment.specs.Objects.{ObjectsState, written}
+use Rattle.enrollment.specs.Enrollments.{IsEnrollment}
+use Rattle.enrollment.specs.Objects.{ObjectsState}
 use Rattle.enrollment.specs.Properties as enrollment_properties
 use Rattle.enrollment.specs.Writes as enrollments
 use Rattle.enrollment.proofs.Parted.{is_other_kind, same_object}
@@ -34,10 +34,9 @@ use Rattle.alarm_core.specs.Allowed.{IsAllowed, IsHistory}
 use Rattle.alarm_core.specs.Fits.{FitsAct, FitsEvent, FitsWhat}
 use Rattle.alarm_core.specs.History.{values_after, values_with}
 use Rattle.alarm_core.specs.Logs.{takes}
-use Rattle.alarm_core.specs.SiteStates.{IsEnrollmentOf, IsRowOf, with_settings_of}
+use Rattle.alarm_core.specs.SiteStates.{IsEnrollmentOf, IsRowOf}
 use Rattle.alarm_core.specs.Sites.{IsSite}
 use Rattle.alarm_core.specs.State.{state_of}
-use Rattle.alarm_core.specs.Values.{first_values}
 use Rattle.alarm_core.proofs.KeptObjects.{IsRewritten, both, known_kept}
 use Rattle.alarm_core.proofs.OwnSubjects.{found_itself}
 use Rattle.alarm_core.proofs.Stays.{row_objects_after, written_row, written_site}

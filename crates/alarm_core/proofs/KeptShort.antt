@@ -1,14 +1,13 @@
 -- What is told and recorded of a transition has at most 1,024 octets.
-use Rattle.std.proofs.Common.{◌≡◌, ℕ, zero, suc, ◌+◌, ◌≤◌, ℤ, Bool, true, false, cond, if◌then◌else◌, Option, Some, None, List, [], ◌∷◌, ◌++◌, length, map, refl, sym, ap, ◌∙◌, subst, arith, length-append}
+use Rattle.std.proofs.Common.{◌≡◌, ℕ, zero, suc, ◌≤◌, ℤ, Bool, true, false, if◌then◌else◌, Option, Some, None, List, [], ◌∷◌, ◌++◌, length, map, refl, arith, length-append}
 use Rattle.std.specs.List.{All, flat_map, slice_get}
 use Rattle.std.specs.Option.{IfSome, option_and_then, option_map, option_to_list}
-use Rattle.std.proofs.lemmas.List.Elements.{All-nil, All-cons, All-head, All-tail, All-append, All-map}
+use Rattle.std.proofs.lemmas.List.Elements.{All-nil, All-cons, All-head, All-tail, All-append}
 use Rattle.bac_values.specs.EventStates.{transition_to}
 use Rattle.bac_values.specs.Identifier.{ObjectIdData}
 use Rattle.bac_values.specs.declared.event_state.EventState.{EventState}
 use Rattle.bac_values.specs.declared.note.Note.{Note}
 use Rattle.bac_values.specs.declared.reliability.Reliability.{Reliability}
-use Rattle.bac_values.specs.declared.stamp.Stamp.{Stamp}
 use Rattle.bac_values.specs.declared.status_flags.StatusFlags.{StatusFlags}
 use Rattle.bac_values.specs.declared.transition.Transition.{Transition}
 use Rattle.bac_values.specs.declared.value.Value.{Value}
@@ -19,7 +18,6 @@ use Rattle.algorithm_rules.specs.Facts.{Facts}
 use Rattle.civil_stamp.specs.LocalTime.{ZoneData, local_stamp, octets_of_day_and_time}
 use Rattle.event_machine.specs.Detection.{cause_on}
 use Rattle.event_machine.specs.declared.moves.Move.{Move}
-use Rattle.event_services.specs.declared.notification.EventValues.{EventValues}
 use Rattle.event_services.specs.declared.notification.Notification.{Notification}
 use Rattle.event_services.specs.NoteLengths.{AreShort, HasShortText, IsShort as IsShortValue}
 use Rattle.event_services.specs.NoteRanges.{IfAny}
@@ -38,7 +36,6 @@ use Rattle.enrollment.specs.Enrollments.{site_of}
 use Rattle.enrollment.specs.Objects.{ObjectsState, facts_at, reliability_at}
 use Rattle.enrollment.specs.Snapshots.{algorithm_with, facts_by_site, facts_of_enrollment, facts_of_row, value_in}
 use Rattle.enrollment.specs.Subjects.{subject_in}
-use Rattle.object_table.specs.declared.object_site.ObjectSite.{ObjectSite}
 use Rattle.object_table.specs.declared.row.Row.{Row}
 use Rattle.object_table.specs.Rows.{is_object, row_of}
 use Rattle.alarm_core.specs.declared.event.Act.{Act}

@@ -1,16 +1,13 @@
 -- The state that a history leaves keeps to what the state of a site does.
-use Rattle.std.proofs.Common.{◌≡◌, ℕ, ◌+◌, ◌*◌, ◌/◌, ◌^◌, ◌<◌, ◌≤◌, ℤ, pos, Bool, true, false, true≢false, if◌then◌else◌, Option, Some, None, List, [], ◌∷◌, ◌++◌, length, map, refl, sym, ap, ◌∙◌, subst, arith}
+use Rattle.std.proofs.Common.{◌≡◌, ℕ, ◌/◌, ℤ, Bool, true, false, true≢false, if◌then◌else◌, Option, Some, None, List, [], ◌∷◌, map, refl, sym, ap}
 use Rattle.std.specs.Prelude.{IsNone}
 use Rattle.std.specs.List.{All, AllZip}
-use Rattle.std.proofs.lemmas.List.Elements.{All-nil, All-cons, All-head, All-tail, All-append, All-map}
-use Rattle.bac_values.specs.BitString.{two_flags, three_flags}
+use Rattle.std.proofs.lemmas.List.Elements.{All-nil, All-cons, All-head, All-tail, All-append}
 use Rattle.bac_values.specs.Moments.{IsMoment}
-use Rattle.bac_values.specs.declared.note.Note.{Note}
 use Rattle.bac_values.specs.declared.value.Value.{Value}
 use Rattle.bac_values.specs.declared.value.Value.TheVariants.{Bool as Truth, Unsigned, Signed, Bits}
-use Rattle.civil_stamp.specs.LocalTime.{IsZone, fixed_zone, hundredths_in, local_stamp}
+use Rattle.civil_stamp.specs.LocalTime.{IsZone, local_stamp}
 use Rattle.event_log.specs.declared.log_site.LogSite.{LogSite}
-use Rattle.notify_class.specs.declared.class.Class.{Class}
 use Rattle.object_table.specs.declared.change.Change.{Change}
 use Rattle.object_table.specs.declared.change.What.{What}
 use Rattle.object_table.specs.declared.change.What.TheVariants.{Property, FieldFault}
@@ -22,25 +19,21 @@ use Rattle.object_table.specs.Properties.{property_of}
 use Rattle.object_table.specs.Rows.{is_object, rows_of}
 use Rattle.object_table.specs.Writes as rows
 use Rattle.enrollment.specs.Objects.{ObjectsState}
-use Rattle.enrollment.specs.declared.subject.Subject.{Subject}
 use Rattle.alarm_core.specs.declared.event.Act.{Act}
 use Rattle.alarm_core.specs.declared.event.Act.TheVariants.{Tick, Write, Ack, Pump, Answer, Edit}
 use Rattle.alarm_core.specs.declared.event.Event.{Event}
 use Rattle.alarm_core.specs.declared.site.Site.{Site}
-use Rattle.alarm_core.specs.declared.transition.ObjectTransition.{ObjectTransition}
 use Rattle.alarm_core.specs.Allowed.{IsHistory}
 use Rattle.alarm_core.specs.Classes.{classes_after}
 use Rattle.alarm_core.specs.Deliveries.{event_notes, notifications_of}
-use Rattle.alarm_core.specs.Evaluations.{site_stamp, site_zone, zone_with}
+use Rattle.alarm_core.specs.Evaluations.{zone_with}
 use Rattle.alarm_core.specs.Fits.{FitsAct, FitsEvent, FitsObject, FitsSite, FitsValue, FitsWhat}
-use Rattle.alarm_core.specs.History.{ObjectState, StateTransition, event_looks, joined, transition_of, values_after, values_with}
+use Rattle.alarm_core.specs.History.{event_looks, joined, transition_of, values_after, values_with}
 use Rattle.alarm_core.specs.Laws.{KeepsToItsSite}
-use Rattle.alarm_core.specs.Limits.{KeepsLimits}
-use Rattle.alarm_core.specs.Logs.{kept_log_of, logs_after}
+use Rattle.alarm_core.specs.Logs.{kept_log_of}
 use Rattle.alarm_core.specs.Notes.{IsShort}
-use Rattle.alarm_core.specs.SiteStates.{IsLogOf, IsRecordOf, IsStateOf, hundredths_or_none, hundredths_shown}
+use Rattle.alarm_core.specs.SiteStates.{IsLogOf, IsRecordOf, hundredths_or_none, hundredths_shown}
 use Rattle.alarm_core.specs.Sites.{IsLogSite, IsSite}
-use Rattle.alarm_core.specs.State.{state_of}
 use Rattle.alarm_core.proofs.KeptClasses.{classes_kept, peers_kept_few}
 use Rattle.alarm_core.proofs.KeptLogs.{TellsSuch, such_log}
 use Rattle.alarm_core.proofs.KeptLooks.{GivesSuch, event_such, joined_such}

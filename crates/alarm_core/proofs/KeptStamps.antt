@@ -1,6 +1,5 @@
 -- What a clock that always stands the same ahead of UTC shows at a moment tells the moment's hundredths of a second.
-use Rattle.std.proofs.Common.{◌≡◌, ℕ, zero, suc, ◌+◌, ◌-◌, ◌*◌, ◌/◌, ◌%◌, ◌<◌, ◌≤◌, Bool, true, false, nat_lt, ℤ, pos, negsuc, neg_ℤ, ◌+ℤ◌, ◌*ℤ◌, ◌≤ℤ◌, Some, List, [], ◌∷◌, refl, sym, ap, ◌∙◌, subst, arith}
-use Rattle.std.specs.Prelude.{IsNone}
+use Rattle.std.proofs.Common.{◌≡◌, ℕ, zero, suc, ◌+◌, ◌-◌, ◌*◌, ◌/◌, ◌%◌, ◌<◌, ◌≤◌, Bool, true, false, nat_lt, ℤ, pos, negsuc, ◌+ℤ◌, ◌*ℤ◌, ◌≤ℤ◌, Some, [], ◌∷◌, refl, sym, ap, ◌∙◌, subst, arith}
 use Rattle.std.proofs.lemmas.Bool.{ltb-true, ltb-false, le-leb, lt-ltb}
 use Rattle.jiff_core.specs.Calendar.{IsCivilDate, day_count, days_from_civil, days_in_month, days_of_months, days_of_years, weekday_number}
 use Rattle.jiff_core.specs.declared.civil.date.Date.{Date}
@@ -9,7 +8,7 @@ use Rattle.jiff_core.proofs.DateLemmas.{days_from_civil-day, days_from_civil-nex
 use Rattle.jiff_core.proofs.SignedLemmas.{signed_arith}
 use Rattle.bac_values.specs.Moments.{IsMoment}
 use Rattle.bac_values.specs.declared.stamp.Stamp.{Stamp}
-use Rattle.civil_stamp.specs.LocalTime.{IsCivilTime, IsLocalStamp, IsZone, fixed_zone, hundredths_in, is_civil_time, local_hundredths, local_stamp, stamp_day, stamp_epoch_day, stamp_hour, stamp_hundredth, stamp_minute, stamp_month, stamp_second, stamp_time, stamp_year, utc_hundredths}
+use Rattle.civil_stamp.specs.LocalTime.{IsLocalStamp, IsZone, fixed_zone, hundredths_in, is_civil_time, local_hundredths, local_stamp, stamp_day, stamp_hour, stamp_hundredth, stamp_minute, stamp_month, stamp_second, stamp_year, utc_hundredths}
 use Rattle.civil_stamp.specs.ZoneRules.{seconds_ahead, seconds_shown}
 use Rattle.civil_stamp.proofs.StampLemmas.{stamp_is, year_high}
 
