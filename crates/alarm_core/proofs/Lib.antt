@@ -32,6 +32,8 @@ pub mod Listed
 pub mod Counting
 pub mod Accepted
 pub mod LastLists
+pub mod Restored
+pub mod RestoredCore
 mod Kept
 pub mod KeptDetections
 pub mod KeptAlarms
