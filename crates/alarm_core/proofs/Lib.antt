@@ -34,6 +34,7 @@ pub mod Accepted
 pub mod LastLists
 pub mod Restored
 pub mod RestoredCore
+pub mod RestoredParts
 mod Kept
 pub mod KeptDetections
 pub mod KeptAlarms

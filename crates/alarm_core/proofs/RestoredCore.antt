@@ -1,5 +1,5 @@
 -- A restored core shows what it was made of, and its objects ascend.
-use Rattle.std.proofs.Common.{◌≡◌, ℕ, suc, Bool, true, false, if◌then◌else◌, List, [], ◌∷◌, ◌++◌, filter, map, ap, ◌∙◌, arith}
+use Rattle.std.proofs.Common.{◌≡◌, suc, Bool, true, false, if◌then◌else◌, List, [], ◌∷◌, ◌++◌, filter, map, ap, ◌∙◌, arith}
 use Rattle.std.specs.List.{All, AllPairs, flat_map, zip}
 use Rattle.std.proofs.lemmas.List.Elements.{All-nil, All-cons, All-head, All-tail}
 use Rattle.std.proofs.lemmas.List.Kept.{AllPairs-cons}
@@ -25,10 +25,10 @@ use Rattle.alarm_core.proofs.Standing.{stands}
 -- ---- lists of which some elements are left out
 
 module _ {Y : Type 0} (R : Y → Y → Type 0) where
-  pairs_head : (y : Y) (ys : List Y) → AllPairs R (y ∷ ys) → All (R y) ys
+  pub pairs_head : (y : Y) (ys : List Y) → AllPairs R (y ∷ ys) → All (R y) ys
   pairs_head y ys h = λ k d within. h 0 (suc k) d (omega arith) (omega (arith, within))
 
-  pairs_tail : (y : Y) (ys : List Y) → AllPairs R (y ∷ ys) → AllPairs R ys
+  pub pairs_tail : (y : Y) (ys : List Y) → AllPairs R (y ∷ ys) → AllPairs R ys
   pairs_tail y ys h = λ i j d low within. h (suc i) (suc j) d (omega (arith, low)) (omega (arith, within))
 
 module _ {X Y : Type 0} (f : X → Y) where
@@ -42,11 +42,11 @@ module _ {X Y : Type 0} (f : X → Y) where
   pairs_more R x rest false behind later = later
 
   module _ (test : X → Bool) where
-    all_kept : (P : Y → Type 0) (xs : List X) → All P (map f xs) → All P (map f (filter test xs))
+    pub all_kept : (P : Y → Type 0) (xs : List X) → All P (map f xs) → All P (map f (filter test xs))
     all_kept P [] h = h
     all_kept P (x ∷ xs) h = all_more P x (filter test xs) (test x) (All-head P (f x) (map f xs) h) (all_kept P xs (All-tail P (f x) (map f xs) h))
 
-    pairs_kept : (R : Y → Y → Type 0) (xs : List X) → AllPairs R (map f xs) → AllPairs R (map f (filter test xs))
+    pub pairs_kept : (R : Y → Y → Type 0) (xs : List X) → AllPairs R (map f xs) → AllPairs R (map f (filter test xs))
     pairs_kept R [] h = h
     pairs_kept R (x ∷ xs) h = pairs_more R x (filter test xs) (test x) (all_kept (R (f x)) xs (pairs_head R (f x) (map f xs) h)) (pairs_kept R xs (pairs_tail R (f x) (map f xs) h))
 

@@ -34,7 +34,7 @@ pub use event::{Act, Event, Outcome, StepFault};
 pub use event_log::LogSite;
 pub use laws::{
     allows_what_checks_accept, counts_the_longer_history, keeps_to_its_site, knows_listed_peers,
-    reads_the_last_list, stands_for_its_history,
+    reads_the_last_list, restores_what_it_tells, stands_for_its_history,
 };
 pub use notify_class::ClassSite;
 pub use parts::Parts;
