@@ -125,7 +125,6 @@ module _ (P : LogRecord → Type 0) where
 
     told_such : (classes : List Class) (listed : LogSite) (transition : StateTransition) (to : Option (Subject × Class)) → TellsSuch transition →
         All MakesSuch (flat_map (λ (to : Subject × Class). if records_class listed to.1 then Recorded (record { stamp = site_stamp site transition.moment; hundredths = transition.moment / 10; body = written_notification (notification_of site transition to.0 to.1) }) ∷ [] else []) (option_to_list to))
-
     told_such classes listed transition None tells = All-nil MakesSuch
     told_such classes listed transition (Some to) tells =
         let call = Recorded (record { stamp = site_stamp site transition.moment; hundredths = transition.moment / 10; body = written_notification (notification_of site transition to.0 to.1) }) in
