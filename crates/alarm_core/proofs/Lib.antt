@@ -38,3 +38,15 @@ pub mod Adding
 pub mod Following
 pub mod RestoredParts
 mod Kept
+pub mod KeptDetections
+pub mod KeptAlarms
+pub mod KeptObjects
+pub mod KeptRows
+pub mod KeptPoints
+pub mod KeptClasses
+pub mod KeptOutbox
+pub mod KeptLooks
+pub mod KeptLogs
+pub mod KeptStamps
+pub mod KeptShort
+pub mod KeptSites

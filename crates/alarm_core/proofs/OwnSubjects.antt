@@ -44,7 +44,7 @@ module _ {X : Type 0} (object : X → ObjectIdData) (xs : List X) (ascending : A
       less_is_other (object (get_or xs j d)) (object (get_or xs k d))
       (rw (← get_or-map object xs j d (object d) high, ← get_or-map object xs k d (object d) low) below)
 
-  found_itself : (k : ℕ) (d : X) → k < length xs → find (λ x. is_object (object (get_or xs k d)) (object x)) xs ≡ Some (get_or xs k d)
+  pub found_itself : (k : ℕ) (d : X) → k < length xs → find (λ x. is_object (object (get_or xs k d)) (object x)) xs ≡ Some (get_or xs k d)
   found_itself k d low =
       find_at (λ x. is_object (object (get_or xs k d)) (object x)) xs k d low (is_itself (object (get_or xs k d)))
       (λ j before. earlier_is_other j k d before low)

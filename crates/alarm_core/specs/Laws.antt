@@ -1,5 +1,5 @@
--- What makes the definitions believable: the next state is that of the longer history, and the run starts are in it; when a tick is never refused; which number a refusal tells; which peers are known; and which changes are allowed.
-use Rattle.std.specs.Prelude.{◌≡◌, ◌↔◌, ◌<◌, ℕ, ◌+◌, Bool, true, false, IsTrue, IsOk, None, List, [], ◌∷◌, ◌++◌, length, map, reverse, Contains, Ok, Err}
+-- What makes the definitions believable: the next state is that of the longer history, and the run starts are in it; the state that a history leaves keeps to its site; when a tick is never refused; which number a refusal tells; which peers are known; and which changes are allowed.
+use Rattle.std.specs.Prelude.{◌≡◌, ◌↔◌, ◌<◌, ℕ, ◌+◌, ◌^◌, Bool, true, false, IsTrue, IsOk, None, List, [], ◌∷◌, ◌++◌, length, map, reverse, All, Contains, Ok, Err}
 use Rattle.bac_values.specs.Address.{PeerData}
 use Rattle.bac_values.specs.Identifier.{ObjectIdData}
 use Rattle.bac_values.specs.Orders.{IsAscending}
@@ -14,7 +14,9 @@ use Rattle.alarm_core.specs.declared.event.Act.TheVariants.{Tick, Write, Ack}
 use Rattle.alarm_core.specs.declared.event.Event.{Event}
 use Rattle.alarm_core.specs.declared.event.StepFault.TheVariants.{Full}
 use Rattle.alarm_core.specs.declared.site.Site.{Site}
+use Rattle.alarm_core.specs.Fits.{FitsEvent, FitsSite}
 use Rattle.alarm_core.specs.History.{tick_at, transitions_of}
+use Rattle.alarm_core.specs.Limits.{KeepsLimits}
 use Rattle.alarm_core.specs.State.{state_of, CoreState}
 use Rattle.alarm_core.specs.Allowed.{Comes, IsAllowed, IsHistory, Represents}
 use Rattle.alarm_core.specs.Classes.{known_peers_of, listed_peers}
@@ -24,6 +26,7 @@ use Rattle.alarm_core.specs.FollowingSteps.{AreAllowed, state_over}
 use Rattle.alarm_core.specs.RunStarts.{run_starts_in, run_starts_of}
 use Rattle.alarm_core.specs.Reading.{write_of}
 use Rattle.alarm_core.specs.Room.{HasRoom}
+use Rattle.alarm_core.specs.SiteStates.{IsStateOf}
 use Rattle.alarm_core.specs.Sites.{IsSite}
 use Rattle.alarm_core.specs.Subjects.{subjects_of}
 use Rattle.alarm_core.specs.Verdicts.{step_verdict}
@@ -77,3 +80,8 @@ pub record AllowsWhatChecksAccept : Type 0 where
 abbrev pub StandsOverEvents : Type 0
 StandsOverEvents = (state : CoreState) (history events : List Event) → IsSite state.site → Represents state history → AreAllowed state events →
     Represents (state_over state events) (reverse events ++ history)
+
+-- The state that a history leaves is one that the state of its site may be: of a site that keeps to its limits, of fewer than 2^63 events, and of values that fit their types.
+pub record KeepsToItsSite : Type 0 where
+  pub keeps : (site : Site) → IsSite site → KeepsLimits site → FitsSite site → (history : List Event) → IsHistory site history → All FitsEvent history → length history < 2 ^ 63 →
+      IsStateOf site (state_of site history)

@@ -27,3 +27,4 @@ pub mod Verdicts
 pub mod SiteStates
 pub mod Limits
 pub mod Parts
+pub mod Fits

@@ -1,5 +1,5 @@
 ghost use Rattle.alarm_core.specs.LastLists.{ReadsTheLastList};
-ghost use Rattle.alarm_core.specs.Laws.{AllowsWhatChecksAccept, CountsTheLongerHistory, KnowsListedPeers, StandsForItsHistory, StandsOverEvents};
+ghost use Rattle.alarm_core.specs.Laws.{AllowsWhatChecksAccept, CountsTheLongerHistory, KeepsToItsSite, KnowsListedPeers, StandsForItsHistory, StandsOverEvents};
 ghost use Rattle.alarm_core.specs.Parts.{RestoresWhatItTells};
 
 /// Going on from event to event, as they come, gives the state and the event-state transitions that looking back over the
@@ -40,4 +40,11 @@ pub fn allows_what_checks_accept()
 /// back over the history with all of them gives.
 pub fn stands_over_events()
     ensures events { StandsOverEvents }
+{}
+
+/// The state that a history leaves is one that the state of its site may be, as a snapshot of it keeps to: its properties are
+/// such as writes take, its alarms such as the algorithms of its objects make them, and its lists, its outbox and its logs
+/// are within their limits.
+pub fn keeps_to_its_site()
+    ensures states { KeepsToItsSite }
 {}

@@ -13,6 +13,7 @@ mod evaluation;
 mod evaluation_input;
 mod event;
 mod finding;
+mod fitting;
 mod identifiers;
 mod informing;
 mod knowing;
@@ -33,9 +34,10 @@ mod view;
 pub use enrollment::EnrollmentSite;
 pub use event::{Act, Event, Outcome, StepFault};
 pub use event_log::LogSite;
+pub use fitting::{event_fits, site_fits};
 pub use laws::{
-    allows_what_checks_accept, counts_the_longer_history, knows_listed_peers, reads_the_last_list,
-    restores_what_it_tells, stands_for_its_history, stands_over_events,
+    allows_what_checks_accept, counts_the_longer_history, keeps_to_its_site, knows_listed_peers,
+    reads_the_last_list, restores_what_it_tells, stands_for_its_history, stands_over_events,
 };
 pub use notify_class::ClassSite;
 pub use parts::Parts;
