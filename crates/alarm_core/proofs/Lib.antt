@@ -6,6 +6,8 @@ pub mod KnownPeers
 pub mod NotesGo
 pub mod Delivering
 pub mod Still
+pub mod Dues
+pub mod Rounds
 pub mod Agreeing
 pub mod Courses
 pub mod MovesOnce

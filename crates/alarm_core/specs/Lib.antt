@@ -14,6 +14,7 @@ pub mod Found
 pub mod Allowed
 pub mod Room
 pub mod CoreSteps
+pub mod DueSteps
 pub mod ViewSteps
 pub mod RunStarts
 pub mod Laws

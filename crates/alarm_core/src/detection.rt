@@ -3,13 +3,14 @@ ghost use Rattle.std.specs.Option.{option_map};
 ghost use Rattle.bac_values.specs.Moments.{IsMoment};
 ghost use Rattle.event_machine.specs.Given.{moves_in, point_of};
 ghost use Rattle.alarm_core.specs.CoreSteps.{acked, change_at, change_by, evaluated, first_with};
+ghost use Rattle.alarm_core.specs.DueSteps.{due_by, due_of};
 
 use crate::evaluation_input::{EvaluationInput, evaluation_input, first_input};
 use algorithm_rules::Algorithm;
 use bac_values::{ObjectId, Transition, Value};
 use civil_stamp::LocalMoment;
 use enrollment::{Objects, Subject};
-use event_machine::{Alarm, Changed, Steps, begin, evaluate, is_still};
+use event_machine::{Alarm, Changed, Steps, begin, evaluate, is_settled, is_still, next_due};
 use std::marker::Model;
 use std::sync::ledger::Ledger;
 
@@ -77,6 +78,20 @@ fn is_still_by(algorithm: Algorithm, input: Option<&EvaluationInput<'_>>, alarm:
     }
 }
 
+// When one object is next to be looked at, if it is there.
+fn due_by(algorithm: Algorithm, input: Option<&EvaluationInput<'_>>, alarm: &Alarm) -> Option<u64>
+    requires algorithm { IfSome input (λ input. input.now.snapshot.algorithm ≡ algorithm) }
+    requires few { IfSome input (λ input. length input.now.snapshot.alarm_values.now ≤ 32) }
+    ensures due { result ≡ due_by algorithm (option_map (λ input. point_of input.now.snapshot input.now.point) input.entry) alarm.now }
+{
+    let input = input?;
+    if is_settled(alarm, &input.snapshot, &input.point) {
+        next_due(alarm, &input.snapshot)
+    } else {
+        Some(0)
+    }
+}
+
 impl DetectedObject {
     /// An object at the start, whose class wants these transitions acknowledged.
     pub(crate) fn first(
@@ -135,6 +150,15 @@ impl DetectedObject {
     {
         let input = evaluation_input(objects, self.algorithm, self.object, at, self.ack_required);
         is_still_by(self.algorithm, input.as_ref(), &self.alarm)
+    }
+
+    /// The moment at which the object is next to be looked at, if there is one: at once where it isn't settled, and else when
+    /// a rule of it will be held. It is the same at every moment.
+    pub(crate) fn due(&self, objects: &Objects, at: &LocalMoment) -> Option<u64>
+        ensures due { result ≡ due_of objects.now self.now }
+    {
+        let input = evaluation_input(objects, self.algorithm, self.object, at, self.ack_required);
+        due_by(self.algorithm, input.as_ref(), &self.alarm)
     }
 
     /// The transition is acknowledged where the object is the one that is named. No memory is taken.

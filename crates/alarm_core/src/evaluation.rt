@@ -20,8 +20,8 @@ pub(crate) struct Evaluation {
     pub(crate) transitions: Vec<ObjectTransition>,
 }
 
-// A transition of an object that was in a state of this cause, if it moved.
-fn add_transition(
+/// A transition of an object that was in a state of this cause, if it moved.
+pub(crate) fn add_transition(
     transitions: &mut Vec<ObjectTransition>,
     object: ObjectId,
     cause: Option<u32>,

@@ -7,6 +7,7 @@
 
 mod classes;
 mod detection;
+mod detections;
 mod enrollment_content;
 mod evaluation;
 mod evaluation_input;

@@ -1,0 +1,17 @@
+use Rattle.std.proofs.Common.{◌≡◌, ◌++◌, ◌-◌, ◌≤◌, ◌<◌, ◌^◌, length, take}
+use Rattle.alarm_core.specs.DueSteps.{DetectionsState, Undoes}
+use Rattle.alarm_core.proofs.Rounds.{HasCome, made_of}
+use Rattle.alarm_core.proofs.detections.look_at_due.Given as goal
+
+abbrev pub invariant-loop-index : goal.invariant-loop-index
+invariant-loop-index g l = record {
+  come : HasCome l.at l.objects l.from l.fn.timed.alarms.items l.timed.alarms.items l.timed.timers;
+  within : l.from ≤ length l.timed.timers;
+  few : length l.timed.timers < 2 ^ 32;
+  made : l.round.transitions.items ≡ l.fn.round.transitions.items ++ made_of l.at l.objects (take l.from l.fn.timed.alarms.items);
+  undoes : (before : DetectionsState) → Undoes l.fn.round.formers.items before l.fn.timed.alarms.items l.fn.timed.timers →
+      Undoes l.round.formers.items before l.timed.alarms.items l.timed.timers;
+}
+
+abbrev pub decreases-loop-index : goal.decreases-loop-index
+decreases-loop-index g l = length l.timed.timers - l.from

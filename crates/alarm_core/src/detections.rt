@@ -1,0 +1,95 @@
+ghost use Rattle.std.specs.Prelude.{◌≡◌, ◌<◌, ◌∷◌, ◌++◌, ◌^◌, [], OnErr, OnOk, length, map, slice_set};
+ghost use Rattle.std.specs.List.{flat_map};
+ghost use Rattle.alarm_core.specs.CoreSteps.{evaluated, evaluated_all, transitions_by};
+ghost use Rattle.alarm_core.specs.DueSteps.{AreEarly, DetectionsState, Undoes, due_of};
+
+use crate::detection::DetectedObject;
+use crate::evaluation::add_transition;
+use crate::transition::ObjectTransition;
+use bac_values::{NoMemory, push};
+use civil_stamp::LocalMoment;
+use enrollment::Objects;
+use event_machine::Steps;
+use held_timers::Timers;
+use std::sync::ledger::Ledger;
+
+/// An alarm as it was before a look, with its index among the alarms.
+#[derive(Clone, Copy)]
+pub(crate) struct Former {
+    pub(crate) index: u32,
+    pub(crate) detected: DetectedObject,
+}
+
+/// What some looks have done: the alarms that they changed, as they were before and in the order of the looks, and the
+/// transitions that were made.
+#[derive(Drop)]
+pub(crate) struct Round {
+    pub(crate) formers: Vec<Former>,
+    pub(crate) transitions: Vec<ObjectTransition>,
+}
+
+/// Alarms, and for each the moment at which it is next to be looked at.
+#[derive(Drop)]
+pub(crate) struct Timed {
+    pub(crate) alarms: Vec<DetectedObject>,
+    pub(crate) timers: Timers,
+}
+
+// Looks at the object at an index, and sets its timer anew.
+fn look_at<L: Ledger>(
+    timed: &mut Timed,
+    former: Former,
+    objects: &Objects,
+    at: &LocalMoment,
+    steps: &mut Steps<L>,
+    round: &mut Round,
+) -> Result<(), NoMemory>
+    requires within { former.index < length timed.old.alarms.items }
+    requires timed { length timed.old.timers ≡ length timed.old.alarms.items }
+    ensures alarms { OnOk result (timed.new.alarms.items ≡ slice_set timed.old.alarms.items former.index (evaluated at.now objects.now former.detected)) }
+    ensures timers { OnOk result (timed.new.timers ≡ slice_set timed.old.timers former.index (due_of objects.now (evaluated at.now objects.now former.detected))) }
+    ensures formers { OnOk result (round.new.formers.items ≡ round.old.formers.items ++ former ∷ []) }
+    ensures transitions { OnOk result (round.new.transitions.items ≡ round.old.transitions.items ++ transitions_by at.now objects.now former.detected) }
+    ensures same_alarms { OnErr result (timed.new.alarms.items ≡ timed.old.alarms.items) }
+    ensures same_timers { OnErr result (timed.new.timers ≡ timed.old.timers) }
+    ensures same_formers { OnErr result (round.new.formers.items ≡ round.old.formers.items) }
+{
+    let (object, cause) = (former.detected.object(), former.detected.alarm().cause());
+    let mut next = former.detected;
+    let changed = next.evaluate(objects, at, steps);
+    add_transition(&mut round.transitions, object, cause, changed.first)?;
+    add_transition(&mut round.transitions, object, cause, changed.second)?;
+    push(&mut round.formers, former)?;
+    timed.timers.set_due(former.index, next.due(objects, at));
+    timed.alarms[former.index as usize] = next;
+    Ok(())
+}
+
+/// Looks at the objects that are due, by ascending index. A timer may be set at once: then its object is looked at.
+fn look_at_due<L: Ledger>(
+    timed: &mut Timed,
+    objects: &Objects,
+    at: &LocalMoment,
+    steps: &mut Steps<L>,
+    round: &mut Round,
+) -> Result<(), NoMemory>
+    requires few { length timed.old.alarms.items < 2 ^ 32 }
+    requires early { AreEarly objects.now timed.old.alarms.items timed.old.timers }
+    ensures alarms { OnOk result (timed.new.alarms.items ≡ evaluated_all at.now objects.now timed.old.alarms.items) }
+    ensures timers { OnOk result (timed.new.timers ≡ map (due_of objects.now) timed.new.alarms.items) }
+    ensures transitions { OnOk result (round.new.transitions.items ≡ round.old.transitions.items ++ flat_map (transitions_by at.now objects.now) timed.old.alarms.items) }
+    ensures undoes { (before : DetectionsState) → Undoes round.old.formers.items before timed.old.alarms.items timed.old.timers →
+        Undoes round.new.formers.items before timed.new.alarms.items timed.new.timers }
+{
+    let moment = at.moment();
+    let mut from = 0;
+    while let Some(index) = timed.timers.due_from(moment, from) {
+        let former = Former {
+            index,
+            detected: timed.alarms[index as usize],
+        };
+        look_at(timed, former, objects, at, steps, round)?;
+        from = index + 1;
+    }
+    Ok(())
+}
