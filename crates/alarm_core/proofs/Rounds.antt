@@ -1,5 +1,5 @@
 -- A round of looks at the objects that are due: how far it has come, and what undoes it.
-use Rattle.std.proofs.Common.{◌≡◌, ◌⊎◌, inl, inr, ℕ, zero, suc, pred, ◌+◌, ◌<◌, Bool, true, false, true≢false, if◌then◌else◌, Option, Some, None, List, [], ◌∷◌, ◌++◌, length, map, set, take, drop, get_or, slice_get, refl, ap, ◌∙◌, sym, subst, add-one, append_assoc, append-nil, arith}
+use Rattle.std.proofs.Common.{◌≡◌, ◌⊎◌, inl, inr, ℕ, zero, suc, pred, ◌+◌, ◌<◌, ◌≤◌, Bool, true, false, true≢false, if◌then◌else◌, Option, Some, None, List, [], ◌∷◌, ◌++◌, length, map, set, take, drop, get_or, slice_get, refl, ap, ◌∙◌, sym, subst, add-one, append_assoc, append-nil, arith}
 use Rattle.std.specs.Prelude.{⊤}
 use Rattle.std.specs.List.{flat_map, position_from}
 use Rattle.std.proofs.lemmas.List.{length-set, set-get_or, set-set}
@@ -82,6 +82,7 @@ made_quiet at values old rest none = flat_map-cons (transitions_by at values) ol
 pub record Reaches (at : LocalMomentData) (values : ObjectsState) (from offset next : ℕ) (before after : List DetectedObjectState) (timers : List (Option ℕ)) : Type 0 where
   pub index : ℕ
   pub is : next ≡ offset + index
+  pub low : from ≤ index
   pub come : HasCome at values index before after timers
   pub within : index < length timers
   pub same : made_of at values (take index before) ≡ made_of at values (take from before)
@@ -93,13 +94,14 @@ skips_one : (at : LocalMomentData) (values : ObjectsState) (offset next : ℕ) (
     Reaches at values 0 offset next (old ∷ before) (new ∷ after) (due ∷ timers)
 skips_one at values offset next old new due before after timers waits come rest true is found =
     let here : offset ≡ next = cc in
-    record { index = 0; is = omega (arith, here); come = (waits, come); within = omega arith; same = refl }
+    record { index = 0; is = omega (arith, here); low = omega arith; come = (waits, come); within = omega arith; same = refl }
 skips_one at values offset next old new due before after timers waits come rest false is found =
     let reached = rest found in
     let quiet = is_quiet at values old new due waits is in
     record {
       index = suc reached.index;
       is = omega (arith, reached.is);
+      low = omega arith;
       come = (quiet.looked, reached.come);
       within = omega (arith, reached.within);
       same = made_quiet at values old (take reached.index before) quiet.none ∙ reached.same;
@@ -121,6 +123,7 @@ skips at values (suc i) offset next (old ∷ before) (new ∷ after) (due ∷ ti
     record {
       index = suc reached.index;
       is = omega (arith, reached.is);
+      low = omega (arith, reached.low);
       come = (come.0, reached.come);
       within = omega (arith, reached.within);
       same = made_cons at values old (take reached.index before) (take i before) reached.same;
@@ -246,6 +249,7 @@ pub record NextDue (at : LocalMomentData) (values : ObjectsState) (from next : �
   pub come : HasCome at values next before after timers
   pub within : next < length timers
   pub there : next < length after
+  pub low : from ≤ next
   pub same : made_of at values (take next before) ≡ made_of at values (take from before)
 
 pub next_due : (at : LocalMomentData) (values : ObjectsState) (moment from next : ℕ) (before after : List DetectedObjectState) (timers : List (Option ℕ)) → moment ≡ at.moment →
@@ -259,6 +263,7 @@ next_due at values moment from next before after timers is come found =
       come = subst (λ k. HasCome at values k before after timers) (sym here) reached.come;
       within = omega (arith, here, reached.within);
       there = omega (arith, here, reached.within, many);
+      low = omega (arith, here, reached.low);
       same = ap (λ k. made_of at values (take k before)) here ∙ reached.same;
     }
 
@@ -298,3 +303,7 @@ pub undoes_same : (formers later : List Former) (before : DetectionsState) (alar
     later ≡ formers → after ≡ alarms → dues ≡ timers → Undoes formers before alarms timers → Undoes later before after dues
 undoes_same formers later before alarms after timers dues f a t undoes =
     subst (λ fs. Undoes fs before after dues) (sym f) (subst (λ ds. Undoes formers before ds dues) (sym a) (subst (λ ts. Undoes formers before alarms ts) (sym t) undoes))
+
+-- a list to which some more came
+pub joined_more : {X : Type 0} (first made one old new whole : List X) → new ≡ old ++ one → old ≡ first ++ made → whole ≡ made ++ one → new ≡ first ++ whole
+joined_more first made one old new whole n o w = n ∙ (ap (λ xs. xs ++ one) o ∙ (append_assoc first made one ∙ ap (λ xs. first ++ xs) (sym w)))

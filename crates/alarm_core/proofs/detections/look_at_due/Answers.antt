@@ -1,6 +1,6 @@
-use Rattle.std.proofs.Common.{◌≡◌, ◌<◌, ◌+◌, ◌++◌, ◌∷◌, ◌^◌, [], length, sym, ap, ◌∙◌, append-nil, append_assoc, arith, rules}
-use Rattle.alarm_core.specs.DueSteps.{DetectionsState, Undoes}
-use Rattle.alarm_core.proofs.Rounds.{as_many, comes_first, made_of, next_due, round_over, steps_on, undoes_on, undoes_same}
+use Rattle.std.proofs.Common.{◌≡◌, ◌<◌, ◌+◌, ◌-◌, ◌++◌, length, take, sym, ap, ◌∙◌, append-nil, arith}
+use Rattle.alarm_core.specs.CoreSteps.{transitions_by}
+use Rattle.alarm_core.proofs.Rounds.{as_many, comes_first, joined_more, made_of, next_due, round_over, steps_on, undoes_on, undoes_same}
 use Rattle.alarm_core.proofs.detections.look_at_due.Goals as goal
 
 pub loop-index-init : goal.loop-index-init
@@ -21,10 +21,14 @@ index-requires g c =
     let l = c.loop-index in
     let next = next_due c.args.at.now c.args.objects.now c.moment-moment.result l.from c.in-Some.index c.args.timed.now.alarms.items l.timed.alarms.items l.timed.timers
     c.moment-moment.ensures.moment l.invariant.come c.in-Some.ensures.first in
-    next.there
+    omega (arith, next.there)
 
 pub look_at-requires-clause-within : goal.look_at-requires-clause-within
-look_at-requires-clause-within g c = index-requires g c
+look_at-requires-clause-within g c =
+    let l = c.loop-index in
+    let next = next_due c.args.at.now c.args.objects.now c.moment-moment.result l.from c.in-Some.index c.args.timed.now.alarms.items l.timed.alarms.items l.timed.timers
+    c.moment-moment.ensures.moment l.invariant.come c.in-Some.ensures.first in
+    next.there
 
 pub look_at-requires-clause-timed : goal.look_at-requires-clause-timed
 look_at-requires-clause-timed g c =
@@ -59,14 +63,25 @@ loop-index-preserved g c =
       come = on.come;
       within = omega (arith, on.many, next.within);
       few = omega (arith, on.many, l.invariant.few);
-      made = looked.transitions ∙ ?;
+      made = joined_more c.args.round.now.transitions.items (made_of at values (take l.from all)) (transitions_by at values x) l.round.transitions.items c.look_at.new.round.transitions.items
+          (made_of at values (take (c.in-Some.index + 1) all)) looked.transitions l.invariant.made (on.made ∙ ap (λ made. made ++ transitions_by at values x) next.same);
       undoes = λ before undoes.
           undoes_on l.round.formers.items (record { index = c.in-Some.index; detected = x }) before l.timed.alarms.items l.timed.timers _ _
           c.look_at.new.round.formers.items c.look_at.new.timed.alarms.items c.look_at.new.timed.timers (l.invariant.undoes before undoes) c.index.ensures looked.formers looked.alarms looked.timers;
     }
 
 pub loop-index-smaller : goal.loop-index-smaller
-loop-index-smaller g c = ?
+loop-index-smaller g c =
+    let l = c.loop-index in
+    let at = c.args.at.now in
+    let values = c.args.objects.now in
+    let all = c.args.timed.now.alarms.items in
+    let x = c.index.result.now in
+    let next = next_due at values c.moment-moment.result l.from c.in-Some.index all l.timed.alarms.items l.timed.timers c.moment-moment.ensures.moment l.invariant.come c.in-Some.ensures.first in
+    let looked = c.in_ok-look_at.ensures in
+    let on = steps_on at values c.in-Some.index x all l.timed.alarms.items c.look_at.new.timed.alarms.items l.timed.timers c.look_at.new.timed.timers next.come next.there c.index.ensures looked.alarms looked.timers in
+    let less : length c.look_at.new.timed.timers - (c.in-Some.index + 1) < length l.timed.timers - l.from = omega (arith, on.many, next.low, next.within) in
+    less
 
 pub returns-clause-alarms : goal.returns-clause-alarms
 returns-clause-alarms g c =
