@@ -2,7 +2,7 @@
 use Rattle.std.proofs.Common.{◌≡◌, ◌⊎◌, inl, inr, ℕ, zero, suc, pred, ◌+◌, ◌<◌, ◌≤◌, Bool, true, false, true≢false, if◌then◌else◌, Option, Some, None, List, [], ◌∷◌, ◌++◌, length, map, set, take, drop, get_or, slice_get, refl, ap, ◌∙◌, sym, subst, add-one, append_assoc, append-nil, arith}
 use Rattle.std.specs.Prelude.{⊤}
 use Rattle.std.specs.List.{flat_map, position_from}
-use Rattle.std.proofs.lemmas.List.{length-set, set-get_or, set-set}
+use Rattle.std.proofs.lemmas.List.{length-set, map-set, set-get_or, set-set}
 use Rattle.std.proofs.lemmas.List.Concat.{flat_map-cons}
 use Rattle.civil_stamp.specs.LocalTime.{LocalMomentData}
 use Rattle.held_timers.specs.Dues.{first_due_from, is_due}
@@ -201,7 +201,7 @@ goes_on at values i x (old ∷ before) [] timers come within is = absurd come
 goes_on at values i x (old ∷ before) (new ∷ after) [] come within is = absurd come
 
 -- what undoes one look more
-restored_more : (formers : List Former) (former : Former) (alarms : List DetectedObjectState) → restored (formers ++ former ∷ []) alarms ≡ restored formers (set alarms former.index former.detected)
+pub restored_more : (formers : List Former) (former : Former) (alarms : List DetectedObjectState) → restored (formers ++ former ∷ []) alarms ≡ restored formers (set alarms former.index former.detected)
 restored_more [] former alarms = refl
 restored_more (first ∷ formers) former alarms = ap (λ ds. set ds first.index first.detected) (restored_more formers former alarms)
 
@@ -209,7 +209,7 @@ among_last : (formers : List Former) (former : Former) → IsAmong former.index 
 among_last [] former = inl refl
 among_last (first ∷ formers) former = inr (among_last formers former)
 
-among_more : (index : ℕ) (formers : List Former) (former : Former) → IsAmong index formers → IsAmong index (formers ++ former ∷ [])
+pub among_more : (index : ℕ) (formers : List Former) (former : Former) → IsAmong index formers → IsAmong index (formers ++ former ∷ [])
 among_more index [] former among = absurd among
 among_more index (first ∷ formers) former (inl same) = inl same
 among_more index (first ∷ formers) former (inr among) = inr (among_more index formers former among)
@@ -219,12 +219,32 @@ later_place xs ys i j (inl same) = inl (ap suc same)
 later_place xs ys i j (inr other) = inr other
 
 -- another place is as it was
-set_elsewhere : {X : Type 0} (xs : List X) (i j : ℕ) (x : X) → (i ≡ j) ⊎ (slice_get (set xs i x) j ≡ slice_get xs j)
+pub set_elsewhere : {X : Type 0} (xs : List X) (i j : ℕ) (x : X) → (i ≡ j) ⊎ (slice_get (set xs i x) j ≡ slice_get xs j)
 set_elsewhere [] i j x = inr refl
 set_elsewhere (y ∷ xs) zero zero x = inl refl
 set_elsewhere (y ∷ xs) zero (suc j) x = inr refl
 set_elsewhere (y ∷ xs) (suc i) zero x = inr refl
 set_elsewhere (y ∷ xs) (suc i) (suc j) x = later_place (set xs i x) xs i j (set_elsewhere xs i j x)
+
+split_later : (index : ℕ) (first : Former) (formers : List Former) (former : Former) → IsAmong index formers ⊎ (former.index ≡ index) → IsAmong index (first ∷ formers) ⊎ (former.index ≡ index)
+split_later index first formers former (inl among) = inl (inr among)
+split_later index first formers former (inr same) = inr same
+
+pub among_split : (index : ℕ) (formers : List Former) (former : Former) → IsAmong index (formers ++ former ∷ []) → IsAmong index formers ⊎ (former.index ≡ index)
+among_split index [] former (inl same) = inr same
+among_split index [] former (inr among) = absurd among
+among_split index (first ∷ formers) former (inl same) = inl (inl same)
+among_split index (first ∷ formers) former (inr among) = split_later index first formers former (among_split index formers former among)
+
+within_more : (formers : List Former) (former : Former) (n : ℕ) → ((index : ℕ) → IsAmong index formers → index < n) → former.index < n →
+    (index : ℕ) → IsAmong index formers ⊎ (former.index ≡ index) → index < n
+within_more formers former n within there index (inl among) = within index among
+within_more formers former n within there index (inr same) = subst (λ k. k < n) same there
+
+-- there are as many
+pub as_long : (formers : List Former) (alarms : List DetectedObjectState) → length (restored formers alarms) ≡ length alarms
+as_long [] alarms = refl
+as_long (former ∷ formers) alarms = length-set (restored formers alarms) former.index former.detected ∙ as_long formers alarms
 
 undone_at : (formers : List Former) (former : Former) (index : ℕ) (due : Option (Option ℕ)) (timers : List (Option ℕ)) (new : Option ℕ) →
     IsAmong index formers ⊎ (slice_get timers index ≡ due) → (former.index ≡ index) ⊎ (slice_get (set timers former.index new) index ≡ slice_get timers index) →
@@ -234,14 +254,16 @@ undone_at formers former index due timers new (inr kept) (inl same) = inl (subst
 undone_at formers former index due timers new (inr kept) (inr other) = inr (other ∙ kept)
 
 pub undoes_more : (formers : List Former) (former : Former) (before : DetectionsState) (alarms : List DetectedObjectState) (timers : List (Option ℕ)) (changed : DetectedObjectState) (new : Option ℕ) →
-    Undoes formers before alarms timers → former.detected ≡ get_or alarms former.index former.detected →
+    Undoes formers before alarms timers → former.index < length alarms → former.detected ≡ get_or alarms former.index former.detected →
     Undoes (formers ++ former ∷ []) before (set alarms former.index changed) (set timers former.index new)
-undoes_more formers former before alarms timers changed new undoes is = record {
+undoes_more formers former before alarms timers changed new undoes there is = record {
   puts_back = restored_more formers former (set alarms former.index changed)
       ∙ (ap (restored formers) (set-set alarms former.index changed former.detected
       ∙ (ap (set alarms former.index) is ∙ set-get_or alarms former.index former.detected))
       ∙ undoes.puts_back);
   keeps = λ index. undone_at formers former index (slice_get (map (due_of before.values) before.alarms) index) timers new (undoes.keeps index) (set_elsewhere timers former.index index new);
+  within = λ index among. within_more formers former (length before.alarms) undoes.within (omega (arith, there, as_long formers alarms, ap length undoes.puts_back)) index (among_split index formers former among);
+  many = length-set timers former.index new ∙ undoes.many;
 }
 
 -- the loop's steps, as the code has them
@@ -292,12 +314,12 @@ steps_on at values i x before after alarms timers dues come within is a t =
 
 pub undoes_on : (formers : List Former) (former : Former) (before : DetectionsState) (alarms : List DetectedObjectState) (timers : List (Option ℕ)) (changed : DetectedObjectState) (new : Option ℕ)
     (later : List Former) (after : List DetectedObjectState) (dues : List (Option ℕ)) →
-    Undoes formers before alarms timers → former.detected ≡ get_or alarms former.index former.detected →
+    Undoes formers before alarms timers → former.index < length alarms → former.detected ≡ get_or alarms former.index former.detected →
     later ≡ formers ++ former ∷ [] → after ≡ set alarms former.index changed → dues ≡ set timers former.index new → Undoes later before after dues
-undoes_on formers former before alarms timers changed new later after dues undoes is f a t =
+undoes_on formers former before alarms timers changed new later after dues undoes there is f a t =
     subst (λ fs. Undoes fs before after dues) (sym f)
     (subst (λ ds. Undoes (formers ++ former ∷ []) before ds dues) (sym a)
-    (subst (λ ts. Undoes (formers ++ former ∷ []) before (set alarms former.index changed) ts) (sym t) (undoes_more formers former before alarms timers changed new undoes is)))
+    (subst (λ ts. Undoes (formers ++ former ∷ []) before (set alarms former.index changed) ts) (sym t) (undoes_more formers former before alarms timers changed new undoes there is)))
 
 pub undoes_same : (formers later : List Former) (before : DetectionsState) (alarms after : List DetectedObjectState) (timers dues : List (Option ℕ)) →
     later ≡ formers → after ≡ alarms → dues ≡ timers → Undoes formers before alarms timers → Undoes later before after dues
@@ -307,3 +329,13 @@ undoes_same formers later before alarms after timers dues f a t undoes =
 -- a list to which some more came
 pub joined_more : {X : Type 0} (first made one old new whole : List X) → new ≡ old ++ one → old ≡ first ++ made → whole ≡ made ++ one → new ≡ first ++ whole
 joined_more first made one old new whole n o w = n ∙ (ap (λ xs. xs ++ one) o ∙ (append_assoc first made one ∙ ap (λ xs. first ++ xs) (sym w)))
+
+-- exact timers stay exact
+pub exact_more : (values : ObjectsState) (i : ℕ) (alarms new_alarms : List DetectedObjectState) (timers dues : List (Option ℕ)) (changed : DetectedObjectState) →
+    new_alarms ≡ set alarms i changed → dues ≡ set timers i (due_of values changed) → timers ≡ map (due_of values) alarms → dues ≡ map (due_of values) new_alarms
+exact_more values i alarms new_alarms timers dues changed a t exact =
+    t ∙ (ap (λ ts. set ts i (due_of values changed)) exact ∙ (sym (map-set (due_of values) alarms i changed) ∙ ap (map (due_of values)) (sym a)))
+
+pub exact_early : (values : ObjectsState) (alarms : List DetectedObjectState) → AreEarly values alarms (map (due_of values) alarms)
+exact_early values [] = tt
+exact_early values (detected ∷ alarms) = (inl refl, exact_early values alarms)

@@ -1,5 +1,5 @@
 -- When each object is next to be looked at, and what a round of looks at the objects that are due makes of alarms and timers.
-use Rattle.std.specs.Prelude.{◌≡◌, ◌⊎◌, ⊤, ℕ, Option, Some, None, List, [], ◌∷◌, map, slice_get, slice_set}
+use Rattle.std.specs.Prelude.{◌≡◌, ◌⊎◌, ⊤, ℕ, Option, Some, None, List, [], ◌∷◌, map, slice_get, slice_set, length, ◌<◌}
 use Rattle.std.specs.Option.{option_map}
 use Rattle.bac_values.specs.Identifier.{ObjectIdData}
 use Rattle.algorithm_rules.specs.Facts.{Facts}
@@ -61,3 +61,13 @@ IsAmong index (former ∷ later) = (former.index ≡ index) ⊎ IsAmong index la
 pub record Undoes (formers : List Former) (before : DetectionsState) (alarms : List DetectedObjectState) (timers : List (Option ℕ)) : Type 0 where
   pub puts_back : restored formers alarms ≡ before.alarms
   pub keeps : (index : ℕ) → IsAmong index formers ⊎ (slice_get timers index ≡ slice_get (map (due_of before.values) before.alarms) index)
+  pub within : (index : ℕ) → IsAmong index formers → index < length before.alarms
+  pub many : length timers ≡ length before.alarms
+
+-- the due moments of all objects
+abbrev pub dues_of : DetectionsState → List (Option ℕ)
+dues_of state = map (due_of state.values) state.alarms
+
+-- so some former alarms undo what led from one state to another
+abbrev pub LeadsBack : List Former → DetectionsState → DetectionsState → Type 0
+LeadsBack formers before after = Undoes formers before after.alarms (dues_of after)

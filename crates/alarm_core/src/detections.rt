@@ -1,7 +1,7 @@
 ghost use Rattle.std.specs.Prelude.{◌≡◌, ◌<◌, ◌∷◌, ◌++◌, ◌^◌, [], OnErr, OnOk, length, map, slice_set};
 ghost use Rattle.std.specs.List.{flat_map};
 ghost use Rattle.alarm_core.specs.CoreSteps.{evaluated, evaluated_all, transitions_by};
-ghost use Rattle.alarm_core.specs.DueSteps.{AreEarly, DetectionsState, Undoes, due_of};
+ghost use Rattle.alarm_core.specs.DueSteps.{AreEarly, DetectionsState, LeadsBack, Undoes, due_of, restored};
 
 use crate::detection::DetectedObject;
 use crate::evaluation::add_transition;
@@ -11,6 +11,7 @@ use civil_stamp::LocalMoment;
 use enrollment::Objects;
 use event_machine::Steps;
 use held_timers::Timers;
+use std::marker::Model;
 use std::sync::ledger::Ledger;
 
 /// An alarm as it was before a look, with its index among the alarms.
@@ -80,6 +81,7 @@ fn look_at_due<L: Ledger>(
     ensures transitions { OnOk result (round.new.transitions.items ≡ round.old.transitions.items ++ flat_map (transitions_by at.now objects.now) timed.old.alarms.items) }
     ensures undoes { (before : DetectionsState) → Undoes round.old.formers.items before timed.old.alarms.items timed.old.timers →
         Undoes round.new.formers.items before timed.new.alarms.items timed.new.timers }
+    ensures exact { timed.old.timers ≡ map (due_of objects.now) timed.old.alarms.items → timed.new.timers ≡ map (due_of objects.now) timed.new.alarms.items }
 {
     let moment = at.moment();
     let mut from = 0;
@@ -92,4 +94,56 @@ fn look_at_due<L: Ledger>(
         from = index + 1;
     }
     Ok(())
+}
+
+/// Puts former alarms back, the last one first, and sets their timers anew. No memory is taken.
+fn put_back(timed: &mut Timed, formers: &mut Vec<Former>, objects: &Objects, at: &LocalMoment)
+    requires undoes { Undoes formers.old.items (record { values = objects.now; alarms = restored formers.old.items timed.old.alarms.items }) timed.old.alarms.items timed.old.timers }
+    ensures alarms { timed.new.alarms.items ≡ restored formers.old.items timed.old.alarms.items }
+    ensures timers { timed.new.timers ≡ map (due_of objects.now) timed.new.alarms.items }
+    ensures none { formers.new.items ≡ [] }
+{
+    while let Some(former) = formers.pop() {
+        let due = former.detected.due(objects, at);
+        timed.timers.set_due(former.index, due);
+        timed.alarms[former.index as usize] = former.detected;
+    }
+}
+
+/// The properties of a site's objects, and their alarms, each of which is looked at as it is due.
+#[derive(Drop)]
+pub(crate) struct Detections {
+    objects: Objects,
+    timed: Timed,
+}
+
+impl Model for Detections {
+    ghost use Rattle.std.specs.Prelude.{◌≡◌, ◌<◌, ◌^◌, length, map};
+    ghost use Rattle.alarm_core.specs.DueSteps.{DetectionsState, due_of};
+
+    ghost Value = { DetectionsState };
+
+    ghost view = { λ detections. record { values = detections.objects; alarms = detections.timed.alarms.items } };
+
+    ghost invariant = { λ detections. record {
+      timers : detections.timed.timers ≡ map (due_of detections.objects) detections.timed.alarms.items;
+      few : length detections.timed.alarms.items < 2 ^ 32;
+    } };
+}
+
+impl Detections {
+    /// Looks at all objects that are due. Where memory is wanting, some have been looked at.
+    pub(crate) fn evaluate<L: Ledger>(
+        &mut self,
+        at: &LocalMoment,
+        steps: &mut Steps<L>,
+        round: &mut Round,
+    ) -> Result<(), NoMemory>
+        ensures values { self.new.values ≡ self.old.values }
+        ensures alarms { OnOk result (self.new.alarms ≡ evaluated_all at.now self.old.values self.old.alarms) }
+        ensures transitions { OnOk result (round.new.transitions.items ≡ round.old.transitions.items ++ flat_map (transitions_by at.now self.old.values) self.old.alarms) }
+        ensures undoes { (before : DetectionsState) → LeadsBack round.old.formers.items before self.old → LeadsBack round.new.formers.items before self.new }
+    {
+        look_at_due(&mut self.timed, &self.objects, at, steps, round)
+    }
 }

@@ -1,6 +1,7 @@
-use Rattle.std.proofs.Common.{◌≡◌, ◌<◌, ◌+◌, ◌-◌, ◌++◌, length, take, sym, ap, ◌∙◌, append-nil, arith}
-use Rattle.alarm_core.specs.CoreSteps.{transitions_by}
-use Rattle.alarm_core.proofs.Rounds.{as_many, comes_first, joined_more, made_of, next_due, round_over, steps_on, undoes_on, undoes_same}
+use Rattle.std.proofs.Common.{◌≡◌, ◌<◌, ◌+◌, ◌-◌, ◌++◌, length, map, take, sym, ap, ◌∙◌, append-nil, arith}
+use Rattle.alarm_core.specs.CoreSteps.{evaluated, transitions_by}
+use Rattle.alarm_core.specs.DueSteps.{due_of}
+use Rattle.alarm_core.proofs.Rounds.{as_many, comes_first, exact_more, joined_more, made_of, next_due, round_over, steps_on, undoes_on, undoes_same}
 use Rattle.alarm_core.proofs.detections.look_at_due.Goals as goal
 
 pub loop-index-init : goal.loop-index-init
@@ -14,6 +15,7 @@ loop-index-init g c =
       few = omega (arith, many, c.requires.few);
       made = sym (append-nil c.args.round.now.transitions.items);
       undoes = λ before undoes. undoes;
+      exact = λ exact. exact;
     }
 
 pub index-requires : goal.index-requires
@@ -66,8 +68,9 @@ loop-index-preserved g c =
       made = joined_more c.args.round.now.transitions.items (made_of at values (take l.from all)) (transitions_by at values x) l.round.transitions.items c.look_at.new.round.transitions.items
           (made_of at values (take (c.in-Some.index + 1) all)) looked.transitions l.invariant.made (on.made ∙ ap (λ made. made ++ transitions_by at values x) next.same);
       undoes = λ before undoes.
-          undoes_on l.round.formers.items (record { index = c.in-Some.index; detected = x }) before l.timed.alarms.items l.timed.timers _ _
-          c.look_at.new.round.formers.items c.look_at.new.timed.alarms.items c.look_at.new.timed.timers (l.invariant.undoes before undoes) c.index.ensures looked.formers looked.alarms looked.timers;
+          undoes_on l.round.formers.items (record { index = c.in-Some.index; detected = x }) before l.timed.alarms.items l.timed.timers (evaluated at values x) (due_of values (evaluated at values x))
+          c.look_at.new.round.formers.items c.look_at.new.timed.alarms.items c.look_at.new.timed.timers (l.invariant.undoes before undoes) next.there c.index.ensures looked.formers looked.alarms looked.timers;
+      exact = λ exact. exact_more values c.in-Some.index l.timed.alarms.items c.look_at.new.timed.alarms.items l.timed.timers c.look_at.new.timed.timers (evaluated at values x) looked.alarms looked.timers (l.invariant.exact exact);
     }
 
 pub loop-index-smaller : goal.loop-index-smaller
@@ -100,3 +103,9 @@ returns-clause-transitions g c =
     let l = c.loop-index in
     let over = round_over c.args.at.now c.args.objects.now c.moment-moment.result l.from c.args.timed.now.alarms.items l.timed.alarms.items l.timed.timers c.moment-moment.ensures.moment l.invariant.come (sym c.in_default.ensures.first) in
     l.invariant.made ∙ ap (λ made. c.args.round.now.transitions.items ++ made) (sym over.made)
+
+pub returns-in_err-look_at-clause-exact : goal.returns-in_err-look_at-clause-exact
+returns-in_err-look_at-clause-exact g c =
+    let l = c.loop-index in
+    let failed = c.in_err-look_at.ensures in
+    λ exact. failed.same_timers ∙ (l.invariant.exact exact ∙ ap (map (due_of c.args.objects.now)) (sym failed.same_alarms))

@@ -1,5 +1,5 @@
-use Rattle.std.proofs.Common.{◌≡◌, ◌++◌, ◌-◌, ◌≤◌, ◌<◌, ◌^◌, length, take}
-use Rattle.alarm_core.specs.DueSteps.{DetectionsState, Undoes}
+use Rattle.std.proofs.Common.{◌≡◌, ◌++◌, ◌-◌, ◌≤◌, ◌<◌, ◌^◌, length, map, take}
+use Rattle.alarm_core.specs.DueSteps.{DetectionsState, Undoes, due_of}
 use Rattle.alarm_core.proofs.Rounds.{HasCome, made_of}
 use Rattle.alarm_core.proofs.detections.look_at_due.Given as goal
 
@@ -11,6 +11,7 @@ invariant-loop-index g l = record {
   made : l.round.transitions.items ≡ l.fn.round.transitions.items ++ made_of l.at l.objects (take l.from l.fn.timed.alarms.items);
   undoes : (before : DetectionsState) → Undoes l.fn.round.formers.items before l.fn.timed.alarms.items l.fn.timed.timers →
       Undoes l.round.formers.items before l.timed.alarms.items l.timed.timers;
+  exact : l.fn.timed.timers ≡ map (due_of l.objects) l.fn.timed.alarms.items → l.timed.timers ≡ map (due_of l.objects) l.timed.alarms.items;
 }
 
 abbrev pub decreases-loop-index : goal.decreases-loop-index
