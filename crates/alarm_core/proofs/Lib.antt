@@ -8,6 +8,7 @@ pub mod Delivering
 pub mod Still
 pub mod Dues
 pub mod Rounds
+pub mod Undoing
 pub mod Agreeing
 pub mod Courses
 pub mod MovesOnce

@@ -339,3 +339,11 @@ exact_more values i alarms new_alarms timers dues changed a t exact =
 pub exact_early : (values : ObjectsState) (alarms : List DetectedObjectState) → AreEarly values alarms (map (due_of values) alarms)
 exact_early values [] = tt
 exact_early values (detected ∷ alarms) = (inl refl, exact_early values alarms)
+
+pub as_before : (at : LocalMomentData) (values : ObjectsState) (i : ℕ) (before after : List DetectedObjectState) (timers : List (Option ℕ)) → HasCome at values i before after timers → length after ≡ length before
+as_before at values i [] [] [] come = refl
+as_before at values i (old ∷ before) (new ∷ after) (due ∷ timers) come = ap suc (as_before at values (pred i) before after timers come.1)
+as_before at values i [] [] (due ∷ timers) come = absurd come
+as_before at values i [] (new ∷ after) timers come = absurd come
+as_before at values i (old ∷ before) [] timers come = absurd come
+as_before at values i (old ∷ before) (new ∷ after) [] come = absurd come

@@ -1,16 +1,17 @@
-ghost use Rattle.std.specs.Prelude.{◌≡◌, ◌<◌, ◌∷◌, ◌++◌, ◌^◌, [], OnErr, OnOk, length, map, slice_set};
+ghost use Rattle.std.specs.Prelude.{◌≡◌, ◌<◌, ◌∷◌, ◌++◌, ◌^◌, [], IfOk, OnErr, OnOk, length, map, slice_set};
 ghost use Rattle.std.specs.List.{flat_map};
-ghost use Rattle.alarm_core.specs.CoreSteps.{evaluated, evaluated_all, transitions_by};
+ghost use Rattle.alarm_core.specs.CoreSteps.{acked, evaluated, evaluated_all, transitions_by};
 ghost use Rattle.alarm_core.specs.DueSteps.{AreEarly, DetectionsState, LeadsBack, Undoes, due_of, restored};
 
 use crate::detection::DetectedObject;
-use crate::evaluation::add_transition;
+use crate::evaluation::{acknowledge_in, add_transition};
 use crate::transition::ObjectTransition;
-use bac_values::{NoMemory, push};
+use bac_values::{NoMemory, ObjectId, Transition, push};
 use civil_stamp::LocalMoment;
 use enrollment::Objects;
 use event_machine::Steps;
 use held_timers::Timers;
+use std::alloc::Global;
 use std::marker::Model;
 use std::sync::ledger::Ledger;
 
@@ -81,6 +82,7 @@ fn look_at_due<L: Ledger>(
     ensures transitions { OnOk result (round.new.transitions.items ≡ round.old.transitions.items ++ flat_map (transitions_by at.now objects.now) timed.old.alarms.items) }
     ensures undoes { (before : DetectionsState) → Undoes round.old.formers.items before timed.old.alarms.items timed.old.timers →
         Undoes round.new.formers.items before timed.new.alarms.items timed.new.timers }
+    ensures count { length timed.new.alarms.items ≡ length timed.old.alarms.items }
     ensures exact { timed.old.timers ≡ map (due_of objects.now) timed.old.alarms.items → timed.new.timers ≡ map (due_of objects.now) timed.new.alarms.items }
 {
     let moment = at.moment();
@@ -131,7 +133,65 @@ impl Model for Detections {
     } };
 }
 
+// The timers of some objects.
+fn first_timers(
+    alloc: Global,
+    alarms: &[DetectedObject],
+    objects: &Objects,
+    at: &LocalMoment,
+) -> Result<Timers, NoMemory>
+    ensures timers { IfOk result (λ timers. timers ≡ map (due_of objects.now) alarms.now) }
+    ensures few { IfOk result (λ timers. length alarms.now < 2 ^ 32) }
+{
+    let Ok(count) = u32::try_from(alarms.len()) else {
+        return Err(NoMemory);
+    };
+    let mut timers = Timers::new(alloc, count)?;
+    for index in 0..count {
+        let due = alarms[index as usize].due(objects, at);
+        timers.set_due(index, due);
+    }
+    Ok(timers)
+}
+
 impl Detections {
+    /// The alarms of some objects.
+    pub(crate) fn new(
+        alloc: Global,
+        objects: Objects,
+        alarms: Vec<DetectedObject>,
+        at: &LocalMoment,
+    ) -> Result<Detections, NoMemory>
+        ensures detections { IfOk result (λ detections. detections ≡ record { values = objects; alarms = alarms.items }) }
+    {
+        let timers = first_timers(alloc, &alarms, &objects, at)?;
+        Ok(Detections {
+            objects,
+            timed: Timed { alarms, timers },
+        })
+    }
+
+    /// The properties of the objects.
+    pub(crate) fn objects(&self) -> &Objects
+        ensures objects { result.now ≡ self.now.values }
+    {
+        &self.objects
+    }
+
+    /// The alarms, in the order of their objects.
+    pub(crate) fn alarms(&self) -> &[DetectedObject]
+        ensures alarms { result.now ≡ self.now.alarms }
+    {
+        self.timed.alarms.as_slice()
+    }
+
+    /// One transition of one object is acknowledged. No memory is taken.
+    pub(crate) fn acknowledge(&mut self, object: ObjectId, transition: Transition)
+        ensures acked { self.new ≡ record self.old { alarms = map (acked object transition) self.old.alarms } }
+    {
+        acknowledge_in(&mut self.timed.alarms, object, transition);
+    }
+
     /// Looks at all objects that are due. Where memory is wanting, some have been looked at.
     pub(crate) fn evaluate<L: Ledger>(
         &mut self,

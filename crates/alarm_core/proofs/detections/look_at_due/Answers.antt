@@ -1,7 +1,7 @@
 use Rattle.std.proofs.Common.{◌≡◌, ◌<◌, ◌+◌, ◌-◌, ◌++◌, length, map, take, sym, ap, ◌∙◌, append-nil, arith}
 use Rattle.alarm_core.specs.CoreSteps.{evaluated, transitions_by}
 use Rattle.alarm_core.specs.DueSteps.{due_of}
-use Rattle.alarm_core.proofs.Rounds.{as_many, comes_first, exact_more, joined_more, made_of, next_due, round_over, steps_on, undoes_on, undoes_same}
+use Rattle.alarm_core.proofs.Rounds.{as_before, as_many, comes_first, exact_more, joined_more, made_of, next_due, round_over, steps_on, undoes_on, undoes_same}
 use Rattle.alarm_core.proofs.detections.look_at_due.Goals as goal
 
 pub loop-index-init : goal.loop-index-init
@@ -109,3 +109,13 @@ returns-in_err-look_at-clause-exact g c =
     let l = c.loop-index in
     let failed = c.in_err-look_at.ensures in
     λ exact. failed.same_timers ∙ (l.invariant.exact exact ∙ ap (map (due_of c.args.objects.now)) (sym failed.same_alarms))
+
+pub returns-in_err-look_at-clause-count : goal.returns-in_err-look_at-clause-count
+returns-in_err-look_at-clause-count g c =
+    let l = c.loop-index in
+    ap length c.in_err-look_at.ensures.same_alarms ∙ as_before c.args.at.now c.args.objects.now l.from c.args.timed.now.alarms.items l.timed.alarms.items l.timed.timers l.invariant.come
+
+pub returns-clause-count : goal.returns-clause-count
+returns-clause-count g c =
+    let l = c.loop-index in
+    as_before c.args.at.now c.args.objects.now l.from c.args.timed.now.alarms.items l.timed.alarms.items l.timed.timers l.invariant.come

@@ -1,0 +1,15 @@
+use Rattle.std.proofs.Common.{◌≡◌, List, Option, ℕ, sym, subst, arith}
+use Rattle.alarm_core.specs.DueSteps.{AreEarly}
+use Rattle.alarm_core.proofs.Rounds.{exact_early}
+use Rattle.alarm_core.proofs.detections.Detections.evaluate.Goals as goal
+
+pub look_at_due-requires-clause-early : goal.look_at_due-requires-clause-early
+look_at_due-requires-clause-early g c =
+    let inside = c.self.inside in
+    subst (λ (timers : List (Option ℕ)). AreEarly inside.objects inside.timed.alarms.items timers) (sym c.self.invariant.timers) (exact_early inside.objects inside.timed.alarms.items)
+
+pub invariant_of-self : goal.invariant_of-self
+invariant_of-self g c = record {
+  timers = c.look_at_due.ensures.exact c.self.invariant.timers;
+  few = omega (arith, c.look_at_due.ensures.count, c.self.invariant.few);
+}
