@@ -12,6 +12,7 @@ use Rattle.alarm_core.specs.declared.transition.ObjectTransition.{ObjectTransiti
 use Rattle.alarm_core.specs.State.{DetectedObjectState}
 use Rattle.alarm_core.specs.CoreSteps.{evaluated, transitions_by}
 use Rattle.alarm_core.specs.DueSteps.{AreEarly, DetectionsState, IsAmong, IsEarly, Undoes, due_of, restored}
+use Rattle.alarm_core.proofs.Still.{back_none, front_none}
 use Rattle.alarm_core.proofs.Dues.{due_at_once, quiet_evaluated, quiet_transitions}
 
 -- one that was looked at has its due moment; one that wasn't is as it was
@@ -347,3 +348,105 @@ as_before at values i [] [] (due ∷ timers) come = absurd come
 as_before at values i [] (new ∷ after) timers come = absurd come
 as_before at values i (old ∷ before) [] timers come = absurd come
 as_before at values i (old ∷ before) (new ∷ after) [] come = absurd come
+
+-- the next one that is due among some that nobody has looked at: those between would make no transition
+pub record NextMover (at : LocalMomentData) (values : ObjectsState) (from next : ℕ) (alarms : List DetectedObjectState) : Type 0 where
+  pub within : next < length alarms
+  pub low : from ≤ next
+  pub same : made_of at values (take next alarms) ≡ made_of at values (take from alarms)
+
+pub record MovesNext (at : LocalMomentData) (values : ObjectsState) (from offset next : ℕ) (alarms : List DetectedObjectState) : Type 0 where
+  pub index : ℕ
+  pub is : next ≡ offset + index
+  pub low : from ≤ index
+  pub within : index < length alarms
+  pub same : made_of at values (take index alarms) ≡ made_of at values (take from alarms)
+
+moves_one : (at : LocalMomentData) (values : ObjectsState) (offset next : ℕ) (detected : DetectedObjectState) (alarms : List DetectedObjectState) →
+    (position_from (is_due at.moment) (offset + 1) (map (due_of values) alarms) ≡ Some next → MovesNext at values 0 (offset + 1) next alarms) →
+    (is : Bool) → is_due at.moment (due_of values detected) ≡ is → (if is then Some offset else position_from (is_due at.moment) (offset + 1) (map (due_of values) alarms)) ≡ Some next →
+    MovesNext at values 0 offset next (detected ∷ alarms)
+moves_one at values offset next detected alarms rest true is found =
+    let here : offset ≡ next = cc in
+    record { index = 0; is = omega (arith, here); low = omega arith; within = omega arith; same = refl }
+moves_one at values offset next detected alarms rest false is found =
+    let moves = rest found in
+    record {
+      index = suc moves.index;
+      is = omega (arith, moves.is);
+      low = omega arith;
+      within = omega (arith, moves.within);
+      same = made_quiet at values detected (take moves.index alarms) (quiet_transitions at values detected is) ∙ moves.same;
+    }
+
+moves_next : (at : LocalMomentData) (values : ObjectsState) (from offset next : ℕ) (alarms : List DetectedObjectState) →
+    position_from (is_due at.moment) (offset + from) (drop from (map (due_of values) alarms)) ≡ Some next → MovesNext at values from offset next alarms
+moves_next at values zero offset next [] found = absurd cc
+moves_next at values (suc i) offset next [] found = absurd cc
+moves_next at values zero offset next (detected ∷ alarms) found =
+    let rest = λ (e : position_from (is_due at.moment) (offset + 1) (map (due_of values) alarms) ≡ Some next).
+    moves_next at values zero (offset + 1) next alarms (ap (λ k. position_from (is_due at.moment) k (map (due_of values) alarms)) (let same : offset + 1 + 0 ≡ offset + 1 = omega arith in same) ∙ e) in
+    let none : offset + 0 ≡ offset = omega arith in
+    moves_one at values offset next detected alarms rest (is_due at.moment (due_of values detected)) refl
+    (ap (λ k. position_from (is_due at.moment) k (map (due_of values) (detected ∷ alarms))) (sym none) ∙ found)
+moves_next at values (suc i) offset next (detected ∷ alarms) found =
+    let same : offset + 1 + i ≡ offset + suc i = omega arith in
+    let moves = moves_next at values i (offset + 1) next alarms (ap (λ k. position_from (is_due at.moment) k (drop i (map (due_of values) alarms))) same ∙ found) in
+    record {
+      index = suc moves.index;
+      is = omega (arith, moves.is);
+      low = omega (arith, moves.low);
+      within = omega (arith, moves.within);
+      same = made_cons at values detected (take moves.index alarms) (take i alarms) moves.same;
+    }
+
+pub next_mover : (at : LocalMomentData) (values : ObjectsState) (moment from next : ℕ) (alarms : List DetectedObjectState) (timers : List (Option ℕ)) → moment ≡ at.moment →
+    timers ≡ map (due_of values) alarms → Some next ≡ first_due_from timers moment from → NextMover at values from next alarms
+next_mover at values moment from next alarms timers is exact found =
+    let start : 0 + from ≡ from = omega arith in
+    let moves = moves_next at values from 0 next alarms
+    (ap (λ k. position_from (is_due at.moment) k (drop from (map (due_of values) alarms))) start
+    ∙ (ap (λ ts. first_due_from ts at.moment from) (sym exact) ∙ (ap (λ m. first_due_from timers m from) (sym is) ∙ sym found))) in
+    let here : next ≡ moves.index = omega (arith, moves.is) in
+    record {
+      within = omega (arith, here, moves.within);
+      low = omega (arith, here, moves.low);
+      same = ap (λ k. made_of at values (take k alarms)) here ∙ moves.same;
+    }
+
+no_one : (at : LocalMomentData) (values : ObjectsState) (offset : ℕ) (detected : DetectedObjectState) (alarms : List DetectedObjectState) →
+    (position_from (is_due at.moment) (offset + 1) (map (due_of values) alarms) ≡ None → made_of at values alarms ≡ []) →
+    (is : Bool) → is_due at.moment (due_of values detected) ≡ is → (if is then Some offset else position_from (is_due at.moment) (offset + 1) (map (due_of values) alarms)) ≡ None →
+    made_of at values (detected ∷ alarms) ≡ []
+no_one at values offset detected alarms rest true is none = absurd cc
+no_one at values offset detected alarms rest false is none = made_quiet at values detected alarms (quiet_transitions at values detected is) ∙ rest none
+
+none_moves : (at : LocalMomentData) (values : ObjectsState) (from offset : ℕ) (alarms : List DetectedObjectState) →
+    position_from (is_due at.moment) offset (drop from (map (due_of values) alarms)) ≡ None → made_of at values (take from alarms) ≡ [] → made_of at values alarms ≡ []
+none_moves at values zero offset [] none before = refl
+none_moves at values (suc i) offset [] none before = refl
+none_moves at values zero offset (detected ∷ alarms) none before =
+    no_one at values offset detected alarms (λ (e : position_from (is_due at.moment) (offset + 1) (map (due_of values) alarms) ≡ None). none_moves at values zero (offset + 1) alarms e refl)
+    (is_due at.moment (due_of values detected)) refl none
+none_moves at values (suc i) offset (detected ∷ alarms) none before =
+    let e = sym (flat_map-cons (transitions_by at values) detected (take i alarms)) ∙ before in
+    flat_map-cons (transitions_by at values) detected alarms
+    ∙ (ap (λ made. made ++ made_of at values alarms) (front_none (transitions_by at values detected) (made_of at values (take i alarms)) e)
+    ∙ none_moves at values i offset alarms none (back_none (transitions_by at values detected) (made_of at values (take i alarms)) e))
+
+pub nobody_moves : (at : LocalMomentData) (values : ObjectsState) (moment from : ℕ) (alarms : List DetectedObjectState) (timers : List (Option ℕ)) → moment ≡ at.moment →
+    timers ≡ map (due_of values) alarms → first_due_from timers moment from ≡ None → made_of at values (take from alarms) ≡ [] → made_of at values alarms ≡ []
+nobody_moves at values moment from alarms timers is exact none before =
+    none_moves at values from from alarms (ap (λ ts. first_due_from ts at.moment from) (sym exact) ∙ (ap (λ m. first_due_from timers m from) (sym is) ∙ none)) before
+
+pub none_yet : (at : LocalMomentData) (values : ObjectsState) (next : ℕ) (alarms : List DetectedObjectState) (detected : DetectedObjectState) → next < length alarms → detected ≡ get_or alarms next detected →
+    made_of at values (take next alarms) ≡ [] → transitions_by at values detected ≡ [] → made_of at values (take (next + 1) alarms) ≡ []
+none_yet at values next [] detected within is before none = absurd (omega (arith, within))
+none_yet at values zero (first ∷ alarms) detected within is before none = flat_map-cons (transitions_by at values) first [] ∙ (append-nil (transitions_by at values first) ∙ (ap (transitions_by at values) (sym is) ∙ none))
+none_yet at values (suc i) (first ∷ alarms) detected within is before none =
+    let e = sym (flat_map-cons (transitions_by at values) first (take i alarms)) ∙ before in
+    let more : suc i + 1 ≡ suc (i + 1) = omega arith in
+    ap (λ k. made_of at values (take k (first ∷ alarms))) more
+    ∙ (flat_map-cons (transitions_by at values) first (take (i + 1) alarms)
+    ∙ (ap (λ made. made ++ made_of at values (take (i + 1) alarms)) (front_none (transitions_by at values first) (made_of at values (take i alarms)) e)
+    ∙ none_yet at values i alarms detected (omega arith) is (back_none (transitions_by at values first) (made_of at values (take i alarms)) e) none))

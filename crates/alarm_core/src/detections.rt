@@ -1,5 +1,6 @@
-ghost use Rattle.std.specs.Prelude.{◌≡◌, ◌<◌, ◌∷◌, ◌++◌, ◌^◌, [], IfOk, OnErr, OnOk, length, map, slice_set};
+ghost use Rattle.std.specs.Prelude.{◌≡◌, ◌↔◌, ◌<◌, ◌∷◌, ◌++◌, ◌^◌, [], IfOk, IsTrue, OnErr, OnOk, length, map, slice_set};
 ghost use Rattle.std.specs.List.{flat_map};
+ghost use Rattle.enrollment.specs.Objects.{IsTaken, written};
 ghost use Rattle.alarm_core.specs.CoreSteps.{acked, evaluated, evaluated_all, transitions_by};
 ghost use Rattle.alarm_core.specs.DueSteps.{AreEarly, DetectionsState, LeadsBack, Undoes, due_of, restored};
 
@@ -11,6 +12,7 @@ use civil_stamp::LocalMoment;
 use enrollment::Objects;
 use event_machine::Steps;
 use held_timers::Timers;
+use object_table::Change;
 use std::alloc::Global;
 use std::marker::Model;
 use std::sync::ledger::Ledger;
@@ -112,6 +114,23 @@ fn put_back(timed: &mut Timed, formers: &mut Vec<Former>, objects: &Objects, at:
     }
 }
 
+// Whether no object would move, by those that are due.
+fn are_still(timed: &Timed, objects: &Objects, at: &LocalMoment) -> bool
+    requires few { length timed.now.alarms.items < 2 ^ 32 }
+    requires exact { timed.now.timers ≡ map (due_of objects.now) timed.now.alarms.items }
+    ensures still { IsTrue result ↔ (flat_map (transitions_by at.now objects.now) timed.now.alarms.items ≡ []) }
+{
+    let moment = at.moment();
+    let mut from = 0;
+    while let Some(index) = timed.timers.due_from(moment, from) {
+        if !timed.alarms[index as usize].is_still(objects, at) {
+            return false;
+        }
+        from = index + 1;
+    }
+    true
+}
+
 /// The properties of a site's objects, and their alarms, each of which is looked at as it is due.
 #[derive(Drop)]
 pub(crate) struct Detections {
@@ -120,7 +139,7 @@ pub(crate) struct Detections {
 }
 
 impl Model for Detections {
-    ghost use Rattle.std.specs.Prelude.{◌≡◌, ◌<◌, ◌^◌, length, map};
+    ghost use Rattle.std.specs.Prelude.{◌≡◌, ◌↔◌, ◌<◌, ◌^◌, length, map};
     ghost use Rattle.alarm_core.specs.DueSteps.{DetectionsState, due_of};
 
     ghost Value = { DetectionsState };
@@ -205,5 +224,32 @@ impl Detections {
         ensures undoes { (before : DetectionsState) → LeadsBack round.old.formers.items before self.old → LeadsBack round.new.formers.items before self.new }
     {
         look_at_due(&mut self.timed, &self.objects, at, steps, round)
+    }
+
+    /// Whether no object would move as all are looked at.
+    pub(crate) fn is_still(&self, at: &LocalMoment) -> bool
+        ensures still { IsTrue result ↔ (flat_map (transitions_by at.now self.now.values) self.now.alarms ≡ []) }
+    {
+        are_still(&self.timed, &self.objects, at)
+    }
+
+    /// Undoes looks, between which nothing was written. No memory is taken.
+    pub(crate) fn undo(&mut self, round: &mut Round, at: &LocalMoment)
+        requires undoes { LeadsBack round.old.formers.items (record self.old { alarms = restored round.old.formers.items self.old.alarms }) self.old }
+        ensures undone { self.new ≡ record self.old { alarms = restored round.old.formers.items self.old.alarms } }
+        ensures none { round.new.formers.items ≡ [] }
+    {
+        put_back(&mut self.timed, &mut round.formers, &self.objects, at);
+    }
+
+    /// Undoes looks, between which there was a write, by the change that takes it back. No memory is taken.
+    pub(crate) fn undo_write(&mut self, undo: Change, round: &mut Round, at: &LocalMoment)
+        requires taken { IsTaken undo self.old.values }
+        requires undoes { LeadsBack round.old.formers.items (record { values = written undo self.old.values; alarms = restored round.old.formers.items self.old.alarms }) self.old }
+        ensures undone { self.new ≡ record { values = written undo self.old.values; alarms = restored round.old.formers.items self.old.alarms } }
+        ensures none { round.new.formers.items ≡ [] }
+    {
+        let _redo = self.objects.apply(undo);
+        put_back(&mut self.timed, &mut round.formers, &self.objects, at);
     }
 }
