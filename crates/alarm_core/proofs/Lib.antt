@@ -9,6 +9,7 @@ pub mod Still
 pub mod Dues
 pub mod Rounds
 pub mod Undoing
+pub mod Untouched
 pub mod Agreeing
 pub mod Courses
 pub mod MovesOnce

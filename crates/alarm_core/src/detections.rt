@@ -39,6 +39,19 @@ pub(crate) struct Timed {
     pub(crate) timers: Timers,
 }
 
+impl Round {
+    /// No looks yet.
+    pub(crate) fn new(alloc: Global) -> Round
+        ensures formers { result.formers.items ≡ [] }
+        ensures transitions { result.transitions.items ≡ [] }
+    {
+        Round {
+            formers: Vec::new(alloc),
+            transitions: Vec::new(alloc),
+        }
+    }
+}
+
 // Looks at the object at an index, and sets its timer anew.
 fn look_at<L: Ledger>(
     timed: &mut Timed,

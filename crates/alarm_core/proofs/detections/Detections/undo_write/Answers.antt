@@ -11,7 +11,7 @@ put_back-requires c =
     let alarms = restored formers inside.timed.alarms.items in
     let led = subst (λ (s : DetectionsState). Undoes formers (record { values = written c.args.undo s.values; alarms = restored formers s.alarms }) s.alarms (dues_of s)) (sym c.self.view_is) c.requires.undoes in
     let timed = subst (λ (timers : List (Option ℕ)). Undoes formers (record { values = written c.args.undo inside.objects; alarms = alarms }) inside.timed.alarms.items timers) (sym c.self.invariant.timers) led in
-    let values : c.apply-_redo.new.self ≡ written c.args.undo inside.objects = search rules in
+    let values : c.apply-redo.new.self ≡ written c.args.undo inside.objects = search rules in
     record { undoes = subst (λ (values : ObjectsState). Undoes formers (record { values = values; alarms = alarms }) inside.timed.alarms.items inside.timed.timers) (sym values) timed }
 
 pub invariant_of-self : goal.invariant_of-self
