@@ -1,19 +1,21 @@
 -- An object that a write doesn't touch is due when it was.
-use Rattle.std.proofs.Common.{◌≡◌, Bool, Option, option_map, ap, ◌∙◌}
+use Rattle.std.proofs.Common.{◌≡◌, inl, inr, Bool, true, false, true≢false, ◌||◌, if◌then◌else◌, List, [], ◌∷◌, ℕ, zero, suc, ◌<◌, length, slice_index_or, arith, Some, refl, sym, Option, option_map, ap, ◌∙◌}
 use Rattle.bac_values.specs.Identifier.{ObjectIdData}
 use Rattle.bac_values.specs.declared.reliability.Reliability.{Reliability}
 use Rattle.algorithm_rules.specs.Facts.{Facts}
 use Rattle.object_table.specs.declared.change.Change.{Change}
 use Rattle.object_table.specs.declared.row.Row.{Row}
 use Rattle.enrollment.specs.declared.enrollment_site.EnrollmentSite.{EnrollmentSite}
-use Rattle.object_table.specs.Rows.{row_of}
+use Rattle.std.specs.List.{list_any}
+use Rattle.object_table.specs.Rows.{is_object, row_of}
+use Rattle.enrollment.specs.Watchers.{watchers}
 use Rattle.enrollment.specs.Enrollments.{site_of}
 use Rattle.enrollment.specs.Laws.{IsUntouched}
 use Rattle.enrollment.specs.Objects.{ObjectsState, facts_at, reliability_at, written}
 use Rattle.enrollment.specs.Subjects.{inhibit_of, is_inhibited, subject_by}
 use Rattle.enrollment.proofs.Untouched.{watchers_are_all_that_refer}
 use Rattle.alarm_core.specs.State.{DetectedObjectState}
-use Rattle.alarm_core.specs.DueSteps.{due_by, due_of, sight_with}
+use Rattle.alarm_core.specs.DueSteps.{AreEarly, IsEarly, due_by, due_of, is_touched, sight_with, touched_dues}
 
 pub record SeesTheSame (object : ObjectIdData) (values others : ObjectsState) : Type 0 where
   pub facts : facts_at object others ≡ facts_at object values
@@ -37,3 +39,25 @@ due_untouched change detected values untouched =
     ap (λ r. due r (is_inhibited detected.object (written change values)) (facts_at detected.object (written change values))) same.reliability
     ∙ (ap (λ b. due (reliability_at detected.object values) b (facts_at detected.object (written change values))) same.inhibited
     ∙ ap (due (reliability_at detected.object values) (is_inhibited detected.object values)) same.facts)
+
+or_none : (one other : Bool) → (one || other) ≡ false → (one ≡ false) × (other ≡ false)
+or_none true other none = absurd (true≢false none)
+or_none false other none = (refl, none)
+
+any_none : {X : Type 0} (test : X → Bool) (xs : List X) → list_any test xs ≡ false → (k : ℕ) (d : X) → k < length xs → test (slice_index_or xs k d) ≡ false
+any_none test [] none k d within = absurd (omega (arith, within))
+any_none test (x ∷ xs) none zero d within = let parts = or_none (test x) (list_any test xs) none in parts.0
+any_none test (x ∷ xs) none (suc k) d within = let parts = or_none (test x) (list_any test xs) none in any_none test xs parts.1 k d (omega arith)
+
+early_one : (change : Change) (values : ObjectsState) (detected : DetectedObjectState) (is : Bool) → is_touched change.object values.enrollments detected.object ≡ is →
+    IsEarly (written change values) detected (if is then Some 0 else due_of values detected)
+early_one change values detected true is = inr refl
+early_one change values detected false is =
+    let parts = or_none (is_object change.object detected.object) (list_any (is_object detected.object) (watchers change.object values.enrollments)) is in
+    inl (sym (due_untouched change detected values (record { other = parts.0; no_watcher = any_none (is_object detected.object) (watchers change.object values.enrollments) parts.1 })))
+
+-- with the touched ones set at once, no timer is late after the write
+pub early_touched : (change : Change) (values : ObjectsState) (alarms : List DetectedObjectState) → AreEarly (written change values) alarms (touched_dues change.object values alarms)
+early_touched change values [] = tt
+early_touched change values (detected ∷ alarms) =
+    (early_one change values detected (is_touched change.object values.enrollments detected.object) refl, early_touched change values alarms)

@@ -1,6 +1,10 @@
 -- When each object is next to be looked at, and what a round of looks at the objects that are due makes of alarms and timers.
-use Rattle.std.specs.Prelude.{◌≡◌, ◌⊎◌, ⊤, ℕ, Option, Some, None, List, [], ◌∷◌, map, slice_get, slice_set, length, ◌<◌}
+use Rattle.std.specs.Prelude.{Bool, ◌||◌, if◌then◌else◌, ◌≡◌, ◌⊎◌, ⊤, ℕ, Option, Some, None, List, [], ◌∷◌, map, slice_get, slice_set, length, ◌<◌}
+use Rattle.std.specs.List.{list_any}
 use Rattle.std.specs.Option.{option_map}
+use Rattle.object_table.specs.Rows.{is_object}
+use Rattle.enrollment.specs.declared.enrollment_site.EnrollmentSite.{EnrollmentSite}
+use Rattle.enrollment.specs.Watchers.{watchers}
 use Rattle.bac_values.specs.Identifier.{ObjectIdData}
 use Rattle.algorithm_rules.specs.Facts.{Facts}
 use Rattle.algorithm_rules.specs.declared.table.Algorithm.{Algorithm}
@@ -41,6 +45,14 @@ abbrev pub AreEarly : ObjectsState → List DetectedObjectState → List (Option
 AreEarly values [] [] = ⊤
 AreEarly values (detected ∷ alarms) (due ∷ timers) = IsEarly values detected due × AreEarly values alarms timers
 AreEarly values _ _ = ⊥
+
+-- a write touches the written object, and its watchers
+abbrev pub is_touched : ObjectIdData → List EnrollmentSite → ObjectIdData → Bool
+is_touched changed sites object = is_object changed object || list_any (is_object object) (watchers changed sites)
+
+-- the due moments of all objects before a write, where those that it touches are set at once
+abbrev pub touched_dues : ObjectIdData → ObjectsState → List DetectedObjectState → List (Option ℕ)
+touched_dues changed values alarms = map (λ (detected : DetectedObjectState). if is_touched changed values.enrollments detected.object then Some 0 else due_of values detected) alarms
 
 -- the properties and the alarms of a core
 pub record DetectionsState : Type 0 where
