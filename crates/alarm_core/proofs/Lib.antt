@@ -10,6 +10,8 @@ pub mod Dues
 pub mod Rounds
 pub mod Undoing
 pub mod Untouched
+pub mod Places
+pub mod DueCounts
 pub mod Agreeing
 pub mod Courses
 pub mod MovesOnce

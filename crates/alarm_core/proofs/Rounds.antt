@@ -7,7 +7,7 @@ use Rattle.std.proofs.lemmas.List.Concat.{flat_map-cons}
 use Rattle.civil_stamp.specs.LocalTime.{LocalMomentData}
 use Rattle.held_timers.specs.Dues.{first_due_from, is_due}
 use Rattle.enrollment.specs.Objects.{ObjectsState}
-use Rattle.alarm_core.specs.declared.detections.Former.{Former}
+use Rattle.alarm_core.specs.declared.due_looks.Former.{Former}
 use Rattle.alarm_core.specs.declared.transition.ObjectTransition.{ObjectTransition}
 use Rattle.alarm_core.specs.State.{DetectedObjectState}
 use Rattle.alarm_core.specs.CoreSteps.{evaluated, transitions_by}

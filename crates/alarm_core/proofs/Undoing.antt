@@ -11,10 +11,10 @@ use Rattle.event_machine.specs.SettledSteps.{is_settled}
 use Rattle.event_machine.proofs.Settling.{looks_are_skipped}
 use Rattle.object_table.specs.Rows.{is_object}
 use Rattle.enrollment.specs.Objects.{ObjectsState, facts_at}
-use Rattle.alarm_core.specs.declared.detections.Former.{Former}
+use Rattle.alarm_core.specs.declared.due_looks.Former.{Former}
 use Rattle.alarm_core.specs.State.{DetectedObjectState}
 use Rattle.alarm_core.specs.CoreSteps.{acked}
-use Rattle.alarm_core.specs.DueSteps.{DetectionsState, IsAmong, Undoes, due_by, due_of, restored, sight_with}
+use Rattle.alarm_core.specs.DueSteps.{DetectionsState, IsAmong, Undoes, due_by, due_of, object_of, restored, sight_with}
 use Rattle.alarm_core.proofs.Rounds.{among_more, among_split, as_long, restored_more, set_elsewhere}
 
 pub get_set : {X : Type 0} (xs : List X) (i : ℕ) (x : X) → i < length xs → slice_get (set xs i x) i ≡ Some x
@@ -140,3 +140,14 @@ dues_acked values object transition [] = refl
 dues_acked values object transition (detected ∷ alarms) =
     ap (λ due. due ∷ map (due_of values) (map (acked object transition) alarms)) (acked_by (is_object object detected.object) values transition detected)
     ∙ ap (λ dues. due_of values detected ∷ dues) (dues_acked values object transition alarms)
+
+-- nor an object
+acked_object : (same : Bool) (transition : Transition) (detected : DetectedObjectState) → (if same then record detected { alarm = acknowledged transition detected.alarm } else detected).object ≡ detected.object
+acked_object true transition detected = refl
+acked_object false transition detected = refl
+
+pub acked_objects : (object : ObjectIdData) (transition : Transition) (alarms : List DetectedObjectState) → map object_of (map (acked object transition) alarms) ≡ map object_of alarms
+acked_objects object transition [] = refl
+acked_objects object transition (detected ∷ alarms) =
+    ap (λ (one : ObjectIdData). one ∷ map object_of (map (acked object transition) alarms)) (acked_object (is_object object detected.object) transition detected)
+    ∙ ap (λ objects. detected.object ∷ objects) (acked_objects object transition alarms)

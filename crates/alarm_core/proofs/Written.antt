@@ -21,7 +21,7 @@ use Rattle.alarm_core.specs.History.{StateTransition, event_at, moved_by, tick_a
 use Rattle.alarm_core.specs.Logs.{call_of_change, calls_by, records_of, SiteLogState}
 use Rattle.alarm_core.specs.Notes.{notes_of_transition, notes_of_transitions}
 use Rattle.alarm_core.specs.CoreSteps.{acked, acted, after_calls, evaluated_all, next_notes, next_transitions, transitions_all}
-use Rattle.alarm_core.specs.declared.state.Done.{Done}
+use Rattle.alarm_core.specs.declared.step.Done.{Done}
 use Rattle.alarm_core.specs.State.{DetectedObjectState, CoreState}
 use Rattle.alarm_core.specs.Verdicts.{queue_verdict, step_verdict}
 use Rattle.alarm_core.proofs.Moved.{each_of_one_look, each_of_two_looks, of_two_looks}

@@ -15,6 +15,7 @@ pub mod Allowed
 pub mod Room
 pub mod CoreSteps
 pub mod DueSteps
+pub mod Moving
 pub mod ViewSteps
 pub mod RunStarts
 pub mod Laws

@@ -1,9 +1,10 @@
-ghost use Rattle.std.specs.Prelude.{◌≡◌, ◌≤◌, ◌↔◌, [], IfSome, IsTrue, length};
+ghost use Rattle.std.specs.Prelude.{◌≡◌, ◌≤◌, ◌↔◌, [], None, IfOk, IfSome, IsTrue, OnErr, length, suc};
 ghost use Rattle.std.specs.Option.{option_map};
 ghost use Rattle.bac_values.specs.Moments.{IsMoment};
 ghost use Rattle.event_machine.specs.Given.{moves_in, point_of};
 ghost use Rattle.alarm_core.specs.CoreSteps.{acked, change_at, change_by, evaluated, first_with};
-ghost use Rattle.alarm_core.specs.DueSteps.{due_by, due_of};
+ghost use Rattle.alarm_core.specs.DueSteps.{AscendByObject, StandsAt, due_by, due_of};
+ghost use Rattle.alarm_core.specs.Found.{detected_object_in};
 
 use crate::evaluation_input::{EvaluationInput, evaluation_input, first_input};
 use algorithm_rules::Algorithm;
@@ -56,6 +57,7 @@ fn evaluate_by<L: Ledger>(
     requires moment { IfSome input (λ input. IsMoment input.now.point.moment) }
     ensures alarm { alarm.new ≡ (change_by algorithm (option_map (λ input. point_of input.now.snapshot input.now.point) input.entry) alarm.old).alarm }
     ensures moves { moves_in result ≡ (change_by algorithm (option_map (λ input. point_of input.now.snapshot input.now.point) input.entry) alarm.old).moves }
+    ensures step { steps.new ≤ suc steps.old }
 {
     let Some(input) = input else {
         return Changed {
@@ -138,6 +140,7 @@ impl DetectedObject {
     ) -> Changed
         ensures evaluated { self.new ≡ evaluated at.now objects.now self.old }
         ensures moves { moves_in result ≡ (change_at at.now objects.now self.old).moves }
+        ensures step { steps.new ≤ suc steps.old }
     {
         let (object, algorithm, ack_required) = (self.object, self.algorithm, self.ack_required);
         let input = evaluation_input(objects, algorithm, object, at, ack_required);
@@ -168,5 +171,28 @@ impl DetectedObject {
         if named == self.object {
             self.alarm.acknowledge(transition);
         }
+    }
+}
+
+/// Where the object with this identifier stands among alarms that ascend.
+pub(crate) fn place_of(alarms: &[DetectedObject], object: ObjectId) -> Result<usize, usize>
+    requires ascending { AscendByObject alarms.now }
+    ensures found { IfOk result (StandsAt object alarms.now) }
+    ensures absent { OnErr result (detected_object_in object alarms.now ≡ None) }
+{
+    alarms.binary_search_by_key(&object, |detected| detected.object())
+}
+
+/// The object with this identifier among alarms that ascend.
+pub(crate) fn detected_object(
+    alarms: &[DetectedObject],
+    object: ObjectId,
+) -> Option<&DetectedObject>
+    requires ascending { AscendByObject alarms.now }
+    ensures found { option_map (λ detected. detected.now) result ≡ detected_object_in object alarms.now }
+{
+    match place_of(alarms, object) {
+        Ok(place) => Some(&alarms[place]),
+        Err(_place) => None,
     }
 }

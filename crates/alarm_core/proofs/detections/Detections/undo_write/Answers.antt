@@ -2,7 +2,6 @@ use Rattle.std.proofs.Common.{◌≡◌, List, Option, ℕ, length, sym, subst, 
 use Rattle.enrollment.specs.Objects.{ObjectsState, written}
 use Rattle.alarm_core.specs.DueSteps.{DetectionsState, Undoes, dues_of, restored}
 use Rattle.alarm_core.proofs.Rounds.{as_long}
-use Rattle.alarm_core.proofs.Untouched.{due_untouched}
 use Rattle.alarm_core.proofs.detections.Detections.undo_write.Goals as goal
 
 pub put_back-requires : goal.put_back-requires

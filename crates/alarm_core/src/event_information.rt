@@ -79,7 +79,7 @@ impl Core {
         ensures summary { result ≡ summary_of self.now detected.now }
     {
         let (object, alarm) = (detected.object(), detected.alarm());
-        let subject = self.objects.subject(object);
+        let subject = self.detections.objects().subject(object);
         let subject = subject.as_ref();
         EventSummary {
             object,
@@ -106,7 +106,7 @@ impl Core {
         let last = last.as_ref();
         let mut summaries = Vec::new(alloc);
         let mut left = room / 61;
-        for detected in &self.alarms {
+        for detected in self.detections.alarms() {
             if !is_told(last, detected) {
                 continue;
             }

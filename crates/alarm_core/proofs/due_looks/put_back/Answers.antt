@@ -1,8 +1,8 @@
 use Rattle.std.proofs.Common.{◌≡◌, List, [], map, slice_set, refl, sym, subst, ap, ◌∙◌, rules, arith}
-use Rattle.alarm_core.specs.declared.detections.Former.{Former}
+use Rattle.alarm_core.specs.declared.due_looks.Former.{Former}
 use Rattle.alarm_core.specs.DueSteps.{DetectionsState, Undoes, due_of, restored}
 use Rattle.alarm_core.proofs.Undoing.{has_place, undoes_less, undone_timers}
-use Rattle.alarm_core.proofs.detections.put_back.Goals as goal
+use Rattle.alarm_core.proofs.due_looks.put_back.Goals as goal
 
 pub set_due-requires : goal.set_due-requires
 set_due-requires c =

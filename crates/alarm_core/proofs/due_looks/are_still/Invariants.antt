@@ -1,6 +1,6 @@
 use Rattle.std.proofs.Common.{◌≡◌, ◌≤◌, ◌-◌, [], length, take}
 use Rattle.alarm_core.proofs.Rounds.{made_of}
-use Rattle.alarm_core.proofs.detections.are_still.Given as goal
+use Rattle.alarm_core.proofs.due_looks.are_still.Given as goal
 
 abbrev pub invariant-loop-index : goal.invariant-loop-index
 invariant-loop-index l = record {

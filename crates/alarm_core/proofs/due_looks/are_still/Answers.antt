@@ -6,7 +6,7 @@ use Rattle.alarm_core.specs.CoreSteps.{change_at, transitions_by}
 use Rattle.alarm_core.specs.DueSteps.{due_of}
 use Rattle.alarm_core.proofs.Still.{flat_map-none, map-none}
 use Rattle.alarm_core.proofs.Rounds.{next_mover, nobody_moves, none_yet}
-use Rattle.alarm_core.proofs.detections.are_still.Goals as goal
+use Rattle.alarm_core.proofs.due_looks.are_still.Goals as goal
 
 pub due_from-requires : goal.due_from-requires
 due_from-requires c =
