@@ -11,10 +11,13 @@ use Rattle.std.proofs.lemmas.List.Kept.{AllPairs-cons, AllPairs-filter}
 use Rattle.std.proofs.lemmas.Cmp.{alike_right}
 use Rattle.bac_values.specs.Identifier.{ObjectIdData}
 use Rattle.bac_values.specs.Orders.{identifier_order}
+use Rattle.bac_values.specs.declared.transition.Transition.{Transition}
 use Rattle.bac_values.proofs.OrderLemmas.{identifiers_are_total, rises}
 use Rattle.object_table.specs.Rows.{Ascends, is_object}
 use Rattle.object_table.proofs.Order.{above, equal_is_object, less_is_other, greater_is_other}
 use Rattle.object_table.proofs.Places.{find_at, find_none}
+use Rattle.event_machine.specs.AlarmSteps.{acknowledged}
+use Rattle.alarm_core.specs.CoreSteps.{acked}
 use Rattle.alarm_core.specs.Found.{detected_object_in}
 use Rattle.alarm_core.specs.State.{DetectedObjectState}
 use Rattle.alarm_core.specs.DueSteps.{AscendByObject, StandsAt, object_of, once}
@@ -115,6 +118,22 @@ nobody object [] none k d lt = absurd (omega (arith, lt))
 nobody object (detected ∷ alarms) none zero d lt = let parts = found_head (is_object object detected.object) detected (detected_object_in object alarms) none in parts.0
 nobody object (detected ∷ alarms) none (suc k) d lt =
     let parts = found_head (is_object object detected.object) detected (detected_object_in object alarms) none in nobody object alarms parts.1 k d (omega arith)
+
+-- an acknowledgement changes the alarm at the object's place, or none
+acked_by : (is : Bool) (object : ObjectIdData) (transition : Transition) (detected : DetectedObjectState) → is_object object detected.object ≡ is → is ≡ true →
+    acked object transition detected ≡ record detected { alarm = acknowledged transition detected.alarm }
+acked_by true object transition detected is e = ap (λ b. if b then record detected { alarm = acknowledged transition detected.alarm } else detected) is
+acked_by false object transition detected is e = absurd cc
+
+pub acked_at : (object : ObjectIdData) (transition : Transition) (alarms : List DetectedObjectState) (place : ℕ) (d : DetectedObjectState) → StandsAt object alarms place →
+    map (acked object transition) alarms ≡ set alarms place (acked object transition (get_or alarms place d))
+acked_at object transition alarms place d h =
+    let one = get_or alarms place d in
+    changed_at object (λ (detected : DetectedObjectState). record detected { alarm = acknowledged transition detected.alarm }) alarms place d h
+    ∙ ap (set alarms place) (sym (acked_by (is_object object one.object) object transition one refl (h.here d)))
+
+pub acked_nobody : (object : ObjectIdData) (transition : Transition) (alarms : List DetectedObjectState) → detected_object_in object alarms ≡ None → map (acked object transition) alarms ≡ alarms
+acked_nobody object transition alarms none = unchanged object (λ (detected : DetectedObjectState). record detected { alarm = acknowledged transition detected.alarm }) alarms (nobody object alarms none)
 
 -- a timer that is set at once, at the object's place or nowhere
 pub once_nobody : (object : ObjectIdData) (alarms : List DetectedObjectState) (timers : List (Option ℕ)) → length timers ≡ length alarms →

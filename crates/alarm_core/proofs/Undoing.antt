@@ -1,6 +1,6 @@
 -- Former alarms that are put back, the last one first; and timers that acknowledgements leave as they are.
 use Rattle.std.proofs.Common.{◌≡◌, ◌⊎◌, inl, inr, ℕ, zero, suc, ◌<◌, Bool, true, false, if◌then◌else◌, Option, Some, None, List, [], ◌∷◌, ◌++◌, length, map, set, slice_get, option_map, refl, ap, ◌∙◌, sym, subst, arith}
-use Rattle.std.proofs.lemmas.List.{length-set}
+use Rattle.std.proofs.lemmas.List.{length-map, length-set}
 use Rattle.std.proofs.lemmas.Option.{same_Some, slice_get-map}
 use Rattle.algorithm_rules.specs.Facts.{Facts}
 use Rattle.bac_values.specs.Identifier.{ObjectIdData}
@@ -14,7 +14,7 @@ use Rattle.enrollment.specs.Objects.{ObjectsState, facts_at}
 use Rattle.alarm_core.specs.declared.due_looks.Former.{Former}
 use Rattle.alarm_core.specs.State.{DetectedObjectState}
 use Rattle.alarm_core.specs.CoreSteps.{acked}
-use Rattle.alarm_core.specs.DueSteps.{DetectionsState, IsAmong, Undoes, due_by, due_of, object_of, restored, sight_with}
+use Rattle.alarm_core.specs.DueSteps.{DetectionsState, IsAmong, LeadsBack, Undoes, due_by, due_of, object_of, restored, sight_with}
 use Rattle.alarm_core.proofs.Rounds.{among_more, among_split, as_long, restored_more, set_elsewhere}
 
 pub get_set : {X : Type 0} (xs : List X) (i : ℕ) (x : X) → i < length xs → slice_get (set xs i x) i ≡ Some x
@@ -151,3 +151,16 @@ acked_objects object transition [] = refl
 acked_objects object transition (detected ∷ alarms) =
     ap (λ (one : ObjectIdData). one ∷ map object_of (map (acked object transition) alarms)) (acked_object (is_object object detected.object) transition detected)
     ∙ ap (λ objects. detected.object ∷ objects) (acked_objects object transition alarms)
+
+-- what undoes a round leads to the alarms that it makes
+pub undoes_here : (formers : List Former) (before : DetectionsState) (values : ObjectsState) (alarms : List DetectedObjectState) (timers : List (Option ℕ)) → values ≡ before.values →
+    Undoes formers before alarms timers → Undoes formers (record { values = values; alarms = restored formers alarms }) alarms timers
+undoes_here formers before values alarms timers same undoes =
+    subst (λ (s : DetectionsState). Undoes formers s alarms timers) (λ k. record { values = sym same k; alarms = sym undoes.puts_back k }) undoes
+
+-- nothing is to be undone
+pub leads_nowhere : (formers : List Former) (before after : DetectionsState) → formers ≡ [] → before ≡ after → LeadsBack formers before after
+leads_nowhere formers before after none same =
+    subst (λ fs. LeadsBack fs before after) (sym none)
+    (subst (LeadsBack [] before) same
+    (record { undoes = record { puts_back = refl; keeps = λ index. inr refl; within = λ index among. absurd among; many = length-map before.alarms (due_of before.values) }; objects = refl }))

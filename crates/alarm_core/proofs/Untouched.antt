@@ -68,21 +68,23 @@ pub all_once-nil : (touched : List ObjectIdData) → all_once touched [] [] ≡ 
 all_once-nil [] = refl
 all_once-nil (first ∷ touched) = all_once-nil touched
 
+once_by : (is : Bool) (touched : List ObjectIdData) (object : ObjectIdData) (due : Option ℕ) → one_once touched object (Some 0) ≡ Some 0 →
+    one_once touched object due ≡ (if is_among touched object then Some 0 else due) →
+    one_once touched object (if is then Some 0 else due) ≡ (if is || is_among touched object then Some 0 else due)
+once_by true touched object due stays rest = stays
+once_by false touched object due stays rest = rest
+
+same_once : (is : Bool) (due : Option ℕ) → (if is then due else due) ≡ due
+same_once true due = refl
+same_once false due = refl
+
 stays_once : (touched : List ObjectIdData) (object : ObjectIdData) → one_once touched object (Some 0) ≡ Some 0
 stays_once [] object = refl
-stays_once (first ∷ touched) object = by_test (is_object first object)
-  where
-    by_test : (is : Bool) → one_once touched object (if is then Some 0 else Some 0) ≡ Some 0
-    by_test true = stays_once touched object
-    by_test false = stays_once touched object
+stays_once (first ∷ touched) object = ap (one_once touched object) (same_once (is_object first object) (Some 0)) ∙ stays_once touched object
 
 pub one_once-is : (touched : List ObjectIdData) (object : ObjectIdData) (due : Option ℕ) → one_once touched object due ≡ (if is_among touched object then Some 0 else due)
 one_once-is [] object due = refl
-one_once-is (first ∷ touched) object due = by_test (is_object first object)
-  where
-    by_test : (is : Bool) → one_once touched object (if is then Some 0 else due) ≡ (if is || is_among touched object then Some 0 else due)
-    by_test true = stays_once touched object
-    by_test false = one_once-is touched object due
+one_once-is (first ∷ touched) object due = once_by (is_object first object) touched object due (stays_once touched object) (one_once-is touched object due)
 
 early_one : (change : Change) (values : ObjectsState) (detected : DetectedObjectState) (is : Bool) → is_among (touched_by change.object values.enrollments) detected.object ≡ is →
     IsEarly (written change values) detected (if is then Some 0 else due_of values detected)

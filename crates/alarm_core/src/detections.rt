@@ -69,6 +69,14 @@ fn acknowledge_in(alarms: &mut Vec<DetectedObject>, object: ObjectId, transition
     }
 }
 
+// Makes a change that takes another one back.
+fn take_back(objects: &mut Objects, undo: Change)
+    requires taken { IsTaken undo objects.old }
+    ensures objects { objects.new ≡ written undo objects.old }
+{
+    let _redo = objects.apply(undo);
+}
+
 impl Detections {
     /// The alarms of some objects, which ascend.
     pub(crate) fn new(
@@ -157,7 +165,7 @@ impl Detections {
         match look_at_due(&mut self.timed, &self.objects, at, steps, round) {
             Ok(()) => Ok(undo),
             Err(fault) => {
-                let _redo = self.objects.apply(undo);
+                take_back(&mut self.objects, undo);
                 put_back(&mut self.timed, &mut round.formers, &self.objects, at);
                 Err(fault)
             }
@@ -187,7 +195,7 @@ impl Detections {
         ensures undone { self.new ≡ record (start_of round.old.formers.items self.old) { values = written undo self.old.values } }
         ensures none { round.new.formers.items ≡ [] }
     {
-        let _redo = self.objects.apply(undo);
+        take_back(&mut self.objects, undo);
         put_back(&mut self.timed, &mut round.formers, &self.objects, at);
     }
 }
