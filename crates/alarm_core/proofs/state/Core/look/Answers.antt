@@ -1,0 +1,60 @@
+use Rattle.std.proofs.Common.{◌≡◌, ◌∙◌, IfOk, List, Vec, Global, map, refl, ap, sym, subst, rules}
+use Rattle.std.specs.List.{flat_map}
+use Rattle.event_log.specs.History.{Call}
+use Rattle.alarm_core.specs.CoreSteps.{transitions_all, transitions_by}
+use Rattle.alarm_core.specs.DueSteps.{detections_of}
+use Rattle.alarm_core.specs.Evaluations.{site_moment}
+use Rattle.alarm_core.specs.History.{StateTransition, moved_by}
+use Rattle.alarm_core.specs.Logs.{records_of, SiteLogState}
+use Rattle.alarm_core.specs.Notes.{notes_of_transitions}
+use Rattle.alarm_core.specs.State.{CoreState}
+use Rattle.alarm_core.proofs.Looking.{looked_at}
+use Rattle.alarm_core.proofs.Moved.{at_site}
+use Rattle.alarm_core.proofs.Undoing.{leads_nowhere}
+use Rattle.alarm_core.proofs.state.Core.look.Goals as goal
+
+pub returns-in_err-evaluate-clause-undoes : goal.returns-in_err-evaluate-clause-undoes
+returns-in_err-evaluate-clause-undoes g c =
+    let old = c.args.self.now in
+    c.evaluate.ensures.undoes (detections_of old) (leads_nowhere c.args.round.now.formers.items (detections_of old) c.self.inside.detections c.requires.none (ap detections_of (sym c.self.view_is)))
+
+pub returns-clause-moves : goal.returns-clause-moves
+returns-clause-moves g c =
+    let old = c.args.self.now in
+    let at = c.args.at.now in
+    let core = c.self.inside in
+    let made : c.deref.result.now ≡ flat_map (transitions_by at core.detections.values) core.detections.alarms = c.deref.ensures.value ∙ c.in_ok-evaluate.ensures.transitions in
+    let looked = looked_at old _ at c.evaluate.new.self.values c.evaluate.new.self.alarms c.deref.result.now c.self.view_is (at_site at old.site at.moment c.requires.zone refl)
+    c.evaluate.ensures.values c.in_ok-evaluate.ensures.alarms made in
+    subst (λ (ts : List StateTransition). IfOk c.told.result (λ told. told.moves.items ≡ map moved_by ts)) looked c.told.ensures.moves
+
+pub returns-clause-notes : goal.returns-clause-notes
+returns-clause-notes g c =
+    let old = c.args.self.now in
+    let at = c.args.at.now in
+    let core = c.self.inside in
+    let made : c.deref.result.now ≡ flat_map (transitions_by at core.detections.values) core.detections.alarms = c.deref.ensures.value ∙ c.in_ok-evaluate.ensures.transitions in
+    let looked = looked_at old _ at c.evaluate.new.self.values c.evaluate.new.self.alarms c.deref.result.now c.self.view_is (at_site at old.site at.moment c.requires.zone refl)
+    c.evaluate.ensures.values c.in_ok-evaluate.ensures.alarms made in
+    let told = λ (s : CoreState) (ts : List StateTransition). IfOk c.told.result (λ told. told.notes.items ≡ notes_of_transitions s.site s.classes ts) in
+    let all = transitions_all (site_moment old.site at.moment) old.values old.alarms in
+    subst (λ (s : CoreState). told s all) c.self.view_is
+    (subst (λ (ts : List StateTransition). told (record old { site = core.site; classes = core.classes.items; logs = core.logs.items }) ts) looked c.told.ensures.notes)
+
+pub returns-clause-records : goal.returns-clause-records
+returns-clause-records g c =
+    let old = c.args.self.now in
+    let at = c.args.at.now in
+    let core = c.self.inside in
+    let made : c.deref.result.now ≡ flat_map (transitions_by at core.detections.values) core.detections.alarms = c.deref.ensures.value ∙ c.in_ok-evaluate.ensures.transitions in
+    let looked = looked_at old _ at c.evaluate.new.self.values c.evaluate.new.self.alarms c.deref.result.now c.self.view_is (at_site at old.site at.moment c.requires.zone refl)
+    c.evaluate.ensures.values c.in_ok-evaluate.ensures.alarms made in
+    let told = λ (s : CoreState) (ts : List StateTransition). IfOk c.told.result (λ told. map (λ (list : Vec Call Global). list.items) told.records.items ≡ map (λ (kept : SiteLogState). records_of s.site s.classes kept.site ts) s.logs) in
+    let all = transitions_all (site_moment old.site at.moment) old.values old.alarms in
+    subst (λ (s : CoreState). told s all) c.self.view_is
+    (subst (λ (ts : List StateTransition). told (record old { site = core.site; classes = core.classes.items; logs = core.logs.items }) ts) looked c.told.ensures.records)
+
+pub returns-clause-undoes : goal.returns-clause-undoes
+returns-clause-undoes g c =
+    let old = c.args.self.now in
+    c.evaluate.ensures.undoes (detections_of old) (leads_nowhere c.args.round.now.formers.items (detections_of old) c.self.inside.detections c.requires.none (ap detections_of (sym c.self.view_is)))
