@@ -1,9 +1,13 @@
 -- How many looks a round makes: as many as there are timers that are due as it begins.
-use Rattle.std.proofs.Common.{◌≡◌, ℕ, zero, suc, ◌+◌, ◌-◌, ◌<◌, ◌≤◌, Bool, true, false, if◌then◌else◌, Option, Some, None, List, [], ◌∷◌, take, drop, set, length, refl, ap, ◌∙◌, sym, arith}
+use Rattle.std.proofs.Common.{◌≡◌, ℕ, zero, suc, ◌+◌, ◌-◌, ◌<◌, ◌≤◌, Bool, true, false, if◌then◌else◌, Option, Some, None, List, [], ◌∷◌, take, drop, set, length, refl, ap, ◌∙◌, sym, subst, arith}
 use Rattle.std.specs.List.{position_from}
-use Rattle.std.proofs.lemmas.List.{drop-drop, drop-set-lt}
+use Rattle.std.proofs.lemmas.List.{drop-drop, drop-set-lt, length-map}
 use Rattle.held_timers.specs.Dues.{first_due_from, is_due}
-use Rattle.alarm_core.specs.DueSteps.{due_count}
+use Rattle.bac_values.specs.Identifier.{ObjectIdData}
+use Rattle.object_table.specs.Rows.{is_object}
+use Rattle.alarm_core.specs.State.{DetectedObjectState}
+use Rattle.alarm_core.proofs.Dues.{due_at_once}
+use Rattle.alarm_core.specs.DueSteps.{DetectionsState, all_once, due_count, due_of, dues_of, once}
 
 
 -- the next one that is due is one more
@@ -72,3 +76,39 @@ counts_on moment time from next first timers dues due is found waits new =
       more = omega (arith, counts.more, many);
       waits = ap (drop (next + 1)) new ∙ (drop-set-lt (next + 1) timers next due (omega arith) ∙ one);
     }
+
+at_most_one : (b : Bool) → (if b then 1 else 0) ≤ 1
+at_most_one true = omega arith
+at_most_one false = omega arith
+
+-- what is set at once is due
+once_first : (is : Bool) (moment : ℕ) (due : Option ℕ) → (if is_due moment due then 1 else 0) ≤ (if is_due moment (if is then Some 0 else due) then 1 else 0)
+once_first true moment due = subst (λ (b : Bool). (if is_due moment due then 1 else 0) ≤ (if b then 1 else 0)) (sym (due_at_once moment)) (at_most_one (is_due moment due))
+once_first false moment due = omega arith
+
+pub once_raises : (moment : ℕ) (object : ObjectIdData) (alarms : List DetectedObjectState) (timers : List (Option ℕ)) → length timers ≡ length alarms →
+    due_count moment timers ≤ due_count moment (once object alarms timers)
+once_raises moment object [] [] many = omega arith
+once_raises moment object [] (due ∷ timers) many = absurd (omega (arith, many))
+once_raises moment object (detected ∷ alarms) [] many = absurd (omega (arith, many))
+once_raises moment object (detected ∷ alarms) (due ∷ timers) many =
+    let first = once_first (is_object object detected.object) moment due in
+    let rest = once_raises moment object alarms timers (omega (arith, many)) in
+    omega (arith, first, rest)
+
+once_long : (object : ObjectIdData) (alarms : List DetectedObjectState) (timers : List (Option ℕ)) → length timers ≡ length alarms → length (once object alarms timers) ≡ length alarms
+once_long object [] [] many = refl
+once_long object [] (due ∷ timers) many = absurd (omega (arith, many))
+once_long object (detected ∷ alarms) [] many = absurd (omega (arith, many))
+once_long object (detected ∷ alarms) (due ∷ timers) many = let rest = once_long object alarms timers (omega (arith, many)) in omega (arith, rest)
+
+pub all_once_raises : (moment : ℕ) (touched : List ObjectIdData) (alarms : List DetectedObjectState) (timers : List (Option ℕ)) → length timers ≡ length alarms →
+    due_count moment timers ≤ due_count moment (all_once touched alarms timers)
+all_once_raises moment [] alarms timers many = omega arith
+all_once_raises moment (object ∷ touched) alarms timers many =
+    let one = once_raises moment object alarms timers many in
+    let rest = all_once_raises moment touched alarms (once object alarms timers) (once_long object alarms timers many) in
+    omega (arith, one, rest)
+
+pub touching_raises : (moment : ℕ) (touched : List ObjectIdData) (state : DetectionsState) → due_count moment (dues_of state) ≤ due_count moment (all_once touched state.alarms (dues_of state))
+touching_raises moment touched state = all_once_raises moment touched state.alarms (dues_of state) (length-map state.alarms (due_of state.values))
