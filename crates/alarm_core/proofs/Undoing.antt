@@ -14,7 +14,7 @@ use Rattle.enrollment.specs.Objects.{ObjectsState, facts_at}
 use Rattle.alarm_core.specs.declared.due_looks.Former.{Former}
 use Rattle.alarm_core.specs.State.{DetectedObjectState}
 use Rattle.alarm_core.specs.CoreSteps.{acked}
-use Rattle.alarm_core.specs.DueSteps.{DetectionsState, IsAmong, LeadsBack, Undoes, due_by, due_of, object_of, restored, sight_with}
+use Rattle.alarm_core.specs.DueSteps.{DetectionsState, IsAmong, LeadsBack, Undoes, due_by, due_of, object_of, restored, sight_with, start_of}
 use Rattle.alarm_core.proofs.Rounds.{among_more, among_split, as_long, restored_more, set_elsewhere}
 
 pub get_set : {X : Type 0} (xs : List X) (i : ℕ) (x : X) → i < length xs → slice_get (set xs i x) i ≡ Some x
@@ -164,3 +164,10 @@ leads_nowhere formers before after none same =
     subst (λ fs. LeadsBack fs before after) (sym none)
     (subst (LeadsBack [] before) same
     (record { undoes = record { puts_back = refl; keeps = λ index. inr refl; within = λ index among. absurd among; many = length-map before.alarms (due_of before.values) }; objects = refl }))
+
+-- a state from which nothing was written is the one to which the formers lead back
+pub starts_from : (formers : List Former) (before after : DetectionsState) → before.values ≡ after.values → LeadsBack formers before after → before ≡ start_of formers after
+starts_from formers before after same led = λ k. record { values = same k; alarms = sym led.undoes.puts_back k }
+
+pub leads_here : (formers : List Former) (before after : DetectionsState) → before.values ≡ after.values → LeadsBack formers before after → LeadsBack formers (start_of formers after) after
+leads_here formers before after same led = subst (λ (s : DetectionsState). LeadsBack formers s after) (starts_from formers before after same led) led

@@ -103,6 +103,7 @@ impl Core {
         ensures records { IfOk result (λ told. map (λ list. list.items) told.records.items
             ≡ map (λ (kept : SiteLogState). records_of self.old.site self.old.classes kept.site (transitions_all (site_moment self.old.site at.now.moment) self.old.values self.old.alarms)) self.old.logs) }
         ensures short { IfOk result (λ told. All IsShort told.notes.items) }
+        ensures known { IfOk result (λ told. AreKnown told.notes.items self.old.outbox.posts) }
         ensures undoes { LeadsBack round.new.formers.items (detections_of self.old) (detections_of self.new) }
         ensures steps { steps.new ≤ steps.old + due_count at.now.moment (dues_of (detections_of self.old)) }
     {

@@ -1,6 +1,7 @@
 use Rattle.std.proofs.Common.{◌≡◌, ◌∙◌, IfOk, List, Vec, Global, map, refl, ap, sym, subst, rules}
 use Rattle.std.specs.List.{flat_map}
 use Rattle.event_log.specs.History.{Call}
+use Rattle.outbox.specs.Outboxes.{AreKnown}
 use Rattle.alarm_core.specs.CoreSteps.{transitions_all, transitions_by}
 use Rattle.alarm_core.specs.DueSteps.{detections_of}
 use Rattle.alarm_core.specs.Evaluations.{site_moment}
@@ -10,6 +11,7 @@ use Rattle.alarm_core.specs.Notes.{notes_of_transitions}
 use Rattle.alarm_core.specs.State.{CoreState}
 use Rattle.alarm_core.proofs.Looking.{looked_at}
 use Rattle.alarm_core.proofs.Moved.{at_site}
+use Rattle.alarm_core.proofs.ToldKnown.{if_told_known, look_known}
 use Rattle.alarm_core.proofs.Undoing.{leads_nowhere}
 use Rattle.alarm_core.proofs.state.Core.look.Goals as goal
 
@@ -58,3 +60,12 @@ pub returns-clause-undoes : goal.returns-clause-undoes
 returns-clause-undoes g c =
     let old = c.args.self.now in
     c.evaluate.ensures.undoes (detections_of old) (leads_nowhere c.args.round.now.formers.items (detections_of old) c.self.inside.detections c.requires.none (ap detections_of (sym c.self.view_is)))
+
+pub returns-clause-known : goal.returns-clause-known
+returns-clause-known g c =
+    let core = c.self.inside in
+    let old = c.args.self.now in
+    let transitions = transitions_all (site_moment old.site c.args.at.now.moment) old.values old.alarms in
+    let known = look_known core.site core.classes.items core.peers core.outbox.posts (record { peers_are = c.self.invariant.peers; knows = c.self.invariant.known }) old.values transitions in
+    if_told_known c.told.result (notes_of_transitions old.site old.classes transitions) old.outbox.posts
+    (subst (λ (s : CoreState). AreKnown (notes_of_transitions s.site s.classes transitions) s.outbox.posts) c.self.view_is known) (returns-clause-notes g c)
