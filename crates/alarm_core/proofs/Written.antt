@@ -24,6 +24,8 @@ use Rattle.alarm_core.specs.Notes.{notes_of_transition, notes_of_transitions}
 use Rattle.alarm_core.specs.CoreSteps.{acked, acted, after_calls, evaluated_all, next_notes, next_transitions, transitions_all, transitions_by}
 use Rattle.alarm_core.specs.declared.step.Done.{Done}
 use Rattle.alarm_core.specs.declared.transition.ObjectTransition.{ObjectTransition}
+use Rattle.civil_stamp.specs.LocalTime.{LocalMomentData}
+use Rattle.alarm_core.specs.DueSteps.{all_once, detections_of, due_count, due_of, dues_of, touched_by}
 use Rattle.alarm_core.specs.State.{DetectedObjectState, CoreState}
 use Rattle.alarm_core.specs.ViewSteps.{seen_in}
 use Rattle.alarm_core.specs.Verdicts.{queue_verdict, step_verdict}
@@ -165,3 +167,12 @@ second_look old between now moment change transitions b e n v a t =
     let made = t ∙ ap (λ (s : CoreState). flat_map (transitions_by (site_moment s.site moment) (written change s.values)) s.alarms) first in
     let second = n ∙ (λ k. record (first k) { values = values k; alarms = alarms k }) in
     record { state = second; seen = λ k. seen_in moment (second k) (made k) }
+
+-- as many looks are due at the second one as after the first one of a core whose view this is
+pub second_steps : (old between : CoreState) (at : LocalMomentData) (object : ObjectIdData) → between ≡ record old { alarms = between.alarms } →
+    between.alarms ≡ evaluated_all (site_moment old.site at.moment) old.values old.alarms → at ≡ site_moment old.site at.moment →
+    due_count at.moment (all_once (touched_by object between.values.enrollments) between.alarms (dues_of (detections_of between)))
+    ≡ due_count at.moment (all_once (touched_by object old.values.enrollments) (evaluated_all at old.values old.alarms) (map (due_of old.values) (evaluated_all at old.values old.alarms)))
+second_steps old between at object b e here =
+    let alarms = e ∙ ap (λ a. evaluated_all a old.values old.alarms) (sym here) in
+    ap (λ (s : CoreState). due_count at.moment (all_once (touched_by object s.values.enrollments) s.alarms (dues_of (detections_of s)))) (b ∙ (λ k. record old { alarms = alarms k }))
