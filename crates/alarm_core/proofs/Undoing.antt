@@ -1,5 +1,5 @@
 -- Former alarms that are put back, the last one first; and timers that acknowledgements leave as they are.
-use Rattle.std.proofs.Common.{◌≡◌, ◌⊎◌, inl, inr, ℕ, zero, suc, ◌<◌, Bool, true, false, if◌then◌else◌, Option, Some, None, List, [], ◌∷◌, ◌++◌, length, map, set, slice_get, option_map, refl, ap, ◌∙◌, sym, subst, arith}
+use Rattle.std.proofs.Common.{◌≡◌, ◌⊎◌, inl, inr, ℕ, zero, suc, ◌<◌, Bool, true, false, if◌then◌else◌, Result, Ok, Err, OnErr, Option, Some, None, List, [], ◌∷◌, ◌++◌, length, map, set, slice_get, option_map, refl, ap, ◌∙◌, sym, subst, arith}
 use Rattle.std.proofs.lemmas.List.{length-map, length-set}
 use Rattle.std.proofs.lemmas.Option.{same_Some, slice_get-map}
 use Rattle.algorithm_rules.specs.Facts.{Facts}
@@ -12,9 +12,9 @@ use Rattle.event_machine.proofs.Settling.{looks_are_skipped}
 use Rattle.object_table.specs.Rows.{is_object}
 use Rattle.enrollment.specs.Objects.{ObjectsState, facts_at}
 use Rattle.alarm_core.specs.declared.due_looks.Former.{Former}
-use Rattle.alarm_core.specs.State.{DetectedObjectState}
+use Rattle.alarm_core.specs.State.{CoreState, DetectedObjectState}
 use Rattle.alarm_core.specs.CoreSteps.{acked}
-use Rattle.alarm_core.specs.DueSteps.{DetectionsState, IsAmong, LeadsBack, Undoes, due_by, due_of, object_of, restored, sight_with, start_of}
+use Rattle.alarm_core.specs.DueSteps.{DetectionsState, IsAmong, LeadsBack, Undoes, detections_of, due_by, due_of, object_of, restored, sight_with, start_of}
 use Rattle.alarm_core.proofs.Rounds.{among_more, among_split, as_long, restored_more, set_elsewhere}
 
 pub get_set : {X : Type 0} (xs : List X) (i : ℕ) (x : X) → i < length xs → slice_get (set xs i x) i ≡ Some x
@@ -171,3 +171,8 @@ starts_from formers before after same led = λ k. record { values = same k; alar
 
 pub leads_here : (formers : List Former) (before after : DetectionsState) → before.values ≡ after.values → LeadsBack formers before after → LeadsBack formers (start_of formers after) after
 leads_here formers before after same led = subst (λ (s : DetectionsState). LeadsBack formers s after) (starts_from formers before after same led) led
+
+-- so it is where a fault left a core as it was
+pub same_leads_back : {A E : Type 0} (result : Result A E) (formers : List Former) (old new : CoreState) → formers ≡ [] → OnErr result (new ≡ old) → OnErr result (LeadsBack formers (detections_of old) (detections_of new))
+same_leads_back (Ok done) formers old new none same = same
+same_leads_back (Err fault) formers old new none same = leads_nowhere formers (detections_of old) (detections_of new) none (ap detections_of (sym same))

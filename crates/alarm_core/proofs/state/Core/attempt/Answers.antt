@@ -4,8 +4,9 @@ use Rattle.outbox.specs.Outboxes.{pumped}
 use Rattle.alarm_core.specs.declared.event.Act.TheVariants.{Edit, Pump}
 use Rattle.alarm_core.specs.History.{event_at}
 use Rattle.alarm_core.specs.CoreSteps.{acted}
+use Rattle.alarm_core.proofs.Undoing.{same_leads_back}
 use Rattle.alarm_core.proofs.Written.{answered_state, edited_state, on_ok, pumped_state}
-use Rattle.alarm_core.proofs.state.Core.act.Goals as goal
+use Rattle.alarm_core.proofs.state.Core.attempt.Goals as goal
 
 pub returns-in-Pump-clause-state : goal.returns-in-Pump-clause-state
 returns-in-Pump-clause-state g c =
@@ -28,3 +29,12 @@ returns-in-Edit-clause-state g c =
     subst (λ act. OnOk c.edit.result (c.edit.new.self ≡ acted (event_at c.args.at.now.moment act) old)) (sym c.in-Edit.is)
     (subst made c.as_slice.ensures.same
     (on_ok c.edit.result (edited_state old c.args.at.now.moment c.in-Edit.class c.as_slice.result.now c.edit.new.self) c.edit.ensures.state))
+
+pub returns-in-Ack-clause-undoes : goal.returns-in-Ack-clause-undoes
+returns-in-Ack-clause-undoes g c = same_leads_back c.acknowledge.result c.args.round.now.formers.items c.args.self.now c.acknowledge.new.self c.requires.none c.acknowledge.ensures.same
+
+pub returns-in-Pump-clause-undoes : goal.returns-in-Pump-clause-undoes
+returns-in-Pump-clause-undoes g c = same_leads_back c.pump.result c.args.round.now.formers.items c.args.self.now c.pump.new.self c.requires.none c.pump.ensures.same
+
+pub returns-in-Edit-clause-undoes : goal.returns-in-Edit-clause-undoes
+returns-in-Edit-clause-undoes g c = same_leads_back c.edit.result c.args.round.now.formers.items c.args.self.now c.edit.new.self c.requires.none c.edit.ensures.same
