@@ -6,6 +6,12 @@ pub mod KnownPeers
 pub mod NotesGo
 pub mod Delivering
 pub mod Still
+pub mod Dues
+pub mod Rounds
+pub mod Undoing
+pub mod Untouched
+pub mod Places
+pub mod DueCounts
 pub mod Agreeing
 pub mod Courses
 pub mod MovesOnce

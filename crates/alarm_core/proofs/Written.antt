@@ -2,6 +2,7 @@
 use Rattle.std.proofs.Common.{◌≡◌, ℕ, Result, Ok, Err, List, [], ◌∷◌, ◌++◌, map, refl, ap, sym, ◌∙◌}
 use Rattle.std.proofs.Math.Path.{fun_ext}
 use Rattle.std.proofs.lemmas.List.{append-nil}
+use Rattle.std.specs.List.{flat_map}
 use Rattle.std.specs.Prelude.{IfOk, OnOk}
 use Rattle.bac_values.specs.Identifier.{ObjectIdData}
 use Rattle.bac_values.specs.declared.event_state.EventState.{EventState}
@@ -20,9 +21,13 @@ use Rattle.alarm_core.specs.Evaluations.{site_moment}
 use Rattle.alarm_core.specs.History.{StateTransition, event_at, moved_by, tick_at}
 use Rattle.alarm_core.specs.Logs.{call_of_change, calls_by, records_of, SiteLogState}
 use Rattle.alarm_core.specs.Notes.{notes_of_transition, notes_of_transitions}
-use Rattle.alarm_core.specs.CoreSteps.{acked, acted, after_calls, evaluated_all, next_notes, next_transitions, transitions_all}
-use Rattle.alarm_core.specs.declared.state.Done.{Done}
+use Rattle.alarm_core.specs.CoreSteps.{acked, acted, after_calls, evaluated_all, next_notes, next_transitions, transitions_all, transitions_by}
+use Rattle.alarm_core.specs.declared.step.Done.{Done}
+use Rattle.alarm_core.specs.declared.transition.ObjectTransition.{ObjectTransition}
+use Rattle.civil_stamp.specs.LocalTime.{LocalMomentData}
+use Rattle.alarm_core.specs.DueSteps.{all_once, detections_of, due_count, due_of, dues_of, touched_by}
 use Rattle.alarm_core.specs.State.{DetectedObjectState, CoreState}
+use Rattle.alarm_core.specs.ViewSteps.{seen_in}
 use Rattle.alarm_core.specs.Verdicts.{queue_verdict, step_verdict}
 use Rattle.alarm_core.proofs.Moved.{each_of_one_look, each_of_two_looks, of_two_looks}
 
@@ -78,18 +83,6 @@ module _ (old : CoreState) (moment : ℕ) where
       notes ≡ next_notes (event_at moment (Ack object transition named)) old → new ≡ acted (event_at moment (Ack object transition named)) old
   acknowledged_state object transition named new alarms notes outbox n a o t =
       n ∙ (λ k. record old { alarms = a k; outbox = (o ∙ ap (λ ns. queued ns old.outbox) t) k; logs = no_calls old.logs k })
-
-  -- after the second look of a write
-  pub finished : (before : List DetectedObjectState) (first : List Note) (new : CoreState) (alarms : List DetectedObjectState) (notes : List Note) (outbox : OutboxState) (logs : List SiteLogState) →
-      new ≡ record old { alarms = alarms; outbox = outbox; logs = logs } →
-      let look = site_moment old.site moment in
-      alarms ≡ evaluated_all look old.values before → outbox ≡ queued notes old.outbox → notes ≡ first ++ notes_of_transitions old.site old.classes (transitions_all look old.values before) →
-      new ≡ record old {
-        alarms = evaluated_all look old.values before;
-        outbox = queued (first ++ notes_of_transitions old.site old.classes (transitions_all look old.values before)) old.outbox;
-        logs = logs;
-      }
-  finished before first new alarms notes outbox logs n a o t = n ∙ (λ k. record old { alarms = a k; outbox = (o ∙ ap (λ ns. queued ns old.outbox) t) k; logs = logs })
 
 -- a write of an object, or of a log, which leaves the objects' properties as they are
 module _ (old : CoreState) (moment : ℕ) (change : Change) (values : ObjectsState) (values_are : values ≡ written change old.values)
@@ -153,3 +146,33 @@ module _ (old : CoreState) (moment : ℕ) (change : Change) (values : ObjectsSta
   written_moves moves m =
       let after = evaluated_all (site_moment old.site moment) old.values old.alarms in
       (λ k. m k ++ map moved_by (second_ones (values_are k) (before_is k))) ∙ of_two_looks moved_by first_ones (second_ones (written change old.values) after)
+
+-- the second look of a write, behind the first
+pub record SecondLook (old now : CoreState) (moment : ℕ) (change : Change) (transitions : List ObjectTransition) : Type 0 where
+  pub state : now ≡ record old {
+    values = written change old.values;
+    alarms = evaluated_all (site_moment old.site moment) (written change old.values) (evaluated_all (site_moment old.site moment) old.values old.alarms);
+  }
+  pub seen : seen_in moment now transitions ≡ transitions_all (site_moment old.site moment) (written change old.values) (evaluated_all (site_moment old.site moment) old.values old.alarms)
+
+pub second_look : (old between now : CoreState) (moment : ℕ) (change : Change) (transitions : List ObjectTransition) →
+    between ≡ record old { alarms = between.alarms } → between.alarms ≡ evaluated_all (site_moment old.site moment) old.values old.alarms →
+    now ≡ record between { values = now.values; alarms = now.alarms } → now.values ≡ written change between.values →
+    now.alarms ≡ evaluated_all (site_moment between.site moment) (written change between.values) between.alarms →
+    transitions ≡ flat_map (transitions_by (site_moment between.site moment) (written change between.values)) between.alarms → SecondLook old now moment change transitions
+second_look old between now moment change transitions b e n v a t =
+    let first : between ≡ record old { alarms = evaluated_all (site_moment old.site moment) old.values old.alarms } = b ∙ (λ k. record old { alarms = e k }) in
+    let values = v ∙ ap (λ (s : CoreState). written change s.values) first in
+    let alarms = a ∙ ap (λ (s : CoreState). evaluated_all (site_moment s.site moment) (written change s.values) s.alarms) first in
+    let made = t ∙ ap (λ (s : CoreState). flat_map (transitions_by (site_moment s.site moment) (written change s.values)) s.alarms) first in
+    let second = n ∙ (λ k. record (first k) { values = values k; alarms = alarms k }) in
+    record { state = second; seen = λ k. seen_in moment (second k) (made k) }
+
+-- as many looks are due at the second one as after the first one of a core whose view this is
+pub second_steps : (old between : CoreState) (at : LocalMomentData) (object : ObjectIdData) → between ≡ record old { alarms = between.alarms } →
+    between.alarms ≡ evaluated_all (site_moment old.site at.moment) old.values old.alarms → at ≡ site_moment old.site at.moment →
+    due_count at.moment (all_once (touched_by object between.values.enrollments) between.alarms (dues_of (detections_of between)))
+    ≡ due_count at.moment (all_once (touched_by object old.values.enrollments) (evaluated_all at old.values old.alarms) (map (due_of old.values) (evaluated_all at old.values old.alarms)))
+second_steps old between at object b e here =
+    let alarms = e ∙ ap (λ a. evaluated_all a old.values old.alarms) (sym here) in
+    ap (λ (s : CoreState). due_count at.moment (all_once (touched_by object s.values.enrollments) s.alarms (dues_of (detections_of s)))) (b ∙ (λ k. record old { alarms = alarms k }))

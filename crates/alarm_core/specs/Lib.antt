@@ -14,6 +14,8 @@ pub mod Found
 pub mod Allowed
 pub mod Room
 pub mod CoreSteps
+pub mod DueSteps
+pub mod Moving
 pub mod ViewSteps
 pub mod RunStarts
 pub mod FollowingSteps

@@ -1,5 +1,5 @@
 -- What the transitions of a look are told with, and what is told of each.
-use Rattle.std.specs.Prelude.{ℕ, ◌/◌, if◌then◌else◌, Option, List, [], ◌∷◌}
+use Rattle.std.specs.Prelude.{ℕ, ◌/◌, if◌then◌else◌, Option, List, [], ◌∷◌, map}
 use Rattle.std.specs.Option.{option_map}
 use Rattle.bac_values.specs.EventStates.{transition_to}
 use Rattle.bac_values.specs.declared.moved.Moved.{Moved}
@@ -20,6 +20,8 @@ use Rattle.alarm_core.specs.Evaluations.{stamp_at}
 use Rattle.alarm_core.specs.History.{ObjectState, StateTransition, transition_of}
 use Rattle.alarm_core.specs.Logs.{records_class}
 use Rattle.alarm_core.specs.Notes.{addressed, notification_of}
+use Rattle.alarm_core.specs.CoreSteps.{states_of}
+use Rattle.alarm_core.specs.State.{CoreState}
 
 -- a site at the moment of a look: its notification classes, and the properties and event states of all objects after it
 pub record SiteViewData : Type 0 where
@@ -32,6 +34,10 @@ pub record SiteViewData : Type 0 where
 -- a transition of the look
 abbrev pub transition_in : SiteViewData → ObjectTransition → StateTransition
 transition_in seen transition = transition_of seen.moment seen.values seen.states transition
+
+-- the transitions of the last look at a moment, with what is there after it
+abbrev pub seen_in : ℕ → CoreState → List ObjectTransition → List StateTransition
+seen_in moment state transitions = map (transition_of moment state.values (states_of state.alarms)) transitions
 
 -- what a report says of it
 abbrev pub moved_of : ObjectTransition → Moved

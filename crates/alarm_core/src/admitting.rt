@@ -125,7 +125,7 @@ impl Core {
         match act {
             Act::Tick | Act::Pump => true,
             Act::Write { change } => {
-                self.objects.takes(change) || is_taken_by_log(&self.logs, change)
+                self.detections.objects().takes(change) || is_taken_by_log(&self.logs, change)
             }
             Act::Ack {
                 object,

@@ -1,15 +1,17 @@
-ghost use Rattle.std.specs.Prelude.{◌≡◌, ◌≤◌, ◌↔◌, [], IfSome, IsTrue, length};
+ghost use Rattle.std.specs.Prelude.{◌≡◌, ◌≤◌, ◌↔◌, [], None, IfOk, IfSome, IsTrue, OnErr, length, suc};
 ghost use Rattle.std.specs.Option.{option_map};
 ghost use Rattle.bac_values.specs.Moments.{IsMoment};
 ghost use Rattle.event_machine.specs.Given.{moves_in, point_of};
 ghost use Rattle.alarm_core.specs.CoreSteps.{acked, change_at, change_by, evaluated, first_with};
+ghost use Rattle.alarm_core.specs.DueSteps.{AscendByObject, StandsAt, due_by, due_of};
+ghost use Rattle.alarm_core.specs.Found.{detected_object_in};
 
 use crate::evaluation_input::{EvaluationInput, evaluation_input, first_input};
 use algorithm_rules::Algorithm;
 use bac_values::{ObjectId, Transition, Value};
 use civil_stamp::LocalMoment;
 use enrollment::{Objects, Subject};
-use event_machine::{Alarm, Changed, Steps, begin, evaluate, is_still};
+use event_machine::{Alarm, Changed, Steps, begin, evaluate, is_settled, is_still, next_due};
 use std::marker::Model;
 use std::sync::ledger::Ledger;
 
@@ -55,6 +57,7 @@ fn evaluate_by<L: Ledger>(
     requires moment { IfSome input (λ input. IsMoment input.now.point.moment) }
     ensures alarm { alarm.new ≡ (change_by algorithm (option_map (λ input. point_of input.now.snapshot input.now.point) input.entry) alarm.old).alarm }
     ensures moves { moves_in result ≡ (change_by algorithm (option_map (λ input. point_of input.now.snapshot input.now.point) input.entry) alarm.old).moves }
+    ensures step { steps.new ≤ suc steps.old }
 {
     let Some(input) = input else {
         return Changed {
@@ -74,6 +77,20 @@ fn is_still_by(algorithm: Algorithm, input: Option<&EvaluationInput<'_>>, alarm:
     match input {
         Some(input) => is_still(alarm, &input.snapshot, &input.point),
         None => true,
+    }
+}
+
+// When one object is next to be looked at, if it is there.
+fn due_by(algorithm: Algorithm, input: Option<&EvaluationInput<'_>>, alarm: &Alarm) -> Option<u64>
+    requires algorithm { IfSome input (λ input. input.now.snapshot.algorithm ≡ algorithm) }
+    requires few { IfSome input (λ input. length input.now.snapshot.alarm_values.now ≤ 32) }
+    ensures due { result ≡ due_by algorithm (option_map (λ input. point_of input.now.snapshot input.now.point) input.entry) alarm.now }
+{
+    let input = input?;
+    if is_settled(alarm, &input.snapshot, &input.point) {
+        next_due(alarm, &input.snapshot)
+    } else {
+        Some(0)
     }
 }
 
@@ -139,6 +156,7 @@ impl DetectedObject {
     ) -> Changed
         ensures evaluated { self.new ≡ evaluated at.now objects.now self.old }
         ensures moves { moves_in result ≡ (change_at at.now objects.now self.old).moves }
+        ensures step { steps.new ≤ suc steps.old }
     {
         let (object, algorithm, ack_required) = (self.object, self.algorithm, self.ack_required);
         let input = evaluation_input(objects, algorithm, object, at, ack_required);
@@ -153,6 +171,15 @@ impl DetectedObject {
         is_still_by(self.algorithm, input.as_ref(), &self.alarm)
     }
 
+    /// The moment at which the object is next to be looked at, if there is one: at once where it isn't settled, and else when
+    /// a rule of it will be held. It is the same at every moment.
+    pub(crate) fn due(&self, objects: &Objects, at: &LocalMoment) -> Option<u64>
+        ensures due { result ≡ due_of objects.now self.now }
+    {
+        let input = evaluation_input(objects, self.algorithm, self.object, at, self.ack_required);
+        due_by(self.algorithm, input.as_ref(), &self.alarm)
+    }
+
     /// The transition is acknowledged where the object is the one that is named. No memory is taken.
     pub(crate) fn acknowledge(&mut self, named: ObjectId, transition: Transition)
         ensures acked { self.new ≡ acked named transition self.old }
@@ -160,5 +187,28 @@ impl DetectedObject {
         if named == self.object {
             self.alarm.acknowledge(transition);
         }
+    }
+}
+
+/// Where the object with this identifier stands among alarms that ascend.
+pub(crate) fn place_of(alarms: &[DetectedObject], object: ObjectId) -> Result<usize, usize>
+    requires ascending { AscendByObject alarms.now }
+    ensures found { IfOk result (StandsAt object alarms.now) }
+    ensures absent { OnErr result (detected_object_in object alarms.now ≡ None) }
+{
+    alarms.binary_search_by_key(&object, |detected| detected.object())
+}
+
+/// The object with this identifier among alarms that ascend.
+pub(crate) fn detected_object(
+    alarms: &[DetectedObject],
+    object: ObjectId,
+) -> Option<&DetectedObject>
+    requires ascending { AscendByObject alarms.now }
+    ensures found { option_map (λ detected. detected.now) result ≡ detected_object_in object alarms.now }
+{
+    match place_of(alarms, object) {
+        Ok(place) => Some(&alarms[place]),
+        Err(_place) => None,
     }
 }

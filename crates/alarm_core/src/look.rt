@@ -4,7 +4,6 @@ ghost use Rattle.alarm_core.specs.Logs.{records_of, SiteLogState};
 ghost use Rattle.alarm_core.specs.Notes.{IsShort, notes_of_transitions};
 ghost use Rattle.alarm_core.specs.ViewSteps.{moved_of, transition_in};
 
-use crate::detection::DetectedObject;
 use crate::logs::{Entry, SiteLog, records_of_all};
 use crate::notifications::{addressed_notifications, notes_of_all};
 use crate::transition::ObjectTransition;
@@ -18,13 +17,6 @@ pub(crate) struct Told {
     pub(crate) moves: Vec<Moved>,
     pub(crate) notes: Vec<Note>,
     pub(crate) records: Vec<Vec<Entry>>,
-}
-
-/// A look: all objects after it, and what is told of its transitions.
-#[derive(Drop)]
-pub(crate) struct Look {
-    pub(crate) alarms: Vec<DetectedObject>,
-    pub(crate) told: Told,
 }
 
 fn moved_of(transition: &ObjectTransition) -> Moved

@@ -9,12 +9,12 @@ ghost use Rattle.enrollment.specs.Subjects.{subject_in};
 ghost use Rattle.alarm_core.specs.Classes.{class_in};
 ghost use Rattle.alarm_core.specs.History.{state_in};
 ghost use Rattle.alarm_core.specs.CoreSteps.{states_of};
+ghost use Rattle.alarm_core.specs.DueSteps.{AscendByObject};
 ghost use Rattle.alarm_core.specs.Notes.{IsShort, class_for, flags_at, notes_of_acknowledgement, notification_of, out_of_service_in, source_of, told_flags, told_value, values_of};
 ghost use Rattle.alarm_core.specs.Sites.{IsSite};
 ghost use Rattle.alarm_core.specs.ViewSteps.{addressed_in, notes_to, transition_in};
 
-use crate::detection::DetectedObject;
-use crate::finding::detected_object;
+use crate::detection::{DetectedObject, detected_object};
 use crate::identifiers::device_object;
 use crate::transition::ObjectTransition;
 use crate::view::{Addressed, SiteView};
@@ -69,6 +69,7 @@ pub(crate) fn class_for<'a>(subject: &Subject, classes: &'a [Class]) -> Option<&
 
 /// The event state of an object, which is NORMAL where its detection isn't enabled.
 pub(crate) fn state_of(alarms: &[DetectedObject], object: ObjectId) -> EventState
+    requires ascending { AscendByObject alarms.now }
     ensures state { result ≡ state_in object (states_of alarms.now) }
 {
     match detected_object(alarms, object) {

@@ -8,12 +8,14 @@ ghost use Rattle.alarm_core.specs.Sites.{IsLogSite, IsSite};
 ghost use Rattle.alarm_core.specs.Subjects.{alarm_subjects, has_class};
 
 use crate::detection::DetectedObject;
+use crate::detections::Detections;
 use crate::logs::SiteLog;
 use crate::site::copy_of_site;
 use crate::starting::ack_required_of;
 use crate::state::zone_of;
 use crate::{Core, LogSite, Parts, Site};
 use bac_values::{NoMemory, Peer, PeerList, push};
+use civil_stamp::LocalMoment;
 use enrollment::{Objects, Subject, subjects_of};
 use event_log::EventLog;
 use event_machine::Alarm;
@@ -186,8 +188,10 @@ impl Core {
             outbox,
         } = parts;
         let zone = zone_of(site);
+        let at = LocalMoment::new(last_moment, &zone);
         let objects = Objects::new(table, enrollments);
         let alarms = restored_alarms(alloc, site, alarms.as_slice())?;
+        let detections = Detections::new(alloc, objects, alarms, &at)?;
         let classes = classes.into_vec();
         let peers = known_peers(alloc, &outbox)?;
         let logs = restored_logs(alloc, site, logs.into_vec())?;
@@ -198,8 +202,7 @@ impl Core {
             zone,
             events,
             last_moment,
-            objects,
-            alarms,
+            detections,
             classes,
             peers,
             outbox,

@@ -22,6 +22,7 @@ impl<'a> Model for SiteView<'a> {
     ghost use Rattle.std.specs.Prelude.{◌≡◌};
     ghost use Rattle.alarm_core.specs.Evaluations.{site_zone};
     ghost use Rattle.alarm_core.specs.CoreSteps.{states_of};
+    ghost use Rattle.alarm_core.specs.DueSteps.{AscendByObject};
     ghost use Rattle.alarm_core.specs.Sites.{IsSite};
     ghost use Rattle.alarm_core.specs.ViewSteps.{SiteViewData};
 
@@ -38,6 +39,7 @@ impl<'a> Model for SiteView<'a> {
     ghost invariant = { λ view. record {
       site : IsSite view.site.now;
       zone : view.at.now.zone ≡ site_zone view.site.now;
+      ascending : AscendByObject view.alarms.now;
     } };
 }
 

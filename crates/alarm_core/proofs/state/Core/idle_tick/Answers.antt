@@ -17,7 +17,7 @@ returns-clause-still c =
     let none = none_moved (transition_of moment state.values (states_of (evaluated_all look state.values state.alarms))) transitions in
     let at = c.at.result in
     let here : at ≡ look = at_site at state.site moment (search rules) (search rules) in
-    let still : IsTrue c.are_still.result ↔ (flat_map (transitions_by at state.values) state.alarms ≡ []) = search rules in
+    let still : IsTrue c.is_still.result ↔ (flat_map (transitions_by at state.values) state.alarms ≡ []) = search rules in
     let same : flat_map (transitions_by at state.values) state.alarms ≡ transitions = ap (λ a. flat_map (transitions_by a state.values) state.alarms) here in
     (λ t. none.0 (sym same ∙ still.0 t), λ e. still.1 (same ∙ none.1 e))
 
@@ -27,4 +27,4 @@ returns-clause-history c =
     let event = raised state.last_moment (tick_at c.args.moment) in
     let is : IsSite state.site = search rules in
     let low : state.last_moment ≤ event.moment = omega arith in
-    λ history r. idle-adds_none history state event c.are_still.result (comes_after history state event is low r) r (returns-clause-still c)
+    λ history r. idle-adds_none history state event c.is_still.result (comes_after history state event is low r) r (returns-clause-still c)

@@ -1,56 +1,71 @@
-use Rattle.std.proofs.Common.{◌≡◌, ◌∙◌, List, Vec, Global, map, refl, ap, subst, rules}
+use Rattle.std.proofs.Common.{◌≡◌, ◌∙◌, IfOk, List, Vec, Global, map, refl, ap, sym, subst, rules}
 use Rattle.std.specs.List.{flat_map}
 use Rattle.event_log.specs.History.{Call}
-use Rattle.alarm_core.specs.declared.transition.ObjectTransition.{ObjectTransition}
+use Rattle.outbox.specs.Outboxes.{AreKnown}
+use Rattle.alarm_core.specs.CoreSteps.{transitions_all, transitions_by}
+use Rattle.alarm_core.specs.DueSteps.{detections_of}
+use Rattle.alarm_core.specs.Evaluations.{site_moment}
 use Rattle.alarm_core.specs.History.{StateTransition, moved_by}
 use Rattle.alarm_core.specs.Logs.{records_of, SiteLogState}
-use Rattle.alarm_core.specs.CoreSteps.{evaluated_all, transitions_by}
 use Rattle.alarm_core.specs.Notes.{notes_of_transitions}
-use Rattle.alarm_core.specs.ViewSteps.{transition_in, SiteViewData}
-use Rattle.alarm_core.proofs.Looking.{all_seen, seen_after}
+use Rattle.alarm_core.specs.State.{CoreState}
+use Rattle.alarm_core.proofs.Looking.{looked_at}
 use Rattle.alarm_core.proofs.Moved.{at_site}
+use Rattle.alarm_core.proofs.ToldKnown.{if_told_known, look_known}
+use Rattle.alarm_core.proofs.Undoing.{leads_nowhere}
 use Rattle.alarm_core.proofs.state.Core.look.Goals as goal
+
+pub returns-in_err-evaluate-clause-undoes : goal.returns-in_err-evaluate-clause-undoes
+returns-in_err-evaluate-clause-undoes g c =
+    let old = c.args.self.now in
+    c.evaluate.ensures.undoes (detections_of old) (leads_nowhere c.args.round.now.formers.items (detections_of old) c.self.inside.detections c.requires.none (ap detections_of (sym c.self.view_is)))
 
 pub returns-clause-moves : goal.returns-clause-moves
 returns-clause-moves g c =
     let old = c.args.self.now in
     let at = c.args.at.now in
-    let after = c.in_ok-alarms.alarms.items in
-    let transitions = c.in_ok-alarms.transitions.items in
-    let seen : c.view-view.result ≡ seen_after old.site at.moment old.classes old.values after = search rules in
-    let alarms : after ≡ evaluated_all at old.values c.args.alarms.now = search rules in
-    let made : transitions ≡ flat_map (transitions_by at old.values) c.args.alarms.now = search rules in
-    let all = all_seen old.site at.moment old.classes old.values c.args.alarms.now at after transitions (at_site at old.site at.moment c.requires.zone refl) alarms made in
-    let told : c.in_ok-told.told.moves.items ≡ map moved_by (map (transition_in c.view-view.result) transitions) = search rules in
-    told ∙ (ap (λ (s : SiteViewData). map moved_by (map (transition_in s) transitions)) seen ∙ ap (map moved_by) all)
+    let core = c.self.inside in
+    let made : c.deref.result.now ≡ flat_map (transitions_by at core.detections.values) core.detections.alarms = c.deref.ensures.value ∙ c.in_ok-evaluate.ensures.transitions in
+    let looked = looked_at old _ at c.evaluate.new.self.values c.evaluate.new.self.alarms c.deref.result.now c.self.view_is (at_site at old.site at.moment c.requires.zone refl)
+    c.evaluate.ensures.values c.in_ok-evaluate.ensures.alarms made in
+    subst (λ (ts : List StateTransition). IfOk c.told.result (λ told. told.moves.items ≡ map moved_by ts)) looked c.told.ensures.moves
 
 pub returns-clause-notes : goal.returns-clause-notes
 returns-clause-notes g c =
     let old = c.args.self.now in
     let at = c.args.at.now in
-    let after = c.in_ok-alarms.alarms.items in
-    let transitions = c.in_ok-alarms.transitions.items in
-    let seen : c.view-view.result ≡ seen_after old.site at.moment old.classes old.values after = search rules in
-    let alarms : after ≡ evaluated_all at old.values c.args.alarms.now = search rules in
-    let made : transitions ≡ flat_map (transitions_by at old.values) c.args.alarms.now = search rules in
-    let all = all_seen old.site at.moment old.classes old.values c.args.alarms.now at after transitions (at_site at old.site at.moment c.requires.zone refl) alarms made in
-    let told : c.in_ok-told.told.notes.items ≡ notes_of_transitions c.view-view.result.site c.view-view.result.classes (map (transition_in c.view-view.result) transitions) = search rules in
-    told ∙ (ap (λ (s : SiteViewData). notes_of_transitions s.site s.classes (map (transition_in s) transitions)) seen ∙ ap (notes_of_transitions old.site old.classes) all)
+    let core = c.self.inside in
+    let made : c.deref.result.now ≡ flat_map (transitions_by at core.detections.values) core.detections.alarms = c.deref.ensures.value ∙ c.in_ok-evaluate.ensures.transitions in
+    let looked = looked_at old _ at c.evaluate.new.self.values c.evaluate.new.self.alarms c.deref.result.now c.self.view_is (at_site at old.site at.moment c.requires.zone refl)
+    c.evaluate.ensures.values c.in_ok-evaluate.ensures.alarms made in
+    let told = λ (s : CoreState) (ts : List StateTransition). IfOk c.told.result (λ told. told.notes.items ≡ notes_of_transitions s.site s.classes ts) in
+    let all = transitions_all (site_moment old.site at.moment) old.values old.alarms in
+    subst (λ (s : CoreState). told s all) c.self.view_is
+    (subst (λ (ts : List StateTransition). told (record old { site = core.site; classes = core.classes.items; logs = core.logs.items }) ts) looked c.told.ensures.notes)
 
 pub returns-clause-records : goal.returns-clause-records
 returns-clause-records g c =
     let old = c.args.self.now in
     let at = c.args.at.now in
-    let after = c.in_ok-alarms.alarms.items in
-    let transitions = c.in_ok-alarms.transitions.items in
-    let seen : c.view-view.result ≡ seen_after old.site at.moment old.classes old.values after = search rules in
-    let alarms : after ≡ evaluated_all at old.values c.args.alarms.now = search rules in
-    let made : transitions ≡ flat_map (transitions_by at old.values) c.args.alarms.now = search rules in
-    let all = all_seen old.site at.moment old.classes old.values c.args.alarms.now at after transitions (at_site at old.site at.moment c.requires.zone refl) alarms made in
-    let given = λ (s : SiteViewData) (ts : List StateTransition). map (λ (kept : SiteLogState). records_of s.site s.classes kept.site ts) old.logs in
-    let logs : c.deref-2.result.now ≡ old.logs = search rules in
-    let asked : c.deref-3.result.now ≡ transitions = search rules in
-    let of = λ (ts : List ObjectTransition) (logs : List SiteLogState). map (λ (list : Vec Call Global). list.items) c.in_ok-told.told.records.items
-    ≡ map (λ (kept : SiteLogState). records_of c.view-view.result.site c.view-view.result.classes kept.site (map (transition_in c.view-view.result) ts)) logs in
-    let told : of transitions old.logs = subst (of transitions) logs (subst (λ (ts : List ObjectTransition). of ts c.deref-2.result.now) asked c.in_ok-told.ensures.records) in
-    told ∙ (ap (λ (s : SiteViewData). given s (map (transition_in s) transitions)) seen ∙ ap (given (seen_after old.site at.moment old.classes old.values after)) all)
+    let core = c.self.inside in
+    let made : c.deref.result.now ≡ flat_map (transitions_by at core.detections.values) core.detections.alarms = c.deref.ensures.value ∙ c.in_ok-evaluate.ensures.transitions in
+    let looked = looked_at old _ at c.evaluate.new.self.values c.evaluate.new.self.alarms c.deref.result.now c.self.view_is (at_site at old.site at.moment c.requires.zone refl)
+    c.evaluate.ensures.values c.in_ok-evaluate.ensures.alarms made in
+    let told = λ (s : CoreState) (ts : List StateTransition). IfOk c.told.result (λ told. map (λ (list : Vec Call Global). list.items) told.records.items ≡ map (λ (kept : SiteLogState). records_of s.site s.classes kept.site ts) s.logs) in
+    let all = transitions_all (site_moment old.site at.moment) old.values old.alarms in
+    subst (λ (s : CoreState). told s all) c.self.view_is
+    (subst (λ (ts : List StateTransition). told (record old { site = core.site; classes = core.classes.items; logs = core.logs.items }) ts) looked c.told.ensures.records)
+
+pub returns-clause-undoes : goal.returns-clause-undoes
+returns-clause-undoes g c =
+    let old = c.args.self.now in
+    c.evaluate.ensures.undoes (detections_of old) (leads_nowhere c.args.round.now.formers.items (detections_of old) c.self.inside.detections c.requires.none (ap detections_of (sym c.self.view_is)))
+
+pub returns-clause-known : goal.returns-clause-known
+returns-clause-known g c =
+    let core = c.self.inside in
+    let old = c.args.self.now in
+    let transitions = transitions_all (site_moment old.site c.args.at.now.moment) old.values old.alarms in
+    let known = look_known core.site core.classes.items core.peers core.outbox.posts (record { peers_are = c.self.invariant.peers; knows = c.self.invariant.known }) old.values transitions in
+    if_told_known c.told.result (notes_of_transitions old.site old.classes transitions) old.outbox.posts
+    (subst (λ (s : CoreState). AreKnown (notes_of_transitions s.site s.classes transitions) s.outbox.posts) c.self.view_is known) (returns-clause-notes g c)

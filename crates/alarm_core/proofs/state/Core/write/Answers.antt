@@ -1,114 +1,133 @@
-use Rattle.std.proofs.Common.{◌≡◌, List, Vec, Global, map, refl, sym, subst, rules}
+use Rattle.std.proofs.Common.{◌≡◌, ◌∙◌, ◌++◌, ◌≤◌, ◌+◌, Err, List, [], Vec, Global, map, refl, sym, ap, subst, arith, rules}
 use Rattle.event_log.specs.History.{Call}
-use Rattle.outbox.specs.Outboxes.{AreKnown}
 use Rattle.event_log.specs.declared.log_site.LogSite.{LogSite}
+use Rattle.outbox.specs.Outboxes.{queued}
 use Rattle.enrollment.specs.Objects.{written}
+use Rattle.alarm_core.specs.CoreSteps.{after_calls, evaluated_all, transitions_all}
+use Rattle.alarm_core.specs.DueSteps.{DetectionsState, LeadsBack, detections_of, start_of}
 use Rattle.alarm_core.specs.Evaluations.{site_moment}
-use Rattle.alarm_core.specs.History.{moved_by}
-use Rattle.alarm_core.specs.Logs.{records_of, SiteLogState}
-use Rattle.alarm_core.specs.CoreSteps.{evaluated_all, transitions_all}
+use Rattle.alarm_core.specs.History.{StateTransition, moved_by}
+use Rattle.alarm_core.specs.Logs.{call_of_change, records_of, SiteLogState}
 use Rattle.alarm_core.specs.Notes.{notes_of_transitions}
-use Rattle.alarm_core.specs.State.{DetectedObjectState, CoreState}
-use Rattle.alarm_core.specs.Verdicts.{Answers}
-use Rattle.alarm_core.proofs.ToldKnown.{look_known}
-use Rattle.alarm_core.proofs.Written.{if_ok_same, on_both, written_moves, written_state, written_verdict}
+use Rattle.alarm_core.specs.State.{CoreState}
+use Rattle.alarm_core.specs.Verdicts.{Answers, queue_verdict}
+use Rattle.alarm_core.specs.declared.step.Done.{Done}
+use Rattle.alarm_core.proofs.Moved.{at_site}
+use Rattle.alarm_core.proofs.Undoing.{leads_nowhere, starts_from}
+use Rattle.alarm_core.proofs.Written.{second_look, second_steps, written_moves, written_state, written_verdict}
 use Rattle.alarm_core.proofs.state.Core.write.Goals as goal
+use Rattle.alarm_core.proofs.state.Core.write.Goals.{in-Some, in_default}
 
-pub finish_write-requires-clause-known : goal.finish_write-requires-clause-known
-finish_write-requires-clause-known g c =
-    let core = c.self.inside in
+pub returns-in_err-undo-clause-steps : goal.returns-in_err-undo-clause-steps
+returns-in_err-undo-clause-steps g c =
     let old = c.args.self.now in
-    let look = site_moment old.site c.args.at.now.moment in
-    let notes : c.in_ok-before.before.told.notes.items ≡ notes_of_transitions old.site old.classes (transitions_all look old.values old.alarms) = search rules in
-    let transitions = λ (s : CoreState). transitions_all (site_moment s.site c.args.at.now.moment) s.values s.alarms in
-    subst (λ notes. AreKnown notes old.outbox.posts) (sym notes)
-    (subst (λ (s : CoreState). AreKnown (notes_of_transitions s.site s.classes (transitions s)) s.outbox.posts) c.self.view_is
-    (look_known core.site core.classes.items core.peers core.outbox.posts (record { peers_are = c.self.invariant.peers; knows = c.self.invariant.known })
-    core.objects (transitions_all (site_moment core.site c.args.at.now.moment) core.objects core.alarms.items)))
+    let at = c.args.at.now in
+    let second = second_steps old c.look.new.self at c.args.change.now.object c.look.ensures.rest c.in_ok-before.ensures.alarms (at_site at old.site at.moment c.requires.zone refl) in
+    omega (arith, c.look.ensures.steps, c.change.ensures.steps, second)
 
-pub returns-then-is_of_log-clause-state : goal.returns-then-is_of_log-clause-state
-returns-then-is_of_log-clause-state g c =
+pub returns-in-Ok-clause-state : goal.returns-in-Ok-clause-state
+returns-in-Ok-clause-state g c =
     let old = c.args.self.now in
-    let look = site_moment old.site c.args.at.now.moment in
-    let before : c.in_ok-before.before.alarms.items ≡ evaluated_all look old.values old.alarms = search rules in
-    let notes : c.in_ok-before.before.told.notes.items ≡ notes_of_transitions old.site old.classes (transitions_all look old.values old.alarms) = search rules in
-    let first = λ (listed : LogSite). records_of old.site old.classes listed (transitions_all look old.values old.alarms) in
-    let seen : c.deref.result.now ≡ old.alarms = search rules in
-    let made = λ (alarms : List DetectedObjectState). map (λ (list : Vec Call Global). list.items) c.in_ok-before.before.told.records.items
-    ≡ map (λ (kept : SiteLogState). records_of old.site old.classes kept.site (transitions_all look old.values alarms)) old.logs in
-    let records : map (λ (list : Vec Call Global). list.items) c.in_ok-before.before.told.records.items ≡ map (λ (kept : SiteLogState). first kept.site) old.logs =
-    subst made seen c.in_ok-before.ensures.records in
-    let same : old.values ≡ written c.args.change.now old.values = sym (c.is_of_log.ensures.log (search rules)) in
-    on_both c.finish_write.result
-    (written_state old c.args.at.now.moment c.args.change.now old.values same c.in_ok-before.before.alarms.items before c.in_ok-before.before.told.notes.items notes c.finish_write.new.self c.finish_write.new.self.logs)
-    c.finish_write.ensures.state (c.finish_write.ensures.logs first records)
+    let moment = c.args.at.now.moment in
+    let made = c.deref.ensures.value ∙ c.in_ok-undo.ensures.transitions in
+    let second = second_look old c.look.new.self c.change.new.self moment c.args.change.now c.deref.result.now c.look.ensures.rest c.in_ok-before.ensures.alarms
+    c.change.ensures.rest c.in_ok-undo.ensures.values c.in_ok-undo.ensures.alarms made in
+    let between = evaluated_all (site_moment old.site moment) old.values old.alarms in
+    let values = written c.args.change.now old.values in
+    let notes = c.in_ok-before.before.notes.items in
+    let logs = c.finish_write.new.self.logs in
+    let second_ones = transitions_all (site_moment old.site moment) values between in
+    let first = λ (listed : LogSite). records_of old.site old.classes listed (transitions_all (site_moment old.site moment) old.values old.alarms) in
+    let calls = λ (s : CoreState) (ts : List StateTransition). map (λ (kept : SiteLogState). record kept {
+      log = after_calls (first kept.site ++ (call_of_change kept.site c.args.change.now ++ records_of s.site s.classes kept.site ts)) kept.log;
+    }) s.logs in
+    let records : map (λ (list : Vec Call Global). list.items) c.in_ok-before.before.records.items ≡ map (λ (kept : SiteLogState). first kept.site) c.change.new.self.logs =
+    c.in_ok-before.ensures.records ∙ ap (λ (s : CoreState). map (λ (kept : SiteLogState). first kept.site) s.logs) (sym second.state) in
+    let state = c.in-Ok.ensures.state ∙ (λ k. record (second.state k) {
+      outbox = queued (notes ++ notes_of_transitions (second.state k).site (second.state k).classes (second.seen k)) (second.state k).outbox;
+      logs = logs;
+    }) in
+    written_state old moment c.args.change.now values refl between refl notes c.in_ok-before.ensures.notes c.finish_write.new.self logs state
+    (c.in-Ok.ensures.logs first records ∙ (λ k. calls (second.state k) (second.seen k)))
 
-pub returns-then-is_of_log-clause-moves : goal.returns-then-is_of_log-clause-moves
-returns-then-is_of_log-clause-moves g c =
+pub returns-in-Ok-clause-moves : goal.returns-in-Ok-clause-moves
+returns-in-Ok-clause-moves g c =
     let old = c.args.self.now in
-    let look = site_moment old.site c.args.at.now.moment in
-    let before : c.in_ok-before.before.alarms.items ≡ evaluated_all look old.values old.alarms = search rules in
-    let notes : c.in_ok-before.before.told.notes.items ≡ notes_of_transitions old.site old.classes (transitions_all look old.values old.alarms) = search rules in
-    let moves : c.in_ok-before.before.told.moves.items ≡ map moved_by (transitions_all look old.values old.alarms) = search rules in
-    let same : old.values ≡ written c.args.change.now old.values = sym (c.is_of_log.ensures.log (search rules)) in
-    if_ok_same c.finish_write.result _ _
-    (written_moves old c.args.at.now.moment c.args.change.now old.values same c.in_ok-before.before.alarms.items before c.in_ok-before.before.told.notes.items notes c.in_ok-before.before.told.moves.items moves)
-    c.finish_write.ensures.moves
+    let moment = c.args.at.now.moment in
+    let made = c.deref.ensures.value ∙ c.in_ok-undo.ensures.transitions in
+    let second = second_look old c.look.new.self c.change.new.self moment c.args.change.now c.deref.result.now c.look.ensures.rest c.in_ok-before.ensures.alarms
+    c.change.ensures.rest c.in_ok-undo.ensures.values c.in_ok-undo.ensures.alarms made in
+    let between = evaluated_all (site_moment old.site moment) old.values old.alarms in
+    let values = written c.args.change.now old.values in
+    let notes = c.in_ok-before.before.notes.items in
+    let moves = c.in_ok-before.before.moves.items in
+    c.in-Ok.ensures.moves ∙ (ap (λ ts. moves ++ map moved_by ts) second.seen
+    ∙ written_moves old moment c.args.change.now values refl between refl notes c.in_ok-before.ensures.notes moves c.in_ok-before.ensures.moves)
 
-pub returns-then-is_of_log-clause-verdict : goal.returns-then-is_of_log-clause-verdict
-returns-then-is_of_log-clause-verdict g c =
+pub returns-in-Ok-clause-verdict : goal.returns-in-Ok-clause-verdict
+returns-in-Ok-clause-verdict g c =
     let old = c.args.self.now in
-    let look = site_moment old.site c.args.at.now.moment in
-    let before : c.in_ok-before.before.alarms.items ≡ evaluated_all look old.values old.alarms = search rules in
-    let notes : c.in_ok-before.before.told.notes.items ≡ notes_of_transitions old.site old.classes (transitions_all look old.values old.alarms) = search rules in
-    let same : old.values ≡ written c.args.change.now old.values = sym (c.is_of_log.ensures.log (search rules)) in
-    subst (Answers c.finish_write.result)
-    (written_verdict old c.args.at.now.moment c.args.change.now old.values same c.in_ok-before.before.alarms.items before c.in_ok-before.before.told.notes.items notes) c.finish_write.ensures.verdict
+    let moment = c.args.at.now.moment in
+    let made = c.deref.ensures.value ∙ c.in_ok-undo.ensures.transitions in
+    let second = second_look old c.look.new.self c.change.new.self moment c.args.change.now c.deref.result.now c.look.ensures.rest c.in_ok-before.ensures.alarms
+    c.change.ensures.rest c.in_ok-undo.ensures.values c.in_ok-undo.ensures.alarms made in
+    let between = evaluated_all (site_moment old.site moment) old.values old.alarms in
+    let values = written c.args.change.now old.values in
+    let notes = c.in_ok-before.before.notes.items in
+    let same = (λ k. queue_verdict (notes ++ notes_of_transitions (second.state k).site (second.state k).classes (second.seen k)) (second.state k).outbox)
+    ∙ written_verdict old moment c.args.change.now values refl between refl notes c.in_ok-before.ensures.notes in
+    sym same ∙ c.in-Ok.ensures.verdict
 
-pub write_object-requires-clause-known : goal.write_object-requires-clause-known
-write_object-requires-clause-known g c =
-    let core = c.self.inside in
+pub returns-in-Ok-clause-steps : goal.returns-in-Ok-clause-steps
+returns-in-Ok-clause-steps g c =
     let old = c.args.self.now in
-    let look = site_moment old.site c.args.at.now.moment in
-    let notes : c.in_ok-before.before.told.notes.items ≡ notes_of_transitions old.site old.classes (transitions_all look old.values old.alarms) = search rules in
-    let transitions = λ (s : CoreState). transitions_all (site_moment s.site c.args.at.now.moment) s.values s.alarms in
-    subst (λ notes. AreKnown notes old.outbox.posts) (sym notes)
-    (subst (λ (s : CoreState). AreKnown (notes_of_transitions s.site s.classes (transitions s)) s.outbox.posts) c.self.view_is
-    (look_known core.site core.classes.items core.peers core.outbox.posts (record { peers_are = c.self.invariant.peers; knows = c.self.invariant.known })
-    core.objects (transitions_all (site_moment core.site c.args.at.now.moment) core.objects core.alarms.items)))
+    let at = c.args.at.now in
+    let second = second_steps old c.look.new.self at c.args.change.now.object c.look.ensures.rest c.in_ok-before.ensures.alarms (at_site at old.site at.moment c.requires.zone refl) in
+    omega (arith, c.look.ensures.steps, c.change.ensures.steps, second)
 
-pub returns-clause-state : goal.returns-clause-state
-returns-clause-state g c =
+pub returns-after-undo-4-clause-undoes : goal.returns-after-undo-4-clause-undoes
+returns-after-undo-4-clause-undoes g c =
     let old = c.args.self.now in
-    let look = site_moment old.site c.args.at.now.moment in
-    let before : c.in_ok-before.before.alarms.items ≡ evaluated_all look old.values old.alarms = search rules in
-    let notes : c.in_ok-before.before.told.notes.items ≡ notes_of_transitions old.site old.classes (transitions_all look old.values old.alarms) = search rules in
-    let first = λ (listed : LogSite). records_of old.site old.classes listed (transitions_all look old.values old.alarms) in
-    let seen : c.deref.result.now ≡ old.alarms = search rules in
-    let made = λ (alarms : List DetectedObjectState). map (λ (list : Vec Call Global). list.items) c.in_ok-before.before.told.records.items
-    ≡ map (λ (kept : SiteLogState). records_of old.site old.classes kept.site (transitions_all look old.values alarms)) old.logs in
-    let records : map (λ (list : Vec Call Global). list.items) c.in_ok-before.before.told.records.items ≡ map (λ (kept : SiteLogState). first kept.site) old.logs =
-    subst made seen c.in_ok-before.ensures.records in
-    on_both c.write_object.result
-    (written_state old c.args.at.now.moment c.args.change.now (written c.args.change.now old.values) refl c.in_ok-before.before.alarms.items before c.in_ok-before.before.told.notes.items notes c.write_object.new.self c.write_object.new.self.logs)
-    c.write_object.ensures.state (c.write_object.ensures.logs first records)
+    let first = starts_from c.look.new.round.formers.items (detections_of old) (detections_of c.look.new.self) (ap (λ (s : CoreState). s.values) (sym c.look.ensures.rest)) c.look.ensures.undoes in
+    let led = subst (λ (s : DetectionsState). LeadsBack c.change.new.round.formers.items s (detections_of c.change.new.self)) (sym first) c.change.ensures.undoes in
+    let formers = c.change.new.round.formers.items in
+    let start : c.look.new.self.values ≡ old.values = ap (λ (s : CoreState). s.values) c.look.ensures.rest in
+    let whole = c.self.view_is ∙ c.in-Err.ensures.same in
+    elim c.match-undo-4.branch [
+      | in-Some w ↦
+        let undo = w.in-Some.undo in
+        let none : c.match-undo-4.round.formers.items ≡ [] = search rules in
+        let back : written undo c.change.new.self.values ≡ c.look.new.self.values = search rules in
+        let values = back ∙ start in
+        let undone : detections_of old ≡ record (start_of formers (detections_of c.change.new.self)) { values = written undo c.change.new.self.values } =
+        λ k. record { values = sym values k; alarms = sym led.undoes.puts_back k } in
+        let viewed = ap (λ (s : CoreState). record (start_of formers (detections_of s)) { values = written undo s.values }) (sym whole) in
+        leads_nowhere c.match-undo-4.round.formers.items (detections_of old) (detections_of c.match-undo-4.self) none
+        (undone ∙ (viewed ∙ (sym w.undo_write.ensures.undone ∙ sym (ap detections_of w.self-is))))
+      | in_default w ↦
+        let round : c.match-undo-4.round.formers.items ≡ formers = search rules in
+        let here : c.match-undo-4.self ≡ c.change.new.self = search rules in
+        subst (λ fs. LeadsBack fs (detections_of old) (detections_of c.match-undo-4.self)) (sym round)
+        (subst (λ (s : CoreState). LeadsBack formers (detections_of old) (detections_of s)) (sym here) led)
+    ]
 
-pub returns-clause-moves : goal.returns-clause-moves
-returns-clause-moves g c =
+pub returns-after-undo-4-clause-verdict : goal.returns-after-undo-4-clause-verdict
+returns-after-undo-4-clause-verdict g c =
     let old = c.args.self.now in
-    let look = site_moment old.site c.args.at.now.moment in
-    let before : c.in_ok-before.before.alarms.items ≡ evaluated_all look old.values old.alarms = search rules in
-    let notes : c.in_ok-before.before.told.notes.items ≡ notes_of_transitions old.site old.classes (transitions_all look old.values old.alarms) = search rules in
-    let moves : c.in_ok-before.before.told.moves.items ≡ map moved_by (transitions_all look old.values old.alarms) = search rules in
-    if_ok_same c.write_object.result _ _
-    (written_moves old c.args.at.now.moment c.args.change.now (written c.args.change.now old.values) refl c.in_ok-before.before.alarms.items before c.in_ok-before.before.told.notes.items notes c.in_ok-before.before.told.moves.items moves)
-    c.write_object.ensures.moves
+    let moment = c.args.at.now.moment in
+    let made = c.deref.ensures.value ∙ c.in_ok-undo.ensures.transitions in
+    let second = second_look old c.look.new.self c.change.new.self moment c.args.change.now c.deref.result.now c.look.ensures.rest c.in_ok-before.ensures.alarms
+    c.change.ensures.rest c.in_ok-undo.ensures.values c.in_ok-undo.ensures.alarms made in
+    let between = evaluated_all (site_moment old.site moment) old.values old.alarms in
+    let values = written c.args.change.now old.values in
+    let notes = c.in_ok-before.before.notes.items in
+    let same = (λ k. queue_verdict (notes ++ notes_of_transitions (second.state k).site (second.state k).classes (second.seen k)) (second.state k).outbox)
+    ∙ written_verdict old moment c.args.change.now values refl between refl notes c.in_ok-before.ensures.notes in
+    subst (Answers {A = Done} (Err c.in-Err.fault)) same c.in-Err.ensures.verdict
 
-pub returns-clause-verdict : goal.returns-clause-verdict
-returns-clause-verdict g c =
+pub returns-after-undo-4-clause-steps : goal.returns-after-undo-4-clause-steps
+returns-after-undo-4-clause-steps g c =
     let old = c.args.self.now in
-    let look = site_moment old.site c.args.at.now.moment in
-    let before : c.in_ok-before.before.alarms.items ≡ evaluated_all look old.values old.alarms = search rules in
-    let notes : c.in_ok-before.before.told.notes.items ≡ notes_of_transitions old.site old.classes (transitions_all look old.values old.alarms) = search rules in
-    subst (Answers c.write_object.result)
-    (written_verdict old c.args.at.now.moment c.args.change.now (written c.args.change.now old.values) refl c.in_ok-before.before.alarms.items before c.in_ok-before.before.told.notes.items notes) c.write_object.ensures.verdict
+    let at = c.args.at.now in
+    let second = second_steps old c.look.new.self at c.args.change.now.object c.look.ensures.rest c.in_ok-before.ensures.alarms (at_site at old.site at.moment c.requires.zone refl) in
+    omega (arith, c.look.ensures.steps, c.change.ensures.steps, second)
