@@ -1,10 +1,10 @@
 -- Two lists are gone over side by side; and peers that ascend, put in one after the other, stand as they stood.
-use Rattle.std.proofs.Common.{◌≡◌, ℕ, zero, suc, ◌+◌, ◌<◌, ◌≤◌, min, true≢false, Option, Some, None, is_some, List, [], ◌∷◌, ◌++◌, length, map, take, drop, get_or, refl, sym, ap, subst, ◌∙◌, arith}
+use Rattle.std.proofs.Common.{◌≡◌, ℕ, zero, suc, ◌+◌, ◌<◌, ◌≤◌, min, true≢false, Some, None, is_some, List, [], ◌∷◌, ◌++◌, length, map, take, drop, get_or, refl, sym, ap, subst, ◌∙◌, arith}
 use Rattle.std.specs.List.{slice_get, zip}
 use Rattle.std.specs.Option.{option_map, option_map_or}
 use Rattle.std.proofs.lemmas.List.{append-nil, append_assoc, drop_more, get_or_append_left, get_or_at, length-append}
 use Rattle.std.proofs.lemmas.List.Edits.{insert_end}
-use Rattle.std.specs.declared.cmp.Ordering.TheVariants.{Less, Greater}
+use Rattle.std.specs.declared.cmp.Ordering.TheVariants.{Less}
 use Rattle.bac_values.specs.Address.{PeerData}
 use Rattle.bac_values.specs.Orders.{IsAscending, peer_order, peer_with, peers_with}
 use Rattle.bac_values.proofs.Inserting.{at_gap, itself}

@@ -50,7 +50,7 @@ fn operators(alloc: Global) -> Result<ClassSite, Fail>
     })
 }
 
-fn device(alloc: Global, outbox: u32) -> Result<DeviceSite, Fail>
+pub(crate) fn device(alloc: Global, outbox: u32) -> Result<DeviceSite, Fail>
     ensures instance { IfOk result (λ site. site.instance ≡ 1001) }
     ensures start { IfOk result (λ site. site.start ≡ 1700000000000) }
     ensures zone { IfOk result (λ site. site.zone_minutes ≡ pos 0) }

@@ -12,6 +12,8 @@ mod alarm_core_note_tests;
 #[cfg(test)]
 mod alarm_core_plant;
 #[cfg(test)]
+mod alarm_core_restore_tests;
+#[cfg(test)]
 mod alarm_core_tests;
 #[cfg(test)]
 mod algorithm_rules_tests;

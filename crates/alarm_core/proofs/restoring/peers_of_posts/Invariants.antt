@@ -1,4 +1,4 @@
-use Rattle.std.proofs.Common.{◌≡◌, ◌-◌, ◌≤◌, length, map, take}
+use Rattle.std.proofs.Common.{◌≡◌, ◌-◌, ◌≤◌, length, take}
 use Rattle.outbox.specs.Outboxes.{peers_of}
 use Rattle.alarm_core.proofs.restoring.peers_of_posts.Given as goal
 
