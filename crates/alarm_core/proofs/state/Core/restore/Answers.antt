@@ -6,8 +6,13 @@ use Rattle.alarm_core.specs.Evaluations.{site_zone}
 use Rattle.alarm_core.specs.Known.{KnowsClass}
 use Rattle.alarm_core.specs.Sites.{IsSite}
 use Rattle.alarm_core.specs.declared.site.Site.{Site}
-use Rattle.alarm_core.proofs.RestoredCore.{restored_shows}
+use Rattle.alarm_core.specs.DueSteps.{AscendByObject, DetectionsState}
+use Rattle.alarm_core.proofs.RestoredCore.{restored_ascend, restored_shows}
 use Rattle.alarm_core.proofs.state.Core.restore.Goals as goal
+
+pub new-requires : goal.new-requires
+new-requires c =
+    record { ascending = subst AscendByObject (sym c.in_ok-alarms.ensures.alarms) (restored_ascend c.args.site.now c.as_slice.result.now c.requires.site) }
 
 pub invariant_of-result : goal.invariant_of-result
 invariant_of-result c =
@@ -35,7 +40,8 @@ returns c =
     let told : c.as_slice.result.now ≡ parts.alarms = c.as_slice.ensures.same in
     let logs : c.into_vec.result.items ≡ parts.logs = c.into_vec.ensures.same in
     let classes : c.into_vec-classes.result.items ≡ parts.classes = c.into_vec-classes.ensures.same in
+    let detections = c.in_ok-detections.ensures.detections in
     record {
-      restored = restored_shows site c.in_ok-site.site parts c.new-objects.result c.as_slice.result.now c.in_ok-alarms.alarms.items c.into_vec-classes.result.items c.into_vec.result.items c.in_ok-logs.logs.items
-          same values told c.in_ok-alarms.ensures.alarms classes logs c.in_ok-logs.ensures.logs;
+      restored = restored_shows site c.in_ok-site.site parts c.in_ok-detections.detections.values c.as_slice.result.now c.in_ok-detections.detections.alarms c.into_vec-classes.result.items c.into_vec.result.items c.in_ok-logs.logs.items
+          same (ap (λ (d : DetectionsState). d.values) detections ∙ values) told (ap (λ (d : DetectionsState). d.alarms) detections ∙ c.in_ok-alarms.ensures.alarms) classes logs c.in_ok-logs.ensures.logs;
     }
