@@ -35,6 +35,7 @@ pub use laws::{
     allows_what_checks_accept, counts_the_longer_history, knows_listed_peers, reads_the_last_list,
     stands_for_its_history,
 };
+pub use logs::SiteLog;
 pub use notify_class::ClassSite;
 pub use parts::Parts;
 pub use property_values::{DeviceSite, ReadFault};

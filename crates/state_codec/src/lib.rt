@@ -13,7 +13,12 @@ mod reading;
 mod types;
 mod value;
 mod writing;
+mod writing_alarms;
+mod writing_rest;
+mod writing_rows;
+mod writing_state;
 
 pub use event::{read_event, write_event};
 pub use fault::CodecFault;
 pub use laws::{allowed_event_has_record, records_are_short, records_have_one_spelling};
+pub use writing_state::write_state;
