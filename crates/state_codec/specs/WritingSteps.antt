@@ -1,5 +1,5 @@
 -- How snapshots are written: some parts together, as calls append them.
-use Rattle.std.specs.Prelude.{◌⊎◌, ℕ, ℤ, if◌then◌else◌, FitsSigned, List, [], ◌∷◌, ◌++◌, slice_get}
+use Rattle.std.specs.Prelude.{◌⊎◌, ℕ, ℤ, ◌+◌, ◌*◌, if◌then◌else◌, FitsSigned, List, [], ◌∷◌, ◌++◌, length, slice_get}
 use Rattle.std.specs.Int.{FitsUnsigned, w16, w32, w64, to_be_bytes}
 use Rattle.std.specs.Option.{option_map_or}
 use Rattle.bac_values.specs.declared.note.Note.{Note}
@@ -12,6 +12,8 @@ use Rattle.outbox.specs.Posts.{MailboxState}
 use Rattle.alarm_core.specs.State.{CoreState}
 use Rattle.alarm_core.specs.Subjects.{has_class}
 use Rattle.state_codec.specs.Records.{written_flag, written_flags, written_peer}
+use Rattle.alarm_core.specs.declared.site.Site.{Site}
+use Rattle.state_codec.specs.Sizes.{alarm_objects, alarm_octets, class_octets, log_octets, log_records, note_octets, object_octets, post_octets, record_octets}
 use Rattle.state_codec.specs.Snapshots.{version_of, written_subject}
 
 -- the version, how many events there were, and the moment of the last
@@ -48,3 +50,14 @@ notes_at outbox place = option_map_or notes_of_post (slice_get outbox.posts plac
 -- what is told of a post, and how many notes it has
 abbrev pub written_told : Post → List ℕ
 written_told post = written_peer post.peer ++ (post.next_invoke ∷ post.attempts ∷ (to_be_bytes w64 post.deadline ++ to_be_bytes w16 post.notes))
+
+-- ---- the parts of a site's bound
+
+abbrev pub objects_bound : Site → ℕ
+objects_bound site = object_octets * length site.objects + alarm_octets * alarm_objects site + class_octets * length site.classes
+
+abbrev pub logs_bound : Site → ℕ
+logs_bound site = log_octets * length site.logs + record_octets site * log_records site
+
+abbrev pub outbox_bound : Site → ℕ
+outbox_bound site = post_octets + note_octets * site.device.outbox

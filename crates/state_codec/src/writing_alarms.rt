@@ -104,7 +104,7 @@ fn put_enrollment(
     out: &mut Vec<u8>,
     enrollment: Option<&EnrollmentSite>,
 ) -> Result<(), NoMemory>
-    ensures written { OnOk result (out.new.items ≡ out.old.items ++ written_enrollment (option_copied enrollment)) }
+    ensures written { OnOk result (out.new.items ≡ out.old.items ++ written_enrollment (option_copied enrollment.entry)) }
 {
     match enrollment {
         Some(site) => {

@@ -1,9 +1,10 @@
 //! The rows of value objects in octets.
 ghost use Rattle.std.specs.Prelude.{◌≡◌, ◌++◌, All, OnOk};
-ghost use Rattle.std.specs.Int.{cast_unsigned, w32};
+ghost use Rattle.std.specs.Int.{cast_unsigned, to_be_bytes, w32};
 ghost use Rattle.std.specs.List.{flat_map};
 ghost use Rattle.bac_values.specs.Identifier.{kind_of};
 ghost use Rattle.object_table.specs.Objects.{IsRow};
+ghost use Rattle.state_codec.specs.Records.{written_flags};
 ghost use Rattle.state_codec.specs.Snapshots.{number_of, written_delay, written_keys, written_limits, written_row};
 ghost use Rattle.state_codec.specs.WritingSteps.{AreLimits, IsLimit, written_settings};
 
@@ -28,10 +29,11 @@ fn put_delay(out: &mut Vec<u8>, delay: Option<u32>) -> Result<(), NoMemory>
 }
 
 /// A limit as a number of 32 bits, in two's complement where it is below 0.
-fn limit_word(limit: i64) -> u32
-    requires fits { IsLimit limit }
-    ensures word { result ≡ cast_unsigned w32 limit }
+fn limit_word(limit: &i64) -> u32
+    requires fits { IsLimit limit.now }
+    ensures word { result ≡ cast_unsigned w32 limit.now }
 {
+    let limit = *limit;
     if limit < 0 {
         (limit as i32).cast_unsigned()
     } else {
@@ -39,16 +41,31 @@ fn limit_word(limit: i64) -> u32
     }
 }
 
+/// Appends a limit.
+fn put_limit(out: &mut Vec<u8>, limit: &i64) -> Result<(), NoMemory>
+    requires fits { IsLimit limit.now }
+    ensures written { OnOk result (out.new.items ≡ out.old.items ++ to_be_bytes w32 (cast_unsigned w32 limit.now)) }
+{
+    put_word(out, limit_word(limit))
+}
+
+/// Appends two flags in one octet, the first one in the lowest bit.
+fn put_two_flags(out: &mut Vec<u8>, flags: &[bool; 2]) -> Result<(), NoMemory>
+    ensures written { OnOk result (out.new.items ≡ out.old.items ++ written_flags flags.now) }
+{
+    let [first, second] = *flags;
+    push(out, u8::from(first) + 2 * u8::from(second))
+}
+
 /// Appends the limits of an integer or a positive integer value.
 fn put_limits(out: &mut Vec<u8>, site: &ObjectSite) -> Result<(), NoMemory>
     requires limits { AreLimits site.now }
     ensures written { OnOk result (out.new.items ≡ out.old.items ++ written_limits site.now) }
 {
-    let [low, high] = site.limit_enable;
-    put_word(out, limit_word(site.high))?;
-    put_word(out, limit_word(site.low))?;
+    put_limit(out, &site.high)?;
+    put_limit(out, &site.low)?;
     put_word(out, site.deadband)?;
-    push(out, u8::from(low) + 2 * u8::from(high))
+    put_two_flags(out, &site.limit_enable)
 }
 
 /// The number of an alarm value, 0 where there is none.
