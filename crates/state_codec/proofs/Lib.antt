@@ -11,3 +11,4 @@ pub mod LengthLaws
 pub mod AllowedLaws
 pub mod SizeLaws
 pub mod RowLimits
+pub mod WithClass

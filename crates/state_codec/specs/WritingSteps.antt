@@ -47,9 +47,13 @@ notes_of_post post = post.notes
 abbrev pub notes_at : OutboxState → ℕ → List Note
 notes_at outbox place = option_map_or notes_of_post (slice_get outbox.posts place) []
 
--- what is told of a post, and how many notes it has
+-- what is told of a delivery, and how many notes there are
+abbrev pub written_delivery : Post → List ℕ
+written_delivery post = post.next_invoke ∷ post.attempts ∷ (to_be_bytes w64 post.deadline ++ to_be_bytes w16 post.notes)
+
+-- what is told of a post
 abbrev pub written_told : Post → List ℕ
-written_told post = written_peer post.peer ++ (post.next_invoke ∷ post.attempts ∷ (to_be_bytes w64 post.deadline ++ to_be_bytes w16 post.notes))
+written_told post = written_peer post.peer ++ written_delivery post
 
 -- ---- the parts of a site's bound
 

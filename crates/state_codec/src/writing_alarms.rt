@@ -136,14 +136,21 @@ fn put_subject(out: &mut Vec<u8>, core: &Core, subject: &Subject) -> Result<(), 
     put_enrollment(out, core.enrollments().row(subject.object))
 }
 
+/// Appends the alarms of those of some objects that have a notification class.
+fn put_subjects(out: &mut Vec<u8>, core: &Core, subjects: &[Subject]) -> Result<(), NoMemory>
+    ensures written { OnOk result (out.new.items ≡ out.old.items ++ flat_map (written_if_alarm core.now) subjects.now) }
+{
+    for subject in subjects {
+        put_subject(out, core, subject)?;
+    }
+    Ok(())
+}
+
 /// Appends the alarms of all objects that have one, by ascending identifier.
 pub(crate) fn put_alarms(alloc: Global, out: &mut Vec<u8>, core: &Core) -> Result<(), NoMemory>
     ensures written { OnOk result (out.new.items ≡ out.old.items ++ flat_map (written_subject core.now) (alarm_subjects core.now.site)) }
 {
     let site = core.site();
     let subjects = subjects_of(alloc, site.objects.as_slice(), site.enrollments.as_slice())?;
-    for subject in &subjects {
-        put_subject(out, core, subject)?;
-    }
-    Ok(())
+    put_subjects(out, core, &subjects)
 }

@@ -3,7 +3,7 @@ ghost use Rattle.std.specs.Prelude.{◌≡◌, ◌++◌, [], OnOk, length, slice
 ghost use Rattle.std.specs.List.{flat_map};
 ghost use Rattle.std.specs.Option.{option_map_or};
 ghost use Rattle.state_codec.specs.Snapshots.{written_body, written_class, written_entry, written_log, written_note, written_outbox, written_post};
-ghost use Rattle.state_codec.specs.WritingSteps.{notes_at, written_told};
+ghost use Rattle.state_codec.specs.WritingSteps.{notes_at, written_delivery, written_told};
 
 use crate::writing::{put_count, put_flag, put_list, put_long, put_octet_count, put_peer, put_word};
 use alarm_core::{Core, SiteLog};
@@ -121,15 +121,22 @@ fn put_notes(out: &mut Vec<u8>, outbox: &Outbox, place: u32, count: u32) -> Resu
     Ok(())
 }
 
+/// Appends what is told of a delivery: the next invoke ID, the attempts, the deadline, and how many notes there are.
+fn put_delivery(out: &mut Vec<u8>, post: &Post) -> Result<(), NoMemory>
+    ensures written { OnOk result (out.new.items ≡ out.old.items ++ written_delivery post.now) }
+{
+    push(out, post.next_invoke)?;
+    push(out, post.attempts)?;
+    put_long(out, post.deadline)?;
+    put_count(out, post.notes as usize)
+}
+
 /// Appends what is told of a post, and how many notes it has.
 fn put_told(out: &mut Vec<u8>, post: &Post) -> Result<(), NoMemory>
     ensures written { OnOk result (out.new.items ≡ out.old.items ++ written_told post.now) }
 {
     put_peer(out, &post.peer)?;
-    push(out, post.next_invoke)?;
-    push(out, post.attempts)?;
-    put_long(out, post.deadline)?;
-    put_count(out, post.notes as usize)
+    put_delivery(out, post)
 }
 
 /// Appends the post at a place, if there is one.
