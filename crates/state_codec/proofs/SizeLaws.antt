@@ -1,11 +1,12 @@
 -- How long the parts of snapshots are, and so snapshots.
-use Rattle.std.proofs.Common.{◌≡◌, ℕ, suc, ◌+◌, ◌-◌, ◌*◌, ◌≤◌, ◌<◌, Bool, true, false, cond, not, Option, Some, None, IfSome, is_some, List, [], ◌∷◌, ◌++◌, length, map, filter, find, sum_by, All, refl, sym, ap, ◌∙◌, subst, mul-add, mul-le-mul_right, arith}
+use Rattle.std.proofs.Common.{◌≡◌, ℕ, suc, ◌+◌, ◌-◌, ◌*◌, ◌≤◌, ◌<◌, Bool, true, false, cond, not, Option, Some, None, IfSome, is_some, List, [], ◌∷◌, ◌++◌, length, map, filter, find, count_by, get_or, take, sum_by, All, refl, sym, ap, ◌∙◌, subst, mul-add, mul-le-mul_right, arith}
 use Rattle.std.specs.Int.{w8, w16, w32, w64, to_be_bytes}
 use Rattle.std.specs.List.{flat_map, AllZip}
 use Rattle.std.proofs.lemmas.List.{length-append, length-map}
 use Rattle.std.proofs.lemmas.List.Concat.{flat_map-cons, length-flat_map}
 use Rattle.std.proofs.lemmas.List.Elements.{All-cons, All-head, All-tail, filter-append}
-use Rattle.std.proofs.lemmas.List.Sums.{sum_by-cons, sum_by-le}
+use Rattle.std.proofs.lemmas.List.Filters.{length-filter_more}
+use Rattle.std.proofs.lemmas.List.Sums.{count_by-le-length, length-filter, sum_by-cons, sum_by-le}
 use Rattle.std.proofs.lemmas.Slice.Zip.{AllZip-long}
 use Rattle.bac_values.specs.EventStates.{number_of_state}
 use Rattle.bac_values.specs.Identifier.{ObjectIdData, kind_of}
@@ -34,14 +35,15 @@ use Rattle.enrollment.specs.declared.subject.Subject.{Subject}
 use Rattle.enrollment.specs.Enrollments.{site_of}
 use Rattle.enrollment.specs.Subjects.{is_before_enrollments, is_behind_enrollments, subject_of_enrollment, subject_of_object}
 use Rattle.alarm_core.specs.Found.{alarm_in, alarm_or_new, detected_object_in}
-use Rattle.alarm_core.specs.Limits.{size_of}
+use Rattle.alarm_core.specs.Limits.{KeepsLimits, size_of}
 use Rattle.alarm_core.specs.Logs.{SiteLogState}
 use Rattle.alarm_core.specs.SiteStates.{IsAlarmOf, IsClassOf, IsDetectedOf, IsLogOf, IsRecordOf, IsRowOf, IsStateOf}
 use Rattle.alarm_core.specs.State.{CoreState, DetectedObjectState}
+use Rattle.alarm_core.specs.Sites.{IsSite}
 use Rattle.alarm_core.specs.Subjects.{alarm_subjects, detecting_subjects, has_class}
 use Rattle.alarm_core.specs.declared.site.Site.{Site}
 use Rattle.state_codec.specs.Records.{IsDestination, IsPeer, IsRecorded, written_destination, written_peer, written_value}
-use Rattle.state_codec.specs.Sizes.{alarm_objects, has_alarm, log_records, record_octets, snapshot_bound, HasPeer, HasRecipients, HasStamp, HasStampedRecords, HasStamps, HasValue, IsStamp, KeepsTypes}
+use Rattle.state_codec.specs.Sizes.{alarm_objects, has_alarm, log_records, most_text, need, record_octets, snapshot_bound, HasPeer, HasRecipients, HasStamp, HasStampedRecords, HasStamps, HasValue, IsStamp, KeepsTypes}
 use Rattle.state_codec.specs.Snapshots.{has_rule, written_alarm, written_cause, written_class, written_delay, written_enrollment, written_entry, written_keys, written_last, written_log, written_note, written_outbox, written_post, written_row, written_run, written_stamp, written_state, written_subject}
 use Rattle.state_codec.proofs.AllowedLaws.{present_type, value_has}
 use Rattle.state_codec.proofs.LengthLaws.{list_length, peer_length, value_length}
@@ -231,6 +233,10 @@ posts_length retries (post ∷ posts) are have =
 
 -- ---- how many alarms there are
 
+pub count_more : (xs : List ObjectSite) (i : ℕ) (d : ObjectSite) → i < length xs → count_by has_alarm (take (i + 1) xs) ≡ count_by has_alarm (take i xs) + cond (is_some (get_or xs i d).class) 1 0
+count_more xs i d lt =
+    sym (length-filter has_alarm (take (i + 1) xs)) ∙ length-filter_more has_alarm xs i d lt ∙ ap (λ n. n + cond (is_some (get_or xs i d).class) 1 0) (length-filter has_alarm (take i xs))
+
 shorter : {X : Type 0} (b : Bool) (x : X) (xs : List X) → length (cond b (x ∷ xs) xs) ≡ cond b 1 0 + length xs
 shorter true x xs = refl
 shorter false x xs = refl
@@ -272,7 +278,8 @@ alarm_count site =
     let two = all_have_class site.enrollments in
     let three = with_class (filter is_behind_enrollments site.objects) in
     let together = parted has_alarm is_before_enrollments site.objects in
-    omega (arith, split, one, two, three, together)
+    let count = length-filter has_alarm site.objects in
+    omega (arith, split, one, two, three, together, count)
 
 -- ---- all of it
 
@@ -314,3 +321,21 @@ snapshot_length site state is types =
     let dc : length (c ++ (d ++ e)) ≡ length c + length (d ++ e) = length-append c (d ++ e) in
     let dd : length (d ++ e) ≡ length d + length e = length-append d e in
     omega (arith, rows, row_count, subjects, subject_count, classes, class_count, logs, posts, room, da, db, dc, dd, is.peers)
+
+pub snapshot_some : (state : CoreState) → 1 ≤ length (written_state state)
+snapshot_some state = omega arith
+
+-- ---- how low the bounds are
+
+record_octets_by : (rule : Bool) → cond rule 1_042 1_034 ≤ 1_042
+record_octets_by true = omega arith
+record_octets_by false = omega arith
+
+pub bound_low : (site : Site) → IsSite site → KeepsLimits site → snapshot_bound site < 36_000_000
+bound_low site is keeps =
+    let alarms : count_by has_alarm site.objects ≤ length site.objects = count_by-le-length has_alarm site.objects in
+    let records : record_octets site * log_records site ≤ 1_042 * log_records site = mul-le-mul_right (log_records site) (record_octets_by (has_rule site)) in
+    omega (arith, alarms, records, keeps.objects, keeps.classes, keeps.logs, keeps.records, is.settings.fits)
+
+pub need_low : (site : Site) (text : ℕ) → IsSite site → KeepsLimits site → text ≤ most_text → need site text < 72_000_000
+need_low site text is keeps short = omega (arith, bound_low site is keeps, short)

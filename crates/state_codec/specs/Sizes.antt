@@ -1,8 +1,7 @@
 -- How long the snapshot of a site may become, and how large its journal's device has to be.
-use Rattle.std.specs.Prelude.{◌≡◌, ◌<◌, ◌^◌, ◌≤◌, ℕ, ◌+◌, ◌*◌, Bool, if◌then◌else◌, Option, List, length, filter, is_some, sum_by, All}
+use Rattle.std.specs.Prelude.{◌≡◌, ℕ, ◌+◌, ◌*◌, Bool, if◌then◌else◌, List, length, is_some, count_by, sum_by, All}
 use Rattle.bac_values.specs.declared.stamp.Stamp.{Stamp}
 use Rattle.event_log.specs.declared.log_record.LogRecord.{LogRecord}
-use Rattle.event_machine.specs.Summary.{AlarmState}
 use Rattle.notify_class.specs.declared.class.Class.{Class}
 use Rattle.object_table.specs.declared.object_site.ObjectSite.{ObjectSite}
 use Rattle.object_table.specs.declared.row.Row.{Row}
@@ -51,7 +50,7 @@ has_alarm site = is_some site.class
 
 -- the objects with alarms: value objects with a notification class, and enrollments
 abbrev pub alarm_objects : Site → ℕ
-alarm_objects site = length (filter has_alarm site.objects) + length site.enrollments
+alarm_objects site = count_by has_alarm site.objects + length site.enrollments
 
 -- how many records the logs hold together
 abbrev pub log_records : Site → ℕ

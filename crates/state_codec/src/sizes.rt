@@ -1,5 +1,5 @@
 //! How long a snapshot may become, and how large a device has to be.
-ghost use Rattle.std.specs.Prelude.{◌≡◌, ◌≤◌, filter, length, sum_by};
+ghost use Rattle.std.specs.Prelude.{◌≡◌, ◌<◌, ◌≤◌, ◌^◌, count_by, length, sum_by};
 ghost use Rattle.alarm_core.specs.Limits.{KeepsLimits, most_records, size_of};
 ghost use Rattle.state_codec.specs.Sizes.{has_alarm, most_text, need, record_octets, snapshot_bound};
 ghost use Rattle.state_codec.specs.WritingSteps.{logs_bound, objects_bound, outbox_bound};
@@ -41,18 +41,16 @@ const HEADER_OCTETS: u64 = 22;
 /// What an area is to take beside the longest snapshot.
 const BATCH_OCTETS: u64 = 60_010;
 
-fn has_alarm(site: &ObjectSite) -> bool
-    ensures same { result ≡ has_alarm site.now }
-{
-    site.class.is_some()
-}
-
 /// How many of some value objects have a notification class.
 fn count_alarms(objects: &[ObjectSite]) -> u64
-    ensures count { result ≡ length (filter has_alarm objects.now) }
+    ensures count { result ≡ count_by has_alarm objects.now }
     ensures few { result ≤ length objects.now }
 {
-    objects.iter().filter(|site| has_alarm(site)).count() as u64
+    let mut count = 0;
+    for site in objects {
+        count += u64::from(site.class.is_some());
+    }
+    count
 }
 
 /// How many records some logs hold together.
@@ -82,6 +80,7 @@ fn record_octets(site: &Site) -> u64
 fn objects_bound(site: &Site) -> u64
     requires limits { KeepsLimits site.now }
     ensures bound { result ≡ objects_bound site.now }
+    ensures fits { result < 2 ^ 60 }
 {
     let objects = site.objects.as_slice();
     let alarms = count_alarms(objects) + site.enrollments.as_slice().len() as u64;
@@ -93,6 +92,7 @@ fn objects_bound(site: &Site) -> u64
 fn logs_bound(site: &Site) -> u64
     requires limits { KeepsLimits site.now }
     ensures bound { result ≡ logs_bound site.now }
+    ensures fits { result < 2 ^ 60 }
 {
     let logs = site.logs.as_slice();
     LOG_OCTETS * logs.len() as u64 + record_octets(site) * count_records(logs)
@@ -101,8 +101,18 @@ fn logs_bound(site: &Site) -> u64
 /// The longest outbox of a site.
 fn outbox_bound(site: &Site) -> u64
     ensures bound { result ≡ outbox_bound site.now }
+    ensures fits { result < 2 ^ 60 }
 {
     POST_OCTETS + NOTE_OCTETS * u64::from(site.device.outbox)
+}
+
+/// The longest of all parts together.
+fn bound_of(site: &Site) -> u64
+    requires limits { KeepsLimits site.now }
+    ensures bound { result ≡ snapshot_bound site.now }
+    ensures fits { result < 2 ^ 62 }
+{
+    FRAME_OCTETS + objects_bound(site) + logs_bound(site) + outbox_bound(site)
 }
 
 /// No snapshot of the site is longer. It is below 36,000,000 for a site that may be.
@@ -110,7 +120,7 @@ pub fn snapshot_bound(site: &Site) -> u64
     requires limits { KeepsLimits site.now }
     ensures bound { result ≡ snapshot_bound site.now }
 {
-    FRAME_OCTETS + objects_bound(site) + logs_bound(site) + outbox_bound(site)
+    bound_of(site)
 }
 
 /// How many octets the device of a site's journal has to have, where the site's text has so many.
@@ -119,5 +129,5 @@ pub fn need(site: &Site, text: u64) -> u64
     requires short { text ≤ most_text }
     ensures need { result ≡ need site.now text }
 {
-    HEADER_OCTETS + text + 2 * (BATCH_OCTETS + snapshot_bound(site))
+    HEADER_OCTETS + text + 2 * (BATCH_OCTETS + bound_of(site))
 }
