@@ -1,5 +1,5 @@
 -- The limits of a value object fit 32 bits.
-use Rattle.std.proofs.Common.{◌≡◌, ℕ, ℤ, pos, ◌⊎◌, Option, Some, None, FitsSigned, inl, inr, sym, subst, arith, w32}
+use Rattle.std.proofs.Common.{ℕ, pos, Option, Some, None, inl, inr, sym, subst, arith}
 use Rattle.bac_values.specs.declared.object_kind.ObjectKind.{ObjectKind}
 use Rattle.bac_values.specs.declared.object_kind.ObjectKind.TheVariants.{IntegerValue, PositiveIntegerValue}
 use Rattle.object_table.specs.Objects.{IsRow, KeepsAlarmKeys, KeepsLimits, LacksLimits}

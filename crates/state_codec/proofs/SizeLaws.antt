@@ -1,25 +1,24 @@
 -- How long the parts of snapshots are, and so snapshots.
-use Rattle.std.proofs.Common.{◌≡◌, ℕ, suc, ◌+◌, ◌-◌, ◌*◌, ◌≤◌, ◌<◌, Bool, true, false, cond, not, Option, Some, None, IfSome, is_some, List, [], ◌∷◌, ◌++◌, length, map, filter, find, count_by, get_or, take, sum_by, All, refl, sym, ap, ◌∙◌, subst, mul-add, mul-le-mul_right, arith}
-use Rattle.std.specs.Int.{w8, w16, w32, w64, to_be_bytes}
+use Rattle.std.proofs.Common.{◌≡◌, ℕ, suc, ◌+◌, ◌*◌, ◌≤◌, ◌<◌, Bool, true, false, cond, not, Option, Some, None, IfSome, is_some, List, [], ◌∷◌, ◌++◌, length, map, filter, find, count_by, get_or, take, sum_by, All, refl, sym, ap, ◌∙◌, subst, mul-add, mul-le-mul_right, arith}
 use Rattle.std.specs.List.{flat_map, AllZip}
-use Rattle.std.proofs.lemmas.List.{length-append, length-map}
+use Rattle.std.proofs.lemmas.List.{length-append}
 use Rattle.std.proofs.lemmas.List.Concat.{flat_map-cons, length-flat_map}
 use Rattle.std.proofs.lemmas.List.Elements.{All-cons, All-head, All-tail, filter-append}
 use Rattle.std.proofs.lemmas.List.Filters.{length-filter_more}
 use Rattle.std.proofs.lemmas.List.Sums.{count_by-le-length, length-filter, sum_by-cons, sum_by-le}
 use Rattle.std.proofs.lemmas.Slice.Zip.{AllZip-long}
-use Rattle.bac_values.specs.EventStates.{number_of_state}
-use Rattle.bac_values.specs.Identifier.{ObjectIdData, kind_of}
+use Rattle.bac_values.specs.Identifier.{kind_of}
 use Rattle.bac_values.specs.Reliabilities.{number_of_reliability}
 use Rattle.bac_values.specs.declared.event_state.EventState.{EventState}
 use Rattle.bac_values.specs.declared.note.Note.{Note}
 use Rattle.bac_values.specs.declared.object_kind.ObjectKind.{ObjectKind}
 use Rattle.bac_values.specs.declared.object_kind.ObjectKind.TheVariants.{BinaryValue, IntegerValue, PositiveIntegerValue}
-use Rattle.bac_values.specs.declared.stamp.Stamp.{Stamp}
-use Rattle.event_log.specs.Log.{IsLog}
 use Rattle.event_log.specs.declared.log_record.LogRecord.{LogRecord}
 use Rattle.event_log.specs.declared.log_site.LogSite.{LogSite}
-use Rattle.event_machine.specs.Summary.{AlarmState, new_alarm}
+use Rattle.algorithm_rules.specs.Rules.{rules_of}
+use Rattle.event_machine.specs.AlarmRecord.{never}
+use Rattle.event_machine.specs.Runs.{places}
+use Rattle.event_machine.specs.Summary.{AlarmState, new_alarm, transitions}
 use Rattle.event_machine.specs.declared.run.Run.{Run}
 use Rattle.notify_class.specs.declared.class.Class.{Class}
 use Rattle.notify_class.specs.declared.class_site.ClassSite.{ClassSite}
@@ -28,7 +27,7 @@ use Rattle.object_table.specs.Properties.{kind_in}
 use Rattle.object_table.specs.Rows.{is_object}
 use Rattle.object_table.specs.declared.object_site.ObjectSite.{ObjectSite}
 use Rattle.object_table.specs.declared.row.Row.{Row}
-use Rattle.outbox.specs.Outboxes.{IsOutbox, OutboxState, unfinished_in}
+use Rattle.outbox.specs.Outboxes.{unfinished_in}
 use Rattle.outbox.specs.Posts.{IsPost, MailboxState, most_octets}
 use Rattle.enrollment.specs.declared.enrollment_site.EnrollmentSite.{EnrollmentSite}
 use Rattle.enrollment.specs.declared.subject.Subject.{Subject}
@@ -37,12 +36,12 @@ use Rattle.enrollment.specs.Subjects.{is_before_enrollments, is_behind_enrollmen
 use Rattle.alarm_core.specs.Found.{alarm_in, alarm_or_new, detected_object_in}
 use Rattle.alarm_core.specs.Limits.{KeepsLimits, size_of}
 use Rattle.alarm_core.specs.Logs.{SiteLogState}
-use Rattle.alarm_core.specs.SiteStates.{IsAlarmOf, IsClassOf, IsDetectedOf, IsLogOf, IsRecordOf, IsRowOf, IsStateOf}
+use Rattle.alarm_core.specs.SiteStates.{IsClassOf, IsDetectedOf, IsLastState, IsLogOf, IsRowOf, IsRunAt, IsStateOf}
 use Rattle.alarm_core.specs.State.{CoreState, DetectedObjectState}
 use Rattle.alarm_core.specs.Sites.{IsSite}
 use Rattle.alarm_core.specs.Subjects.{alarm_subjects, detecting_subjects, has_class}
 use Rattle.alarm_core.specs.declared.site.Site.{Site}
-use Rattle.state_codec.specs.Records.{IsDestination, IsPeer, IsRecorded, written_destination, written_peer, written_value}
+use Rattle.state_codec.specs.Records.{written_destination, written_peer, written_value}
 use Rattle.state_codec.specs.Sizes.{alarm_objects, has_alarm, log_records, most_text, need, record_octets, snapshot_bound, HasPeer, HasRecipients, HasStamp, HasStampedRecords, HasStamps, HasValue, IsStamp, KeepsTypes}
 use Rattle.state_codec.specs.Snapshots.{has_rule, written_alarm, written_cause, written_class, written_delay, written_enrollment, written_entry, written_keys, written_last, written_log, written_note, written_outbox, written_post, written_row, written_run, written_stamp, written_state, written_subject}
 use Rattle.state_codec.proofs.AllowedLaws.{present_type, value_has}
@@ -140,6 +139,9 @@ enrollment_length : (site : Option EnrollmentSite) → length (written_enrollmen
 enrollment_length (Some site) = omega arith
 enrollment_length None = omega arith
 
+plain_stamps : All IsStamp (never ∷ never ∷ never ∷ [])
+plain_stamps = All-cons IsStamp never (never ∷ never ∷ []) refl (All-cons IsStamp never (never ∷ []) refl (All-cons IsStamp never [] refl (all_none IsStamp)))
+
 new_is_plain : IsPlain new_alarm
 new_is_plain = record { stamps = refl; octets = plain_stamps; last_states = refl; runs = refl }
 
@@ -151,8 +153,8 @@ detected_is_plain : (site : Site) (state : CoreState) (subject : Subject) (detec
 detected_is_plain site state subject detected is stamps = record {
   stamps = is.alarm.stamps;
   octets = stamps;
-  last_states = AllZip-long _ _ detected.alarm.last_states is.alarm.last_states;
-  runs = AllZip-long _ _ detected.alarm.runs is.alarm.runs;
+  last_states = AllZip-long IsLastState transitions detected.alarm.last_states is.alarm.last_states;
+  runs = AllZip-long (IsRunAt (rules_of subject.algorithm detected.alarm.state) state.last_moment) places detected.alarm.runs is.alarm.runs;
 }
 
 -- each alarm of a state that a site may have is plain
@@ -179,7 +181,7 @@ class_length class is =
 
 -- ---- logs
 
-entry_octets : Bool → ℕ
+abbrev entry_octets : Bool → ℕ
 entry_octets true = 1_042
 entry_octets false = 1_034
 
@@ -219,7 +221,7 @@ post_length retries post is =
     let peer : length (written_peer post.peer) ≡ 16 = peer_length post.peer is.1 in
     omega (arith, notes, peer, length-append (written_peer post.peer))
 
-notes_in : MailboxState → ℕ
+abbrev notes_in : MailboxState → ℕ
 notes_in post = length post.notes
 
 posts_length : (retries : ℕ) (posts : List MailboxState) → All (IsPost retries) posts → All HasPeer posts → length (flat_map written_post posts) ≤ 28 * length posts + 1_027 * sum_by notes_in posts
@@ -238,8 +240,8 @@ count_more xs i d lt =
     sym (length-filter has_alarm (take (i + 1) xs)) ∙ length-filter_more has_alarm xs i d lt ∙ ap (λ n. n + cond (is_some (get_or xs i d).class) 1 0) (length-filter has_alarm (take i xs))
 
 shorter : {X : Type 0} (b : Bool) (x : X) (xs : List X) → length (cond b (x ∷ xs) xs) ≡ cond b 1 0 + length xs
-shorter true x xs = refl
-shorter false x xs = refl
+shorter true x xs = omega arith
+shorter false x xs = omega arith
 
 with_class : (xs : List ObjectSite) → length (filter has_class (map subject_of_object xs)) ≡ length (filter has_alarm xs)
 with_class [] = refl
@@ -271,9 +273,9 @@ alarm_count site =
     let middle = map subject_of_enrollment site.enrollments in
     let last = map subject_of_object (filter is_behind_enrollments site.objects) in
     let split : length (filter has_class (first ++ (middle ++ last))) ≡ length (filter has_class first) + (length (filter has_class middle) + length (filter has_class last)) =
-        ap (λ (t : List Subject). length t) (filter-append has_class first (middle ++ last) ∙ ap (λ (t : List Subject). filter has_class first ++ t) (filter-append has_class middle last))
-        ∙ length-append (filter has_class first) (filter has_class middle ++ filter has_class last)
-        ∙ ap (λ n. length (filter has_class first) + n) (length-append (filter has_class middle) (filter has_class last)) in
+    ap (λ (t : List Subject). length t) (filter-append has_class first (middle ++ last) ∙ ap (λ (t : List Subject). filter has_class first ++ t) (filter-append has_class middle last))
+    ∙ length-append (filter has_class first) (filter has_class middle ++ filter has_class last)
+    ∙ ap (λ n. length (filter has_class first) + n) (length-append (filter has_class middle) (filter has_class last)) in
     let one = with_class (filter is_before_enrollments site.objects) in
     let two = all_have_class site.enrollments in
     let three = with_class (filter is_behind_enrollments site.objects) in
@@ -298,17 +300,17 @@ snapshot_length site state is types =
     let rule = has_rule state.site in
     let plain = alarms_are_plain site state is types in
     let rows : length (flat_map written_row state.values.rows) ≤ length state.values.rows * 320 =
-        at_most written_row (λ row. IsRow row × HasValue row) 320 row_length state.values.rows (all_both IsRow HasValue state.values.rows (seconds IsRowOf IsRow (λ described row e. e.takes) site.objects state.values.rows is.rows) types.values) in
+    at_most written_row (λ row. IsRow row × HasValue row) 320 row_length state.values.rows (all_both IsRow HasValue state.values.rows (seconds IsRowOf IsRow (λ described row e. e.takes) site.objects state.values.rows is.rows) types.values) in
     let row_count : length state.values.rows ≡ length site.objects = AllZip-long IsRowOf site.objects state.values.rows is.rows in
     let subjects : length (flat_map (written_subject state) (alarm_subjects state.site)) ≤ length (alarm_subjects state.site) * 128 =
-        at_most (written_subject state) (λ subject. Unit {0}) 128 (subject_length state plain) (alarm_subjects state.site) (λ k d lt. tt) in
+    at_most (written_subject state) (λ subject. Unit {0}) 128 (subject_length state plain) (alarm_subjects state.site) (λ k d lt. tt) in
     let subject_count : length (alarm_subjects state.site) ≡ alarm_objects site = ap (λ (s : Site). length (alarm_subjects s)) is.site_is ∙ alarm_count site in
     let classes : length (flat_map written_class state.classes) ≤ length state.classes * 993 =
-        at_most written_class (λ (class : Class). (length class.destinations ≤ 32) × HasRecipients class) 993 class_length state.classes
-            (all_both (λ (class : Class). length class.destinations ≤ 32) HasRecipients state.classes (seconds IsClassOf (λ (class : Class). length class.destinations ≤ 32) class_is_few site.classes state.classes is.classes) types.classes) in
+    at_most written_class (λ (class : Class). (length class.destinations ≤ 32) × HasRecipients class) 993 class_length state.classes
+    (all_both (λ (class : Class). length class.destinations ≤ 32) HasRecipients state.classes (seconds IsClassOf (λ (class : Class). length class.destinations ≤ 32) class_is_few site.classes state.classes is.classes) types.classes) in
     let class_count : length state.classes ≡ length site.classes = AllZip-long IsClassOf site.classes state.classes is.classes in
     let logs : length (flat_map (written_log rule) state.logs) ≤ 9 * length site.logs + record_octets site * log_records site =
-        subst (λ n. length (flat_map (written_log rule) state.logs) ≤ 9 * length site.logs + n * log_records site) (ap (λ (s : Site). entry_octets (has_rule s)) is.site_is ∙ entry_octets_are site) (logs_length rule site site.logs state.logs is.logs types.logs) in
+    subst (λ n. length (flat_map (written_log rule) state.logs) ≤ 9 * length site.logs + n * log_records site) (ap (λ (s : Site). entry_octets (has_rule s)) is.site_is ∙ entry_octets_are site) (logs_length rule site site.logs state.logs is.logs types.logs) in
     let posts : length (flat_map written_post state.outbox.posts) ≤ 28 * length state.outbox.posts + 1_027 * unfinished_in state.outbox.posts = posts_length state.outbox.retries state.outbox.posts is.outbox.posts types.posts in
     let room : unfinished_in state.outbox.posts ≤ site.device.outbox = subst (λ limit. unfinished_in state.outbox.posts ≤ limit) is.limit is.outbox.room in
     let a = flat_map written_row state.values.rows in
@@ -331,11 +333,14 @@ record_octets_by : (rule : Bool) → cond rule 1_042 1_034 ≤ 1_042
 record_octets_by true = omega arith
 record_octets_by false = omega arith
 
-pub bound_low : (site : Site) → IsSite site → KeepsLimits site → snapshot_bound site < 36_000_000
-bound_low site is keeps =
+bound_least : (site : Site) → IsSite site → KeepsLimits site → snapshot_bound site ≤ 35_299_747
+bound_least site is keeps =
     let alarms : count_by has_alarm site.objects ≤ length site.objects = count_by-le-length has_alarm site.objects in
     let records : record_octets site * log_records site ≤ 1_042 * log_records site = mul-le-mul_right (log_records site) (record_octets_by (has_rule site)) in
     omega (arith, alarms, records, keeps.objects, keeps.classes, keeps.logs, keeps.records, is.settings.fits)
 
+pub bound_low : (site : Site) → IsSite site → KeepsLimits site → snapshot_bound site < 36_000_000
+bound_low site is keeps = omega (arith, bound_least site is keeps)
+
 pub need_low : (site : Site) (text : ℕ) → IsSite site → KeepsLimits site → text ≤ most_text → need site text < 72_000_000
-need_low site text is keeps short = omega (arith, bound_low site is keeps, short)
+need_low site text is keeps short = omega (arith, bound_least site is keeps, short)

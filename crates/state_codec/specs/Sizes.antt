@@ -1,5 +1,5 @@
 -- How long the snapshot of a site may become, and how large its journal's device has to be.
-use Rattle.std.specs.Prelude.{◌≡◌, ℕ, ◌+◌, ◌*◌, Bool, if◌then◌else◌, List, length, is_some, count_by, sum_by, All}
+use Rattle.std.specs.Prelude.{◌≡◌, ℕ, ◌+◌, ◌*◌, Bool, if◌then◌else◌, length, is_some, count_by, sum_by, All}
 use Rattle.bac_values.specs.declared.stamp.Stamp.{Stamp}
 use Rattle.event_log.specs.declared.log_record.LogRecord.{LogRecord}
 use Rattle.notify_class.specs.declared.class.Class.{Class}

@@ -100,10 +100,7 @@ fn put_alarm(out: &mut Vec<u8>, alarm: &Alarm) -> Result<(), NoMemory>
 }
 
 /// Appends the writable properties of an enrollment, where it is one.
-fn put_enrollment(
-    out: &mut Vec<u8>,
-    enrollment: Option<&EnrollmentSite>,
-) -> Result<(), NoMemory>
+fn put_enrollment(out: &mut Vec<u8>, enrollment: Option<&EnrollmentSite>) -> Result<(), NoMemory>
     ensures written { OnOk result (out.new.items ≡ out.old.items ++ written_enrollment (option_copied enrollment.entry)) }
 {
     match enrollment {

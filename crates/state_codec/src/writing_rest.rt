@@ -5,7 +5,9 @@ ghost use Rattle.std.specs.Option.{option_map_or};
 ghost use Rattle.state_codec.specs.Snapshots.{written_body, written_class, written_entry, written_log, written_note, written_outbox, written_post};
 ghost use Rattle.state_codec.specs.WritingSteps.{notes_at, written_delivery, written_told};
 
-use crate::writing::{put_count, put_flag, put_list, put_long, put_octet_count, put_peer, put_word};
+use crate::writing::{
+    put_count, put_flag, put_list, put_long, put_octet_count, put_peer, put_word,
+};
 use alarm_core::{Core, SiteLog};
 use bac_values::{NoMemory, Note, push};
 use event_log::{EventLog, LogRecord};

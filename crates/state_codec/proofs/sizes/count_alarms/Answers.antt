@@ -1,4 +1,4 @@
-use Rattle.std.proofs.Common.{◌≡◌, ◌+◌, ◌≤◌, rules, take, get_or, count_by, length, cond, ap, sym, ◌∙◌, take_all, length-take-le, le_trans, arith}
+use Rattle.std.proofs.Common.{◌≡◌, take, count_by, ap, ◌∙◌, take_all, length-take-le, arith}
 use Rattle.std.proofs.lemmas.List.Sums.{count_by-le-length}
 use Rattle.state_codec.specs.Sizes.{has_alarm}
 use Rattle.state_codec.proofs.SizeLaws.{count_more}

@@ -1,4 +1,4 @@
-use Rattle.std.proofs.Common.{◌+◌, ◌≤◌, rules, subst, sym, ap, ◌∙◌, sum_by, take, get_or, arith}
+use Rattle.std.proofs.Common.{◌+◌, ◌≤◌, sum_by, take, get_or, arith}
 use Rattle.std.proofs.lemmas.List.Sums.{sum_by_more, sum_by_more_le}
 use Rattle.alarm_core.specs.Limits.{size_of}
 use Rattle.state_codec.proofs.sizes.count_records.Goals as goal

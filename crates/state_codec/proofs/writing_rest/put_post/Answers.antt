@@ -1,4 +1,4 @@
-use Rattle.std.proofs.Common.{rules, slice_get, sym}
+use Rattle.std.proofs.Common.{rules, slice_get}
 use Rattle.state_codec.proofs.Written.{on_ok, post_written}
 use Rattle.state_codec.proofs.writing_rest.put_post.Goals as goal
 
