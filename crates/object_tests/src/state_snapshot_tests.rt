@@ -97,7 +97,10 @@ impl Play for Begun {
     fn play(&self, rt: &impl Abort, alloc: Global, core: &mut Core) -> Result<(), Fail> {
         let octets = write_state(alloc, core)?;
         holds(rt, octets.len() == 184);
-        holds(rt, are_parts(&octets, &[&HEAD, &ROW, &ALARM, &CLASS, &OUTBOX]));
+        holds(
+            rt,
+            are_parts(&octets, &[&HEAD, &ROW, &ALARM, &CLASS, &OUTBOX]),
+        );
         Ok(())
     }
 }
