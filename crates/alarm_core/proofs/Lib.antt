@@ -32,4 +32,7 @@ pub mod Listed
 pub mod Counting
 pub mod Accepted
 pub mod LastLists
+pub mod Restored
+pub mod RestoredCore
+pub mod RestoredParts
 mod Kept

@@ -1,5 +1,5 @@
 -- The parts of a core, of which it is made again.
-use Rattle.std.specs.Prelude.{◌≡◌, Bool, false, if◌then◌else◌, List, [], ◌∷◌, map, filter, flat_map, zip, is_some, length}
+use Rattle.std.specs.Prelude.{◌≡◌, false, if◌then◌else◌, List, [], ◌∷◌, map, flat_map, zip, length}
 use Rattle.std.specs.List.{AllZip}
 use Rattle.event_log.specs.Log.{EventLogState}
 use Rattle.event_log.specs.declared.log_site.LogSite.{LogSite}
@@ -8,8 +8,10 @@ use Rattle.enrollment.specs.Subjects.{is_detecting}
 use Rattle.enrollment.specs.declared.subject.Subject.{Subject}
 use Rattle.alarm_core.specs.declared.parts.Parts.{Parts}
 use Rattle.alarm_core.specs.declared.site.Site.{Site}
-use Rattle.alarm_core.specs.Logs.{SiteLogState}
+use Rattle.alarm_core.specs.Found.{alarm_in}
+use Rattle.alarm_core.specs.Logs.{SiteLogState, log_of}
 use Rattle.alarm_core.specs.SiteStates.{IsStateOf}
+use Rattle.alarm_core.specs.Sites.{IsSite}
 use Rattle.alarm_core.specs.State.{CoreState, DetectedObjectState}
 use Rattle.alarm_core.specs.Subjects.{ack_required_of, alarm_subjects}
 
@@ -51,3 +53,21 @@ pub record ArePartsOf (site : Site) (parts : Parts) : Type 0 where
   pub alarms : AllZip MayHave (alarm_subjects site) parts.alarms
   pub logs : length parts.logs ≡ length site.logs
   pub state : IsStateOf site (state_of_parts site parts)
+
+-- the parts that a state tells
+abbrev pub parts_of : CoreState → Parts
+parts_of state = record {
+  events = state.events;
+  last_moment = state.last_moment;
+  table = state.values.rows;
+  enrollments = state.values.enrollments;
+  alarms = map (λ (subject : Subject). alarm_in state subject.object) (alarm_subjects state.site);
+  classes = state.classes;
+  logs = map log_of state.logs;
+  outbox = state.outbox;
+}
+
+-- of the parts that a state tells a core may be made, and it has that state
+pub record RestoresWhatItTells : Type 0 where
+  pub parts : (site : Site) (state : CoreState) → IsSite site → IsStateOf site state → ArePartsOf site (parts_of state)
+  pub state : (site : Site) (state : CoreState) → IsSite site → IsStateOf site state → state_of_parts site (parts_of state) ≡ state

@@ -1,5 +1,5 @@
 -- What the state of a site keeps to, whatever happened: the states that a snapshot of the site may hold.
-use Rattle.std.specs.Prelude.{◌≡◌, ◌≤◌, ◌<◌, ◌^◌, ℕ, ℤ, pos, ◌==◌, Bool, true, IsTrue, IsSome, IfSome, IsNone, Option, Some, None, is_some, if◌then◌else◌, List, length, All}
+use Rattle.std.specs.Prelude.{◌≡◌, ◌≤◌, ◌<◌, ◌^◌, ℕ, ℤ, pos, ◌==◌, Bool, true, IsTrue, IsSome, IfSome, IsNone, Option, Some, is_some, if◌then◌else◌, List, length, All}
 use Rattle.std.specs.List.{AllZip, list_any}
 use Rattle.std.specs.Option.{option_map_or}
 use Rattle.bac_values.specs.EventStates.{event_states, number_of_state, transition_to}
@@ -9,15 +9,14 @@ use Rattle.bac_values.specs.declared.event_state.EventState.{EventState}
 use Rattle.bac_values.specs.declared.event_state.EventState.TheVariants.{Normal, Fault, Offnormal}
 use Rattle.bac_values.specs.declared.stamp.Stamp.{Stamp}
 use Rattle.bac_values.specs.declared.transition.Transition.{Transition}
-use Rattle.civil_stamp.specs.CivilStamp.{hundredths_in}
-use Rattle.civil_stamp.specs.LocalTime.{ZoneData}
+use Rattle.civil_stamp.specs.LocalTime.{ZoneData, hundredths_in}
 use Rattle.algorithm_rules.specs.Rules.{rules_of}
 use Rattle.algorithm_rules.specs.declared.table.Algorithm.{Algorithm}
 use Rattle.algorithm_rules.specs.declared.table.Rule.{Rule}
 use Rattle.event_machine.specs.Runs.{places}
 use Rattle.event_machine.specs.Summary.{AlarmState, transitions}
 use Rattle.event_machine.specs.declared.run.Run.{Run}
-use Rattle.event_log.specs.Log.{EventLogState, IsLog}
+use Rattle.event_log.specs.Log.{IsLog}
 use Rattle.event_log.specs.declared.log_record.LogRecord.{LogRecord}
 use Rattle.event_log.specs.declared.log_site.LogSite.{LogSite}
 use Rattle.notify_class.specs.Edits.{most_destinations, most_peers}
@@ -27,7 +26,7 @@ use Rattle.object_table.specs.Objects.{IsRow}
 use Rattle.object_table.specs.Rows.{row_of}
 use Rattle.object_table.specs.declared.object_site.ObjectSite.{ObjectSite}
 use Rattle.object_table.specs.declared.row.Row.{Row}
-use Rattle.outbox.specs.Outboxes.{IsOutbox, OutboxState, peers_of}
+use Rattle.outbox.specs.Outboxes.{IsOutbox, peers_of}
 use Rattle.outbox.specs.Posts.{most_octets}
 use Rattle.enrollment.specs.Objects.{ObjectsState}
 use Rattle.enrollment.specs.declared.enrollment_site.EnrollmentSite.{EnrollmentSite}

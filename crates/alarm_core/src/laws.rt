@@ -1,11 +1,17 @@
 ghost use Rattle.alarm_core.specs.LastLists.{ReadsTheLastList};
 ghost use Rattle.alarm_core.specs.Laws.{AllowsWhatChecksAccept, CountsTheLongerHistory, KnowsListedPeers, StandsForItsHistory};
+ghost use Rattle.alarm_core.specs.Parts.{RestoresWhatItTells};
 
 /// Going on from event to event, as they come, gives the state and the event-state transitions that looking back over the
 /// whole history gives, its notifications and what it sends; the run starts that looking back gives are in that state; and
 /// where the classes leave room, a tick with no unfinished notification is never refused as full.
 pub fn stands_for_its_history()
     ensures history { StandsForItsHistory }
+{}
+
+/// Of the parts that a state of a site tells a core may be made, and it has that state.
+pub fn restores_what_it_tells()
+    ensures restores { RestoresWhatItTells }
 {}
 
 /// The Recipient_List that is read of a notification class is that of its last edit, and the site's where there was none.

@@ -22,6 +22,7 @@ mod notifications;
 mod parts;
 mod queueing;
 mod reading;
+mod restoring;
 mod site;
 mod starting;
 mod state;
@@ -33,7 +34,7 @@ pub use event::{Act, Event, Outcome, StepFault};
 pub use event_log::LogSite;
 pub use laws::{
     allows_what_checks_accept, counts_the_longer_history, knows_listed_peers, reads_the_last_list,
-    stands_for_its_history,
+    restores_what_it_tells, stands_for_its_history,
 };
 pub use logs::SiteLog;
 pub use notify_class::ClassSite;
