@@ -104,10 +104,9 @@ row_length row is =
 
 -- ---- alarms
 
--- what makes an alarm short: three of all, and stamps of eight octets
+-- what makes an alarm short: three of all
 record IsPlain (alarm : AlarmState) : Type 0 where
   stamps : length alarm.stamps ≡ 3
-  octets : All IsStamp alarm.stamps
   last_states : length alarm.last_states ≡ 3
   runs : length alarm.runs ≡ 3
 
@@ -123,9 +122,9 @@ cause_length : (cause : Option ℕ) → length (written_cause cause) ≡ 4
 cause_length (Some place) = refl
 cause_length None = refl
 
-alarm_length : (alarm : AlarmState) → IsPlain alarm → length (written_alarm alarm) ≤ 73
-alarm_length alarm is =
-    let stamps : length (flat_map written_stamp alarm.stamps) ≤ length alarm.stamps * 8 = at_most written_stamp IsStamp 8 (λ x e. omega (arith, e)) alarm.stamps is.octets in
+alarm_length : (alarm : AlarmState) → IsPlain alarm → All IsStamp alarm.stamps → length (written_alarm alarm) ≤ 73
+alarm_length alarm is stamped =
+    let stamps : length (flat_map written_stamp alarm.stamps) ≤ length alarm.stamps * 8 = at_most written_stamp IsStamp 8 (λ x e. omega (arith, e)) alarm.stamps stamped in
     let lasts : length (flat_map written_last alarm.last_states) ≤ length alarm.last_states * 1 = at_most written_last (λ x. Unit {0}) 1 last_length alarm.last_states (λ k d lt. tt) in
     let runs : length (flat_map written_run alarm.runs) ≤ length alarm.runs * 13 = at_most written_run (λ x. Unit {0}) 13 run_length alarm.runs (λ k d lt. tt) in
     let cause : length (written_cause alarm.cause) ≡ 4 = cause_length alarm.cause in
@@ -139,35 +138,30 @@ enrollment_length : (site : Option EnrollmentSite) → length (written_enrollmen
 enrollment_length (Some site) = omega arith
 enrollment_length None = omega arith
 
-plain_stamps : All IsStamp (never ∷ never ∷ never ∷ [])
-plain_stamps = All-cons IsStamp never (never ∷ never ∷ []) refl (All-cons IsStamp never (never ∷ []) refl (All-cons IsStamp never [] refl (all_none IsStamp)))
-
 new_is_plain : IsPlain new_alarm
-new_is_plain = record { stamps = refl; octets = plain_stamps; last_states = refl; runs = refl }
+new_is_plain = record { stamps = refl; last_states = refl; runs = refl }
 
 alarm_of_is_plain : (detected : Option DetectedObjectState) → IfSome detected (λ it. IsPlain it.alarm) → IsPlain (alarm_or_new detected)
 alarm_of_is_plain (Some detected) is = is
 alarm_of_is_plain None is = new_is_plain
 
-detected_is_plain : (site : Site) (state : CoreState) (subject : Subject) (detected : DetectedObjectState) → IsDetectedOf site state subject detected → HasStamps detected → IsPlain detected.alarm
-detected_is_plain site state subject detected is stamps = record {
+detected_is_plain : (site : Site) (state : CoreState) (subject : Subject) (detected : DetectedObjectState) → IsDetectedOf site state subject detected → IsPlain detected.alarm
+detected_is_plain site state subject detected is = record {
   stamps = is.alarm.stamps;
-  octets = stamps;
   last_states = AllZip-long IsLastState transitions detected.alarm.last_states is.alarm.last_states;
   runs = AllZip-long (IsRunAt (rules_of subject.algorithm detected.alarm.state) state.last_moment) places detected.alarm.runs is.alarm.runs;
 }
 
 -- each alarm of a state that a site may have is plain
-alarms_are_plain : (site : Site) (state : CoreState) → IsStateOf site state → KeepsTypes state → All (λ (it : DetectedObjectState). IsPlain it.alarm) state.alarms
-alarms_are_plain site state is types =
-    let of_types : All (λ (it : DetectedObjectState). HasStamps it → IsPlain it.alarm) state.alarms = seconds (IsDetectedOf site state) (λ it. HasStamps it → IsPlain it.alarm) (λ subject it e stamps. detected_is_plain site state subject it e stamps) (detecting_subjects site) state.alarms is.alarms in
-    λ k d lt. of_types k d lt (types.alarms k d lt)
+alarms_are_plain : (site : Site) (state : CoreState) → IsStateOf site state → All (λ (it : DetectedObjectState). IsPlain it.alarm) state.alarms
+alarms_are_plain site state is =
+    seconds (IsDetectedOf site state) (λ it. IsPlain it.alarm) (λ subject it e. detected_is_plain site state subject it e) (detecting_subjects site) state.alarms is.alarms
 
-subject_length : (state : CoreState) → All (λ (it : DetectedObjectState). IsPlain it.alarm) state.alarms → (subject : Subject) → Unit {0} → length (written_subject state subject) ≤ 128
-subject_length state plain subject t =
+subject_length : (state : CoreState) → All (λ (it : DetectedObjectState). IsPlain it.alarm) state.alarms → (subject : Subject) → HasStamps state subject → length (written_subject state subject) ≤ 128
+subject_length state plain subject stamped =
     let alarm = alarm_in state subject.object in
     let rest = written_enrollment (site_of subject.object state.values.enrollments) in
-    let one : length (written_alarm alarm) ≤ 73 = alarm_length alarm (alarm_of_is_plain (detected_object_in subject.object state.alarms) (found (λ (it : DetectedObjectState). IsPlain it.alarm) (λ detected. is_object subject.object detected.object) state.alarms plain)) in
+    let one : length (written_alarm alarm) ≤ 73 = alarm_length alarm (alarm_of_is_plain (detected_object_in subject.object state.alarms) (found (λ (it : DetectedObjectState). IsPlain it.alarm) (λ detected. is_object subject.object detected.object) state.alarms plain)) stamped in
     let other : length rest ≤ 2 = enrollment_length (site_of subject.object state.values.enrollments) in
     let whole : length (written_alarm alarm ++ rest) ≡ length (written_alarm alarm) + length rest = length-append (written_alarm alarm) rest in
     omega (arith, one, other, whole)
@@ -298,12 +292,12 @@ entry_octets_are site = entry_octets_by (has_rule site)
 pub snapshot_length : (site : Site) (state : CoreState) → IsStateOf site state → KeepsTypes state → length (written_state state) ≤ snapshot_bound site
 snapshot_length site state is types =
     let rule = has_rule state.site in
-    let plain = alarms_are_plain site state is types in
+    let plain = alarms_are_plain site state is in
     let rows : length (flat_map written_row state.values.rows) ≤ length state.values.rows * 320 =
     at_most written_row (λ row. IsRow row × HasValue row) 320 row_length state.values.rows (all_both IsRow HasValue state.values.rows (seconds IsRowOf IsRow (λ described row e. e.takes) site.objects state.values.rows is.rows) types.values) in
     let row_count : length state.values.rows ≡ length site.objects = AllZip-long IsRowOf site.objects state.values.rows is.rows in
     let subjects : length (flat_map (written_subject state) (alarm_subjects state.site)) ≤ length (alarm_subjects state.site) * 128 =
-    at_most (written_subject state) (λ subject. Unit {0}) 128 (subject_length state plain) (alarm_subjects state.site) (λ k d lt. tt) in
+    at_most (written_subject state) (HasStamps state) 128 (subject_length state plain) (alarm_subjects state.site) types.alarms in
     let subject_count : length (alarm_subjects state.site) ≡ alarm_objects site = ap (λ (s : Site). length (alarm_subjects s)) is.site_is ∙ alarm_count site in
     let classes : length (flat_map written_class state.classes) ≤ length state.classes * 993 =
     at_most written_class (λ (class : Class). (length class.destinations ≤ 32) × HasRecipients class) 993 class_length state.classes

@@ -6,9 +6,12 @@ use Rattle.notify_class.specs.declared.class.Class.{Class}
 use Rattle.object_table.specs.declared.object_site.ObjectSite.{ObjectSite}
 use Rattle.object_table.specs.declared.row.Row.{Row}
 use Rattle.outbox.specs.Posts.{MailboxState}
+use Rattle.enrollment.specs.declared.subject.Subject.{Subject}
+use Rattle.alarm_core.specs.Found.{alarm_in}
 use Rattle.alarm_core.specs.Limits.{size_of}
 use Rattle.alarm_core.specs.Logs.{SiteLogState}
-use Rattle.alarm_core.specs.State.{CoreState, DetectedObjectState}
+use Rattle.alarm_core.specs.State.{CoreState}
+use Rattle.alarm_core.specs.Subjects.{alarm_subjects}
 use Rattle.alarm_core.specs.declared.site.Site.{Site}
 use Rattle.state_codec.specs.Records.{IsDestination, IsPeer}
 use Rattle.state_codec.specs.Snapshots.{has_rule}
@@ -90,8 +93,9 @@ need site text = header_octets + text + 2 * (batch_octets + snapshot_bound site)
 abbrev pub IsStamp : Stamp → Type 0
 IsStamp stamp = length stamp.octets ≡ 8
 
-abbrev pub HasStamps : DetectedObjectState → Type 0
-HasStamps detected = All IsStamp detected.alarm.stamps
+-- the stamps of the alarm of an object
+abbrev pub HasStamps : CoreState → Subject → Type 0
+HasStamps state subject = All IsStamp (alarm_in state subject.object).stamps
 
 abbrev pub HasValue : Row → Type 0
 HasValue row = FitsValue row.site.value
@@ -111,7 +115,7 @@ HasPeer post = IsPeer post.peer
 -- values, stamps, recipients and peers keep the rules of their types, as every core's do
 pub record KeepsTypes (state : CoreState) : Type 0 where
   pub values : All HasValue state.values.rows
-  pub alarms : All HasStamps state.alarms
+  pub alarms : All (HasStamps state) (alarm_subjects state.site)
   pub classes : All HasRecipients state.classes
   pub logs : All HasStampedRecords state.logs
   pub posts : All HasPeer state.outbox.posts
