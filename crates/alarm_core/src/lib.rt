@@ -41,6 +41,7 @@ pub use laws::{
     allows_what_checks_accept, counts_the_longer_history, keeps_to_its_site, knows_listed_peers,
     reads_the_last_list, restores_what_it_tells, stands_for_its_history, stands_over_events,
 };
+pub use logs::SiteLog;
 pub use notify_class::ClassSite;
 pub use parts::Parts;
 pub use property_values::{DeviceSite, ReadFault};

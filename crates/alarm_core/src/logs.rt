@@ -51,7 +51,7 @@ fn lists_class(instances: &[u32], class: &Class) -> bool
 
 /// A log of a site, and what it holds.
 #[derive(Drop)]
-pub(crate) struct SiteLog {
+pub struct SiteLog {
     site: LogSite,
     log: EventLog,
 }
@@ -105,7 +105,7 @@ impl SiteLog {
     }
 
     /// What it holds.
-    pub(crate) fn log(&self) -> &EventLog
+    pub fn log(&self) -> &EventLog
         ensures log { result.now ≡ self.now.log }
     {
         &self.log

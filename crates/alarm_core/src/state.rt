@@ -223,6 +223,13 @@ impl Core {
         &self.outbox
     }
 
+    /// The event logs, in the order of the site.
+    pub fn logs(&self) -> &[SiteLog]
+        ensures logs { result.now ≡ self.now.logs }
+    {
+        self.logs.as_slice()
+    }
+
     /// The event log with an identifier, if there is one.
     pub fn log(&self, object: ObjectId) -> Option<&EventLog>
         ensures log { option_copied result ≡ log_in object self.now.logs }

@@ -2,6 +2,7 @@ ghost use Rattle.std.specs.Prelude.{◌≡◌, ◌≤◌, ◌<◌, ◌^◌, IfOk
 ghost use Rattle.bac_values.specs.Moments.{IsMoment};
 ghost use Rattle.object_table.specs.Objects.{IsObject};
 ghost use Rattle.alarm_core.specs.Allowed.{IsAllowed};
+ghost use Rattle.alarm_core.specs.Limits.{KeepsLimits};
 ghost use Rattle.alarm_core.specs.Sites.{IsSite};
 
 use crate::comparing::holds;
@@ -77,6 +78,7 @@ pub(crate) fn plant(alloc: Global, object: ObjectSite, outbox: u32) -> Result<Si
     requires object { IsObject object }
     requires outbox { outbox ≤ 16_384 }
     ensures keeps { IfOk result (λ site. IsSite site) }
+    ensures limits { IfOk result (λ site. KeepsLimits site) }
 {
     Ok(Site {
         device: device(alloc, outbox)?,

@@ -16,4 +16,6 @@ mod script_lines_tests;
 #[cfg(test)]
 mod site_config_tests;
 #[cfg(test)]
+mod state_snapshot_tests;
+#[cfg(test)]
 mod work_load_tests;

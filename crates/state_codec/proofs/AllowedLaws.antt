@@ -86,7 +86,7 @@ number_type (Some IntegerValue) (values.Signed number) e = tt
 number_type (Some PositiveIntegerValue) (values.Unsigned number) e = tt
 number_type _ _ e = absurd cc
 
-present_type : (kind : Option ObjectKind) (site : ObjectSite) (value : Value) → rows.is_present_value kind site value ≡ true → HasType value
+pub present_type : (kind : Option ObjectKind) (site : ObjectSite) (value : Value) → rows.is_present_value kind site value ≡ true → HasType value
 present_type (Some IntegerValue) site value e = number_type (Some IntegerValue) value e
 present_type (Some PositiveIntegerValue) site value e = number_type (Some PositiveIntegerValue) value e
 present_type (Some BinaryValue) site value e = binary_type value e
@@ -130,7 +130,7 @@ log_type number _ e = absurd cc
 
 -- ---- what is allowed has a record
 
-value_has : (value : Value) → FitsValue value → HasType value → IsRecorded value
+pub value_has : (value : Value) → FitsValue value → HasType value → IsRecorded value
 value_has (values.Bool flag) f t = tt
 value_has (values.Unsigned number) f t = f
 value_has (values.Signed number) f t = f

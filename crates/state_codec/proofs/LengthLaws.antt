@@ -20,14 +20,14 @@ use Rattle.state_codec.specs.Records.{written_flag, written_flags, written_peer,
 padded_length : (mac : List ℕ) → length mac ≤ 7 → length (padded mac) ≡ 7
 padded_length mac short = omega (arith, length-append mac (replicate (7 - length mac) 0), length-replicate {A = ℕ} (7 - length mac) 0)
 
-peer_length : (peer : PeerData) → IsPeer peer → length (written_peer peer) ≡ 16
+pub peer_length : (peer : PeerData) → IsPeer peer → length (written_peer peer) ≡ 16
 peer_length peer is = omega (arith, padded_length peer.mac is.station)
 
 destination_length : (it : DestinationData) → IsDestination it → length (written_destination it) ≡ 31
 destination_length it is =
     omega (arith, peer_length it.peer is.peer, length-append (written_peer it.peer) (to_be_bytes w32 it.process ++ (written_flag it.confirmed ++ written_flags it.transitions)))
 
-list_length : (recipients : List DestinationData) → All IsDestination recipients → length (flat_map written_destination recipients) ≡ 31 * length recipients
+pub list_length : (recipients : List DestinationData) → All IsDestination recipients → length (flat_map written_destination recipients) ≡ 31 * length recipients
 list_length [] are = refl
 list_length (it ∷ others) are =
     let first : length (written_destination it) ≡ 31 = destination_length it (All-head IsDestination it others are) in
@@ -35,7 +35,7 @@ list_length (it ∷ others) are =
     let whole : length (flat_map written_destination (it ∷ others)) ≡ length (written_destination it) + length (flat_map written_destination others) = ap (λ (t : List ℕ). length t) (flat_map-cons written_destination it others) ∙ length-append (written_destination it) (flat_map written_destination others) in
     omega (arith, first, rest, whole)
 
-value_length : (value : Value) → IsRecorded value → length (written_value value) ≤ 259
+pub value_length : (value : Value) → IsRecorded value → length (written_value value) ≤ 259
 value_length (values.Bool flag) f = omega arith
 value_length (values.Unsigned number) f = omega arith
 value_length (values.Signed number) f = omega arith

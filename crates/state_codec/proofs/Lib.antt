@@ -9,3 +9,6 @@ pub mod ActLaws
 pub mod EventLaws
 pub mod LengthLaws
 pub mod AllowedLaws
+pub mod SizeLaws
+pub mod RowLimits
+pub mod WithClass

@@ -1,10 +1,16 @@
 -- What is so of all records.
-use Rattle.std.specs.Prelude.{◌≡◌, ℕ, ◌≤◌, List, ◌++◌, length}
+use Rattle.std.specs.Prelude.{◌≡◌, ℕ, ◌<◌, ◌≤◌, List, ◌++◌, length}
 use Rattle.bac_values.specs.Moments.{IsMoment}
 use Rattle.alarm_core.specs.Allowed.{IsAllowed}
 use Rattle.alarm_core.specs.State.{CoreState}
 use Rattle.alarm_core.specs.declared.event.Event.{Event}
+use Rattle.alarm_core.specs.Limits.{KeepsLimits}
+use Rattle.alarm_core.specs.SiteStates.{IsStateOf}
+use Rattle.alarm_core.specs.Sites.{IsSite}
+use Rattle.alarm_core.specs.declared.site.Site.{Site}
 use Rattle.state_codec.specs.Records.{HasRecord, SpellsEvent, written_event}
+use Rattle.state_codec.specs.Sizes.{KeepsTypes, most_text, need, snapshot_bound}
+use Rattle.state_codec.specs.Snapshots.{written_state}
 
 -- no record begins another: whatever follows two of them, where the octets are the same, the records are, and so are their events
 abbrev pub OneSpelling : Type 0
@@ -21,3 +27,13 @@ RecordsAreShort = (event : Event) → HasRecord event → length (written_event 
 -- an event that may come next in some state, at a moment in range, has a record
 abbrev pub HasRecordWhereAllowed : Event → Type 0
 HasRecordWhereAllowed event = (state : CoreState) → IsMoment event.moment → IsAllowed state event.act → HasRecord event
+
+-- the snapshot of a state that a site may have is at most as long as the site's bound, and not empty
+pub record SnapshotsAreShort : Type 0 where
+  pub most : (site : Site) (state : CoreState) → IsStateOf site state → KeepsTypes state → length (written_state state) ≤ snapshot_bound site
+  pub some : (state : CoreState) → 1 ≤ length (written_state state)
+
+-- a site that keeps its limits needs fewer than 36,000,000 octets for a snapshot, and fewer than 72,000,000 for its device
+pub record BoundsAreLow : Type 0 where
+  pub snapshot : (site : Site) → IsSite site → KeepsLimits site → snapshot_bound site < 36_000_000
+  pub device : (site : Site) (text : ℕ) → IsSite site → KeepsLimits site → text ≤ most_text → need site text < 72_000_000

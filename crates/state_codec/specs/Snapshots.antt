@@ -1,6 +1,6 @@
 -- States in octets: the snapshots of a journal. One part stands behind another; numbers have their high octet first.
 use Rattle.std.specs.Prelude.{ℕ, ◌+◌, Bool, true, false, Option, Some, None, is_some, if◌then◌else◌, List, [], ◌∷◌, ◌++◌, length}
-use Rattle.std.specs.Int.{w16, w32, w64, to_be_bytes, cast_unsigned}
+use Rattle.std.specs.Int.{w8, w16, w32, w64, to_be_bytes, cast_unsigned}
 use Rattle.std.specs.List.{flat_map}
 use Rattle.bac_values.specs.EventStates.{number_of_state}
 use Rattle.bac_values.specs.Identifier.{kind_of}
@@ -28,7 +28,7 @@ use Rattle.alarm_core.specs.Logs.{SiteLogState}
 use Rattle.alarm_core.specs.State.{CoreState}
 use Rattle.alarm_core.specs.Subjects.{alarm_subjects}
 use Rattle.alarm_core.specs.declared.site.Site.{Site}
-use Rattle.state_codec.specs.Records.{written_destinations, written_flag, written_flags, written_peer, written_value}
+use Rattle.state_codec.specs.Records.{written_destination, written_flag, written_flags, written_peer, written_value}
 
 -- ---- value objects
 
@@ -68,10 +68,14 @@ written_row row =
 
 -- ---- alarms
 
--- a state that was entered, or 255
+-- what stands in place of a state's number where none was entered
+abbrev pub no_state : ℕ
+no_state = 255
+
+-- a state that was entered, if one was
 abbrev pub written_last : Option EventState → List ℕ
 written_last (Some state) = number_of_state state ∷ []
-written_last None = 255 ∷ []
+written_last None = no_state ∷ []
 
 -- a cause is one more than its place, and 0 where there is none
 abbrev pub written_cause : Option ℕ → List ℕ
@@ -105,8 +109,9 @@ written_subject state subject = written_alarm (alarm_in state subject.object) ++
 
 -- ---- classes, logs and the outbox
 
+-- the recipients of a class, behind the last octet of their number; there are at most 32
 abbrev pub written_class : Class → List ℕ
-written_class class = written_destinations class.destinations
+written_class class = to_be_bytes w8 (length class.destinations) ++ flat_map written_destination class.destinations
 
 -- octets, behind how many they are
 abbrev pub written_body : List ℕ → List ℕ

@@ -1,4 +1,4 @@
-ghost use Rattle.state_codec.specs.Laws.{HasRecordWhereAllowed, OneSpelling, RecordsAreShort};
+ghost use Rattle.state_codec.specs.Laws.{BoundsAreLow, HasRecordWhereAllowed, OneSpelling, RecordsAreShort, SnapshotsAreShort};
 
 use crate::types::event_fits;
 use alarm_core::Event;
@@ -19,3 +19,13 @@ pub fn allowed_event_has_record(event: &Event)
 {
     event_fits(event);
 }
+
+/// No snapshot is longer than the bound of its site, and none is empty.
+pub fn snapshots_are_short()
+    ensures short { SnapshotsAreShort }
+{}
+
+/// No site that keeps its limits needs 36,000,000 octets for a snapshot, nor 72,000,000 for its device.
+pub fn bounds_are_low()
+    ensures low { BoundsAreLow }
+{}

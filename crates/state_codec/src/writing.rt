@@ -1,12 +1,51 @@
 ghost use Rattle.std.specs.Prelude.{◌≡◌, ◌≤◌, ◌++◌, ◌∷◌, [], length, OnOk};
-ghost use Rattle.std.specs.Int.{to_be_bytes, w32};
+ghost use Rattle.std.specs.Int.{to_be_bytes, w8, w16, w32, w64};
 ghost use Rattle.std.specs.List.{flat_map};
 ghost use Rattle.notify_class.specs.Edits.{most_destinations};
-ghost use Rattle.state_codec.specs.Records.{IsRecorded, written_bits, written_destination, written_destinations, written_flag, written_flags, written_object, written_peer, written_station, written_text, written_value};
+ghost use Rattle.state_codec.specs.Records.{written_bits, written_destination, written_destinations, written_flag, written_flags, written_object, written_peer, written_station, written_text, written_value};
 
 use crate::value::{BIT_STRING, BOOLEAN, CHARACTER_STRING, ENUMERATED, SIGNED, UNSIGNED};
 use bac_values::{Bits, Mac, NoMemory, ObjectId, Peer, Text, Value, push};
 use notify_class::Destination;
+
+/// Appends a flag.
+pub(crate) fn put_flag(out: &mut Vec<u8>, flag: bool) -> Result<(), NoMemory>
+    ensures written { OnOk result (out.new.items ≡ out.old.items ++ written_flag flag) }
+{
+    push(out, u8::from(flag))
+}
+
+/// Appends a number of 32 bits.
+pub(crate) fn put_word(out: &mut Vec<u8>, number: u32) -> Result<(), NoMemory>
+    ensures written { OnOk result (out.new.items ≡ out.old.items ++ to_be_bytes w32 number) }
+{
+    out.extend_from_slice(&number.to_be_bytes())?;
+    Ok(())
+}
+
+/// Appends a number of 64 bits.
+pub(crate) fn put_long(out: &mut Vec<u8>, number: u64) -> Result<(), NoMemory>
+    ensures written { OnOk result (out.new.items ≡ out.old.items ++ to_be_bytes w64 number) }
+{
+    out.extend_from_slice(&number.to_be_bytes())?;
+    Ok(())
+}
+
+/// Appends the last octet of a count.
+pub(crate) fn put_octet_count(out: &mut Vec<u8>, count: usize) -> Result<(), NoMemory>
+    ensures written { OnOk result (out.new.items ≡ out.old.items ++ to_be_bytes w8 count) }
+{
+    push(out, (count % 256) as u8)
+}
+
+/// Appends the last two octets of a count.
+pub(crate) fn put_count(out: &mut Vec<u8>, count: usize) -> Result<(), NoMemory>
+    ensures written { OnOk result (out.new.items ≡ out.old.items ++ to_be_bytes w16 count) }
+{
+    let count = (count % 65_536) as u16;
+    out.extend_from_slice(&count.to_be_bytes())?;
+    Ok(())
+}
 
 /// Appends an object identifier.
 pub(crate) fn put_object(out: &mut Vec<u8>, object: &ObjectId) -> Result<(), NoMemory>
@@ -18,7 +57,7 @@ pub(crate) fn put_object(out: &mut Vec<u8>, object: &ObjectId) -> Result<(), NoM
 }
 
 /// Appends three flags in one octet, the first one in the lowest bit.
-fn put_flags(out: &mut Vec<u8>, flags: &[bool; 3]) -> Result<(), NoMemory>
+pub(crate) fn put_flags(out: &mut Vec<u8>, flags: &[bool; 3]) -> Result<(), NoMemory>
     ensures written { OnOk result (out.new.items ≡ out.old.items ++ written_flags flags.now) }
 {
     let [first, second, third] = *flags;
@@ -75,9 +114,8 @@ fn put_number(out: &mut Vec<u8>, tag: u8, number: u32) -> Result<(), NoMemory>
     Ok(())
 }
 
-/// Appends a value behind the number of its application tag.
+/// Appends a value behind the number of its application tag; of a type that isn't recorded there is nothing.
 pub(crate) fn put_value(out: &mut Vec<u8>, value: &Value) -> Result<(), NoMemory>
-    requires recorded { IsRecorded value.now }
     ensures written { OnOk result (out.new.items ≡ out.old.items ++ written_value value.now) }
 {
     match value {
@@ -96,7 +134,7 @@ pub(crate) fn put_value(out: &mut Vec<u8>, value: &Value) -> Result<(), NoMemory
             put_bits(out, string)
         }
         Value::Enumerated(number) => put_number(out, ENUMERATED, *number),
-        _ => unreachable!(),
+        _ => Ok(()),
     }
 }
 
@@ -139,7 +177,7 @@ fn put_destination(out: &mut Vec<u8>, recipient: &Destination) -> Result<(), NoM
 }
 
 /// Appends recipients, one behind the other.
-fn put_list(out: &mut Vec<u8>, recipients: &[Destination]) -> Result<(), NoMemory>
+pub(crate) fn put_list(out: &mut Vec<u8>, recipients: &[Destination]) -> Result<(), NoMemory>
     ensures written { OnOk result (out.new.items ≡ out.old.items ++ flat_map written_destination recipients.now) }
 {
     for recipient in recipients {
