@@ -32,4 +32,6 @@ pub mod Listed
 pub mod Counting
 pub mod Accepted
 pub mod LastLists
+pub mod Restored
+pub mod RestoredCore
 mod Kept

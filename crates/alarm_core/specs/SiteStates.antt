@@ -9,8 +9,7 @@ use Rattle.bac_values.specs.declared.event_state.EventState.{EventState}
 use Rattle.bac_values.specs.declared.event_state.EventState.TheVariants.{Normal, Fault, Offnormal}
 use Rattle.bac_values.specs.declared.stamp.Stamp.{Stamp}
 use Rattle.bac_values.specs.declared.transition.Transition.{Transition}
-use Rattle.civil_stamp.specs.CivilStamp.{hundredths_in}
-use Rattle.civil_stamp.specs.LocalTime.{ZoneData}
+use Rattle.civil_stamp.specs.LocalTime.{ZoneData, hundredths_in}
 use Rattle.algorithm_rules.specs.Rules.{rules_of}
 use Rattle.algorithm_rules.specs.declared.table.Algorithm.{Algorithm}
 use Rattle.algorithm_rules.specs.declared.table.Rule.{Rule}

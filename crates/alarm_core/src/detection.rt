@@ -100,6 +100,22 @@ impl DetectedObject {
         }
     }
 
+    /// An object with this alarm, whose class wants these transitions acknowledged.
+    pub(crate) fn restored(
+        subject: &Subject,
+        ack_required: [bool; 3],
+        alarm: Alarm,
+    ) -> DetectedObject
+        ensures restored { result ≡ record { object = subject.now.object; algorithm = subject.now.algorithm; ack_required = ack_required; alarm = alarm } }
+    {
+        DetectedObject {
+            object: subject.object,
+            algorithm: subject.algorithm,
+            ack_required,
+            alarm,
+        }
+    }
+
     /// The object.
     pub(crate) fn object(&self) -> ObjectId
         ensures object { result ≡ self.now.object }

@@ -22,6 +22,7 @@ mod notifications;
 mod parts;
 mod queueing;
 mod reading;
+mod restoring;
 mod site;
 mod starting;
 mod state;

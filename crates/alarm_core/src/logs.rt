@@ -81,6 +81,21 @@ impl SiteLog {
         })
     }
 
+    /// A log of a site, with what it holds.
+    pub(crate) fn restored(
+        alloc: Global,
+        site: &LogSite,
+        log: EventLog,
+    ) -> Result<SiteLog, NoMemory>
+        requires listed { IsLogSite site.now }
+        ensures restored { IfOk result (λ kept. kept ≡ record { site = site.now; log = log }) }
+    {
+        Ok(SiteLog {
+            site: copy_of_log(alloc, site)?,
+            log,
+        })
+    }
+
     /// What the site says of it.
     pub(crate) fn site(&self) -> &LogSite
         ensures site { result.now ≡ self.now.site }

@@ -40,8 +40,8 @@ fn class_of(classes: &[ClassSite], instance: u32) -> Option<&ClassSite>
     classes.iter().find(|listed| has_instance(listed, instance))
 }
 
-// Ack_Required of a subject's notification class.
-fn ack_required_of(site: &Site, subject: &Subject) -> [bool; 3]
+/// Ack_Required of a subject's notification class.
+pub(crate) fn ack_required_of(site: &Site, subject: &Subject) -> [bool; 3]
     ensures ack_required { result ≡ ack_required_of site.now subject.now }
 {
     let Some(instance) = subject.class else {

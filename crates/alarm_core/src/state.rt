@@ -56,12 +56,12 @@ pub struct Core {
     pub(crate) alloc: Global,
     pub(crate) site: Site,
     pub(crate) zone: Zone,
-    events: u64,
-    last_moment: u64,
+    pub(crate) events: u64,
+    pub(crate) last_moment: u64,
     pub(crate) objects: Objects,
     pub(crate) alarms: Vec<DetectedObject>,
     pub(crate) classes: Vec<Class>,
-    peers: PeerList,
+    pub(crate) peers: PeerList,
     pub(crate) outbox: Outbox,
     pub(crate) logs: Vec<SiteLog>,
 }
@@ -105,8 +105,8 @@ struct Done {
     sends: Vec<Send>,
 }
 
-// The zone of a site.
-fn zone_of(site: &Site) -> Zone
+/// The zone of a site.
+pub(crate) fn zone_of(site: &Site) -> Zone
     requires site { IsSite site.now }
     ensures zone { result ≡ site_zone site.now }
 {
