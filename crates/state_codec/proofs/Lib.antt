@@ -12,3 +12,8 @@ pub mod AllowedLaws
 pub mod SizeLaws
 pub mod RowLimits
 pub mod WithClass
+pub mod Together
+pub mod KeysLaws
+pub mod RowLaws
+pub mod RowsOf
+pub mod AlarmReads
