@@ -44,7 +44,7 @@ led_reads algorithm = reads_where state_at (is_state_of algorithm) written_state
 
 -- ---- stamps
 
-stamp_reads : Reads stamp_at written_stamp IsStamp
+pub stamp_reads : Reads stamp_at written_stamp IsStamp
 unfolding stamp_at
 stamp_reads = reads_made (octets_at 8) stamp_of (λ stamp. stamp.octets) as_they_are (HasLength 8) written_stamp IsStamp (octets_reads 8) (λ octets long. (long, refl)) (λ stamp long. (long, refl, refl))
 

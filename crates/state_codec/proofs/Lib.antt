@@ -17,3 +17,5 @@ pub mod KeysLaws
 pub mod RowLaws
 pub mod RowsOf
 pub mod AlarmReads
+pub mod RestReads
+pub mod Places

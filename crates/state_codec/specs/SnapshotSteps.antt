@@ -1,13 +1,15 @@
 -- How what a snapshot has of a site is read: the value at the front of octets and the octets behind it, or nothing.
 use Rattle.std.specs.Prelude.{ℕ, zero, suc, ℤ, pos, ◌==◌, ◌&&◌, ◌||◌, not, nat_lt, nat_le, bytes_eq, if◌then◌else◌, Bool, true, false, Option, Some, None, is_some, List, [], ◌∷◌, length}
-use Rattle.std.specs.Int.{w32, w64, cast_signed}
+use Rattle.std.specs.Int.{w16, w32, w64, cast_signed}
 use Rattle.std.specs.List.{list_all}
 use Rattle.bac_values.specs.BitString.{two_flags}
+use Rattle.bac_values.specs.Address.{PeerData}
 use Rattle.bac_values.specs.EventStates.{state_of_number, transition_to}
 use Rattle.bac_values.specs.Moments.{first_moment, last_moment}
 use Rattle.bac_values.specs.Reliabilities.{reliability_of_number}
 use Rattle.bac_values.specs.declared.event_state.EventState.{EventState}
 use Rattle.bac_values.specs.declared.event_state.EventState.TheVariants.{Offnormal}
+use Rattle.bac_values.specs.declared.note.Note.{Note}
 use Rattle.bac_values.specs.declared.object_kind.ObjectKind.{ObjectKind}
 use Rattle.bac_values.specs.declared.object_kind.ObjectKind.TheVariants.{BinaryValue, IntegerValue, PositiveIntegerValue}
 use Rattle.bac_values.specs.declared.reliability.Reliability.{Reliability}
@@ -16,14 +18,22 @@ use Rattle.bac_values.specs.declared.transition.Transition.{Transition}
 use Rattle.bac_values.specs.declared.transition.Transition.TheVariants.{ToOffnormal, ToFault, ToNormal}
 use Rattle.bac_values.specs.declared.value.Value.{Value}
 use Rattle.bac_values.specs.declared.value.Value.TheVariants.{Enumerated}
+use Rattle.civil_stamp.specs.LocalTime.{ZoneData}
 use Rattle.algorithm_rules.specs.Rules.{rules_of}
 use Rattle.algorithm_rules.specs.declared.table.Algorithm.{Algorithm}
 use Rattle.algorithm_rules.specs.declared.table.Rule.{Rule}
 use Rattle.event_machine.specs.AlarmRecord.{is_same}
 use Rattle.event_machine.specs.Summary.{AlarmState, new_alarm}
 use Rattle.event_machine.specs.declared.run.Run.{Run}
+use Rattle.event_log.specs.Log.{number_back}
+use Rattle.event_log.specs.declared.log_record.LogRecord.{LogRecord}
+use Rattle.event_log.specs.declared.log_site.LogSite.{LogSite}
+use Rattle.notify_class.specs.Recipients.{DestinationData}
+use Rattle.notify_class.specs.declared.class.Class.{Class}
+use Rattle.outbox.specs.Posts.{most_octets, MailboxState}
+use Rattle.alarm_core.specs.Logs.{SiteLogState}
 use Rattle.enrollment.specs.declared.enrollment_site.EnrollmentSite.{EnrollmentSite}
-use Rattle.alarm_core.specs.SiteStates.{is_state_of}
+use Rattle.alarm_core.specs.SiteStates.{hundredths_shown, is_state_of}
 use Rattle.state_codec.specs.Snapshots.{no_state, written_alarm}
 use Rattle.object_table.specs.Properties.{kind_in}
 use Rattle.object_table.specs.Values.{is_field_fault, is_present_value}
@@ -32,7 +42,7 @@ use Rattle.object_table.specs.declared.row.Row.{Row}
 use Rattle.state_codec.specs.declared.reading_keys.Keys.{Keys}
 use Rattle.state_codec.specs.declared.reading_rows.Detection.{Detection}
 use Rattle.state_codec.specs.declared.reading_rows.Settings.{Settings}
-use Rattle.state_codec.specs.ReadingSteps.{◌>>=◌, then_at, last_at, done_at, value_if, octet_at, octets_at, number_at, flag_at, flags_at, state_at, value_at}
+use Rattle.state_codec.specs.ReadingSteps.{◌>>=◌, then_at, last_at, either_at, nothing_at, done_at, value_if, octet_at, octets_at, number_at, flag_at, flags_at, state_at, peer_at, destinations_at, value_at}
 
 -- ---- parts one behind the other
 
@@ -274,3 +284,73 @@ new_alarm_at = last_at (octets_at 73) λ octets. value_if (bytes_eq octets (writ
 -- Event_Algorithm_Inhibit and Event_Enable
 unfoldable pub enrollment_at : EnrollmentSite → List ℕ → Option (EnrollmentSite × List ℕ)
 enrollment_at site = made_at (and_at flag_at λ inhibit. flags_at) λ x. record site { inhibit = x.0; enable = x.1 }
+
+-- ---- classes
+
+abbrev pub class_with : Class → List DestinationData → Class
+class_with class recipients = record class { destinations = recipients }
+
+unfoldable pub class_at : Class → List ℕ → Option (Class × List ℕ)
+class_at class = made_at destinations_at (class_with class)
+
+-- ---- octets of notifications
+
+-- at most as many octets as there may be, behind how many they are
+unfoldable pub body_at : List ℕ → Option (List ℕ × List ℕ)
+body_at = then_at (number_at w16) λ count. either_at (nat_le count most_octets) (octets_at count) nothing_at
+
+-- ---- logs
+
+-- the hundredths of a record: at a site with a zone rule they are written, elsewhere its stamp shows them
+unfoldable pub hundredths_at : Bool → ZoneData → Stamp → List ℕ → Option (ℕ × List ℕ)
+hundredths_at has_rule zone stamp = either_at has_rule (number_at w64) (done_at (hundredths_shown zone stamp))
+
+abbrev pub entry_with : ℕ → Stamp × (ℕ × List ℕ) → LogRecord
+entry_with sequence x = record { stamp = x.0; hundredths = x.1.0; sequence = sequence; body = x.1.1 }
+
+-- the record with a number
+unfoldable pub entry_at : Bool → ZoneData → ℕ → List ℕ → Option (LogRecord × List ℕ)
+entry_at has_rule zone sequence = made_at (and_at stamp_at λ stamp. and_at (hundredths_at has_rule zone stamp) λ hundredths. body_at) (entry_with sequence)
+
+-- the numbers of so many records, of which the last has the total
+abbrev pub numbers_up_to : ℕ → ℕ → List ℕ
+numbers_up_to total zero = []
+numbers_up_to total (suc count) = number_back total count ∷ numbers_up_to total count
+
+-- whether a log of a size may hold so many records
+abbrev pub may_hold : ℕ → ℕ → ℕ → Bool
+may_hold size total count = nat_le count size && (count == 0 || nat_lt 0 total)
+
+unfoldable pub entries_at : Bool → ZoneData → ℕ → ℕ → List ℕ → Option (List LogRecord × List ℕ)
+entries_at has_rule zone total count = each_at (entry_at has_rule zone) (numbers_up_to total count)
+
+abbrev pub log_with : LogSite → Bool × (ℕ × (ℕ × List LogRecord)) → SiteLogState
+log_with listed x = record { site = listed; log = record { size = listed.size; stops = listed.stop_when_full; enabled = x.0; total = x.1.0; records = x.1.1.1 } }
+
+unfoldable pub log_at : Bool → ZoneData → LogSite → List ℕ → Option (SiteLogState × List ℕ)
+log_at has_rule zone listed =
+    made_at (and_at flag_at λ enabled. and_at (number_at w32) λ total. and_at (where_at (number_at w32) (may_hold listed.size total)) λ count. entries_at has_rule zone total count)
+    (log_with listed)
+
+-- ---- posts
+
+abbrev pub note_with : PeerData → Bool × List ℕ → Note
+note_with peer x = record { peer = peer; confirmed = x.0; body = x.1 }
+
+unfoldable pub note_at : PeerData → List ℕ → Option (Note × List ℕ)
+note_at peer = made_at (and_at flag_at λ confirmed. body_at) (note_with peer)
+
+abbrev pub PostData : Type 0
+PostData = PeerData × (ℕ × (ℕ × (ℕ × (ℕ × List Note))))
+
+abbrev pub post_with : PostData → MailboxState
+post_with x = record { peer = x.0; next_invoke = x.1.0; attempts = x.1.1.0; deadline = x.1.1.1.0; notes = x.1.1.1.1.1 }
+
+unfoldable pub post_at : List ℕ → Option (MailboxState × List ℕ)
+post_at =
+    made_at (and_at peer_at λ peer. and_at octet_at λ invoke. and_at octet_at λ attempts. and_at (number_at w64) λ deadline. and_at (number_at w16) λ count. times_at (note_at peer) count)
+    post_with
+
+-- the posts, behind how many they are
+unfoldable pub posts_at : List ℕ → Option (List MailboxState × List ℕ)
+posts_at = made_at (and_at (number_at w16) λ count. times_at post_at count) λ x. x.1

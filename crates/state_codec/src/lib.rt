@@ -13,6 +13,8 @@ mod present;
 mod reading;
 mod reading_keys;
 mod reading_rows;
+mod reading_alarms;
+mod reading_rest;
 mod sizes;
 mod types;
 mod value;
