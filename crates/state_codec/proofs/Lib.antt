@@ -19,3 +19,4 @@ pub mod RowsOf
 pub mod AlarmReads
 pub mod RestReads
 pub mod Places
+pub mod Loops

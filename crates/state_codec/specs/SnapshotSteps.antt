@@ -30,6 +30,7 @@ use Rattle.event_log.specs.declared.log_record.LogRecord.{LogRecord}
 use Rattle.event_log.specs.declared.log_site.LogSite.{LogSite}
 use Rattle.notify_class.specs.Recipients.{DestinationData}
 use Rattle.notify_class.specs.declared.class.Class.{Class}
+use Rattle.notify_class.specs.declared.class_site.ClassSite.{ClassSite}
 use Rattle.outbox.specs.Posts.{most_octets, MailboxState}
 use Rattle.alarm_core.specs.Logs.{SiteLogState}
 use Rattle.enrollment.specs.declared.enrollment_site.EnrollmentSite.{EnrollmentSite}
@@ -354,3 +355,11 @@ post_at =
 -- the posts, behind how many they are
 unfoldable pub posts_at : List ℕ → Option (List MailboxState × List ℕ)
 posts_at = made_at (and_at (number_at w16) λ count. times_at post_at count) λ x. x.1
+
+-- ---- the lists of a site
+
+abbrev pub listed_class_at : ClassSite → List ℕ → Option (Class × List ℕ)
+listed_class_at listed = class_at listed.class
+
+abbrev pub classes_at : List ClassSite → List ℕ → Option (List Class × List ℕ)
+classes_at = each_at listed_class_at

@@ -15,6 +15,7 @@ mod reading_keys;
 mod reading_rows;
 mod reading_alarms;
 mod reading_rest;
+mod reading_lists;
 mod sizes;
 mod types;
 mod value;
