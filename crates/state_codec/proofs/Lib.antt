@@ -20,3 +20,5 @@ pub mod AlarmReads
 pub mod RestReads
 pub mod Places
 pub mod Loops
+pub mod Numbers
+pub mod LogsHeld

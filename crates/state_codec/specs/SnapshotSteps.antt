@@ -25,7 +25,7 @@ use Rattle.algorithm_rules.specs.declared.table.Rule.{Rule}
 use Rattle.event_machine.specs.AlarmRecord.{is_same}
 use Rattle.event_machine.specs.Summary.{AlarmState, new_alarm}
 use Rattle.event_machine.specs.declared.run.Run.{Run}
-use Rattle.event_log.specs.Log.{number_back}
+use Rattle.event_log.specs.Log.{EventLogState, number_back}
 use Rattle.event_log.specs.declared.log_record.LogRecord.{LogRecord}
 use Rattle.event_log.specs.declared.log_site.LogSite.{LogSite}
 use Rattle.notify_class.specs.Recipients.{DestinationData}
@@ -363,3 +363,7 @@ listed_class_at listed = class_at listed.class
 
 abbrev pub classes_at : List ClassSite → List ℕ → Option (List Class × List ℕ)
 classes_at = each_at listed_class_at
+
+-- a log of a site with what it holds
+abbrev pub kept_with : LogSite → EventLogState → SiteLogState
+kept_with listed log = record { site = listed; log = log }

@@ -16,6 +16,7 @@ mod reading_rows;
 mod reading_alarms;
 mod reading_rest;
 mod reading_lists;
+mod reading_logs;
 mod sizes;
 mod types;
 mod value;

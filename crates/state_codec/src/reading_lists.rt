@@ -62,7 +62,7 @@ pub(crate) fn take_notes(
 }
 
 /// Takes so many records of a log, of which the last has the total as its number.
-fn take_entries(
+pub(crate) fn take_entries(
     alloc: Global,
     has_rule: bool,
     zone: &Zone,
