@@ -131,15 +131,17 @@ counted_reads has_rule zone size =
 
 log_forth : (has_rule : Bool) (zone : ZoneData) (listed : LogSite) (x : CountedData) → AreCounted has_rule zone listed.size x → HasLog has_rule zone listed (log_with listed x) × (written_log has_rule (log_with listed x) ≡ written_counted has_rule x)
 log_forth has_rule zone listed x f =
-    let long : length x.1.1.1 ≡ x.1.1.0 = AllZip-long (HasEntry has_rule zone) (numbers_up_to x.1.0 x.1.1.0) x.1.1.1 f.1.1.1 ∙ so_many x.1.0 x.1.1.0 in
-    (record {
-      same = refl;
-      size = refl;
-      stops = refl;
-      total = f.1.0;
-      few = subst (λ (n : ℕ). may_hold listed.size x.1.0 n ≡ true) (sym long) f.1.1.0.1;
-      records = subst (λ (n : ℕ). AllZip (HasEntry has_rule zone) (numbers_up_to x.1.0 n) x.1.1.1) (sym long) f.1.1.1;
-    }, ap (λ (n : ℕ). written_flag x.0 ++ (to_be_bytes w32 x.1.0 ++ (to_be_bytes w32 n ++ flat_map (written_entry has_rule) x.1.1.1))) long)
+    let long : length x.1.1.1 ≡ x.1.1.0 = AllZip-long (HasEntry has_rule zone) (numbers_up_to x.1.0 x.1.1.0) x.1.1.1 f.1.1.1 ∙ so_many x.1.0 x.1.1.0 in (
+      record {
+        same = refl;
+        size = refl;
+        stops = refl;
+        total = f.1.0;
+        few = subst (λ (n : ℕ). may_hold listed.size x.1.0 n ≡ true) (sym long) f.1.1.0.1;
+        records = subst (λ (n : ℕ). AllZip (HasEntry has_rule zone) (numbers_up_to x.1.0 n) x.1.1.1) (sym long) f.1.1.1;
+      },
+      ap (λ (n : ℕ). written_flag x.0 ++ (to_be_bytes w32 x.1.0 ++ (to_be_bytes w32 n ++ flat_map (written_entry has_rule) x.1.1.1))) long,
+    )
 
 abbrev counted_of : SiteLogState → CountedData
 counted_of kept = (kept.log.enabled, (kept.log.total, (length kept.log.records, kept.log.records)))
@@ -154,11 +156,13 @@ held_fits size total count lt is =
 
 log_back : (has_rule : Bool) (zone : ZoneData) (listed : LogSite) → listed.size < 2 ^ 32 → (kept : SiteLogState) → HasLog has_rule zone listed kept
     → AreCounted has_rule zone listed.size (counted_of kept) × (log_with listed (counted_of kept) ≡ kept) × (written_log has_rule kept ≡ written_counted has_rule (counted_of kept))
-log_back has_rule zone listed lt kept f =
-    ((tt, (f.total, ((held_fits listed.size kept.log.total (length kept.log.records) lt f.few, f.few), f.records))),
-    ap (λ (l : LogSite). log_of_parts l listed.size listed.stop_when_full (counted_of kept)) (sym f.same)
-    ∙ ap (λ (n : ℕ). log_of_parts kept.site n listed.stop_when_full (counted_of kept)) (sym f.size)
-    ∙ ap (λ (b : Bool). log_of_parts kept.site kept.log.size b (counted_of kept)) (sym f.stops), refl)
+log_back has_rule zone listed lt kept f = (
+  (tt, (f.total, ((held_fits listed.size kept.log.total (length kept.log.records) lt f.few, f.few), f.records))),
+  ap (λ (l : LogSite). log_of_parts l listed.size listed.stop_when_full (counted_of kept)) (sym f.same)
+      ∙ ap (λ (n : ℕ). log_of_parts kept.site n listed.stop_when_full (counted_of kept)) (sym f.size)
+      ∙ ap (λ (b : Bool). log_of_parts kept.site kept.log.size b (counted_of kept)) (sym f.stops),
+  refl,
+)
 
 -- a log is read exactly as it is written, and those that a log of a site may be
 pub log_reads : (has_rule : Bool) (zone : ZoneData) (listed : LogSite) → listed.size < 2 ^ 32 → Reads (log_at has_rule zone listed) (written_log has_rule) (HasLog has_rule zone listed)
@@ -201,9 +205,10 @@ parts_of post = (post.peer, (post.next_invoke, (post.attempts, (post.deadline, (
 
 post_forth : (x : PostData) → AreParts x → HasPost (post_with x) × (written_post (post_with x) ≡ written_parts x)
 post_forth x f =
-    let long : length x.1.1.1.1.1 ≡ x.1.1.1.1.0 = f.1.1.1.1.1.1 in
-    (record { to = f.0; invoke = f.1.0; tries = f.1.1.0; until = f.1.1.1.0; few = omega (arith, long, f.1.1.1.1.0); own = f.1.1.1.1.1.0 },
-    ap (λ (n : ℕ). written_peer x.0 ++ (x.1.0 ∷ x.1.1.0 ∷ (to_be_bytes w64 x.1.1.1.0 ++ (to_be_bytes w16 n ++ flat_map written_note x.1.1.1.1.1)))) long)
+    let long : length x.1.1.1.1.1 ≡ x.1.1.1.1.0 = f.1.1.1.1.1.1 in (
+      record { to = f.0; invoke = f.1.0; tries = f.1.1.0; until = f.1.1.1.0; few = omega (arith, long, f.1.1.1.1.0); own = f.1.1.1.1.1.0 },
+      ap (λ (n : ℕ). written_peer x.0 ++ (x.1.0 ∷ x.1.1.0 ∷ (to_be_bytes w64 x.1.1.1.0 ++ (to_be_bytes w16 n ++ flat_map written_note x.1.1.1.1.1)))) long,
+    )
 
 post_back : (post : MailboxState) → HasPost post → AreParts (parts_of post) × (post_with (parts_of post) ≡ post) × (written_post post ≡ written_parts (parts_of post))
 post_back post f = ((f.to, (f.invoke, (f.tries, (f.until, (f.few, (f.own, refl)))))), refl, refl)

@@ -18,11 +18,9 @@ const NO_STATE: u8 = 255;
 
 /// What is written of the alarm of an object that was never looked at.
 const NEW_ALARM: [u8; 73] = [
-    0, 7, 255, 255, 255, 255, 255, 255, 255, 255, 255, 255, 255, 255, 255, 255, 255, 255,
-    255, 255, 255, 255, 255, 255, 255, 255, 255, 255, 255, 0, 0, 0, 0, 0, 0, 0,
-    0, 0, 0, 0, 0, 0, 0, 0, 0, 0, 0, 0, 0, 0, 0, 0, 0, 0,
-    0, 0, 0, 0, 0, 0, 0, 0, 0, 0, 0, 0, 0, 0, 0, 0, 0, 0,
-    0,
+    0, 7, 255, 255, 255, 255, 255, 255, 255, 255, 255, 255, 255, 255, 255, 255, 255, 255, 255, 255,
+    255, 255, 255, 255, 255, 255, 255, 255, 255, 0, 0, 0, 0, 0, 0, 0, 0, 0, 0, 0, 0, 0, 0, 0, 0, 0,
+    0, 0, 0, 0, 0, 0, 0, 0, 0, 0, 0, 0, 0, 0, 0, 0, 0, 0, 0, 0, 0, 0, 0, 0, 0, 0, 0,
 ];
 
 /// Whether an object with an event algorithm may be in a state.
@@ -120,11 +118,7 @@ fn wants_cause(values: u32, state: EventState) -> bool
 
 /// Takes the cause of a state, one of so many alarm values.
 #[tactic(auto, unfolding(crate::specs::SnapshotSteps::cause_at))]
-fn take_cause(
-    values: u32,
-    state: EventState,
-    bytes: &mut &[u8],
-) -> Result<Option<u32>, ReadFault>
+fn take_cause(values: u32, state: EventState, bytes: &mut &[u8]) -> Result<Option<u32>, ReadFault>
     ensures exact { Gives (λ x. (x, bytes.new.now)) result (cause_at values state bytes.old.now) }
 {
     let number = take_u32(bytes)?;

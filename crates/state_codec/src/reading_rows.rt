@@ -6,7 +6,9 @@ ghost use Rattle.state_codec.specs.SnapshotSteps.{detecting_with, detection_at, 
 use crate::parts::{take_flag, take_octet};
 use crate::present::{is_field_fault, is_present_value};
 use crate::reading::ReadFault;
-use crate::reading_keys::{Keys, take_delay, take_keys, take_kept_flag, take_kept_flags, take_kept_number};
+use crate::reading_keys::{
+    Keys, take_delay, take_kept_flag, take_kept_flags, take_kept_number, take_keys,
+};
 use crate::value::take_value;
 use bac_values::Value;
 use object_table::{ObjectSite, Row};
@@ -77,11 +79,7 @@ fn take_detection(site: &ObjectSite, bytes: &mut &[u8]) -> Result<Detection, Rea
 
 /// Takes what the row of an object has beside what its site says.
 #[tactic(auto, unfolding(crate::specs::SnapshotSteps::settings_at))]
-fn take_settings(
-    alloc: Global,
-    site: &ObjectSite,
-    bytes: &mut &[u8],
-) -> Result<Settings, ReadFault>
+fn take_settings(alloc: Global, site: &ObjectSite, bytes: &mut &[u8]) -> Result<Settings, ReadFault>
     ensures exact { Gives (λ x. (settings_data x, bytes.new.now)) result (settings_at site.now bytes.old.now) }
 {
     let value = take_present(alloc, site, bytes)?;
@@ -150,11 +148,7 @@ fn row_with(site: ObjectSite, settings: Settings) -> Row
 
 /// Takes the row of an object of a site.
 #[tactic(auto, unfolding(crate::specs::SnapshotSteps::row_at))]
-pub(crate) fn take_row(
-    alloc: Global,
-    site: ObjectSite,
-    bytes: &mut &[u8],
-) -> Result<Row, ReadFault>
+pub(crate) fn take_row(alloc: Global, site: ObjectSite, bytes: &mut &[u8]) -> Result<Row, ReadFault>
     ensures exact { Gives (λ x. (x, bytes.new.now)) result (row_at site bytes.old.now) }
 {
     let settings = take_settings(alloc, &site, bytes)?;
