@@ -22,3 +22,5 @@ pub mod Places
 pub mod Loops
 pub mod Numbers
 pub mod LogsHeld
+pub mod FewValues
+pub mod SubjectReads

@@ -10,9 +10,11 @@ use Rattle.event_log.specs.declared.log_record.LogRecord.{LogRecord}
 use Rattle.event_log.specs.declared.log_site.LogSite.{LogSite}
 use Rattle.notify_class.specs.declared.class.Class.{Class}
 use Rattle.outbox.specs.Posts.{most_octets, MailboxState}
+use Rattle.enrollment.specs.Subjects.{is_detecting}
+use Rattle.enrollment.specs.declared.subject.Subject.{Subject}
 use Rattle.enrollment.specs.declared.enrollment_site.EnrollmentSite.{EnrollmentSite}
 use Rattle.alarm_core.specs.Logs.{SiteLogState}
-use Rattle.event_machine.specs.Summary.{AlarmState}
+use Rattle.event_machine.specs.Summary.{AlarmState, new_alarm}
 use Rattle.event_machine.specs.declared.run.Run.{Run}
 use Rattle.object_table.specs.Properties.{kind_in}
 use Rattle.object_table.specs.Values.{is_present_value}
@@ -20,7 +22,7 @@ use Rattle.object_table.specs.declared.object_site.ObjectSite.{ObjectSite}
 use Rattle.object_table.specs.declared.row.Row.{Row}
 use Rattle.alarm_core.specs.SiteStates.{IsAlarmOf, IsEnrollmentOf, IsRowOf, hundredths_shown}
 use Rattle.state_codec.specs.Records.{AreDestinations, IsPeer}
-use Rattle.state_codec.specs.SnapshotSteps.{may_hold, numbers_up_to}
+use Rattle.state_codec.specs.SnapshotSteps.{may_hold, numbers_up_to, values_in}
 use Rattle.state_codec.specs.Types.{FitsValue}
 
 -- what the types of a row's parts say of it
@@ -104,3 +106,13 @@ pub record HasPost (post : MailboxState) : Type 0 where
 
 abbrev pub ArePosts : List MailboxState → Type 0
 ArePosts posts = All HasPost posts × (length posts < 2 ^ 16)
+
+-- ---- subjects
+
+-- the alarm of a subject whose event detection is enabled, or isn't
+abbrev pub MayHaveAlarm : Bool → Algorithm → ℕ → ℕ → AlarmState → Type 0
+MayHaveAlarm true algorithm values last alarm = HasAlarm algorithm values last alarm
+MayHaveAlarm false algorithm values last alarm = alarm ≡ new_alarm
+
+abbrev pub HasSubject : List Row → ℕ → Subject → AlarmState → Type 0
+HasSubject rows last subject alarm = MayHaveAlarm (is_detecting subject) subject.algorithm (values_in subject.object rows) last alarm

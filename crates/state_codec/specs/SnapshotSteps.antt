@@ -2,9 +2,11 @@
 use Rattle.std.specs.Prelude.{ℕ, zero, suc, ℤ, pos, ◌==◌, ◌&&◌, ◌||◌, not, nat_lt, nat_le, bytes_eq, if◌then◌else◌, Bool, true, false, Option, Some, None, is_some, List, [], ◌∷◌, length}
 use Rattle.std.specs.Int.{w16, w32, w64, cast_signed}
 use Rattle.std.specs.List.{list_all}
+use Rattle.std.specs.Option.{option_map_or}
 use Rattle.bac_values.specs.BitString.{two_flags}
 use Rattle.bac_values.specs.Address.{PeerData}
 use Rattle.bac_values.specs.EventStates.{state_of_number, transition_to}
+use Rattle.bac_values.specs.Identifier.{ObjectIdData}
 use Rattle.bac_values.specs.Moments.{first_moment, last_moment}
 use Rattle.bac_values.specs.Reliabilities.{reliability_of_number}
 use Rattle.bac_values.specs.declared.event_state.EventState.{EventState}
@@ -33,10 +35,13 @@ use Rattle.notify_class.specs.declared.class.Class.{Class}
 use Rattle.notify_class.specs.declared.class_site.ClassSite.{ClassSite}
 use Rattle.outbox.specs.Posts.{most_octets, MailboxState}
 use Rattle.alarm_core.specs.Logs.{SiteLogState}
+use Rattle.enrollment.specs.Subjects.{is_detecting}
+use Rattle.enrollment.specs.declared.subject.Subject.{Subject}
 use Rattle.enrollment.specs.declared.enrollment_site.EnrollmentSite.{EnrollmentSite}
-use Rattle.alarm_core.specs.SiteStates.{hundredths_shown, is_state_of}
+use Rattle.alarm_core.specs.SiteStates.{alarm_values_in, hundredths_shown, is_state_of}
 use Rattle.state_codec.specs.Snapshots.{no_state, written_alarm}
 use Rattle.object_table.specs.Properties.{kind_in}
+use Rattle.object_table.specs.Rows.{row_of}
 use Rattle.object_table.specs.Values.{is_field_fault, is_present_value}
 use Rattle.object_table.specs.declared.object_site.ObjectSite.{ObjectSite}
 use Rattle.object_table.specs.declared.row.Row.{Row}
@@ -367,3 +372,13 @@ classes_at = each_at listed_class_at
 -- a log of a site with what it holds
 abbrev pub kept_with : LogSite → EventLogState → SiteLogState
 kept_with listed log = record { site = listed; log = log }
+
+-- ---- subjects
+
+-- how many alarm values the object with an identifier has, by its row
+abbrev pub values_in : ObjectIdData → List Row → ℕ
+values_in object rows = option_map_or alarm_values_in (row_of object rows) 0
+
+-- the alarm of a subject: where its event detection isn't enabled, that of an object that was never looked at
+unfoldable pub subject_at : List Row → ℕ → Subject → List ℕ → Option (AlarmState × List ℕ)
+subject_at rows last subject = either_at (is_detecting subject) (alarm_at subject.algorithm (values_in subject.object rows) last) new_alarm_at

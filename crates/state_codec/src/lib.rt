@@ -17,6 +17,7 @@ mod reading_lists;
 mod reading_logs;
 mod reading_rest;
 mod reading_rows;
+mod reading_subjects;
 mod sizes;
 mod types;
 mod value;
