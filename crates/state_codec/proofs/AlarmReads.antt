@@ -1,12 +1,12 @@
 -- Alarms: each is read exactly as it is written, and those that an object may have.
-use Rattle.std.proofs.Common.{◌≡◌, ℕ, zero, suc, ◌+◌, ◌^◌, ◌<◌, ◌≤◌, Bool, true, false, not, cond, eqb, ltb, leb, ◌&&◌, List, [], ◌∷◌, ◌++◌, length, find, All, IsTrue, IfSome, IsSome, Option, Some, None, refl, sym, ap, subst, ◌∙◌, arith}
+use Rattle.std.proofs.Common.{◌≡◌, ℕ, zero, suc, ◌^◌, ◌<◌, ◌≤◌, Bool, true, false, not, cond, eqb, ltb, leb, ◌&&◌, List, [], ◌∷◌, ◌++◌, length, All, IfSome, IsSome, Option, Some, None, refl, sym, ap, subst, ◌∙◌, arith}
 use Rattle.std.specs.Int.{w32, w64, to_be_bytes}
 use Rattle.std.specs.List.{AllZip, flat_map}
-use Rattle.std.proofs.lemmas.Bool.{ltb-true, lt-ltb, leb-true, le-leb, eqb-true, false_from_ne_true}
+use Rattle.std.proofs.lemmas.Bool.{ltb-true, lt-ltb, leb-true, le-leb, eqb-true}
 use Rattle.std.proofs.lemmas.List.Elements.{All-nil, All-cons, All-head, All-tail}
 use Rattle.std.proofs.lemmas.Option.{cond_some}
-use Rattle.bac_values.specs.EventStates.{number_of_state, state_of_number, transition_to, place_of_transition, event_states}
-use Rattle.bac_values.specs.Moments.{first_moment, last_moment, IsMoment}
+use Rattle.bac_values.specs.EventStates.{number_of_state, state_of_number, transition_to, event_states}
+use Rattle.bac_values.specs.Moments.{first_moment, last_moment}
 use Rattle.bac_values.specs.Reliabilities.{number_of_reliability, reliability_of_number, reliabilities}
 use Rattle.bac_values.specs.declared.event_state.EventState.{EventState}
 use Rattle.bac_values.specs.declared.event_state.EventState.TheVariants.{Normal, Fault, Offnormal, HighLimit, LowLimit}
@@ -22,12 +22,12 @@ use Rattle.event_machine.specs.AlarmRecord.{is_same}
 use Rattle.event_machine.specs.Runs.{places}
 use Rattle.event_machine.specs.Summary.{AlarmState, transitions}
 use Rattle.event_machine.specs.declared.run.Run.{Run}
-use Rattle.alarm_core.specs.SiteStates.{IsAlarmOf, IsLastState, IsRunAt, is_state_of}
+use Rattle.alarm_core.specs.SiteStates.{IsLastState, IsRunAt, is_state_of}
 use Rattle.state_codec.specs.Records.{written_flag, written_flags}
 use Rattle.state_codec.specs.Snapshots.{no_state, written_alarm, written_cause, written_last, written_run, written_stamp}
-use Rattle.state_codec.specs.ReadingSteps.{◌>>=◌, octet_at, octets_at, number_at, flag_at, flags_at, state_at, value_if}
+use Rattle.state_codec.specs.ReadingSteps.{◌>>=◌, octet_at, octets_at, number_at, flag_at, flags_at, state_at}
 use Rattle.state_codec.specs.SnapshotSteps.{TracesData, and_at, led_at, stamp_of, stamp_at, stamps_at, entered_by, last_state_of, last_state_at, last_states_at, wants_cause, cause_of, cause_at, reliability_at, may_start, run_of, run_at, runs_at, traces_at, alarm_with, alarm_at}
-use Rattle.state_codec.specs.SnapshotLaws.{FitsAlarm, FitsRun, FitsRunAt, HasAlarm, IsStamp}
+use Rattle.state_codec.specs.SnapshotLaws.{FitsRun, FitsRunAt, HasAlarm, IsStamp}
 use Rattle.state_codec.proofs.Behind.{Reads, bind_some, some_is, both_true, reads_last}
 use Rattle.state_codec.proofs.PartLaws.{written_octet, IsOctet, as_they_are, HasLength, IsBelow, IsAny, AreThree, octet_reads, octets_reads, u32_reads, u64_reads, flag_reads, flags_reads}
 use Rattle.state_codec.proofs.ActLaws.{found_passes, state_reads, written_state}

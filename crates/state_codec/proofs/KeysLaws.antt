@@ -1,9 +1,7 @@
 -- What only some kinds of value objects have: it is read exactly as it is written.
-use Rattle.std.proofs.Common.{◌≡◌, ℕ, zero, suc, ℤ, pos, negsuc, ◌^◌, ◌<◌, ◌≤◌, Bool, true, false, not, cond, eqb, ltb, leb, ◌||◌, List, [], ◌∷◌, ◌++◌, length, IsTrue, IfSome, IsNone, Option, Some, None, is_some, refl, sym, ap, subst, ◌∙◌, arith}
-use Rattle.std.specs.Prelude.{FitsSigned}
+use Rattle.std.proofs.Common.{◌≡◌, ℕ, zero, suc, ℤ, pos, negsuc, ◌^◌, ◌<◌, Bool, true, false, cond, eqb, ltb, leb, ◌||◌, List, [], ◌∷◌, ◌++◌, length, IsTrue, IfSome, Option, Some, None, is_some, refl, sym, ap, subst, ◌∙◌, arith}
 use Rattle.std.specs.Int.{w32, to_be_bytes, cast_signed, cast_unsigned}
-use Rattle.std.specs.List.{list_all}
-use Rattle.std.proofs.lemmas.Bool.{ltb-true, lt-ltb, leb-true, le-leb, eqb-true}
+use Rattle.std.proofs.lemmas.Bool.{ltb-true, leb-true, eqb-true}
 use Rattle.std.proofs.lemmas.Int.{ints, to_z-of_z, of_z-to_z}
 use Rattle.std.proofs.lemmas.Option.{cond_some}
 use mir.ValLaws as laws
@@ -12,19 +10,16 @@ use Rattle.bac_values.specs.declared.object_kind.ObjectKind.{ObjectKind}
 use Rattle.bac_values.specs.declared.object_kind.ObjectKind.TheVariants.{BinaryValue, Device, EventEnrollment, NotificationClass, MultiStateValue, EventLog, BitStringValue, CharacterStringValue, IntegerValue, PositiveIntegerValue}
 use Rattle.bac_values.specs.declared.value.Value.{Value}
 use Rattle.bac_values.specs.declared.value.Value.TheVariants as values
-use Rattle.object_table.specs.Objects.{IsObject, IsRow, IsWithin, KeepsAlarmKeys, KeepsLimits, KeepsAlarmValue, HasLimits, LacksLimits}
-use Rattle.object_table.specs.Properties.{kind_in}
-use Rattle.object_table.specs.Values.{is_field_fault, is_present_value, is_binary_value}
-use Rattle.object_table.specs.declared.object_site.ObjectSite.{ObjectSite}
-use Rattle.object_table.specs.declared.row.Row.{Row}
-use Rattle.state_codec.specs.Records.{written_flag, written_flags, written_value, IsRecorded}
-use Rattle.state_codec.specs.Snapshots.{number_of, written_delay, written_keys, written_row}
+use Rattle.object_table.specs.Objects.{IsWithin}
+use Rattle.object_table.specs.Values.{is_binary_value}
+use Rattle.state_codec.specs.Records.{written_flag, written_flags}
+use Rattle.state_codec.specs.Snapshots.{number_of, written_delay}
 use Rattle.state_codec.specs.declared.reading_keys.Keys.{Keys}
-use Rattle.state_codec.specs.ReadingSteps.{then_at, last_at, done_at, value_if, octet_at, number_at, flag_at, flags_at, value_at}
-use Rattle.state_codec.specs.SnapshotSteps.{no_keys, with_alarm_value, with_limits, and_at, made_at, where_at, kept_at, are_clear, two_flags_of, two_flags_at, delay_of, delay_at, signed_at, unsigned_at, is_none, limits_at, alarm_value_of, keys_at}
-use Rattle.state_codec.proofs.Behind.{Reads, some_is, both_true, reads_last}
-use Rattle.state_codec.proofs.PartLaws.{written_octet, IsOctet, IsBelow, IsAny, AreThree, octet_reads, u32_reads, flag_reads, flags_reads}
-use Rattle.state_codec.proofs.Together.{reads_pair, reads_made, reads_where, reads_as, reads_done}
+use Rattle.state_codec.specs.ReadingSteps.{last_at, done_at, octet_at, number_at, flag_at}
+use Rattle.state_codec.specs.SnapshotSteps.{no_keys, with_alarm_value, with_limits, and_at, kept_at, are_clear, two_flags_of, two_flags_at, delay_of, delay_at, signed_at, unsigned_at, is_none, limits_at, alarm_value_of, keys_at}
+use Rattle.state_codec.proofs.Behind.{Reads, some_is, reads_last}
+use Rattle.state_codec.proofs.PartLaws.{written_octet, IsOctet, IsBelow, IsAny, octet_reads, u32_reads, flag_reads}
+use Rattle.state_codec.proofs.Together.{reads_pair, reads_made, reads_where, reads_done}
 
 -- ---- what only an object with a class has
 

@@ -1,11 +1,12 @@
 -- Reading parts one after the other, as a loop does.
-use Rattle.std.proofs.Common.{◌≡◌, ℕ, zero, suc, ◌-◌, ◌+◌, ◌≤◌, ◌<◌, List, [], ◌∷◌, ◌++◌, get_or, drop, length, Option, Some, None, refl, sym, ap, ◌∙◌, append_assoc, append-nil, arith}
+use Rattle.std.proofs.Common.{◌≡◌, ℕ, zero, suc, ◌-◌, ◌+◌, ◌≤◌, ◌<◌, List, [], ◌∷◌, ◌++◌, get_or, drop, length, Option, Some, None, Result, Ok, Err, IfOk, refl, sym, ap, ◌∙◌, append_assoc, append-nil, arith}
 use Rattle.std.proofs.Math.Seq.{drop-cons}
 use Rattle.state_codec.specs.declared.reading.ReadFault.{ReadFault}
 use Rattle.state_codec.specs.declared.reading.ReadFault.TheVariants as faults
-use Rattle.state_codec.specs.ReadingSteps.{◌>>=◌, Fails}
+use Rattle.state_codec.specs.ReadingSteps.{◌>>=◌, Fails, Gives}
 use Rattle.event_log.specs.Log.{number_back}
 use Rattle.state_codec.specs.SnapshotSteps.{each_at, numbers_up_to, times_at}
+use Rattle.state_codec.proofs.Behind.{bind_some, some_is}
 
 -- those that were read before, and those that are still read
 abbrev pub in_front : {X : Type 0} → List X → Option (List X × List ℕ) → Option (List X × List ℕ)
@@ -81,3 +82,17 @@ numbers_split total zero lt = absurd (omega (arith, lt))
 numbers_split total (suc left) lt =
     let one : left ≡ suc left - 1 = omega arith in
     ap (λ (n : ℕ). number_back total n ∷ numbers_up_to total n) one
+
+-- ---- how many there are
+
+long_of : {X : Type 0} (read : List ℕ → Option (X × List ℕ)) (count : ℕ) (octets : List ℕ) (xs : List X) (rest : List ℕ) → times_at read count octets ≡ Some (xs, rest) → length xs ≡ count
+unfolding times_at
+long_of {X = X} read zero octets xs rest e = ap (λ (p : List X × List ℕ). length p.0) (sym (some_is ([], octets) (xs, rest) e))
+long_of {X = X} read (suc count) octets xs rest e =
+    let a = bind_some (read octets) (λ first. times_at read count first.1 >>= λ others. Some (first.0 ∷ others.0, others.1)) (xs, rest) e in
+    let b = bind_some (times_at read count a.0.1) (λ others. Some (a.0.0 ∷ others.0, others.1)) (xs, rest) a.2 in
+    ap (λ (p : List X × List ℕ). length p.0) (sym (some_is (a.0.0 ∷ b.0.0, b.0.1) (xs, rest) b.2)) ∙ ap suc (long_of read count a.0.1 b.0.0 b.0.1 b.1)
+
+pub times_long : {V X : Type 0} (view : V → List X) (after : List ℕ) (r : Result V ReadFault) (read : List ℕ → Option (X × List ℕ)) (count : ℕ) (octets : List ℕ) → Gives (λ x. (view x, after)) r (times_at read count octets) → IfOk r (λ x. length (view x) ≡ count)
+times_long view after (Ok x) read count octets given = long_of read count octets (view x) after given
+times_long view after (Err fault) read count octets given = tt

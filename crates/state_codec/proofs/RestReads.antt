@@ -1,6 +1,6 @@
 -- Enrollments, classes, logs and posts: each is read exactly as it is written, and those that a site may have.
-use Rattle.std.proofs.Common.{◌≡◌, ℕ, zero, suc, ◌^◌, ◌<◌, ◌≤◌, Bool, true, false, eqb, ltb, leb, ◌&&◌, ◌||◌, if◌then◌else◌, List, [], ◌∷◌, ◌++◌, length, All, IsTrue, Option, Some, refl, sym, ap, subst, ◌∙◌, arith}
-use Rattle.std.specs.Int.{w8, w16, w32, w64, to_be_bytes}
+use Rattle.std.proofs.Common.{◌≡◌, ℕ, zero, suc, ◌^◌, ◌<◌, ◌≤◌, Bool, true, false, eqb, ltb, leb, ◌||◌, if◌then◌else◌, List, [], ◌∷◌, ◌++◌, length, All, refl, sym, ap, subst, ◌∙◌, arith}
+use Rattle.std.specs.Int.{w16, w32, w64, to_be_bytes}
 use Rattle.std.specs.List.{AllZip, flat_map}
 use Rattle.std.proofs.lemmas.Bool.{leb-true, le-leb}
 use Rattle.std.proofs.lemmas.List.Elements.{All-nil, All-cons}
@@ -16,11 +16,11 @@ use Rattle.notify_class.specs.declared.class.Class.{Class}
 use Rattle.outbox.specs.Posts.{most_octets, MailboxState}
 use Rattle.enrollment.specs.declared.enrollment_site.EnrollmentSite.{EnrollmentSite}
 use Rattle.alarm_core.specs.Logs.{SiteLogState}
-use Rattle.alarm_core.specs.SiteStates.{IsEnrollmentOf, hundredths_shown}
+use Rattle.alarm_core.specs.SiteStates.{hundredths_shown}
 use Rattle.state_codec.specs.Records.{written_destination, written_destinations, written_flag, written_flags, written_peer, AreDestinations, IsPeer}
 use Rattle.state_codec.specs.Snapshots.{written_body, written_class, written_entry, written_log, written_note, written_post, written_stamp}
-use Rattle.state_codec.specs.ReadingSteps.{then_at, either_at, nothing_at, done_at, octet_at, octets_at, number_at, flag_at, flags_at, peer_at, destinations_at}
-use Rattle.state_codec.specs.SnapshotSteps.{PostData, and_at, made_at, where_at, each_at, times_at, stamp_at, enrollment_at, class_with, class_at, body_at, hundredths_at, entry_with, entry_at, numbers_up_to, may_hold, entries_at, log_with, log_at, note_with, note_at, post_with, post_at, posts_at}
+use Rattle.state_codec.specs.ReadingSteps.{either_at, nothing_at, octet_at, octets_at, number_at, flag_at, flags_at, peer_at, destinations_at}
+use Rattle.state_codec.specs.SnapshotSteps.{PostData, and_at, where_at, times_at, stamp_at, enrollment_at, class_with, class_at, body_at, hundredths_at, entry_with, entry_at, numbers_up_to, may_hold, entries_at, log_with, log_at, note_with, note_at, post_with, post_at, posts_at}
 use Rattle.state_codec.specs.SnapshotLaws.{AreHundredths, ArePosts, HasClass, HasEnrollment, HasEntry, HasLog, HasNote, HasPost, IsStamp}
 use Rattle.state_codec.proofs.Behind.{Reads, both_true, reads_then}
 use Rattle.state_codec.proofs.PartLaws.{written_octet, IsOctet, as_they_are, HasLength, IsBelow, IsAny, AreThree, octet_reads, octets_reads, u16_reads, u32_reads, u64_reads, flag_reads, flags_reads, peer_reads}

@@ -1,25 +1,22 @@
 -- Rows of value objects: each is read exactly as it is written, and those that a site's object may have.
-use Rattle.std.proofs.Common.{◌≡◌, ℕ, zero, ℤ, pos, ◌^◌, ◌<◌, ◌≤◌, Bool, true, false, not, eqb, ◌||◌, List, [], ◌∷◌, ◌++◌, length, IsTrue, IsNone, Option, Some, None, is_some, refl, sym, ap, subst, ◌∙◌, arith}
+use Rattle.std.proofs.Common.{◌≡◌, ℕ, ◌^◌, ◌<◌, Bool, true, not, eqb, List, ◌++◌, Option, Some, None, is_some, refl}
 use Rattle.std.specs.Int.{w32, to_be_bytes}
-use Rattle.std.proofs.lemmas.Bool.{eqb-true}
 use Rattle.bac_values.specs.declared.object_kind.ObjectKind.{ObjectKind}
 use Rattle.bac_values.specs.declared.object_kind.ObjectKind.TheVariants.{BinaryValue, Device, EventEnrollment, NotificationClass, MultiStateValue, EventLog, BitStringValue, CharacterStringValue, IntegerValue, PositiveIntegerValue}
 use Rattle.bac_values.specs.declared.value.Value.{Value}
-use Rattle.object_table.specs.Objects.{IsObject, IsObjectOf, IsRow, IsWithin, KeepsAlarmKeys, KeepsLimits, KeepsAlarmValue, HasAlarmKeys, LacksAlarmKeys, HasLimits, LacksLimits}
 use Rattle.object_table.specs.Properties.{kind_in}
 use Rattle.object_table.specs.Values.{is_field_fault, is_present_value}
 use Rattle.object_table.specs.declared.object_site.ObjectSite.{ObjectSite}
-use Rattle.object_table.specs.declared.row.Row.{Row}
 use Rattle.state_codec.specs.Records.{written_flag, written_flags, written_value, IsRecorded}
-use Rattle.state_codec.specs.Snapshots.{written_delay, written_keys, written_row}
+use Rattle.state_codec.specs.Snapshots.{written_delay, written_keys}
 use Rattle.state_codec.specs.declared.reading_keys.Keys.{Keys}
 use Rattle.state_codec.specs.ReadingSteps.{octet_at, number_at, flag_at, flags_at, value_at}
-use Rattle.state_codec.specs.SnapshotSteps.{DetectionData, SettingsData, no_keys, and_at, where_at, kept_at, are_clear, is_none, delay_at, keys_at, present_at, detection_at, settings_at}
+use Rattle.state_codec.specs.SnapshotSteps.{DetectionData, SettingsData, where_at, kept_at, are_clear, delay_at, present_at, detection_at, settings_at}
 use Rattle.state_codec.proofs.Behind.{Reads}
 use Rattle.state_codec.proofs.PartLaws.{written_octet, IsOctet, IsBelow, IsAny, AreThree, octet_reads, u32_reads, flag_reads, flags_reads}
 use Rattle.state_codec.proofs.ValueLaws.{value_reads}
 use Rattle.state_codec.proofs.Together.{reads_pair, reads_where}
-use Rattle.state_codec.proofs.KeysLaws.{AreBinary, AreKeys, AreLimits, AreTwo, IsDelay, Kept, KeepsBinary, delay_reads, keys_reads, keys_with, reads_kept, written_keys_of}
+use Rattle.state_codec.proofs.KeysLaws.{AreKeys, IsDelay, Kept, delay_reads, keys_reads, reads_kept, written_keys_of}
 
 -- ---- values and field faults
 

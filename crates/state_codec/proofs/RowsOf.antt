@@ -1,6 +1,6 @@
 -- The row of an object of a site is what the settings that were read make of it, and no other row has them.
-use Rattle.std.proofs.Common.{◌≡◌, ℕ, zero, suc, ℤ, pos, negsuc, ◌^◌, ◌<◌, ◌≤◌, Bool, true, false, not, eqb, ◌||◌, ◌&&◌, List, [], ◌∷◌, ◌++◌, length, All, IsTrue, IsNone, IfSome, Option, Some, None, is_some, refl, sym, ap, subst, ◌∙◌, arith}
-use Rattle.std.specs.Int.{w32, to_be_bytes, cast_signed}
+use Rattle.std.proofs.Common.{◌≡◌, ℕ, zero, suc, ℤ, pos, negsuc, ◌^◌, ◌<◌, Bool, true, false, not, eqb, List, [], ◌∷◌, ◌++◌, length, IsNone, Option, Some, None, is_some, refl, sym, ap, subst, ◌∙◌, arith}
+use Rattle.std.specs.Int.{w32, to_be_bytes}
 use Rattle.std.proofs.lemmas.Bool.{eqb-true, eq-eqb}
 use Rattle.std.proofs.lemmas.Int.{ints}
 use mir.ValLaws as laws
@@ -8,22 +8,21 @@ use Rattle.bac_values.specs.declared.object_kind.ObjectKind.{ObjectKind}
 use Rattle.bac_values.specs.declared.object_kind.ObjectKind.TheVariants.{BinaryValue, Device, EventEnrollment, NotificationClass, MultiStateValue, EventLog, BitStringValue, CharacterStringValue, IntegerValue, PositiveIntegerValue}
 use Rattle.bac_values.specs.declared.value.Value.{Value}
 use Rattle.bac_values.specs.declared.value.Value.TheVariants as values
-use Rattle.object_table.specs.Objects.{IsObject, IsObjectOf, IsRow, IsWithin, KeepsAlarmKeys, KeepsLimits, KeepsAlarmValue, HasAlarmKeys, LacksAlarmKeys, HasLimits, LacksLimits}
+use Rattle.object_table.specs.Objects.{IsObject, IsWithin, KeepsAlarmKeys, KeepsLimits, KeepsAlarmValue, LacksLimits}
 use Rattle.object_table.specs.Properties.{kind_in}
-use Rattle.object_table.specs.Values.{has_length_of, is_field_fault, is_present_value}
+use Rattle.object_table.specs.Values.{has_length_of, is_present_value}
 use Rattle.object_table.specs.declared.object_site.ObjectSite.{ObjectSite}
 use Rattle.object_table.specs.declared.row.Row.{Row}
-use Rattle.alarm_core.specs.SiteStates.{IsRowOf, with_settings_of}
 use Rattle.state_codec.specs.Records.{written_flag, written_flags, written_value, IsRecorded}
 use Rattle.state_codec.specs.Types.{FitsValue}
-use Rattle.state_codec.specs.Snapshots.{written_delay, written_keys, written_row}
+use Rattle.state_codec.specs.Snapshots.{written_delay, written_row}
 use Rattle.state_codec.specs.declared.reading_keys.Keys.{Keys}
-use Rattle.state_codec.specs.SnapshotSteps.{SettingsData, no_keys, are_clear, is_none, made_at, object_with, row_with, settings_at, row_at}
-use Rattle.state_codec.specs.SnapshotLaws.{FitsRow, HasRow}
+use Rattle.state_codec.specs.SnapshotSteps.{SettingsData, no_keys, are_clear, is_none, object_with, row_with, settings_at, row_at}
+use Rattle.state_codec.specs.SnapshotLaws.{HasRow}
 use Rattle.state_codec.proofs.Behind.{Reads}
 use Rattle.state_codec.proofs.PartLaws.{IsAny, AreThree}
 use Rattle.state_codec.proofs.Together.{reads_made}
-use Rattle.state_codec.proofs.KeysLaws.{AreBinary, AreKeys, AreLimits, AreTwo, IsDelay, Kept, KeepsBinary, keys_with, keys_of_parts, written_keys_of}
+use Rattle.state_codec.proofs.KeysLaws.{AreKeys, AreLimits, IsDelay, Kept, KeepsBinary, keys_with, keys_of_parts, written_keys_of}
 use Rattle.state_codec.proofs.RowLaws.{AreSettings, keys_of, keys_written, settings_reads, written_settings}
 
 -- ---- present values

@@ -15,6 +15,7 @@ mod reading_alarms;
 mod reading_keys;
 mod reading_lists;
 mod reading_logs;
+mod reading_posts;
 mod reading_rest;
 mod reading_rows;
 mod reading_subjects;
