@@ -4,13 +4,7 @@
 #![tactic(auto)]
 
 #[cfg(test)]
-mod alarm_core_fault_tests;
-#[cfg(test)]
-mod alarm_core_note_tests;
-#[cfg(test)]
-mod alarm_core_plant;
-#[cfg(test)]
-mod alarm_core_tests;
+mod alarm_core_edit_tests;
 #[cfg(test)]
 mod algorithm_rules_tests;
 #[cfg(test)]
