@@ -20,13 +20,9 @@ mod event_log_tests;
 #[cfg(test)]
 mod event_machine_tests;
 #[cfg(test)]
-mod event_machine_value_tests;
-#[cfg(test)]
 mod held_timers_tests;
 #[cfg(test)]
 mod note_maker_tests;
-#[cfg(test)]
-mod note_maker_value_tests;
 #[cfg(test)]
 mod notify_class_tests;
 #[cfg(test)]
