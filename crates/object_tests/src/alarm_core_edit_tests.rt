@@ -146,11 +146,7 @@ fn counted<L: Ledger>(core: &mut Core, event: &Event, blank: Blank) -> Result<Ou
 }
 
 /// An event at a moment, while there are few. Its steps are counted in a ledger that nobody reads.
-fn take(
-    core: &mut Core,
-    moment: u64,
-    act: Act,
-) -> Result<Result<Outcome, StepFault>, Fail>
+fn take(core: &mut Core, moment: u64, act: Act) -> Result<Result<Outcome, StepFault>, Fail>
     requires moment { IsMoment moment }
     requires allowed { IsAllowed core.old act }
 {
