@@ -1,4 +1,4 @@
-ghost use Rattle.std.specs.Prelude.{◌≡◌, ◌<◌, ◌^◌, IfOk, IsSome, IsTrue, None, OnOk, pos};
+ghost use Rattle.std.specs.Prelude.{◌≡◌, ◌<◌, ◌^◌, IfOk, IsSome, IsTrue, None, pos};
 ghost use Rattle.bac_values.specs.Moments.{IsMoment};
 ghost use Rattle.object_table.specs.Objects.{IsObject};
 ghost use Rattle.alarm_core.specs.Allowed.{IsAllowed, members_of, room_beside};
