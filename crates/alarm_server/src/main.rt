@@ -14,8 +14,6 @@ mod session;
 mod settings;
 mod status;
 mod tally;
-#[cfg(test)]
-mod tests;
 mod text;
 mod trial;
 mod watch;

@@ -37,7 +37,7 @@ pub(crate) fn told(peer: Peer, process: u32) -> Destination {
     }
 }
 
-fn operators(alloc: Global) -> Result<ClassSite, Fail>
+pub(crate) fn operators(alloc: Global) -> Result<ClassSite, Fail>
     ensures instance { IfOk result (λ site. site.class.instance ≡ 7) }
 {
     Ok(ClassSite {
@@ -109,7 +109,7 @@ pub(crate) fn play_on(
     play.play(rt, alloc, &mut core)
 }
 
-fn counted<L: Ledger>(core: &mut Core, event: &Event, blank: Blank) -> Result<Outcome, StepFault>
+pub(crate) fn counted<L: Ledger>(core: &mut Core, event: &Event, blank: Blank) -> Result<Outcome, StepFault>
     requires name { blank.name ≡ L.name }
     requires parts { blank.parts ≡ L.parts }
     requires some { 0 < blank.parts }

@@ -219,60 +219,56 @@ fn states_match_where_they_are_equal(rt: HostRuntime) {
     same(&rt, &matched(&quiet), &None);
 }
 
+/// Which tests an integer value meets: above and below a limit that is enabled, back from each by the deadband, above
+/// and below any limit, and within both.
+fn limits_met(number: i32) -> [bool; 7] {
+    let value = Value::Signed(number);
+    let seen = object(SignedOutOfRange, &value, &[]);
+    [
+        is_met(AboveEnabledHigh, &seen),
+        is_met(BelowEnabledLow, &seen),
+        is_met(BelowHighLessDeadband, &seen),
+        is_met(AboveLowPlusDeadband, &seen),
+        is_met(AboveHigh, &seen),
+        is_met(BelowLow, &seen),
+        is_met(Within, &seen),
+    ]
+}
+
+/// Where the low limit alone is enabled: the first two of these, and whether the high and the low limit are disabled.
+fn low_limit_met(number: i32) -> [bool; 4] {
+    let value = Value::Signed(number);
+    let seen = Snapshot {
+        limit_enable: [true, false],
+        ..object(SignedOutOfRange, &value, &[])
+    };
+    [
+        is_met(AboveEnabledHigh, &seen),
+        is_met(BelowEnabledLow, &seen),
+        is_met(HighDisabled, &seen),
+        is_met(LowDisabled, &seen),
+    ]
+}
+
+/// An integer value is above the high limit or below the low one, back from either, or within.
+fn expect_met(rt: &impl Abort, number: i32, out: [bool; 2], back: [bool; 2], within: bool) {
+    let ([above, below], [less, more]) = (out, back);
+    let met = [above, below, less, more, above, below, within];
+    same(rt, &(number, limits_met(number)), &(number, met));
+    let met = [false, below, true, false];
+    same(rt, &(number, low_limit_met(number)), &(number, met));
+}
+
 #[test]
 fn limits_are_strict_and_the_deadband_lies_within(rt: HostRuntime) {
-    for (number, above, below, less, more, within) in [
-        (81, true, false, false, true, false),
-        (80, false, false, false, true, true),
-        (75, false, false, false, true, true),
-        (74, false, false, true, true, true),
-        (26, false, false, true, true, true),
-        (25, false, false, true, false, true),
-        (20, false, false, true, false, true),
-        (19, false, true, true, false, false),
-    ] {
-        let value = Value::Signed(number);
-        let snapshot = object(SignedOutOfRange, &value, &[]);
-        same(
-            &rt,
-            &(number, is_met(AboveEnabledHigh, &snapshot)),
-            &(number, above),
-        );
-        same(
-            &rt,
-            &(number, is_met(BelowEnabledLow, &snapshot)),
-            &(number, below),
-        );
-        same(
-            &rt,
-            &(number, is_met(BelowHighLessDeadband, &snapshot)),
-            &(number, less),
-        );
-        same(
-            &rt,
-            &(number, is_met(AboveLowPlusDeadband, &snapshot)),
-            &(number, more),
-        );
-        same(
-            &rt,
-            &(number, is_met(AboveHigh, &snapshot)),
-            &(number, above),
-        );
-        same(
-            &rt,
-            &(number, is_met(BelowLow, &snapshot)),
-            &(number, below),
-        );
-        same(&rt, &(number, is_met(Within, &snapshot)), &(number, within));
-        let low_alone = Snapshot {
-            limit_enable: [true, false],
-            ..snapshot
-        };
-        same(&rt, &is_met(AboveEnabledHigh, &low_alone), &false);
-        same(&rt, &is_met(BelowEnabledLow, &low_alone), &below);
-        same(&rt, &is_met(HighDisabled, &low_alone), &true);
-        same(&rt, &is_met(LowDisabled, &low_alone), &false);
-    }
+    expect_met(&rt, 81, [true, false], [false, true], false);
+    expect_met(&rt, 80, [false, false], [false, true], true);
+    expect_met(&rt, 75, [false, false], [false, true], true);
+    expect_met(&rt, 74, [false, false], [true, true], true);
+    expect_met(&rt, 26, [false, false], [true, true], true);
+    expect_met(&rt, 25, [false, false], [true, false], true);
+    expect_met(&rt, 20, [false, false], [true, false], true);
+    expect_met(&rt, 19, [false, true], [true, false], false);
 }
 
 #[test]

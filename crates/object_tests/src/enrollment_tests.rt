@@ -6,9 +6,9 @@ ghost use Rattle.enrollment.specs.Enrollments.{IsEnrollment};
 
 use crate::comparing::{holds, same};
 use algorithm_rules::{Algorithm, Snapshot};
-use bac_values::{Bits, Foreign, Items, ObjectId, ObjectKind, PropertyId, Text, Transition, Value};
+use bac_values::{Items, ObjectId, ObjectKind, PropertyId, Text, Transition, Value};
 use enrollment::*;
-use object_table::{Change, ObjectSite, Table, What, WriteFault};
+use object_table::{Change, ObjectSite, Table, What};
 use std::alloc::Global;
 use std::process::Abort;
 use std::test::Fail;
@@ -173,137 +173,6 @@ fn table_of(alloc: Global, first: ObjectSite, second: ObjectSite) -> Result<Tabl
     Ok(Table::new(alloc, vec![in alloc; first, second]?)?)
 }
 
-/// The class and the code of the error of a write; 0 and 0 where there is none.
-fn error_of(answer: &Result<Change, WriteFault>) -> (u8, u8) {
-    match answer {
-        Err(WriteFault::Error { class, code }) => (*class, *code),
-        _ => (0, 0),
-    }
-}
-
-/// The error of a write to enrollment 1.
-fn written(
-    enrollments: &Enrollments,
-    number: u32,
-    index: Option<u32>,
-    value: Value,
-) -> Result<(u8, u8), Fail> {
-    let object = identifier(ObjectKind::EventEnrollment, 1)?;
-    let answer = enrollments.check_write(object, PropertyId(number), index, &value);
-    Ok(error_of(&answer))
-}
-
-fn bits(length: u8, bits: u64) -> Result<Value, Fail> {
-    Ok(Value::Bits(Bits::new(length, bits)?))
-}
-
-fn foreign(tag: u8, why: Foreign) -> Value {
-    Value::Opaque { tag, why }
-}
-
-/// There is no such enrollment.
-fn expect_unknown(
-    rt: &impl Abort,
-    list: &Enrollments,
-    kind: ObjectKind,
-    instance: u32,
-) -> Result<(), Fail> {
-    let object = identifier(kind, instance)?;
-    let answer = list.check_write(object, PropertyId(8), Some(9), &Value::Null);
-    same(rt, &(instance, error_of(&answer)), &(instance, (1, 31)));
-    Ok(())
-}
-
-/// Each of these properties of enrollment 1, with the index, isn't written, for this error.
-fn expect_errors(
-    rt: &impl Abort,
-    list: &Enrollments,
-    numbers: &[u32],
-    index: Option<u32>,
-    error: (u8, u8),
-) -> Result<(), Fail> {
-    for number in numbers {
-        let answer = written(list, *number, index, Value::Null)?;
-        same(rt, &(*number, answer), &(*number, error));
-    }
-    Ok(())
-}
-
-fn expect_unknown_first(rt: &impl Abort, list: &Enrollments) -> Result<(), Fail> {
-    expect_unknown(rt, list, ObjectKind::EventEnrollment, 3)?;
-    expect_unknown(rt, list, ObjectKind::EventEnrollment, 0)?;
-    expect_unknown(rt, list, ObjectKind::IntegerValue, 1)?;
-    // Present_Value, Out_Of_Service, Time_Delay, Time_Delay_Normal, High_Limit, Reliability_Evaluation_Inhibit,
-    // Event_Parameters, Object_Property_Reference, and all of them.
-    let numbers = [85, 81, 113, 356, 45, 357, 83, 78, 8, 4_194_303];
-    expect_errors(rt, list, &numbers, Some(9), (2, 32))
-}
-
-#[test]
-fn an_unknown_object_or_property_is_told_first(rt: HostRuntime) -> Result<(), Fail> {
-    let list = followers(rt.alloc())?;
-    expect_unknown_first(&rt, &list)
-}
-
-fn expect_indices(rt: &impl Abort, list: &Enrollments) -> Result<(), Fail> {
-    let single = [0, 17, 35, 36, 37, 72, 75, 77, 79, 103, 111, 353, 354];
-    expect_errors(rt, list, &single, Some(0), (2, 50))?;
-    expect_errors(rt, list, &[130], Some(4), (2, 42))?;
-    expect_errors(rt, list, &[130], Some(0), (2, 40))?;
-    expect_errors(rt, list, &[130], Some(3), (2, 40))?;
-    let whole = [0, 17, 36, 37, 72, 75, 77, 79, 103, 111, 130, 353];
-    expect_errors(rt, list, &whole, None, (2, 40))
-}
-
-#[test]
-fn an_index_is_for_the_three_time_stamps_alone(rt: HostRuntime) -> Result<(), Fail> {
-    let list = followers(rt.alloc())?;
-    expect_indices(&rt, &list)
-}
-
-/// A write of the value to a property of enrollment 1 is answered so.
-fn expect_written(
-    rt: &impl Abort,
-    list: &Enrollments,
-    number: u32,
-    value: Value,
-    error: (u8, u8),
-) -> Result<(), Fail> {
-    same(rt, &written(list, number, None, value)?, &error);
-    Ok(())
-}
-
-/// Event_Enable.
-fn expect_enabling(rt: &impl Abort, list: &Enrollments) -> Result<(), Fail> {
-    expect_written(rt, list, 35, Value::Bool(true), (2, 9))?;
-    expect_written(rt, list, 35, foreign(4, Foreign::OtherType), (2, 9))?;
-    expect_written(rt, list, 35, foreign(7, Foreign::CharacterSet), (2, 9))?;
-    expect_written(rt, list, 35, foreign(8, Foreign::OutOfRange), (2, 37))?;
-    expect_written(rt, list, 35, bits(2, 0)?, (2, 37))?;
-    expect_written(rt, list, 35, bits(4, 7)?, (2, 37))?;
-    expect_written(rt, list, 35, bits(3, 7)?, (0, 0))
-}
-
-/// Event_Algorithm_Inhibit.
-fn expect_inhibiting(rt: &impl Abort, list: &Enrollments) -> Result<(), Fail> {
-    expect_written(rt, list, 354, bits(3, 7)?, (2, 9))?;
-    expect_written(rt, list, 354, Value::Unsigned(1), (2, 9))?;
-    expect_written(rt, list, 354, Value::Null, (2, 9))?;
-    expect_written(rt, list, 354, Value::Bool(false), (0, 0))
-}
-
-#[test]
-fn event_enable_is_three_bits(rt: HostRuntime) -> Result<(), Fail> {
-    let list = followers(rt.alloc())?;
-    expect_enabling(&rt, &list)
-}
-
-#[test]
-fn inhibition_is_true_or_false(rt: HostRuntime) -> Result<(), Fail> {
-    let list = followers(rt.alloc())?;
-    expect_inhibiting(&rt, &list)
-}
-
 /// Whether an enrollment takes a value of Event_Algorithm_Inhibit.
 fn takes(list: &Enrollments, instance: u32, value: Value) -> Result<bool, Fail> {
     let object = identifier(ObjectKind::EventEnrollment, instance)?;
@@ -325,59 +194,6 @@ fn an_enrollment_that_is_there_takes_what_its_properties_can_be(
 ) -> Result<(), Fail> {
     let list = followers(rt.alloc())?;
     expect_taken(&rt, &list)
-}
-
-/// Event_Enable and Event_Algorithm_Inhibit of an enrollment.
-fn settings(list: &Enrollments, instance: u32) -> Result<([bool; 3], bool), Fail> {
-    match list.row(identifier(ObjectKind::EventEnrollment, instance)?) {
-        Some(site) => Ok((site.enable, site.inhibit)),
-        None => Err("no enrollment".into()),
-    }
-}
-
-/// The settings of enrollment 2 after a write and after it was taken back, and those of enrollment 1 after the write.
-fn taken_back(
-    list: &mut Enrollments,
-    property: PropertyId,
-    value: &Value,
-) -> Result<[([bool; 3], bool); 3], Fail> {
-    let object = identifier(ObjectKind::EventEnrollment, 2)?;
-    let change = list.check_write(object, property, None, value)?;
-    let back = list.apply(change);
-    let written = settings(list, 2)?;
-    let other = settings(list, 1)?;
-    let _ = list.apply(back);
-    Ok([written, settings(list, 2)?, other])
-}
-
-fn written_and_taken_back(
-    alloc: Global,
-    property: PropertyId,
-    value: Value,
-) -> Result<[([bool; 3], bool); 3], Fail> {
-    let mut list = followers(alloc)?;
-    taken_back(&mut list, property, &value)
-}
-
-#[test]
-fn a_write_is_taken_back(rt: HostRuntime) -> Result<(), Fail> {
-    let of_mirror = ([true, true, true], true);
-    let of_follower = ([true, true, false], false);
-    same(
-        &rt,
-        &written_and_taken_back(rt.alloc(), PropertyId::EVENT_ENABLE, bits(3, 0b100)?)?,
-        &[([false, false, true], true), of_mirror, of_follower],
-    );
-    same(
-        &rt,
-        &written_and_taken_back(
-            rt.alloc(),
-            PropertyId::EVENT_ALGORITHM_INHIBIT,
-            Value::Bool(false),
-        )?,
-        &[([true, true, true], false), of_mirror, of_follower],
-    );
-    Ok(())
 }
 
 fn is_signed(value: &Value, wanted: i32) -> bool {

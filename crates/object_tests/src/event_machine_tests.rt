@@ -3,8 +3,8 @@ ghost use Rattle.bac_values.specs.Moments.{IsMoment};
 
 use crate::comparing::{holds, same};
 use algorithm_rules::{Algorithm, Snapshot};
-use bac_values::EventState::{self, Fault, HighLimit, LowLimit, Normal, Offnormal};
-use bac_values::{Reliability, Stamp, Transition, Value};
+use bac_values::EventState::{self, HighLimit, Normal, Offnormal};
+use bac_values::{Reliability, Stamp, Value};
 use event_machine::*;
 use std::marker::Brand;
 use std::sync::ledger::{Blank, Ledger};
@@ -12,7 +12,7 @@ use std::sync::ledger::{Blank, Ledger};
 const START: u64 = 1_700_000_000_000;
 
 /// Limits of 20 and 80 with a deadband of 5, delays of so many seconds.
-pub(crate) fn limits<'a>(value: &'a Value, delay: u32) -> Snapshot<'a>
+fn limits<'a>(value: &'a Value, delay: u32) -> Snapshot<'a>
     ensures { length result.alarm_values.now ≤ 32 }
 {
     Snapshot {
@@ -31,18 +31,6 @@ pub(crate) fn limits<'a>(value: &'a Value, delay: u32) -> Snapshot<'a>
     }
 }
 
-/// States that are alarms, and a delay of five seconds.
-pub(crate) fn states<'a>(value: &'a Value, alarm_values: &'a [Value]) -> Snapshot<'a>
-    requires { length alarm_values.now ≤ 32 }
-    ensures { length result.alarm_values.now ≤ 32 }
-{
-    Snapshot {
-        algorithm: Algorithm::ChangeOfState,
-        alarm_values,
-        ..limits(value, 5)
-    }
-}
-
 /// A stamp for each number of milliseconds after the start.
 fn stamp(after: u32) -> Stamp {
     let [a, b, c, d] = after.to_be_bytes();
@@ -51,7 +39,7 @@ fn stamp(after: u32) -> Stamp {
     }
 }
 
-pub(crate) fn point(after: u32) -> PointFacts
+fn point(after: u32) -> PointFacts
     ensures moment { IsMoment result.moment }
 {
     PointFacts {
@@ -63,7 +51,7 @@ pub(crate) fn point(after: u32) -> PointFacts
     }
 }
 
-pub(crate) fn moves(from: EventState, to: EventState) -> Option<Move> {
+fn moves(from: EventState, to: EventState) -> Option<Move> {
     Some(Move {
         from,
         to,
@@ -71,21 +59,13 @@ pub(crate) fn moves(from: EventState, to: EventState) -> Option<Move> {
     })
 }
 
-pub(crate) fn faults(from: EventState, to: EventState) -> Option<Move> {
-    Some(Move {
-        from,
-        to,
-        by_fault: true,
-    })
-}
-
-pub(crate) const NOTHING: Changed = Changed {
+const NOTHING: Changed = Changed {
     first: None,
     second: None,
 };
 
 /// An alarm behind the first point of its object.
-pub(crate) fn begun(snapshot: &Snapshot<'_>, first: &PointFacts) -> Alarm
+fn begun(snapshot: &Snapshot<'_>, first: &PointFacts) -> Alarm
     requires few { length snapshot.now.alarm_values.now ≤ 32 }
     requires moment { IsMoment first.now.moment }
 {
@@ -111,7 +91,7 @@ fn counted<L: Ledger>(
 }
 
 /// One more point, counted in a ledger that nobody reads.
-pub(crate) fn looked(alarm: &mut Alarm, snapshot: &Snapshot<'_>, point: &PointFacts) -> Changed
+fn looked(alarm: &mut Alarm, snapshot: &Snapshot<'_>, point: &PointFacts) -> Changed
     requires few { length snapshot.now.alarm_values.now ≤ 32 }
     requires moment { IsMoment point.now.moment }
 {
@@ -125,177 +105,6 @@ fn faulty(after: u32) -> PointFacts
     PointFacts {
         reliability: Reliability::UnreliableOther,
         ..point(after)
-    }
-}
-
-#[test]
-fn leaves_a_fault_and_enters_a_limit_at_one_point(rt: HostRuntime) {
-    let (within, above) = (Value::Signed(50), Value::Signed(90));
-    let mut alarm = begun(&limits(&within, 0), &point(0));
-    let changed = looked(&mut alarm, &limits(&within, 0), &faulty(0));
-    same(
-        &rt,
-        &changed,
-        &Changed {
-            first: faults(Normal, Fault),
-            second: None,
-        },
-    );
-    let changed = looked(&mut alarm, &limits(&above, 0), &faulty(1_000));
-    same(&rt, &changed, &NOTHING);
-    let changed = looked(&mut alarm, &limits(&above, 0), &point(2_000));
-    same(
-        &rt,
-        &changed,
-        &Changed {
-            first: faults(Fault, Normal),
-            second: moves(Normal, HighLimit),
-        },
-    );
-    same(&rt, &alarm.state(), &HighLimit);
-    same(
-        &rt,
-        &alarm.stamps(),
-        &[stamp(2_000), stamp(0), stamp(2_000)],
-    );
-    same(
-        &rt,
-        &alarm.last_states(),
-        &[Some(HighLimit), Some(Fault), Some(Normal)],
-    );
-    same(
-        &rt,
-        &alarm.last_reliability(),
-        &Reliability::NoFaultDetected,
-    );
-    same(&rt, &alarm.cause(), &None);
-    same(&rt, &alarm.acked(), &[false, true, true]);
-    alarm.acknowledge(Transition::ToOffnormal);
-    same(&rt, &alarm.acked(), &[true; 3]);
-}
-
-#[test]
-fn another_fault_is_a_move_of_its_own(rt: HostRuntime) {
-    let value = Value::Signed(50);
-    let snapshot = limits(&value, 0);
-    let mut alarm = begun(&snapshot, &point(0));
-    for (after, reliability, first) in [
-        (0, Reliability::UnreliableOther, faults(Normal, Fault)),
-        (1_000, Reliability::UnreliableOther, None),
-        (2_000, Reliability::OverRange, faults(Fault, Fault)),
-        (3_000, Reliability::NoFaultDetected, faults(Fault, Normal)),
-    ] {
-        let seen = PointFacts {
-            reliability,
-            ..point(after)
-        };
-        let changed = looked(&mut alarm, &snapshot, &seen);
-        same(
-            &rt,
-            &(after, changed),
-            &(
-                after,
-                Changed {
-                    first,
-                    second: None,
-                },
-            ),
-        );
-    }
-}
-
-#[test]
-fn goes_from_one_limit_to_the_other_after_the_delay(rt: HostRuntime) {
-    let (within, above, below) = (Value::Signed(50), Value::Signed(90), Value::Signed(10));
-    let mut alarm = begun(&limits(&within, 10), &point(0));
-    for (after, value, second) in [
-        (0, &within, None),
-        (0, &above, None),
-        (9_999, &above, None),
-        (10_000, &above, moves(Normal, HighLimit)),
-        (15_000, &above, None),
-        (15_000, &below, None),
-        (24_999, &below, None),
-        (25_000, &below, moves(HighLimit, LowLimit)),
-    ] {
-        let changed = looked(&mut alarm, &limits(value, 10), &point(after));
-        same(
-            &rt,
-            &(after, changed),
-            &(
-                after,
-                Changed {
-                    first: None,
-                    second,
-                },
-            ),
-        );
-    }
-}
-
-#[test]
-fn another_alarm_value_is_a_move_once_it_has_lasted(rt: HostRuntime) {
-    let alarms = [Value::Unsigned(2), Value::Unsigned(3)];
-    let (one, two, three) = (Value::Unsigned(1), Value::Unsigned(2), Value::Unsigned(3));
-    let mut alarm = begun(&states(&one, &alarms), &point(0));
-    for (after, value, second, cause) in [
-        (0, &one, None, None),
-        (0, &two, None, None),
-        (5_000, &two, moves(Normal, Offnormal), Some(0)),
-        (6_000, &two, None, Some(0)),
-        (6_000, &three, None, Some(0)),
-        (11_000, &three, moves(Offnormal, Offnormal), Some(1)),
-        (12_000, &three, None, Some(1)),
-        (12_000, &two, None, Some(1)),
-        (16_000, &two, None, Some(1)),
-        (16_000, &three, None, Some(1)),
-        (21_000, &three, None, Some(1)),
-    ] {
-        let changed = looked(&mut alarm, &states(value, &alarms), &point(after));
-        same(
-            &rt,
-            &(after, changed),
-            &(
-                after,
-                Changed {
-                    first: None,
-                    second,
-                },
-            ),
-        );
-        same(&rt, &(after, alarm.cause()), &(after, cause));
-    }
-}
-
-#[test]
-fn the_delay_starts_anew_where_an_inhibition_ends(rt: HostRuntime) {
-    let (within, above) = (Value::Signed(50), Value::Signed(90));
-    let mut alarm = begun(&limits(&within, 10), &point(0));
-    for (after, value, inhibited, second) in [
-        (0, &above, false, None),
-        (10_000, &above, false, moves(Normal, HighLimit)),
-        (11_000, &above, true, moves(HighLimit, Normal)),
-        (12_000, &above, true, None),
-        (12_000, &above, false, None),
-        (21_999, &above, false, None),
-        (22_000, &above, false, moves(Normal, HighLimit)),
-    ] {
-        let seen = PointFacts {
-            inhibited,
-            ..point(after)
-        };
-        let changed = looked(&mut alarm, &limits(value, 10), &seen);
-        same(
-            &rt,
-            &(after, changed),
-            &(
-                after,
-                Changed {
-                    first: None,
-                    second,
-                },
-            ),
-        );
     }
 }
 

@@ -6,15 +6,11 @@
 #[cfg(test)]
 mod alarm_core_admitting_tests;
 #[cfg(test)]
-mod alarm_core_fault_tests;
-#[cfg(test)]
-mod alarm_core_note_tests;
+mod alarm_core_edit_tests;
 #[cfg(test)]
 mod alarm_core_plant;
 #[cfg(test)]
 mod alarm_core_restore_tests;
-#[cfg(test)]
-mod alarm_core_tests;
 #[cfg(test)]
 mod algorithm_rules_tests;
 #[cfg(test)]
@@ -30,13 +26,9 @@ mod event_log_tests;
 #[cfg(test)]
 mod event_machine_tests;
 #[cfg(test)]
-mod event_machine_value_tests;
-#[cfg(test)]
 mod held_timers_tests;
 #[cfg(test)]
 mod note_maker_tests;
-#[cfg(test)]
-mod note_maker_value_tests;
 #[cfg(test)]
 mod notify_class_tests;
 #[cfg(test)]
@@ -47,5 +39,3 @@ mod outbox_tests;
 mod reliability_eval_tests;
 #[cfg(test)]
 mod state_codec_tests;
-#[cfg(test)]
-mod state_snapshot_tests;

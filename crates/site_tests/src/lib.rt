@@ -1,10 +1,8 @@
-//! Tests of what lies outside: files and what is sent, the text of a site, scripts and reports, and the journal.
+//! Tests of what lies outside: files and what is sent, scripts and reports, a workload, and the journal.
 //!
 //! They ask only what anybody may ask of those crates, and nothing stands on them; so those crates are proved once.
 #![tactic(auto)]
 
-#[cfg(test)]
-mod alarm_core_tests;
 #[cfg(test)]
 mod alarm_journal_tests;
 #[cfg(test)]
@@ -13,8 +11,6 @@ mod comparing;
 mod ground_io_tests;
 #[cfg(test)]
 mod script_lines_tests;
-#[cfg(test)]
-mod site_config_tests;
 #[cfg(test)]
 mod state_snapshot_tests;
 #[cfg(test)]

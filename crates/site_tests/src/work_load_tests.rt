@@ -1,9 +1,8 @@
 use crate::comparing::{holds, same};
 use crate::script_lines_tests::Pieces;
 use script_lines::Lines;
-use site_config::read_site;
 use std::test::Fail;
-use work_load::{make_script, make_site};
+use work_load::make_script;
 
 // The first lines of the script of seed 7, drawn by a program of its own.
 const SCRIPT: &str = "set 1700000001000 binary-value:38 active
@@ -43,15 +42,5 @@ fn each_line_of_a_script_is_one_of_a_session(rt: HostRuntime) -> Result<(), Fail
     }
     same(&rt, &lines.count(), &400);
     holds(&rt, lines.next_line(&mut source)?.is_none());
-    Ok(())
-}
-
-#[test]
-fn the_text_of_the_workload_is_a_site(rt: HostRuntime) -> Result<(), Fail> {
-    let site = read_site(rt.alloc(), &make_site(rt.alloc())?)?;
-    same(&rt, &site.objects.as_slice().len(), &40);
-    same(&rt, &site.enrollments.as_slice().len(), &2);
-    same(&rt, &site.classes.as_slice().len(), &3);
-    same(&rt, &site.logs.as_slice().len(), &2);
     Ok(())
 }
