@@ -1,5 +1,6 @@
-use crate::alarm_core_note_tests::{HIGH_LIMIT, guard, rise, tank};
-use crate::alarm_core_plant::{Play, START, operator, plant, play_on, pump, told};
+use crate::alarm_core_plant::{
+    HIGH_LIMIT, Play, START, guard, operator, plant, play_on, pump, rise, tank, told,
+};
 use crate::comparing::holds;
 use alarm_core::*;
 use bac_values::{

@@ -175,3 +175,52 @@ pub(crate) fn answer(core: &mut Core, invoke: u8) -> Result<(), Fail> {
     let _outcome = take(core, START, Act::Answer { peer, invoke, kind })??;
     Ok(())
 }
+
+/// The notification of HIGH_LIMIT at the start, to be confirmed with invoke ID 0.
+pub(crate) const HIGH_LIMIT: [u8; 65] = [
+    0x81, 0x0a, 0x00, 0x41, 0x01, 0x04, 0x00, 0x05, 0x00, 0x02, 0x09, 0x01, 0x1c, 0x02, 0x00, 0x03,
+    0xe9, 0x2c, 0x0b, 0x40, 0x00, 0x01, 0x3e, 0x2e, 0xa4, 0x7b, 0x0b, 0x0e, 0x02, 0xb4, 0x16, 0x0d,
+    0x14, 0x00, 0x2f, 0x3f, 0x49, 0x07, 0x59, 0x64, 0x69, 0x0f, 0x89, 0x00, 0x99, 0x01, 0xa9, 0x00,
+    0xb9, 0x03, 0xce, 0xfe, 0x0f, 0x09, 0x5a, 0x1a, 0x04, 0x80, 0x29, 0x05, 0x39, 0x50, 0xff, 0x0f,
+    0xcf,
+];
+
+/// Another recipient, whom the site doesn't list.
+pub(crate) fn guard() -> Peer {
+    Peer::local(167_772_166, 47808)
+}
+
+/// An integer value of 50 with limits 20 and 80.
+pub(crate) fn tank(alloc: Global) -> Result<ObjectSite, Fail>
+    ensures object { IfOk result (λ site. IsObject site) }
+{
+    Ok(ObjectSite {
+        object: ObjectId::of_kind(ObjectKind::IntegerValue, 1)?,
+        name: Text::new(alloc, "Tank")?,
+        value: Value::Signed(50),
+        out_of_service: false,
+        reliability_inhibit: false,
+        states: 0,
+        fault_low: None,
+        fault_high: None,
+        fault_values: Items::of(Vec::new(alloc)),
+        class: Some(7),
+        notify: 0,
+        enable: [true; 3],
+        time_delay: 0,
+        time_delay_normal: None,
+        detection: true,
+        inhibit: false,
+        low: 20,
+        high: 80,
+        deadband: 5,
+        limit_enable: [true; 2],
+        alarm_value: None,
+        alarm_values: Items::of(Vec::new(alloc)),
+        mask: None,
+    })
+}
+
+pub(crate) fn rise(core: &mut Core) -> Result<Result<Outcome, StepFault>, Fail> {
+    set(core, ObjectKind::IntegerValue, Value::Signed(90))
+}

@@ -39,3 +39,5 @@ mod outbox_tests;
 mod reliability_eval_tests;
 #[cfg(test)]
 mod state_codec_tests;
+#[cfg(test)]
+mod state_snapshot_tests;
