@@ -1,5 +1,5 @@
 -- Enrollments, classes, logs and posts: each is read exactly as it is written, and those that a site may have.
-use Rattle.std.proofs.Common.{◌≡◌, ℕ, zero, suc, ◌^◌, ◌<◌, ◌≤◌, Bool, true, false, eqb, ltb, leb, ◌||◌, if◌then◌else◌, List, [], ◌∷◌, ◌++◌, length, All, refl, sym, ap, subst, ◌∙◌, arith}
+use Rattle.std.proofs.Common.{IsTrue, ◌≡◌, ℕ, zero, suc, ◌^◌, ◌<◌, ◌≤◌, Bool, true, false, eqb, ltb, leb, ◌||◌, if◌then◌else◌, List, [], ◌∷◌, ◌++◌, length, All, refl, sym, ap, subst, ◌∙◌, arith}
 use Rattle.std.specs.Int.{w16, w32, w64, to_be_bytes}
 use Rattle.std.specs.List.{AllZip, flat_map}
 use Rattle.std.proofs.lemmas.Bool.{leb-true, le-leb}
@@ -21,7 +21,7 @@ use Rattle.state_codec.specs.Records.{written_destination, written_destinations,
 use Rattle.state_codec.specs.Snapshots.{written_body, written_class, written_entry, written_log, written_note, written_post, written_stamp}
 use Rattle.state_codec.specs.ReadingSteps.{either_at, nothing_at, octet_at, octets_at, number_at, flag_at, flags_at, peer_at, destinations_at}
 use Rattle.state_codec.specs.SnapshotSteps.{PostData, and_at, where_at, times_at, stamp_at, enrollment_at, class_with, class_at, body_at, hundredths_at, entry_with, entry_at, numbers_up_to, may_hold, entries_at, log_with, log_at, note_with, note_at, post_with, post_at, posts_at}
-use Rattle.state_codec.specs.SnapshotLaws.{AreHundredths, ArePosts, HasClass, HasEnrollment, HasEntry, HasLog, HasNote, HasPost, IsStamp}
+use Rattle.state_codec.specs.SnapshotLaws.{AreHundredths, ArePosts, HasClass, HasEnrollment, HasEntry, HasNote, HasPost, IsStamp}
 use Rattle.state_codec.proofs.Behind.{Reads, both_true, reads_then}
 use Rattle.state_codec.proofs.PartLaws.{written_octet, IsOctet, as_they_are, HasLength, IsBelow, IsAny, AreThree, octet_reads, octets_reads, u16_reads, u32_reads, u64_reads, flag_reads, flags_reads, peer_reads}
 use Rattle.state_codec.proofs.DestinationLaws.{destinations_reads, reads_if}
@@ -102,6 +102,15 @@ entries_reads has_rule zone total count =
 so_many : (total count : ℕ) → length (numbers_up_to total count) ≡ count
 so_many total zero = refl
 so_many total (suc count) = ap suc (so_many total count)
+
+-- a log of a site, whose records have their numbers
+pub record HasLog (has_rule : Bool) (zone : ZoneData) (listed : LogSite) (kept : SiteLogState) : Type 0 where
+  pub same : kept.site ≡ listed
+  pub size : kept.log.size ≡ listed.size
+  pub stops : kept.log.stops ≡ listed.stop_when_full
+  pub total : kept.log.total < 2 ^ 32
+  pub few : IsTrue (may_hold listed.size kept.log.total (length kept.log.records))
+  pub records : AllZip (HasEntry has_rule zone) (numbers_up_to kept.log.total (length kept.log.records)) kept.log.records
 
 abbrev CountedData : Type 0
 CountedData = Bool × (ℕ × (ℕ × List LogRecord))

@@ -11,10 +11,18 @@ use Rattle.enrollment.specs.declared.subject.Subject.{Subject}
 use Rattle.state_codec.specs.Snapshots.{written_alarm}
 use Rattle.state_codec.specs.ReadingSteps.{either_at, octets_at, value_if}
 use Rattle.state_codec.specs.SnapshotSteps.{alarm_at, new_alarm_at, subject_at, values_in}
-use Rattle.state_codec.specs.SnapshotLaws.{HasSubject, MayHaveAlarm}
+use Rattle.state_codec.specs.SnapshotLaws.{HasAlarm}
 use Rattle.state_codec.proofs.Behind.{Reads, reads_last}
 use Rattle.state_codec.proofs.PartLaws.{as_they_are, HasLength, octets_reads}
 use Rattle.state_codec.proofs.AlarmReads.{alarm_reads}
+
+-- the alarm of a subject whose event detection is enabled, or isn't
+abbrev pub MayHaveAlarm : Bool → Algorithm → ℕ → ℕ → AlarmState → Type 0
+MayHaveAlarm true algorithm values last alarm = HasAlarm algorithm values last alarm
+MayHaveAlarm false algorithm values last alarm = alarm ≡ new_alarm
+
+abbrev pub HasSubject : List Row → ℕ → Subject → AlarmState → Type 0
+HasSubject rows last subject alarm = MayHaveAlarm (is_detecting subject) subject.algorithm (values_in subject.object rows) last alarm
 
 same_octets : (first second : List ℕ) → bytes_eq first second ≡ true → first ≡ second
 same_octets first second e = (bytes_eq-Decides first second).0 e

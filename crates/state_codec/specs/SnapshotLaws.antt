@@ -1,20 +1,15 @@
--- What the parts of a snapshot say: which rows, alarms, classes, logs and posts have octets there, and that each has its own.
+-- What stands in a snapshot: which rows, alarms, enrollments, classes, records and posts have octets there.
 use Rattle.std.specs.Prelude.{◌≡◌, ℕ, ◌^◌, ◌<◌, ◌≤◌, All, Bool, true, false, IsTrue, IfSome, List, Option, length}
-use Rattle.std.specs.List.{AllZip}
 use Rattle.bac_values.specs.Address.{PeerData}
 use Rattle.bac_values.specs.declared.note.Note.{Note}
 use Rattle.bac_values.specs.declared.stamp.Stamp.{Stamp}
 use Rattle.civil_stamp.specs.LocalTime.{ZoneData}
 use Rattle.algorithm_rules.specs.declared.table.Algorithm.{Algorithm}
 use Rattle.event_log.specs.declared.log_record.LogRecord.{LogRecord}
-use Rattle.event_log.specs.declared.log_site.LogSite.{LogSite}
 use Rattle.notify_class.specs.declared.class.Class.{Class}
 use Rattle.outbox.specs.Posts.{most_octets, MailboxState}
-use Rattle.enrollment.specs.Subjects.{is_detecting}
-use Rattle.enrollment.specs.declared.subject.Subject.{Subject}
 use Rattle.enrollment.specs.declared.enrollment_site.EnrollmentSite.{EnrollmentSite}
-use Rattle.alarm_core.specs.Logs.{SiteLogState}
-use Rattle.event_machine.specs.Summary.{AlarmState, new_alarm}
+use Rattle.event_machine.specs.Summary.{AlarmState}
 use Rattle.event_machine.specs.declared.run.Run.{Run}
 use Rattle.object_table.specs.Properties.{kind_in}
 use Rattle.object_table.specs.Values.{is_present_value}
@@ -22,7 +17,6 @@ use Rattle.object_table.specs.declared.object_site.ObjectSite.{ObjectSite}
 use Rattle.object_table.specs.declared.row.Row.{Row}
 use Rattle.alarm_core.specs.SiteStates.{IsAlarmOf, IsEnrollmentOf, IsRowOf, hundredths_shown}
 use Rattle.state_codec.specs.Records.{AreDestinations, IsPeer}
-use Rattle.state_codec.specs.SnapshotSteps.{may_hold, numbers_up_to, values_in}
 use Rattle.state_codec.specs.Types.{FitsValue}
 
 -- what the types of a row's parts say of it
@@ -82,15 +76,6 @@ pub record HasEntry (has_rule : Bool) (zone : ZoneData) (sequence : ℕ) (entry 
   pub number : entry.sequence ≡ sequence
   pub short : length entry.body ≤ most_octets
 
--- a log of a site, whose records have their numbers
-pub record HasLog (has_rule : Bool) (zone : ZoneData) (listed : LogSite) (kept : SiteLogState) : Type 0 where
-  pub same : kept.site ≡ listed
-  pub size : kept.log.size ≡ listed.size
-  pub stops : kept.log.stops ≡ listed.stop_when_full
-  pub total : kept.log.total < 2 ^ 32
-  pub few : IsTrue (may_hold listed.size kept.log.total (length kept.log.records))
-  pub records : AllZip (HasEntry has_rule zone) (numbers_up_to kept.log.total (length kept.log.records)) kept.log.records
-
 -- ---- posts
 
 abbrev pub HasNote : PeerData → Note → Type 0
@@ -106,13 +91,3 @@ pub record HasPost (post : MailboxState) : Type 0 where
 
 abbrev pub ArePosts : List MailboxState → Type 0
 ArePosts posts = All HasPost posts × (length posts < 2 ^ 16)
-
--- ---- subjects
-
--- the alarm of a subject whose event detection is enabled, or isn't
-abbrev pub MayHaveAlarm : Bool → Algorithm → ℕ → ℕ → AlarmState → Type 0
-MayHaveAlarm true algorithm values last alarm = HasAlarm algorithm values last alarm
-MayHaveAlarm false algorithm values last alarm = alarm ≡ new_alarm
-
-abbrev pub HasSubject : List Row → ℕ → Subject → AlarmState → Type 0
-HasSubject rows last subject alarm = MayHaveAlarm (is_detecting subject) subject.algorithm (values_in subject.object rows) last alarm
