@@ -11,6 +11,7 @@ pub mod Rounds
 pub mod Undoing
 pub mod Untouched
 pub mod Places
+pub mod FirstAlarms
 pub mod DueCounts
 pub mod Agreeing
 pub mod Courses
