@@ -9,7 +9,6 @@ use Rattle.alarm_core.specs.State.{DetectedObjectState}
 use Rattle.alarm_core.proofs.Dues.{due_at_once}
 use Rattle.alarm_core.specs.DueSteps.{DetectionsState, all_once, due_count, due_of, dues_of, once}
 
-
 -- the next one that is due is one more
 pub record CountsNext (moment from offset next : ℕ) (timers : List (Option ℕ)) : Type 0 where
   pub index : ℕ

@@ -268,7 +268,8 @@ impl Core {
     pub fn has_object(&self, object: ObjectId) -> bool
         ensures there { result ≡ has_object self.now object }
     {
-        self.detections.objects().table().row(object).is_some() || is_other_object(&self.site, object)
+        self.detections.objects().table().row(object).is_some()
+            || is_other_object(&self.site, object)
     }
 
     /// Whether the site has the object beside its value objects: as its device, a class, an enrollment or a log.

@@ -70,11 +70,7 @@ impl Core {
     }
 
     // What is told of the transitions of the last look.
-    fn told(
-        &self,
-        at: &LocalMoment,
-        transitions: &[ObjectTransition],
-    ) -> Result<Told, NoMemory>
+    fn told(&self, at: &LocalMoment, transitions: &[ObjectTransition]) -> Result<Told, NoMemory>
         requires zone { at.now.zone ≡ site_zone self.now.site }
         ensures moves { IfOk result (λ told. told.moves.items ≡ map moved_by (seen_in at.now.moment self.now transitions.now)) }
         ensures notes { IfOk result (λ told. told.notes.items ≡ notes_of_transitions self.now.site self.now.classes (seen_in at.now.moment self.now transitions.now)) }
@@ -177,7 +173,9 @@ impl Core {
             self.detections.evaluate(at, steps, round)?;
             return Ok(None);
         }
-        let undo = self.detections.write(copy_of_change(change)?, at, steps, round)?;
+        let undo = self
+            .detections
+            .write(copy_of_change(change)?, at, steps, round)?;
         Ok(Some(undo))
     }
 

@@ -95,20 +95,20 @@ returns-after-undo-4-clause-undoes g c =
     let whole = c.self.view_is ∙ c.in-Err.ensures.same in
     elim c.match-undo-4.branch [
       | in-Some w ↦
-        let undo = w.in-Some.undo in
-        let none : c.match-undo-4.round.formers.items ≡ [] = search rules in
-        let back : written undo c.change.new.self.values ≡ c.look.new.self.values = search rules in
-        let values = back ∙ start in
-        let undone : detections_of old ≡ record (start_of formers (detections_of c.change.new.self)) { values = written undo c.change.new.self.values } =
-        λ k. record { values = sym values k; alarms = sym led.undoes.puts_back k } in
-        let viewed = ap (λ (s : CoreState). record (start_of formers (detections_of s)) { values = written undo s.values }) (sym whole) in
-        leads_nowhere c.match-undo-4.round.formers.items (detections_of old) (detections_of c.match-undo-4.self) none
-        (undone ∙ (viewed ∙ (sym w.undo_write.ensures.undone ∙ sym (ap detections_of w.self-is))))
+          let undo = w.in-Some.undo in
+          let none : c.match-undo-4.round.formers.items ≡ [] = search rules in
+          let back : written undo c.change.new.self.values ≡ c.look.new.self.values = search rules in
+          let values = back ∙ start in
+          let undone : detections_of old ≡ record (start_of formers (detections_of c.change.new.self)) { values = written undo c.change.new.self.values } =
+          λ k. record { values = sym values k; alarms = sym led.undoes.puts_back k } in
+          let viewed = ap (λ (s : CoreState). record (start_of formers (detections_of s)) { values = written undo s.values }) (sym whole) in
+          leads_nowhere c.match-undo-4.round.formers.items (detections_of old) (detections_of c.match-undo-4.self) none
+          (undone ∙ (viewed ∙ (sym w.undo_write.ensures.undone ∙ sym (ap detections_of w.self-is))))
       | in_default w ↦
-        let round : c.match-undo-4.round.formers.items ≡ formers = search rules in
-        let here : c.match-undo-4.self ≡ c.change.new.self = search rules in
-        subst (λ fs. LeadsBack fs (detections_of old) (detections_of c.match-undo-4.self)) (sym round)
-        (subst (λ (s : CoreState). LeadsBack formers (detections_of old) (detections_of s)) (sym here) led)
+          let round : c.match-undo-4.round.formers.items ≡ formers = search rules in
+          let here : c.match-undo-4.self ≡ c.change.new.self = search rules in
+          subst (λ fs. LeadsBack fs (detections_of old) (detections_of c.match-undo-4.self)) (sym round)
+          (subst (λ (s : CoreState). LeadsBack formers (detections_of old) (detections_of s)) (sym here) led)
     ]
 
 pub returns-after-undo-4-clause-verdict : goal.returns-after-undo-4-clause-verdict
