@@ -23,6 +23,7 @@ pub mod Room
 pub mod Logging
 pub mod Entering
 pub mod Standing
+pub mod Firing
 pub mod Moved
 pub mod ToldBy
 pub mod Looking
