@@ -24,6 +24,7 @@ pub mod Logging
 pub mod Entering
 pub mod Standing
 pub mod Firing
+pub mod Moving
 pub mod Moved
 pub mod ToldBy
 pub mod Looking
