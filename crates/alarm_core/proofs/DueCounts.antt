@@ -76,7 +76,7 @@ counts_on moment time from next first timers dues due is found waits new =
       waits = ap (drop (next + 1)) new ∙ (drop-set-lt (next + 1) timers next due (omega arith) ∙ one);
     }
 
-at_most_one : (b : Bool) → (if b then 1 else 0) ≤ 1
+pub at_most_one : (b : Bool) → (if b then 1 else 0) ≤ 1
 at_most_one true = omega arith
 at_most_one false = omega arith
 

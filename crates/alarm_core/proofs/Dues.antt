@@ -45,7 +45,7 @@ pub due_at : (at : LocalMomentData) (values : ObjectsState) (detected : Detected
 due_at at values detected = due_at_by at values detected (facts_at detected.object values)
 
 -- what isn't due stays
-is_due-come : (moment : ℕ) (due : Option ℕ) → is_due moment due ≡ has_come due moment
+pub is_due-come : (moment : ℕ) (due : Option ℕ) → is_due moment due ≡ has_come due moment
 is_due-come moment None = refl
 is_due-come moment (Some due) = refl
 

@@ -11,6 +11,7 @@ pub mod Rounds
 pub mod Undoing
 pub mod Untouched
 pub mod Places
+pub mod FirstAlarms
 pub mod DueCounts
 pub mod Agreeing
 pub mod Courses
@@ -22,6 +23,8 @@ pub mod Room
 pub mod Logging
 pub mod Entering
 pub mod Standing
+pub mod Firing
+pub mod Moving
 pub mod Moved
 pub mod ToldBy
 pub mod Looking

@@ -23,7 +23,7 @@ use Rattle.alarm_core.specs.State.{DetectedObjectState}
 use Rattle.alarm_core.specs.DueSteps.{AscendByObject, StandsAt, object_of, once}
 
 -- each alarm is below every later one
-below : (alarms : List DetectedObjectState) → AscendByObject alarms → (i j : ℕ) (d : DetectedObjectState) → i < j → j < length alarms →
+pub below : (alarms : List DetectedObjectState) → AscendByObject alarms → (i j : ℕ) (d : DetectedObjectState) → i < j → j < length alarms →
     identifier_order (get_or alarms i d).object (get_or alarms j d).object ≡ Less
 below alarms ascending i j d lt high =
     let in_range : j < length (map object_of alarms) = rw (length-map alarms object_of) high in

@@ -68,7 +68,7 @@ looked_one : (site : Site) (moment : ℕ) (values : ObjectsState) (w : List Occu
     evaluated (site_moment site moment) values (detected_object_of site w subject) ≡ detected_object_of site (AllEvaluated moment values ∷ w) subject
 looked_one site moment values w subject course = looked_by site (point_of site subject moment values) subject w course
 
-look_stands : (site : Site) (moment : ℕ) (values : ObjectsState) (w : List Occurrence) → HaveCourses site (AllEvaluated moment values ∷ w) →
+pub look_stands : (site : Site) (moment : ℕ) (values : ObjectsState) (w : List Occurrence) → HaveCourses site (AllEvaluated moment values ∷ w) →
     evaluated_all (site_moment site moment) values (alarms_of site w) ≡ alarms_of site (AllEvaluated moment values ∷ w)
 look_stands site moment values w courses =
     let now = AllEvaluated moment values ∷ w in
@@ -101,7 +101,7 @@ moves_by_point site None subject w course = refl
 moves_by_point site (Some point) subject w course =
     keeps_course.moves subject.algorithm (first_point site subject) (incidents_of site subject w) point (detected_object_of site w subject).alarm course refl
 
-transitions_one : (site : Site) (moment : ℕ) (values : ObjectsState) (w : List Occurrence) (subject : Subject) → IsCourse (first_point site subject) (incidents_of site subject (AllEvaluated moment values ∷ w)) →
+pub transitions_one : (site : Site) (moment : ℕ) (values : ObjectsState) (w : List Occurrence) (subject : Subject) → IsCourse (first_point site subject) (incidents_of site subject (AllEvaluated moment values ∷ w)) →
     transitions_by (site_moment site moment) values (detected_object_of site w subject) ≡ object_transitions site moment values w subject
 transitions_one site moment values w subject course =
     ap (map (object_transition subject.object (detection_of site subject w).cause)) (moves_by_point site (point_of site subject moment values) subject w course)

@@ -86,16 +86,20 @@ pub one_once-is : (touched : List ObjectIdData) (object : ObjectIdData) (due : O
 one_once-is [] object due = refl
 one_once-is (first ∷ touched) object due = once_by (is_object first object) touched object due (stays_once touched object) (one_once-is touched object due)
 
+pub untouched_by : (change : Change) (detected : DetectedObjectState) (values : ObjectsState) → is_among (touched_by change.object values.enrollments) detected.object ≡ false →
+    IsUntouched change detected.object values.enrollments
+untouched_by change detected values is =
+    let sites = watchers change.object values.enrollments in
+    let parts = or_none (is_object change.object detected.object) (is_among sites detected.object) is in
+    record {
+      other = parts.0;
+      no_watcher = λ k d within. alike detected.object (slice_index_or sites k d) ∙ any_none (λ (one : ObjectIdData). is_object one detected.object) sites parts.1 k d within;
+    }
+
 early_one : (change : Change) (values : ObjectsState) (detected : DetectedObjectState) (is : Bool) → is_among (touched_by change.object values.enrollments) detected.object ≡ is →
     IsEarly (written change values) detected (if is then Some 0 else due_of values detected)
 early_one change values detected true is = inr refl
-early_one change values detected false is =
-    let sites = watchers change.object values.enrollments in
-    let parts = or_none (is_object change.object detected.object) (is_among sites detected.object) is in
-    inl (sym (due_untouched change detected values (record {
-      other = parts.0;
-      no_watcher = λ k d within. alike detected.object (slice_index_or sites k d) ∙ any_none (λ (one : ObjectIdData). is_object one detected.object) sites parts.1 k d within;
-    })))
+early_one change values detected false is = inl (sym (due_untouched change detected values (untouched_by change detected values is)))
 
 -- with the touched ones set at once, no timer is late after the write
 pub early_touched : (change : Change) (values : ObjectsState) (alarms : List DetectedObjectState) →

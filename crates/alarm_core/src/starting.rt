@@ -1,8 +1,7 @@
 ghost use Rattle.std.specs.Prelude.{◌≡◌, ◌==◌, ◌++◌, ◌∷◌, [], IfOk, OnOk, filter, find, if◌then◌else◌, map};
 ghost use Rattle.std.specs.Option.{option_copied};
 ghost use Rattle.notify_class.specs.declared.class_site.ClassSite.{ClassSite as Listed};
-ghost use Rattle.object_table.specs.Rows.{Ascends};
-ghost use Rattle.enrollment.specs.Subjects.{is_detecting, object_of};
+ghost use Rattle.enrollment.specs.Subjects.{is_detecting};
 ghost use Rattle.alarm_core.specs.CoreSteps.{first_with};
 ghost use Rattle.alarm_core.specs.DueSteps.{AscendByObject};
 ghost use Rattle.alarm_core.specs.Sites.{IsSite};
@@ -83,8 +82,6 @@ fn alarms_of(
     subjects: &[Subject],
     at: &LocalMoment,
 ) -> Result<Vec<DetectedObject>, NoMemory>
-    requires ascending { Ascends (map object_of subjects.now) }
-    ensures ascending { IfOk result (λ alarms. AscendByObject alarms.items) }
     ensures alarms { IfOk result (λ alarms. alarms.items ≡ map (λ subject. first_with at.now (ack_required_of site.now subject) objects.now subject) (filter is_detecting subjects.now)) }
 {
     let mut alarms = Vec::new(alloc);

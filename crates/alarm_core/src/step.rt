@@ -16,6 +16,7 @@ ghost use Rattle.alarm_core.specs.DueSteps.{LeadsBack, all_once, detections_of, 
 ghost use Rattle.alarm_core.specs.Evaluations.{site_moment, site_zone};
 ghost use Rattle.alarm_core.specs.History.{event_at, moved_by, raised, tick_at, transitions_of};
 ghost use Rattle.alarm_core.specs.Logs.{call_of_change, kept_log, records_of, SiteLogState};
+ghost use Rattle.alarm_core.specs.Moving.{moving_of, touched_of};
 ghost use Rattle.alarm_core.specs.Notes.{IsShort, notes_of_transitions};
 ghost use Rattle.alarm_core.specs.Room.{HasRoom};
 ghost use Rattle.alarm_core.specs.Verdicts.{Answers, queue_verdict, step_verdict};
@@ -385,7 +386,9 @@ impl Core {
 
     /// Takes an event, whose moment is raised to the last one. A fault changes nothing: notifications that don't fit the
     /// outbox are `Full`, with the number that would then wait and the one that may. A tick is never `Full` where nothing
-    /// waits and the site's classes leave room for one transition of each of their objects. Each look at an object is a step.
+    /// waits and the site's classes leave room for one transition of each of their objects. Each look at an object is a step:
+    /// there are at most as many as objects move at the looks of the event, and for a write one more for each object that it
+    /// touches.
     pub fn step<L: Ledger>(
         &mut self,
         event: &Event,
@@ -410,6 +413,8 @@ impl Core {
             ≡ notifications_of self.old.site history ++ next_notes (raised self.old.last_moment event.now) self.old }
         ensures ticks_fit { HasRoom self.old.site → (history : List Happening) → Represents self.old history → unfinished_in self.old.outbox.posts ≡ 0 →
             event.now.act ≡ Tick → step_verdict (raised self.old.last_moment event.now) self.old ≡ Ok tt }
+        ensures counts { (history : List Happening) → Represents self.old history →
+            steps.new ≤ steps.old + (moving_of self.old.site (raised self.old.last_moment event.now) history + touched_of self.old.site (raised self.old.last_moment event.now) history) }
     {
         let moment = event.moment.max(self.last_moment);
         let at = self.at(moment);

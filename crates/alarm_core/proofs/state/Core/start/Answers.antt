@@ -7,6 +7,7 @@ use Rattle.notify_class.specs.declared.class_site.ClassSite.{ClassSite}
 use Rattle.enrollment.specs.Objects.{ObjectsState}
 use Rattle.alarm_core.specs.Classes.{first_classes, known_peers_of, peers_in}
 use Rattle.alarm_core.specs.CoreSteps.{first_kept, first_with}
+use Rattle.alarm_core.specs.DueSteps.{DetectionsState}
 use Rattle.alarm_core.specs.Evaluations.{site_moment, site_zone}
 use Rattle.alarm_core.specs.Sites.{IsSite}
 use Rattle.alarm_core.specs.Subjects.{ack_required_of, detecting_subjects}
@@ -54,8 +55,11 @@ returns-clause-starts c =
     let known : c.in_ok-peers.peers ≡ known_peers_of site [] = peers ∙ ap (λ ps. peers_with ps []) (listed ∙ ap peers_in classes) in
     let outbox : c.in_ok-outbox.outbox ≡ new_outbox c.in_ok-peers.peers site.device.outbox site.device.apdu_timeout site.device.retries = search rules in
     let logs : c.in_ok-logs.logs.items ≡ map first_kept site.logs = search rules in
-    started site c.in_ok-site.site c.in_ok-objects.objects c.in_ok-alarms.alarms.items c.in_ok-classes.classes.items c.in_ok-outbox.outbox c.in_ok-logs.logs.items
-    same values alarms classes (outbox ∙ ap (λ ps. new_outbox ps site.device.outbox site.device.apdu_timeout site.device.retries) known) logs
+    let detections = c.in_ok-detections.ensures.detections in
+    let seen = ap (λ (d : DetectionsState). d.values) detections ∙ values in
+    let shown = ap (λ (d : DetectionsState). d.alarms) detections ∙ alarms in
+    started site c.in_ok-site.site c.in_ok-detections.detections.values c.in_ok-detections.detections.alarms c.in_ok-classes.classes.items c.in_ok-outbox.outbox c.in_ok-logs.logs.items
+    same seen shown classes (outbox ∙ ap (λ ps. new_outbox ps site.device.outbox site.device.apdu_timeout site.device.retries) known) logs
 
 pub returns-clause-represents : goal.returns-clause-represents
 returns-clause-represents c = represents_first c.args.site.now _ (returns-clause-starts c)

@@ -1,9 +1,15 @@
-use Rattle.std.proofs.Common.{◌≡◌, ◌+◌, ◌≤◌, ℕ, rules, arith}
+use Rattle.std.proofs.Common.{◌≡◌, ◌+◌, ◌≤◌, ℕ, ap, rules, arith}
 use Rattle.alarm_core.specs.History.{raised}
 use Rattle.alarm_core.specs.CoreSteps.{acted}
+use Rattle.civil_stamp.specs.LocalTime.{LocalMomentData}
+use Rattle.alarm_core.specs.DueSteps.{detections_of, due_steps}
+use Rattle.alarm_core.specs.Evaluations.{site_moment}
+use Rattle.alarm_core.specs.Moving.{moving_of, touched_of}
 use Rattle.alarm_core.specs.Sites.{IsSite}
 use Rattle.alarm_core.specs.State.{CoreState}
 use Rattle.alarm_core.proofs.Acted.{stepped}
+use Rattle.alarm_core.proofs.Moved.{at_site}
+use Rattle.alarm_core.proofs.Moving.{counted}
 use Rattle.alarm_core.proofs.NeverFull.{tick_never_full}
 use Rattle.alarm_core.proofs.Notified.{notifications_after}
 use Rattle.alarm_core.proofs.Standing.{comes_after, represents_after, transitions_after}
@@ -60,3 +66,33 @@ returns-clause-notifications g c =
 
 pub returns-clause-ticks_fit : goal.returns-clause-ticks_fit
 returns-clause-ticks_fit g c = λ room history r. tick_never_full history c.args.self.now (raised c.args.self.now.last_moment c.args.event.now) (search rules) room r
+
+pub returns-in_err-done-clause-counts : goal.returns-in_err-done-clause-counts
+returns-in_err-done-clause-counts g c =
+    let state = c.args.self.now in
+    let event = raised state.last_moment c.args.event.now in
+    let act = c.args.event.now.act in
+    let is : IsSite state.site = search rules in
+    let low : state.last_moment ≤ event.moment = omega arith in
+    let here = at_site c.at-at.result state.site event.moment (search rules) (search rules) in
+    let same : due_steps c.at-at.result act (detections_of state) ≡ due_steps (site_moment state.site event.moment) act (detections_of state) =
+    ap {B = ℕ} (λ (a : LocalMomentData). due_steps a act (detections_of state)) here in
+    λ history r.
+    let counts : due_steps (site_moment state.site event.moment) act (detections_of state) ≤ moving_of state.site event history + touched_of state.site event history =
+    counted history state event (comes_after history state event is low r) r in
+    omega (arith, c.act.ensures.steps, same, counts)
+
+pub returns-clause-counts : goal.returns-clause-counts
+returns-clause-counts g c =
+    let state = c.args.self.now in
+    let event = raised state.last_moment c.args.event.now in
+    let act = c.args.event.now.act in
+    let is : IsSite state.site = search rules in
+    let low : state.last_moment ≤ event.moment = omega arith in
+    let here = at_site c.at-at.result state.site event.moment (search rules) (search rules) in
+    let same : due_steps c.at-at.result act (detections_of state) ≡ due_steps (site_moment state.site event.moment) act (detections_of state) =
+    ap {B = ℕ} (λ (a : LocalMomentData). due_steps a act (detections_of state)) here in
+    λ history r.
+    let counts : due_steps (site_moment state.site event.moment) act (detections_of state) ≤ moving_of state.site event history + touched_of state.site event history =
+    counted history state event (comes_after history state event is low r) r in
+    omega (arith, c.act.ensures.steps, same, counts)
