@@ -24,3 +24,4 @@ pub mod Numbers
 pub mod LogsHeld
 pub mod FewValues
 pub mod SubjectReads
+pub mod PostsRead

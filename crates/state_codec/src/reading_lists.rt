@@ -1,8 +1,8 @@
 ghost use Rattle.state_codec.specs.ReadingSteps.{Gives};
-ghost use Rattle.state_codec.specs.SnapshotSteps.{classes_at, each_at, entry_at, log_at, log_with, may_hold, note_at, numbers_up_to, row_at, times_at};
+ghost use Rattle.state_codec.specs.SnapshotSteps.{classes_at, each_at, entry_at, note_at, numbers_up_to, row_at, times_at};
 
 use crate::reading::ReadFault;
-use crate::reading_rest::{may_hold, number_back, take_class, take_entry, take_note};
+use crate::reading_rest::{number_back, take_class, take_entry, take_note};
 use crate::reading_rows::take_row;
 use bac_values::{Note, Peer, push};
 use civil_stamp::Zone;
