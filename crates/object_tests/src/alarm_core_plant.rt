@@ -109,7 +109,11 @@ pub(crate) fn play_on(
     play.play(rt, alloc, &mut core)
 }
 
-pub(crate) fn counted<L: Ledger>(core: &mut Core, event: &Event, blank: Blank) -> Result<Outcome, StepFault>
+pub(crate) fn counted<L: Ledger>(
+    core: &mut Core,
+    event: &Event,
+    blank: Blank,
+) -> Result<Outcome, StepFault>
     requires name { blank.name ≡ L.name }
     requires parts { blank.parts ≡ L.parts }
     requires some { 0 < blank.parts }
