@@ -1,4 +1,5 @@
-ghost use Rattle.std.specs.Prelude.{◌≡◌, ◌≤◌, ◌<◌, ◌^◌, IfOk, None, OnOk, pos};
+ghost use Rattle.std.specs.Prelude.{◌≡◌, ◌≤◌, ◌<◌, ◌^◌, IfOk, None, OnOk, length, pos};
+ghost use Rattle.notify_class.specs.Edits.{most_destinations};
 ghost use Rattle.bac_values.specs.Moments.{IsMoment};
 ghost use Rattle.object_table.specs.Objects.{IsObject};
 ghost use Rattle.alarm_core.specs.Allowed.{IsAllowed};
@@ -39,6 +40,7 @@ pub(crate) fn told(peer: Peer, process: u32) -> Destination {
 
 pub(crate) fn operators(alloc: Global) -> Result<ClassSite, Fail>
     ensures instance { IfOk result (λ site. site.class.instance ≡ 7) }
+    ensures few { IfOk result (λ site. length site.class.destinations ≤ most_destinations) }
 {
     Ok(ClassSite {
         name: Text::new(alloc, "Operators")?,
