@@ -201,7 +201,11 @@ fn expect_repeated(
 /// The first recipient's note was sent so often, and its deadline is so many milliseconds.
 fn expect_tried(rt: &impl Abort, outbox: &Outbox, attempts: u8, deadline: u32) {
     let wanted = (attempts, T + u64::from(deadline));
-    same(rt, &outbox.post(0).map(|post| (post.attempts, post.deadline)), &Some(wanted));
+    same(
+        rt,
+        &outbox.post(0).map(|post| (post.attempts, post.deadline)),
+        &Some(wanted),
+    );
 }
 
 fn repeats(rt: &impl Abort, alloc: Global, outbox: &mut Outbox) -> Result<(), Fail> {
@@ -235,11 +239,13 @@ fn a_note_without_an_answer_is_repeated_until_its_last_deadline(
 /// What would be there, the limit, and how many notes come back, of two that don't fit.
 fn refused_of_two(alloc: Global, outbox: &mut Outbox) -> Result<(u32, u32, usize), Fail> {
     match queue_two(alloc, outbox, 0)? {
-        Some(QueueFault::Full {
-            would,
-            limit,
-            notes,
-        }) => Ok((would, limit, notes.as_slice().len())),
+        Some(
+            QueueFault::Full {
+                would,
+                limit,
+                notes,
+            },
+        ) => Ok((would, limit, notes.as_slice().len())),
         _ => Err(Fail::from("not full")),
     }
 }
@@ -264,7 +270,12 @@ fn notes_above_the_limit_come_back(rt: HostRuntime) -> Result<(), Fail> {
 }
 
 /// Two datagrams go at once, of which the first one is this.
-fn expect_two(rt: &impl Abort, alloc: Global, outbox: &mut Outbox, first: &[u8]) -> Result<(), Fail> {
+fn expect_two(
+    rt: &impl Abort,
+    alloc: Global,
+    outbox: &mut Outbox,
+    first: &[u8],
+) -> Result<(), Fail> {
     let sends = pump_at(alloc, outbox, 0)?;
     counts(rt, sends.len(), 2);
     same(rt, &sends[0].bytes.as_slice(), &first);
@@ -277,7 +288,11 @@ fn goes_in_order(rt: &impl Abort, alloc: Global, outbox: &mut Outbox) -> Result<
     }
     let first = [0x81, 0x0a, 0x00, 0x0a, 0x01, 0x00, 0x10, 0x03, 0x09, 0x01];
     expect_two(rt, alloc, outbox, &first)?;
-    same(rt, &outbox.note(0, 0).map(|note| note.confirmed), &Some(true));
+    same(
+        rt,
+        &outbox.note(0, 0).map(|note| note.confirmed),
+        &Some(true),
+    );
     holds(rt, outbox.note(0, 3).is_none());
     expect_answered(rt, outbox, 5, 0);
     expect_count(rt, alloc, outbox, 0, 2)
