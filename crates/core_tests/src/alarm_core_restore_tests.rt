@@ -88,11 +88,15 @@ struct Told;
 
 impl Play for Told {
     fn play(&self, rt: &impl Abort, _alloc: Global, core: &mut Core) -> Result<(), Fail> {
-        holds(rt, core.events() == 5 && core.last_moment() == START + 7);
-        holds(rt, core.known_peers() == [operator()].as_slice());
-        holds(rt, core.has_in_flight(&operator(), 9));
+        expect_told(rt, core);
         Ok(())
     }
+}
+
+fn expect_told(rt: &impl Abort, core: &Core) {
+    holds(rt, core.events() == 5 && core.last_moment() == START + 7);
+    holds(rt, core.known_peers() == [operator()].as_slice());
+    holds(rt, core.has_in_flight(&operator(), 9));
 }
 
 #[test]
