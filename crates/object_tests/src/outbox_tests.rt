@@ -96,25 +96,6 @@ fn queue_at(
     Ok(())
 }
 
-// A note for the recipient at a place, twice; gives what comes back.
-fn queue_two(alloc: Global, outbox: &mut Outbox, place: u32) -> Result<Option<QueueFault>, Fail> {
-    let Some(post) = outbox.post(place) else {
-        return Err(Fail::from("no recipient"));
-    };
-    let mut notes = Vec::new(alloc);
-    notes.push(Note {
-        peer: post.peer,
-        confirmed: true,
-        body: Items::of(Vec::from_slice(alloc, &ALARM)?),
-    })?;
-    notes.push(Note {
-        peer: post.peer,
-        confirmed: false,
-        body: Items::of(Vec::from_slice(alloc, &FAULT)?),
-    })?;
-    Ok(outbox.queue(alloc, notes).err())
-}
-
 /// What is sent at so many milliseconds.
 fn pump_at(alloc: Global, outbox: &mut Outbox, after: u32) -> Result<Vec<Send>, Fail> {
     Ok(outbox.pump(alloc, T + u64::from(after))?)
@@ -180,93 +161,6 @@ fn answers_in_turn(rt: &impl Abort, alloc: Global, outbox: &mut Outbox) -> Resul
 fn an_answer_lets_the_next_note_go(rt: HostRuntime) -> Result<(), Fail> {
     let mut outbox = outbox(rt.alloc())?;
     answers_in_turn(&rt, rt.alloc(), &mut outbox)
-}
-
-/// The alarm goes, or nothing does, at so many milliseconds.
-fn expect_repeated(
-    rt: &impl Abort,
-    alloc: Global,
-    outbox: &mut Outbox,
-    after: u32,
-    sends_it: bool,
-) -> Result<(), Fail> {
-    same(rt, &outbox.idle(T + u64::from(after)), &!sends_it);
-    if sends_it {
-        expect_sent(rt, alloc, outbox, after, 5, &ALARM_SENT)
-    } else {
-        expect_count(rt, alloc, outbox, after, 0)
-    }
-}
-
-/// The first recipient's note was sent so often, and its deadline is so many milliseconds.
-fn expect_tried(rt: &impl Abort, outbox: &Outbox, attempts: u8, deadline: u32) {
-    let wanted = (attempts, T + u64::from(deadline));
-    same(
-        rt,
-        &outbox.post(0).map(|post| (post.attempts, post.deadline)),
-        &Some(wanted),
-    );
-}
-
-fn repeats(rt: &impl Abort, alloc: Global, outbox: &mut Outbox) -> Result<(), Fail> {
-    queue_at(alloc, outbox, 0, true, &ALARM)?;
-    for (after, sends_it) in [
-        (10_000u32, true),
-        (12_999, false),
-        (13_000, true),
-        (15_999, false),
-        (16_000, true),
-        (19_000, true),
-        (21_999, false),
-    ] {
-        expect_repeated(rt, alloc, outbox, after, sends_it)?;
-    }
-    expect_tried(rt, outbox, 4, 22_000);
-    queue_at(alloc, outbox, 0, true, &FAULT)?;
-    expect_sent(rt, alloc, outbox, 22_000, 5, &FAULT_SENT)?;
-    expect_stray(rt, outbox, 5, 0);
-    Ok(())
-}
-
-#[test]
-fn a_note_without_an_answer_is_repeated_until_its_last_deadline(
-    rt: HostRuntime,
-) -> Result<(), Fail> {
-    let mut outbox = outbox(rt.alloc())?;
-    repeats(&rt, rt.alloc(), &mut outbox)
-}
-
-/// What would be there, the limit, and how many notes come back, of two that don't fit.
-fn refused_of_two(alloc: Global, outbox: &mut Outbox) -> Result<(u32, u32, usize), Fail> {
-    match queue_two(alloc, outbox, 0)? {
-        Some(
-            QueueFault::Full {
-                would,
-                limit,
-                notes,
-            },
-        ) => Ok((would, limit, notes.as_slice().len())),
-        _ => Err(Fail::from("not full")),
-    }
-}
-
-fn fills_up(rt: &impl Abort, alloc: Global, outbox: &mut Outbox) -> Result<(), Fail> {
-    for _ in 0..63 {
-        queue_at(alloc, outbox, 1, true, &ALARM)?;
-    }
-    same(rt, &refused_of_two(alloc, outbox)?, &(65, 64, 2));
-    same(rt, &outbox.room(), &1);
-    expect_sent(rt, alloc, outbox, 64, 6, &ALARM_SENT)?;
-    expect_answered(rt, outbox, 6, 0);
-    holds(rt, queue_two(alloc, outbox, 0)?.is_none());
-    same(rt, &outbox.room(), &0);
-    Ok(())
-}
-
-#[test]
-fn notes_above_the_limit_come_back(rt: HostRuntime) -> Result<(), Fail> {
-    let mut outbox = outbox(rt.alloc())?;
-    fills_up(&rt, rt.alloc(), &mut outbox)
 }
 
 /// Two datagrams go at once, of which the first one is this.
