@@ -171,17 +171,6 @@ pub(crate) fn pump(rt: &impl Abort, core: &mut Core, octets: &[u8]) -> Result<()
     Ok(())
 }
 
-/// The operator answers a notification in flight by SimpleACK.
-pub(crate) fn answer(core: &mut Core, invoke: u8) -> Result<(), Fail> {
-    let peer = operator();
-    if !core.has_in_flight(&peer, invoke) {
-        return Err(Fail::new("nothing is in flight"));
-    }
-    let kind = 2;
-    let _outcome = take(core, START, Act::Answer { peer, invoke, kind })??;
-    Ok(())
-}
-
 /// The notification of HIGH_LIMIT at the start, to be confirmed with invoke ID 0.
 pub(crate) const HIGH_LIMIT: [u8; 65] = [
     0x81, 0x0a, 0x00, 0x41, 0x01, 0x04, 0x00, 0x05, 0x00, 0x02, 0x09, 0x01, 0x1c, 0x02, 0x00, 0x03,
