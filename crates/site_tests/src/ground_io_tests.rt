@@ -197,15 +197,21 @@ fn read_only(rt: &HostRuntime, path: &str) -> Result<(File, File), Fail> {
     Ok((OpenOptions::new().read(true).open(rt, path)?, whole))
 }
 
+/// A device that can't be written is read, until its file is cut.
+fn expect_cut<G: Ground>(rt: &impl Abort, device: &mut G, whole: &File) -> Result<(), Fail> {
+    same(rt, &write_within(device, 5, b"abc"), &Err(Failed));
+    same(rt, &read_within(device, 4), &Ok([0; 4]));
+    whole.set_len(6)?;
+    same(rt, &read_within(device, 4), &Err(Failed));
+    Ok(())
+}
+
 #[test]
 fn a_file_fails_where_it_can_not_be_written_or_is_cut(rt: HostRuntime) -> Result<(), Fail> {
     let path = "ground_io_test_read_only";
     let (file, whole) = read_only(&rt, path)?;
     let mut device = FileGround::new(Some(file), Vec::new(rt.alloc()), None)?;
-    same(&rt, &write_within(&mut device, 5, b"abc"), &Err(Failed));
-    same(&rt, &read_within(&mut device, 4), &Ok([0; 4]));
-    whole.set_len(6)?;
-    same(&rt, &read_within(&mut device, 4), &Err(Failed));
+    expect_cut(&rt, &mut device, &whole)?;
     fs::remove_file(&rt, path)?;
     Ok(())
 }

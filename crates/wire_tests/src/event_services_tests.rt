@@ -229,11 +229,23 @@ pub(crate) fn expect_written(
     Ok(())
 }
 
+/// The same of a notification that is given away.
+fn expect_note(
+    rt: &impl Abort,
+    alloc: Global,
+    note: Notification,
+    octets: &[u8],
+) -> Result<(), Fail>
+    requires told { IsTold note.event_type note.values }
+{
+    expect_written(rt, alloc, &note, octets)
+}
+
 #[test]
 fn notifications_are_written(rt: HostRuntime) -> Result<(), Fail> {
-    expect_written(&rt, rt.alloc(), &high()?, &HIGH)?;
-    expect_written(&rt, rt.alloc(), &acknowledged()?, &ACKNOWLEDGED)?;
-    expect_written(&rt, rt.alloc(), &faulty()?, &FAULTY)
+    expect_note(&rt, rt.alloc(), high()?, &HIGH)?;
+    expect_note(&rt, rt.alloc(), acknowledged()?, &ACKNOWLEDGED)?;
+    expect_note(&rt, rt.alloc(), faulty()?, &FAULTY)
 }
 
 #[test]
