@@ -10,16 +10,16 @@ use std::time::Duration;
 
 const LOOPBACK: u32 = 0x7f00_0001;
 
+fn datagram(alloc: Global, port: u16, octets: &[u8]) -> Result<Send, AllocError> {
+    Ok(Send {
+        peer: Peer::local(LOOPBACK, port),
+        bytes: Items::of(octets.to_vec(alloc)?),
+    })
+}
+
 /// Two datagrams, of five octets and of one.
 fn two_datagrams(alloc: Global) -> Result<Vec<Send>, AllocError> {
-    let mut datagrams = Vec::new(alloc);
-    for (port, octets) in [(1, b"alarm".as_slice()), (2, b"x".as_slice())] {
-        datagrams.push(Send {
-            peer: Peer::local(LOOPBACK, port),
-            bytes: Items::of(octets.to_vec(alloc)?),
-        })?;
-    }
-    Ok(datagrams)
+    Ok(vec![in alloc; datagram(alloc, 1, b"alarm")?, datagram(alloc, 2, b"x")?]?)
 }
 
 fn from_port(port: u16, length: usize) -> Result<Received, Failed> {
