@@ -1,5 +1,5 @@
 use crate::alarm_core_plant::{
-    HIGH_LIMIT, Play, START, guard, operator, plant, play_on, pump, rise, tank, told,
+    HIGH_LIMIT, Play, START, guard, operator, play_at_tank, pump, rise, told,
 };
 use crate::comparing::holds;
 use alarm_core::*;
@@ -37,8 +37,7 @@ fn expect_moments(rt: &impl Abort, core: &Core) {
 fn a_moment_in_range_that_is_not_before_the_last_one_is_admitted(
     rt: HostRuntime,
 ) -> Result<(), Fail> {
-    let site = plant(rt.alloc(), tank(rt.alloc())?, 64)?;
-    play_on(&rt, rt.alloc(), &site, &Moments)
+    play_at_tank(&rt, rt.alloc(), 64, &Moments)
 }
 
 /// Whether a change of an integer value may come.
@@ -84,8 +83,7 @@ fn expect_writes(rt: &impl Abort, core: &Core) -> Result<(), Fail> {
 
 #[test]
 fn a_change_that_the_object_takes_is_admitted(rt: HostRuntime) -> Result<(), Fail> {
-    let site = plant(rt.alloc(), tank(rt.alloc())?, 64)?;
-    play_on(&rt, rt.alloc(), &site, &Writes)
+    play_at_tank(&rt, rt.alloc(), 64, &Writes)
 }
 
 fn admits_acknowledgement(
@@ -137,8 +135,7 @@ impl Play for Acknowledgements {
 
 #[test]
 fn an_acknowledgement_of_what_came_is_admitted(rt: HostRuntime) -> Result<(), Fail> {
-    let site = plant(rt.alloc(), tank(rt.alloc())?, 64)?;
-    play_on(&rt, rt.alloc(), &site, &Acknowledgements)
+    play_at_tank(&rt, rt.alloc(), 64, &Acknowledgements)
 }
 
 fn admits_answer(core: &Core, peer: Peer, invoke: u8, kind: u8) -> bool {
@@ -169,8 +166,7 @@ fn expect_answers(rt: &impl Abort, core: &Core) {
 
 #[test]
 fn an_answer_to_what_is_in_flight_is_admitted(rt: HostRuntime) -> Result<(), Fail> {
-    let site = plant(rt.alloc(), tank(rt.alloc())?, 64)?;
-    play_on(&rt, rt.alloc(), &site, &Answers)
+    play_at_tank(&rt, rt.alloc(), 64, &Answers)
 }
 
 /// Whether an edit of a class to so many recipients is admitted, each of them the operator.
@@ -211,6 +207,5 @@ fn expect_edits(rt: &impl Abort, alloc: Global, core: &Core) -> Result<(), Fail>
 
 #[test]
 fn an_edit_within_the_limits_is_admitted(rt: HostRuntime) -> Result<(), Fail> {
-    let site = plant(rt.alloc(), tank(rt.alloc())?, 2)?;
-    play_on(&rt, rt.alloc(), &site, &Edits)
+    play_at_tank(&rt, rt.alloc(), 2, &Edits)
 }

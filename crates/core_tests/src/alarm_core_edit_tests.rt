@@ -3,7 +3,7 @@ ghost use Rattle.alarm_core.specs.Allowed.{members_of, room_beside};
 ghost use Rattle.alarm_core.specs.Classes.{class_in};
 
 use crate::alarm_core_plant::{
-    HIGH_LIMIT, Play, START, guard, is_sent, operator, plant, play_on, rise, take, tank, told,
+    HIGH_LIMIT, Play, START, guard, is_sent, operator, play_at_tank, rise, take, told,
 };
 use crate::comparing::holds;
 use alarm_core::*;
@@ -108,8 +108,7 @@ impl Play for Edited {
 
 #[test]
 fn an_edit_is_read_and_its_recipients_are_told(rt: HostRuntime) -> Result<(), Fail> {
-    let site = plant(rt.alloc(), tank(rt.alloc())?, 64)?;
-    play_on(&rt, rt.alloc(), &site, &Edited)
+    play_at_tank(&rt, rt.alloc(), 64, &Edited)
 }
 
 /// The list of one on network 300, at all times, without confirming, as process 70,000.
@@ -149,6 +148,5 @@ impl Play for Routed {
 
 #[test]
 fn a_recipient_behind_a_router_is_read(rt: HostRuntime) -> Result<(), Fail> {
-    let site = plant(rt.alloc(), tank(rt.alloc())?, 64)?;
-    play_on(&rt, rt.alloc(), &site, &Routed)
+    play_at_tank(&rt, rt.alloc(), 64, &Routed)
 }

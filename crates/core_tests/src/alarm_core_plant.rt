@@ -111,6 +111,19 @@ pub(crate) fn play_on(
     play.play(rt, alloc, &mut core)
 }
 
+/// Plays to the core of a site with one tank and an outbox of so many notes, from its start on.
+pub(crate) fn play_at_tank(
+    rt: &impl Abort,
+    alloc: Global,
+    outbox: u32,
+    play: &impl Play,
+) -> Result<(), Fail>
+    requires outbox { outbox ≤ 16_384 }
+{
+    let site = plant(alloc, tank(alloc)?, outbox)?;
+    play_on(rt, alloc, &site, play)
+}
+
 pub(crate) fn counted<L: Ledger>(
     core: &mut Core,
     event: &Event,
