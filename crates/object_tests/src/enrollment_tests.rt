@@ -196,6 +196,14 @@ fn an_enrollment_that_is_there_takes_what_its_properties_can_be(
     expect_taken(&rt, &list)
 }
 
+/// The number that a feedback is.
+fn feedback_of(seen: &Snapshot<'_>) -> Option<i128> {
+    match seen.feedback {
+        Some(value) => number_in(value),
+        None => None,
+    }
+}
+
 /// Enrollments 1 and 2.
 fn followers(alloc: Global) -> Result<Enrollments, Fail> {
     enrollments_of(alloc, follower(alloc)?, mirror(alloc)?)
@@ -209,7 +217,7 @@ fn levels(alloc: Global, first: i32, second: i32) -> Result<Table, Fail> {
 /// The command is 12, and its feedback is -5.
 fn expect_command(rt: &impl Abort, seen: &Snapshot<'_>) {
     same(rt, &number_in(seen.value), &Some(12));
-    same(rt, &seen.feedback.and_then(number_in), &Some(-5));
+    same(rt, &feedback_of(seen), &Some(-5));
     same(rt, &seen.algorithm, &Algorithm::CommandFailure);
     same(
         rt,
@@ -245,7 +253,7 @@ fn expect_mirror_of(rt: &impl Abort, list: &Enrollments, table: &Table) -> Resul
         return Err("no snapshot".into());
     };
     same(rt, &number_in(seen.value), &Some(-5));
-    same(rt, &seen.feedback.and_then(number_in), &Some(-5));
+    same(rt, &feedback_of(&seen), &Some(-5));
     Ok(())
 }
 
