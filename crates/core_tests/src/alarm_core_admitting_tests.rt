@@ -1,5 +1,5 @@
 use crate::alarm_core_plant::{
-    HIGH_LIMIT, Play, START, guard, operator, plant, play_on, pump, rise, tank, told,
+    HIGH_LIMIT, Play, START, guard, operator, play_at_tank, pump, rise, told,
 };
 use crate::comparing::holds;
 use alarm_core::*;
@@ -21,20 +21,23 @@ struct Moments;
 
 impl Play for Moments {
     fn play(&self, rt: &impl Abort, _alloc: Global, core: &mut Core) -> Result<(), Fail> {
-        holds(rt, admits(core, START, Act::Tick));
-        holds(rt, admits(core, LAST_MOMENT, Act::Pump));
-        holds(rt, !admits(core, START - 1, Act::Tick));
-        holds(rt, !admits(core, LAST_MOMENT + 1, Act::Pump));
+        expect_moments(rt, core);
         Ok(())
     }
+}
+
+fn expect_moments(rt: &impl Abort, core: &Core) {
+    holds(rt, admits(core, START, Act::Tick));
+    holds(rt, admits(core, LAST_MOMENT, Act::Pump));
+    holds(rt, !admits(core, START - 1, Act::Tick));
+    holds(rt, !admits(core, LAST_MOMENT + 1, Act::Pump));
 }
 
 #[test]
 fn a_moment_in_range_that_is_not_before_the_last_one_is_admitted(
     rt: HostRuntime,
 ) -> Result<(), Fail> {
-    let site = plant(rt.alloc(), tank(rt.alloc())?, 64)?;
-    play_on(&rt, rt.alloc(), &site, &Moments)
+    play_at_tank(&rt, rt.alloc(), 64, &Moments)
 }
 
 /// Whether a change of an integer value may come.
@@ -62,21 +65,25 @@ struct Writes;
 
 impl Play for Writes {
     fn play(&self, rt: &impl Abort, _alloc: Global, core: &mut Core) -> Result<(), Fail> {
-        let value = PropertyId::PRESENT_VALUE;
-        holds(rt, admits_write(core, 1, value, Value::Signed(7))?);
-        holds(rt, !admits_write(core, 1, value, Value::Unsigned(7))?);
-        holds(rt, !admits_write(core, 2, value, Value::Signed(7))?);
-        let kind = PropertyId::OBJECT_TYPE;
-        holds(rt, !admits_write(core, 1, kind, Value::Enumerated(45))?);
-        holds(rt, admits_fault(core, 7)? && !admits_fault(core, 1)?);
-        Ok(())
+        expect_writes(rt, core)
     }
+}
+
+fn expect_writes(rt: &impl Abort, core: &Core) -> Result<(), Fail> {
+    let value = PropertyId::PRESENT_VALUE;
+    holds(rt, admits_write(core, 1, value, Value::Signed(7))?);
+    holds(rt, !admits_write(core, 1, value, Value::Unsigned(7))?);
+    holds(rt, !admits_write(core, 2, value, Value::Signed(7))?);
+    let kind = PropertyId::OBJECT_TYPE;
+    holds(rt, !admits_write(core, 1, kind, Value::Enumerated(45))?);
+    holds(rt, admits_fault(core, 7)?);
+    holds(rt, !admits_fault(core, 1)?);
+    Ok(())
 }
 
 #[test]
 fn a_change_that_the_object_takes_is_admitted(rt: HostRuntime) -> Result<(), Fail> {
-    let site = plant(rt.alloc(), tank(rt.alloc())?, 64)?;
-    play_on(&rt, rt.alloc(), &site, &Writes)
+    play_at_tank(&rt, rt.alloc(), 64, &Writes)
 }
 
 fn admits_acknowledgement(
@@ -93,42 +100,42 @@ fn admits_acknowledgement(
     Ok(admits(core, START, act))
 }
 
+/// Whether an acknowledgement with each of these states is admitted.
+fn expect_acknowledgements(
+    rt: &impl Abort,
+    core: &Core,
+    rows: &[(Transition, EventState, bool)],
+) -> Result<(), Fail> {
+    for (transition, state, wanted) in rows {
+        holds(
+            rt,
+            admits_acknowledgement(core, *transition, *state)? == *wanted,
+        );
+    }
+    Ok(())
+}
+
 /// What came is acknowledged with the state that it entered, or with OFFNORMAL for a limit.
 struct Acknowledgements;
 
 impl Play for Acknowledgements {
     fn play(&self, rt: &impl Abort, _alloc: Global, core: &mut Core) -> Result<(), Fail> {
         let offnormal = Transition::ToOffnormal;
-        holds(
-            rt,
-            !admits_acknowledgement(core, offnormal, EventState::HighLimit)?,
-        );
+        expect_acknowledgements(rt, core, &[(offnormal, EventState::HighLimit, false)])?;
         let _moved = rise(core)??;
-        holds(
-            rt,
-            admits_acknowledgement(core, offnormal, EventState::HighLimit)?,
-        );
-        holds(
-            rt,
-            admits_acknowledgement(core, offnormal, EventState::Offnormal)?,
-        );
-        holds(
-            rt,
-            !admits_acknowledgement(core, offnormal, EventState::LowLimit)?,
-        );
-        let normal = Transition::ToNormal;
-        holds(
-            rt,
-            !admits_acknowledgement(core, normal, EventState::Normal)?,
-        );
-        Ok(())
+        let rows = [
+            (offnormal, EventState::HighLimit, true),
+            (offnormal, EventState::Offnormal, true),
+            (offnormal, EventState::LowLimit, false),
+            (Transition::ToNormal, EventState::Normal, false),
+        ];
+        expect_acknowledgements(rt, core, &rows)
     }
 }
 
 #[test]
 fn an_acknowledgement_of_what_came_is_admitted(rt: HostRuntime) -> Result<(), Fail> {
-    let site = plant(rt.alloc(), tank(rt.alloc())?, 64)?;
-    play_on(&rt, rt.alloc(), &site, &Acknowledgements)
+    play_at_tank(&rt, rt.alloc(), 64, &Acknowledgements)
 }
 
 fn admits_answer(core: &Core, peer: Peer, invoke: u8, kind: u8) -> bool {
@@ -143,29 +150,33 @@ impl Play for Answers {
         let _moved = rise(core)??;
         holds(rt, !admits_answer(core, operator(), 0, 2));
         pump(rt, core, &HIGH_LIMIT)?;
-        for kind in [2, 5, 6, 7] {
-            holds(rt, admits_answer(core, operator(), 0, kind));
-        }
-        holds(rt, !admits_answer(core, operator(), 0, 3));
-        holds(rt, !admits_answer(core, operator(), 1, 2));
-        holds(rt, !admits_answer(core, guard(), 0, 2));
+        expect_answers(rt, core);
         Ok(())
     }
 }
 
-#[test]
-fn an_answer_to_what_is_in_flight_is_admitted(rt: HostRuntime) -> Result<(), Fail> {
-    let site = plant(rt.alloc(), tank(rt.alloc())?, 64)?;
-    play_on(&rt, rt.alloc(), &site, &Answers)
+fn expect_answers(rt: &impl Abort, core: &Core) {
+    for kind in [2, 5, 6, 7] {
+        holds(rt, admits_answer(core, operator(), 0, kind));
+    }
+    holds(rt, !admits_answer(core, operator(), 0, 3));
+    holds(rt, !admits_answer(core, operator(), 1, 2));
+    holds(rt, !admits_answer(core, guard(), 0, 2));
 }
 
-fn admits_edit(core: &Core, class: u32, list: Vec<Destination>) -> bool {
-    let destinations = Items::of(list);
+#[test]
+fn an_answer_to_what_is_in_flight_is_admitted(rt: HostRuntime) -> Result<(), Fail> {
+    play_at_tank(&rt, rt.alloc(), 64, &Answers)
+}
+
+/// Whether an edit of a class to so many recipients is admitted, each of them the operator.
+fn admits_edit(alloc: Global, core: &Core, class: u32, count: u32) -> Result<bool, Fail> {
+    let destinations = Items::of(recipients(alloc, count)?);
     let act = Act::Edit {
         class,
         destinations,
     };
-    admits(core, START, act)
+    Ok(admits(core, START, act))
 }
 
 /// So many recipients, each the operator.
@@ -182,16 +193,19 @@ struct Edits;
 
 impl Play for Edits {
     fn play(&self, rt: &impl Abort, alloc: Global, core: &mut Core) -> Result<(), Fail> {
-        holds(rt, admits_edit(core, 7, recipients(alloc, 0)?));
-        holds(rt, admits_edit(core, 7, recipients(alloc, 2)?));
-        holds(rt, !admits_edit(core, 7, recipients(alloc, 3)?));
-        holds(rt, !admits_edit(core, 8, recipients(alloc, 1)?));
-        Ok(())
+        expect_edits(rt, alloc, core)
     }
+}
+
+fn expect_edits(rt: &impl Abort, alloc: Global, core: &Core) -> Result<(), Fail> {
+    holds(rt, admits_edit(alloc, core, 7, 0)?);
+    holds(rt, admits_edit(alloc, core, 7, 2)?);
+    holds(rt, !admits_edit(alloc, core, 7, 3)?);
+    holds(rt, !admits_edit(alloc, core, 8, 1)?);
+    Ok(())
 }
 
 #[test]
 fn an_edit_within_the_limits_is_admitted(rt: HostRuntime) -> Result<(), Fail> {
-    let site = plant(rt.alloc(), tank(rt.alloc())?, 2)?;
-    play_on(&rt, rt.alloc(), &site, &Edits)
+    play_at_tank(&rt, rt.alloc(), 2, &Edits)
 }

@@ -38,17 +38,30 @@ fn is_act(rt: &impl Abort, alloc: Global, act: &[u8]) -> Result<(), Fail> {
     Ok(())
 }
 
+/// Each of these is what happens.
+fn are_acts(rt: &impl Abort, alloc: Global, acts: &[&[u8]]) -> Result<(), Fail> {
+    for act in acts {
+        is_act(rt, alloc, act)?;
+    }
+    Ok(())
+}
+
 #[test]
 fn each_act_has_its_record(rt: HostRuntime) -> Result<(), Fail> {
-    let alloc = rt.alloc();
-    is_act(&rt, alloc, &[1])?;
-    is_act(&rt, alloc, &[3, 0x0B, 0x40, 0, 1, 7])?;
-    is_act(&rt, alloc, &[4, 0x0B, 0x40, 0, 1, 0, 3])?;
-    is_act(&rt, alloc, &[5])?;
-    is_act(&rt, alloc, &ANSWER)?;
-    is_act(&rt, alloc, &FAR_ANSWER)?;
-    is_act(&rt, alloc, &[7, 0, 0, 0, 7, 0])?;
-    is_act(&rt, alloc, &EDIT)
+    are_acts(
+        &rt,
+        rt.alloc(),
+        &[
+            &[1],
+            &[3, 0x0B, 0x40, 0, 1, 7],
+            &[4, 0x0B, 0x40, 0, 1, 0, 3],
+            &[5],
+            &ANSWER,
+            &FAR_ANSWER,
+            &[7, 0, 0, 0, 7, 0],
+            &EDIT,
+        ],
+    )
 }
 
 /// A peer on the local network answers.
@@ -69,45 +82,26 @@ const EDIT: [u8; 37] = [
 
 #[test]
 fn each_value_has_its_record(rt: HostRuntime) -> Result<(), Fail> {
-    let alloc = rt.alloc();
-    // Out_Of_Service is TRUE.
-    is_act(&rt, alloc, &[2, 0x0B, 0x40, 0, 1, 0, 0, 0, 81, 1, 1])?;
-    // Time_Delay is 10.
-    is_act(
+    are_acts(
         &rt,
-        alloc,
-        &[2, 0x0B, 0x40, 0, 1, 0, 0, 0, 113, 2, 0, 0, 0, 10],
-    )?;
-    // Present_Value is 90, then -1.
-    is_act(
-        &rt,
-        alloc,
-        &[2, 0x0B, 0x40, 0, 1, 0, 0, 0, 85, 3, 0, 0, 0, 90],
-    )?;
-    is_act(
-        &rt,
-        alloc,
-        &[2, 0x0B, 0x40, 0, 1, 0, 0, 0, 85, 3, 255, 255, 255, 255],
-    )?;
-    // Present_Value is "fire".
-    is_act(
-        &rt,
-        alloc,
-        &[2, 0x0A, 0, 0, 1, 0, 0, 0, 85, 7, 0, 4, 102, 105, 114, 101],
-    )?;
-    // Present_Value is the bits 0011.
-    is_act(
-        &rt,
-        alloc,
+        rt.alloc(),
         &[
-            2, 0x09, 0xC0, 0, 1, 0, 0, 0, 85, 8, 4, 0, 0, 0, 0, 0, 0, 0, 12,
+            // Out_Of_Service is TRUE.
+            &[2, 0x0B, 0x40, 0, 1, 0, 0, 0, 81, 1, 1],
+            // Time_Delay is 10.
+            &[2, 0x0B, 0x40, 0, 1, 0, 0, 0, 113, 2, 0, 0, 0, 10],
+            // Present_Value is 90, then -1.
+            &[2, 0x0B, 0x40, 0, 1, 0, 0, 0, 85, 3, 0, 0, 0, 90],
+            &[2, 0x0B, 0x40, 0, 1, 0, 0, 0, 85, 3, 255, 255, 255, 255],
+            // Present_Value is "fire".
+            &[2, 0x0A, 0, 0, 1, 0, 0, 0, 85, 7, 0, 4, 102, 105, 114, 101],
+            // Present_Value is the bits 0011.
+            &[
+                2, 0x09, 0xC0, 0, 1, 0, 0, 0, 85, 8, 4, 0, 0, 0, 0, 0, 0, 0, 12,
+            ],
+            // Present_Value is ACTIVE.
+            &[2, 0x01, 0x40, 0, 1, 0, 0, 0, 85, 9, 0, 0, 0, 1],
         ],
-    )?;
-    // Present_Value is ACTIVE.
-    is_act(
-        &rt,
-        alloc,
-        &[2, 0x01, 0x40, 0, 1, 0, 0, 0, 85, 9, 0, 0, 0, 1],
     )
 }
 
@@ -177,6 +171,14 @@ fn is_no_act(rt: &impl Abort, alloc: Global, act: &[u8]) -> Result<(), Fail> {
     Ok(())
 }
 
+/// None of these is anything that happens.
+fn are_no_acts(rt: &impl Abort, alloc: Global, acts: &[&[u8]]) -> Result<(), Fail> {
+    for act in acts {
+        is_no_act(rt, alloc, act)?;
+    }
+    Ok(())
+}
+
 #[test]
 fn a_moment_out_of_range_is_refused(rt: HostRuntime) {
     let alloc = rt.alloc();
@@ -192,52 +194,42 @@ fn a_moment_out_of_range_is_refused(rt: HostRuntime) {
 
 #[test]
 fn what_is_no_act_is_refused(rt: HostRuntime) -> Result<(), Fail> {
-    let alloc = rt.alloc();
-    // No act has these numbers.
-    is_no_act(&rt, alloc, &[0])?;
-    is_no_act(&rt, alloc, &[8])?;
-    // No transition, and no event state.
-    is_no_act(&rt, alloc, &[4, 0x0B, 0x40, 0, 1, 3, 3])?;
-    is_no_act(&rt, alloc, &[4, 0x0B, 0x40, 0, 1, 0, 5])
+    are_no_acts(
+        &rt,
+        rt.alloc(),
+        &[
+            // No act has these numbers.
+            &[0],
+            &[8],
+            // No transition, and no event state.
+            &[4, 0x0B, 0x40, 0, 1, 3, 3],
+            &[4, 0x0B, 0x40, 0, 1, 0, 5],
+        ],
+    )
 }
 
 #[test]
 fn what_is_no_value_is_refused(rt: HostRuntime) -> Result<(), Fail> {
-    let alloc = rt.alloc();
-    // A Null, a Real and an ObjectIdentifier.
-    is_no_act(&rt, alloc, &[2, 0x0B, 0x40, 0, 1, 0, 0, 0, 85, 0])?;
-    is_no_act(
+    are_no_acts(
         &rt,
-        alloc,
-        &[2, 0x0B, 0x40, 0, 1, 0, 0, 0, 85, 4, 0, 0, 0, 0],
-    )?;
-    is_no_act(
-        &rt,
-        alloc,
-        &[2, 0x0B, 0x40, 0, 1, 0, 0, 0, 85, 12, 0, 0, 0, 0],
-    )?;
-    // A flag that is neither 0 nor 1.
-    is_no_act(&rt, alloc, &[2, 0x0B, 0x40, 0, 1, 0, 0, 0, 81, 1, 2])?;
-    // Octets that aren't UTF-8, and a text that ends too early.
-    is_no_act(&rt, alloc, &[2, 0x0A, 0, 0, 1, 0, 0, 0, 85, 7, 0, 1, 0xFF])?;
-    is_no_act(
-        &rt,
-        alloc,
-        &[2, 0x0A, 0, 0, 1, 0, 0, 0, 85, 7, 0, 5, 102, 105, 114, 101],
-    )?;
-    // 65 bits, and a bit behind the last one.
-    is_no_act(
-        &rt,
-        alloc,
+        rt.alloc(),
         &[
-            2, 0x09, 0xC0, 0, 1, 0, 0, 0, 85, 8, 65, 0, 0, 0, 0, 0, 0, 0, 0,
-        ],
-    )?;
-    is_no_act(
-        &rt,
-        alloc,
-        &[
-            2, 0x09, 0xC0, 0, 1, 0, 0, 0, 85, 8, 4, 0, 0, 0, 0, 0, 0, 0, 16,
+            // A Null, a Real and an ObjectIdentifier.
+            &[2, 0x0B, 0x40, 0, 1, 0, 0, 0, 85, 0],
+            &[2, 0x0B, 0x40, 0, 1, 0, 0, 0, 85, 4, 0, 0, 0, 0],
+            &[2, 0x0B, 0x40, 0, 1, 0, 0, 0, 85, 12, 0, 0, 0, 0],
+            // A flag that is neither 0 nor 1.
+            &[2, 0x0B, 0x40, 0, 1, 0, 0, 0, 81, 1, 2],
+            // Octets that aren't UTF-8, and a text that ends too early.
+            &[2, 0x0A, 0, 0, 1, 0, 0, 0, 85, 7, 0, 1, 0xFF],
+            &[2, 0x0A, 0, 0, 1, 0, 0, 0, 85, 7, 0, 5, 102, 105, 114, 101],
+            // 65 bits, and a bit behind the last one.
+            &[
+                2, 0x09, 0xC0, 0, 1, 0, 0, 0, 85, 8, 65, 0, 0, 0, 0, 0, 0, 0, 0,
+            ],
+            &[
+                2, 0x09, 0xC0, 0, 1, 0, 0, 0, 85, 8, 4, 0, 0, 0, 0, 0, 0, 0, 16,
+            ],
         ],
     )
 }
@@ -269,29 +261,54 @@ fn is_no_act_with(
     is_no_act(rt, alloc, &octets)
 }
 
+/// The same for each of these places and octets.
+fn are_no_acts_with(
+    rt: &impl Abort,
+    alloc: Global,
+    act: &[u8],
+    others: &[(usize, u8)],
+) -> Result<(), Fail> {
+    for (place, octet) in others {
+        is_no_act_with(rt, alloc, act, *place, *octet)?;
+    }
+    Ok(())
+}
+
 #[test]
 fn what_is_no_peer_is_refused(rt: HostRuntime) -> Result<(), Fail> {
-    let alloc = rt.alloc();
-    // A station on the local network.
-    is_no_act_with(&rt, alloc, &FAR_ANSWER, 8, 0)?;
-    // Eight octets of a station, and an octet behind the last one of two.
-    is_no_act_with(&rt, alloc, &FAR_ANSWER, 9, 8)?;
-    is_no_act_with(&rt, alloc, &FAR_ANSWER, 12, 1)
+    are_no_acts_with(
+        &rt,
+        rt.alloc(),
+        &FAR_ANSWER,
+        &[
+            // A station on the local network.
+            (8, 0),
+            // Eight octets of a station, and an octet behind the last one of two.
+            (9, 8),
+            (12, 1),
+        ],
+    )
 }
 
 #[test]
 fn what_is_no_recipient_is_refused(rt: HostRuntime) -> Result<(), Fail> {
-    let alloc = rt.alloc();
-    // More recipients than there are, and more than there may be.
-    is_no_act_with(&rt, alloc, &EDIT, 5, 2)?;
-    is_no_act_with(&rt, alloc, &EDIT, 5, 33)?;
-    // An eighth day; a first and a last time behind the end of the day.
-    is_no_act_with(&rt, alloc, &EDIT, 6, 128)?;
-    is_no_act_with(&rt, alloc, &EDIT, 7, 1)?;
-    is_no_act_with(&rt, alloc, &EDIT, 12, 0x84)?;
-    // A flag that is neither 0 nor 1, and a fourth kind of transitions.
-    is_no_act_with(&rt, alloc, &EDIT, 35, 2)?;
-    is_no_act_with(&rt, alloc, &EDIT, 36, 8)
+    are_no_acts_with(
+        &rt,
+        rt.alloc(),
+        &EDIT,
+        &[
+            // More recipients than there are, and more than there may be.
+            (5, 2),
+            (5, 33),
+            // An eighth day; a first and a last time behind the end of the day.
+            (6, 128),
+            (7, 1),
+            (12, 0x84),
+            // A flag that is neither 0 nor 1, and a fourth kind of transitions.
+            (35, 2),
+            (36, 8),
+        ],
+    )
 }
 
 #[test]

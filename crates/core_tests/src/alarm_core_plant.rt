@@ -111,6 +111,19 @@ pub(crate) fn play_on(
     play.play(rt, alloc, &mut core)
 }
 
+/// Plays to the core of a site with one tank and an outbox of so many notes, from its start on.
+pub(crate) fn play_at_tank(
+    rt: &impl Abort,
+    alloc: Global,
+    outbox: u32,
+    play: &impl Play,
+) -> Result<(), Fail>
+    requires outbox { outbox ≤ 16_384 }
+{
+    let site = plant(alloc, tank(alloc)?, outbox)?;
+    play_on(rt, alloc, &site, play)
+}
+
 pub(crate) fn counted<L: Ledger>(
     core: &mut Core,
     event: &Event,
@@ -168,17 +181,6 @@ fn sends(outcome: &Outcome, octets: &[u8]) -> bool {
 pub(crate) fn pump(rt: &impl Abort, core: &mut Core, octets: &[u8]) -> Result<(), Fail> {
     let outcome = take(core, START, Act::Pump)??;
     holds(rt, sends(&outcome, octets));
-    Ok(())
-}
-
-/// The operator answers a notification in flight by SimpleACK.
-pub(crate) fn answer(core: &mut Core, invoke: u8) -> Result<(), Fail> {
-    let peer = operator();
-    if !core.has_in_flight(&peer, invoke) {
-        return Err(Fail::new("nothing is in flight"));
-    }
-    let kind = 2;
-    let _outcome = take(core, START, Act::Answer { peer, invoke, kind })??;
     Ok(())
 }
 

@@ -1,5 +1,7 @@
-ghost use Rattle.std.specs.Prelude.{◌≡◌, [], IfOk, length};
-ghost use Rattle.outbox.specs.Outboxes.{IsOutbox};
+ghost use Rattle.std.specs.Prelude.{◌≡◌, ◌≤◌, [], IfOk, None, length};
+ghost use Rattle.bac_values.specs.Moments.{IsMoment};
+ghost use Rattle.civil_stamp.specs.LocalTime.{IsZone};
+ghost use Rattle.outbox.specs.Outboxes.{AreSettings, IsOutbox};
 ghost use Rattle.alarm_core.specs.Sites.{IsSite};
 
 use crate::alarm_core_plant::{Play, START, device, is_sent, operator, take};
@@ -13,6 +15,29 @@ use std::alloc::Global;
 use std::process::Abort;
 use std::test::Fail;
 
+/// A site of this device alone.
+fn site_of(alloc: Global, device: DeviceSite) -> Site
+    requires start { IsMoment device.start }
+    requires zone { IsZone device.zone_minutes }
+    requires rule { device.zone_rule ≡ None }
+    requires instance { device.instance ≤ 4194302 }
+    requires settings { AreSettings device.outbox device.apdu_timeout device.retries }
+    ensures keeps { IsSite result }
+    ensures device { result.device ≡ device }
+    ensures classes { result.classes ≡ [] }
+    ensures objects { result.objects ≡ [] }
+    ensures enrollments { result.enrollments ≡ [] }
+    ensures logs { result.logs ≡ [] }
+{
+    Site {
+        device,
+        classes: Items::of(Vec::new(alloc)),
+        objects: Items::of(Vec::new(alloc)),
+        enrollments: Items::of(Vec::new(alloc)),
+        logs: Items::of(Vec::new(alloc)),
+    }
+}
+
 /// A device alone.
 fn bare(alloc: Global) -> Result<Site, Fail>
     ensures keeps { IfOk result (λ site. IsSite site) }
@@ -25,13 +50,7 @@ fn bare(alloc: Global) -> Result<Site, Fail>
     ensures timeout { IfOk result (λ site. site.device.apdu_timeout ≡ 3000) }
     ensures retries { IfOk result (λ site. site.device.retries ≡ 3) }
 {
-    Ok(Site {
-        device: device(alloc, 64)?,
-        classes: Items::of(Vec::new(alloc)),
-        objects: Items::of(Vec::new(alloc)),
-        enrollments: Items::of(Vec::new(alloc)),
-        logs: Items::of(Vec::new(alloc)),
-    })
+    Ok(site_of(alloc, device(alloc, 64)?))
 }
 
 /// Three octets for the operator, who is to confirm them.
@@ -88,11 +107,15 @@ struct Told;
 
 impl Play for Told {
     fn play(&self, rt: &impl Abort, _alloc: Global, core: &mut Core) -> Result<(), Fail> {
-        holds(rt, core.events() == 5 && core.last_moment() == START + 7);
-        holds(rt, core.known_peers() == [operator()].as_slice());
-        holds(rt, core.has_in_flight(&operator(), 9));
+        expect_told(rt, core);
         Ok(())
     }
+}
+
+fn expect_told(rt: &impl Abort, core: &Core) {
+    holds(rt, core.events() == 5 && core.last_moment() == START + 7);
+    holds(rt, core.known_peers() == [operator()].as_slice());
+    holds(rt, core.has_in_flight(&operator(), 9));
 }
 
 #[test]
