@@ -1,7 +1,5 @@
-ghost use Rattle.std.specs.Prelude.{◌≡◌, ◌≤◌, [], IfOk, None, length};
-ghost use Rattle.bac_values.specs.Moments.{IsMoment};
-ghost use Rattle.civil_stamp.specs.LocalTime.{IsZone};
-ghost use Rattle.outbox.specs.Outboxes.{AreSettings, IsOutbox};
+ghost use Rattle.std.specs.Prelude.{◌≡◌, [], IfOk, length};
+ghost use Rattle.outbox.specs.Outboxes.{IsOutbox};
 ghost use Rattle.alarm_core.specs.Sites.{IsSite};
 
 use crate::alarm_core_plant::{Play, START, device, is_sent, operator, take};
@@ -15,29 +13,6 @@ use std::alloc::Global;
 use std::process::Abort;
 use std::test::Fail;
 
-/// A site of this device alone.
-fn site_of(alloc: Global, device: DeviceSite) -> Site
-    requires start { IsMoment device.start }
-    requires zone { IsZone device.zone_minutes }
-    requires rule { device.zone_rule ≡ None }
-    requires instance { device.instance ≤ 4194302 }
-    requires settings { AreSettings device.outbox device.apdu_timeout device.retries }
-    ensures keeps { IsSite result }
-    ensures device { result.device ≡ device }
-    ensures classes { result.classes ≡ [] }
-    ensures objects { result.objects ≡ [] }
-    ensures enrollments { result.enrollments ≡ [] }
-    ensures logs { result.logs ≡ [] }
-{
-    Site {
-        device,
-        classes: Items::of(Vec::new(alloc)),
-        objects: Items::of(Vec::new(alloc)),
-        enrollments: Items::of(Vec::new(alloc)),
-        logs: Items::of(Vec::new(alloc)),
-    }
-}
-
 /// A device alone.
 fn bare(alloc: Global) -> Result<Site, Fail>
     ensures keeps { IfOk result (λ site. IsSite site) }
@@ -50,7 +25,13 @@ fn bare(alloc: Global) -> Result<Site, Fail>
     ensures timeout { IfOk result (λ site. site.device.apdu_timeout ≡ 3000) }
     ensures retries { IfOk result (λ site. site.device.retries ≡ 3) }
 {
-    Ok(site_of(alloc, device(alloc, 64)?))
+    Ok(Site {
+        device: device(alloc, 64)?,
+        classes: Items::of(Vec::new(alloc)),
+        objects: Items::of(Vec::new(alloc)),
+        enrollments: Items::of(Vec::new(alloc)),
+        logs: Items::of(Vec::new(alloc)),
+    })
 }
 
 /// Three octets for the operator, who is to confirm them.
