@@ -12,3 +12,16 @@ pub mod AllowedLaws
 pub mod SizeLaws
 pub mod RowLimits
 pub mod WithClass
+pub mod Together
+pub mod KeysLaws
+pub mod RowLaws
+pub mod RowsOf
+pub mod AlarmReads
+pub mod RestReads
+pub mod Places
+pub mod Loops
+pub mod Numbers
+pub mod LogsHeld
+pub mod FewValues
+pub mod SubjectReads
+pub mod PostsRead
