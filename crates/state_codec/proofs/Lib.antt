@@ -25,3 +25,4 @@ pub mod LogsHeld
 pub mod FewValues
 pub mod SubjectReads
 pub mod PostsRead
+pub mod Pairs

@@ -437,8 +437,7 @@ row_forth site is x f =
     let alarm : KeepsAlarmKeys (kind_in site) site.class (object_with site x) = alarm_with (kind_in site) site.class site x is.alarm f.1.1.0 rest.0 rest.1.0 rest.1.1.0 rest.1.1.1 in
     let object : IsObject (object_with site x) = record { instance = is.instance; value = present_own (kind_in site) site x f.0.1; states = is.states; fault_limits = is.fault_limits; fault_values = is.fault_values; few = is.few; alarm = alarm } in (
       record {
-        written = record { same = refl; delay = rest.1.1.0.0; takes = record { site = object; field_fault = f.1.1.1.1.0.1 } };
-        value = f.0.1;
+        written = record { same = refl; value = f.0.1; delay = rest.1.1.0.0; takes = record { site = object; field_fault = f.1.1.1.1.0.1 } };
         fits = record { value = fits_value x.0 f.0.0; delay = rest.1.0.0; normal_delay = rest.1.1.0.1; deadband = deadband_fits (kind_in site) (is_some site.class) (object_with site x) rest.1.1.1; field_fault = f.1.1.1.1.0.0 };
       },
       ap (behind_settings x) (keys_written (kind_in site) (object_with site x)),
@@ -451,7 +450,7 @@ row_back site is row f =
     let keeps : KeepsAlarmKeys (kind_in site) site.class row.site = subst (λ (c : Option ℕ). KeepsAlarmKeys (kind_in site) c row.site) class_same (subst (λ (k : Option ObjectKind). KeepsAlarmKeys k row.site.class row.site) kind_same f.written.takes.site.alarm) in
     let t = alarm_from (kind_in site) site.class row.site keeps f.fits.delay f.fits.deadband in (
       (
-        (recorded_present (kind_in site) site row.site.value f.fits.value f.value, f.value),
+        (recorded_present (kind_in site) site row.site.value f.fits.value f.written.value, f.written.value),
         (tt, (t.0, (tt, ((f.fits.field_fault, f.written.takes.field_fault), (t.1, (t.2, ((f.written.delay, f.fits.normal_delay), t.3))))))),
       ),
       ap (λ (s : ObjectSite). row_of_object s row.field_fault) (sym f.written.same),

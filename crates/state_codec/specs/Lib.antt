@@ -4,6 +4,7 @@ pub mod Types
 pub mod Snapshots
 pub mod SnapshotSteps
 pub mod SnapshotLaws
+pub mod Spelled
 pub mod WritingSteps
 pub mod Sizes
 pub mod Laws

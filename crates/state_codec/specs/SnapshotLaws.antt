@@ -1,5 +1,5 @@
 -- What stands in a snapshot: which rows, alarms, enrollments, classes, records and posts have octets there.
-use Rattle.std.specs.Prelude.{◌≡◌, ℕ, ◌^◌, ◌<◌, ◌≤◌, All, Bool, true, false, IsTrue, IfSome, List, Option, length}
+use Rattle.std.specs.Prelude.{◌≡◌, ℕ, ◌^◌, ◌<◌, ◌≤◌, All, Bool, true, false, IfSome, List, Option, length}
 use Rattle.bac_values.specs.Address.{PeerData}
 use Rattle.bac_values.specs.declared.note.Note.{Note}
 use Rattle.bac_values.specs.declared.stamp.Stamp.{Stamp}
@@ -11,8 +11,6 @@ use Rattle.outbox.specs.Posts.{most_octets, MailboxState}
 use Rattle.enrollment.specs.declared.enrollment_site.EnrollmentSite.{EnrollmentSite}
 use Rattle.event_machine.specs.Summary.{AlarmState}
 use Rattle.event_machine.specs.declared.run.Run.{Run}
-use Rattle.object_table.specs.Properties.{kind_in}
-use Rattle.object_table.specs.Values.{is_present_value}
 use Rattle.object_table.specs.declared.object_site.ObjectSite.{ObjectSite}
 use Rattle.object_table.specs.declared.row.Row.{Row}
 use Rattle.alarm_core.specs.SiteStates.{IsAlarmOf, IsEnrollmentOf, IsRowOf, hundredths_shown}
@@ -27,10 +25,9 @@ pub record FitsRow (row : Row) : Type 0 where
   pub deadband : row.site.deadband < 2 ^ 32
   pub field_fault : row.field_fault < 2 ^ 8
 
--- a row of an object of a site, as writes may have left it: its present value is one that a write takes
+-- a row of an object of a site, as writes may have left it
 pub record HasRow (site : ObjectSite) (row : Row) : Type 0 where
   pub written : IsRowOf site row
-  pub value : IsTrue (is_present_value (kind_in site) site row.site.value)
   pub fits : FitsRow row
 
 abbrev pub IsStamp : Stamp → Type 0

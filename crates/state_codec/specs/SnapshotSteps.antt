@@ -1,19 +1,21 @@
 -- How what a snapshot has of a site is read: the value at the front of octets and the octets behind it, or nothing.
-use Rattle.std.specs.Prelude.{ℕ, zero, suc, ℤ, pos, ◌==◌, ◌&&◌, ◌||◌, not, nat_lt, nat_le, bytes_eq, if◌then◌else◌, Bool, true, false, Option, Some, None, is_some, List, [], ◌∷◌, length}
+use Rattle.std.specs.Prelude.{ℕ, zero, suc, ℤ, pos, ◌==◌, ◌&&◌, ◌||◌, not, nat_lt, nat_le, bytes_eq, if◌then◌else◌, Bool, true, false, Option, Some, None, is_some, List, [], ◌∷◌, ◌++◌, length, map, filter}
 use Rattle.std.specs.Int.{w16, w32, w64, cast_signed}
 use Rattle.std.specs.List.{list_all}
 use Rattle.std.specs.Option.{option_map_or}
+use Rattle.std.specs.Ordering.{is_lt}
 use Rattle.bac_values.specs.BitString.{two_flags}
 use Rattle.bac_values.specs.Address.{PeerData}
 use Rattle.bac_values.specs.EventStates.{state_of_number, transition_to}
-use Rattle.bac_values.specs.Identifier.{ObjectIdData}
+use Rattle.bac_values.specs.Identifier.{ObjectIdData, number_of_kind}
 use Rattle.bac_values.specs.Moments.{first_moment, last_moment}
+use Rattle.bac_values.specs.Orders.{is_among, peer_order}
 use Rattle.bac_values.specs.Reliabilities.{reliability_of_number}
 use Rattle.bac_values.specs.declared.event_state.EventState.{EventState}
 use Rattle.bac_values.specs.declared.event_state.EventState.TheVariants.{Offnormal}
 use Rattle.bac_values.specs.declared.note.Note.{Note}
 use Rattle.bac_values.specs.declared.object_kind.ObjectKind.{ObjectKind}
-use Rattle.bac_values.specs.declared.object_kind.ObjectKind.TheVariants.{BinaryValue, IntegerValue, PositiveIntegerValue}
+use Rattle.bac_values.specs.declared.object_kind.ObjectKind.TheVariants.{BinaryValue, EventEnrollment, IntegerValue, PositiveIntegerValue}
 use Rattle.bac_values.specs.declared.reliability.Reliability.{Reliability}
 use Rattle.bac_values.specs.declared.stamp.Stamp.{Stamp}
 use Rattle.bac_values.specs.declared.transition.Transition.{Transition}
@@ -30,16 +32,21 @@ use Rattle.event_machine.specs.declared.run.Run.{Run}
 use Rattle.event_log.specs.Log.{EventLogState, number_back}
 use Rattle.event_log.specs.declared.log_record.LogRecord.{LogRecord}
 use Rattle.event_log.specs.declared.log_site.LogSite.{LogSite}
+use Rattle.notify_class.specs.Edits.{most_peers, peers_of as recipients_of}
 use Rattle.notify_class.specs.Recipients.{DestinationData}
 use Rattle.notify_class.specs.declared.class.Class.{Class}
 use Rattle.notify_class.specs.declared.class_site.ClassSite.{ClassSite}
-use Rattle.outbox.specs.Posts.{most_octets, MailboxState}
-use Rattle.alarm_core.specs.Logs.{SiteLogState}
-use Rattle.enrollment.specs.Subjects.{is_detecting}
+use Rattle.outbox.specs.Outboxes.{OutboxState, peers_of, unfinished_in}
+use Rattle.outbox.specs.Posts.{is_post, most_octets, MailboxState}
+use Rattle.alarm_core.specs.Evaluations.{site_zone}
+use Rattle.alarm_core.specs.Logs.{SiteLogState, log_of}
+use Rattle.alarm_core.specs.declared.parts.Parts.{Parts}
+use Rattle.alarm_core.specs.declared.site.Site.{Site}
+use Rattle.enrollment.specs.Subjects.{is_detecting, subject_of_enrollment, subjects_of}
 use Rattle.enrollment.specs.declared.subject.Subject.{Subject}
 use Rattle.enrollment.specs.declared.enrollment_site.EnrollmentSite.{EnrollmentSite}
 use Rattle.alarm_core.specs.SiteStates.{alarm_values_in, hundredths_shown, is_state_of}
-use Rattle.state_codec.specs.Snapshots.{no_state, written_alarm}
+use Rattle.state_codec.specs.Snapshots.{has_rule, no_state, version_of, written_alarm}
 use Rattle.object_table.specs.Properties.{kind_in}
 use Rattle.object_table.specs.Rows.{row_of}
 use Rattle.object_table.specs.Values.{is_field_fault, is_present_value}
@@ -382,3 +389,139 @@ values_in object rows = option_map_or alarm_values_in (row_of object rows) 0
 -- the alarm of a subject: where its event detection isn't enabled, that of an object that was never looked at
 unfoldable pub subject_at : List Row → ℕ → Subject → List ℕ → Option (AlarmState × List ℕ)
 subject_at rows last subject = either_at (is_detecting subject) (alarm_at subject.algorithm (values_in subject.object rows) last) new_alarm_at
+
+abbrev pub alarms_at : List Row → ℕ → List Subject → List ℕ → Option (List AlarmState × List ℕ)
+alarms_at rows last = each_at (subject_at rows last)
+
+-- an enrollment and its alarm
+unfoldable pub enrolled_at : List Row → ℕ → EnrollmentSite → List ℕ → Option ((AlarmState × EnrollmentSite) × List ℕ)
+enrolled_at rows last site = and_at (subject_at rows last (subject_of_enrollment site)) λ alarm. enrollment_at site
+
+abbrev pub all_enrolled_at : List Row → ℕ → List EnrollmentSite → List ℕ → Option (List (AlarmState × EnrollmentSite) × List ℕ)
+all_enrolled_at rows last = each_at (enrolled_at rows last)
+
+-- whether a value object with alarms stands before the enrollments, or behind them
+abbrev pub is_before : Subject → Bool
+is_before subject = is_some subject.class && nat_lt subject.object.number (number_of_kind EventEnrollment)
+
+abbrev pub is_behind : Subject → Bool
+is_behind subject = is_some subject.class && not (nat_lt subject.object.number (number_of_kind EventEnrollment))
+
+-- what the event detection of the value objects of a site is set to
+abbrev pub object_subjects : Site → List Subject
+object_subjects site = subjects_of site.objects []
+
+-- ---- the logs of a site
+
+-- what a log of a site holds
+unfoldable pub held_at : Bool → ZoneData → LogSite → List ℕ → Option (EventLogState × List ℕ)
+held_at has_rule zone listed = made_at (log_at has_rule zone listed) log_of
+
+abbrev pub logs_at : Bool → ZoneData → List LogSite → List ℕ → Option (List EventLogState × List ℕ)
+logs_at has_rule zone = each_at (held_at has_rule zone)
+
+-- ---- the outbox of a site
+
+abbrev pub ascends : List PeerData → Bool
+ascends [] = true
+ascends (peer ∷ peers) = list_all (λ other. is_lt (peer_order peer other)) peers && ascends peers
+
+-- whether a site may have an outbox with these posts
+abbrev pub may_have_posts : Site → List MailboxState → Bool
+may_have_posts site posts =
+    nat_le (length posts) most_peers
+    && (ascends (peers_of posts) && (nat_le (unfinished_in posts) site.device.outbox && list_all (is_post site.device.retries) posts))
+
+-- whether each recipient of some classes is known
+abbrev pub knows_class : List PeerData → Class → Bool
+knows_class known class = list_all (is_among known) (recipients_of class.destinations)
+
+abbrev pub knows_classes : List PeerData → List Class → Bool
+knows_classes known classes = list_all (knows_class known) classes
+
+abbrev pub are_posts_of : Site → List Class → List MailboxState → Bool
+are_posts_of site classes posts = may_have_posts site posts && knows_classes (peers_of posts) classes
+
+unfoldable pub outbox_at : Site → List Class → List ℕ → Option (List MailboxState × List ℕ)
+outbox_at site classes = where_at posts_at (are_posts_of site classes)
+
+abbrev pub outbox_with : Site → List MailboxState → OutboxState
+outbox_with site posts = record { posts = posts; limit = site.device.outbox; timeout = site.device.apdu_timeout; retries = site.device.retries }
+
+-- ---- all of it
+
+-- the version of the site's snapshots
+unfoldable pub version_at : Site → List ℕ → Option (ℕ × List ℕ)
+version_at site = where_at octet_at λ version. version == version_of site
+
+-- how many events there were
+unfoldable pub events_at : List ℕ → Option (ℕ × List ℕ)
+events_at = where_at (number_at w64) λ events. nat_lt events (2 ^ 63)
+
+-- the last moment: in range, and not before the start
+abbrev pub may_be_last : Site → ℕ → Bool
+may_be_last site moment = nat_le first_moment moment && (nat_le moment last_moment && nat_le site.device.start moment)
+
+unfoldable pub last_moment_at : Site → List ℕ → Option (ℕ × List ℕ)
+last_moment_at site = where_at (number_at w64) (may_be_last site)
+
+abbrev pub HeadData : Type 0
+HeadData = ℕ × (ℕ × ℕ)
+
+unfoldable pub head_at : Site → List ℕ → Option (HeadData × List ℕ)
+head_at site = and_at (version_at site) λ version. and_at events_at λ events. last_moment_at site
+
+-- the alarms of the value objects before the enrollments, the enrollments, and the alarms of the value objects behind them
+abbrev pub AlarmsData : Type 0
+AlarmsData = List AlarmState × (List (AlarmState × EnrollmentSite) × List AlarmState)
+
+unfoldable pub all_alarms_at : Site → List Row → ℕ → List ℕ → Option (AlarmsData × List ℕ)
+all_alarms_at site rows last =
+    and_at (alarms_at rows last (filter is_before (object_subjects site))) λ before.
+    and_at (all_enrolled_at rows last site.enrollments) λ enrolled.
+    alarms_at rows last (filter is_behind (object_subjects site))
+
+abbrev pub RestData : Type 0
+RestData = List Class × (List EventLogState × List MailboxState)
+
+unfoldable pub rest_at : Site → List ℕ → Option (RestData × List ℕ)
+rest_at site =
+    and_at (classes_at site.classes) λ classes.
+    and_at (logs_at (has_rule site) (site_zone site) site.logs) λ logs.
+    outbox_at site classes
+
+abbrev pub SnapshotData : Type 0
+SnapshotData = HeadData × (List Row × (AlarmsData × RestData))
+
+unfoldable pub snapshot_at : Site → List ℕ → Option (SnapshotData × List ℕ)
+snapshot_at site =
+    and_at (head_at site) λ head.
+    and_at (each_at row_at site.objects) λ rows.
+    and_at (all_alarms_at site rows head.1.1) λ alarms.
+    rest_at site
+
+abbrev pub alarm_of : AlarmState × EnrollmentSite → AlarmState
+alarm_of x = x.0
+
+abbrev pub enrollment_of : AlarmState × EnrollmentSite → EnrollmentSite
+enrollment_of x = x.1
+
+-- the parts of a core that a snapshot tells
+abbrev pub parts_with : Site → SnapshotData → Parts
+parts_with site x = record {
+  events = x.0.1.0;
+  last_moment = x.0.1.1;
+  table = x.1.0;
+  enrollments = map enrollment_of x.1.1.0.1.0;
+  alarms = x.1.1.0.0 ++ (map alarm_of x.1.1.0.1.0 ++ x.1.1.0.1.1);
+  classes = x.1.1.1.0;
+  logs = x.1.1.1.1.0;
+  outbox = outbox_with site x.1.1.1.1.1;
+}
+
+-- the parts of a core that octets tell, and nothing behind them
+abbrev pub whole_of : Site → SnapshotData × List ℕ → Option Parts
+whole_of site x = value_if (length x.1 == 0) (parts_with site x.0)
+
+abbrev pub parts_in : Site → List ℕ → Option Parts
+parts_in site octets = snapshot_at site octets >>= whole_of site

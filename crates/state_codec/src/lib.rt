@@ -18,6 +18,7 @@ mod reading_logs;
 mod reading_posts;
 mod reading_rest;
 mod reading_rows;
+mod reading_site;
 mod reading_subjects;
 mod sizes;
 mod types;
