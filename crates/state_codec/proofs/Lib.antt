@@ -26,3 +26,5 @@ pub mod FewValues
 pub mod SubjectReads
 pub mod PostsRead
 pub mod Pairs
+pub mod PostsOf
+pub mod SnapshotReads

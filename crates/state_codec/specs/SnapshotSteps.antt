@@ -1,5 +1,5 @@
 -- How what a snapshot has of a site is read: the value at the front of octets and the octets behind it, or nothing.
-use Rattle.std.specs.Prelude.{ℕ, zero, suc, ℤ, pos, ◌==◌, ◌&&◌, ◌||◌, not, nat_lt, nat_le, bytes_eq, if◌then◌else◌, Bool, true, false, Option, Some, None, is_some, List, [], ◌∷◌, ◌++◌, length, map, filter}
+use Rattle.std.specs.Prelude.{◌≡◌, ◌^◌, ℕ, zero, suc, Result, Ok, Err, ℤ, pos, ◌==◌, ◌&&◌, ◌||◌, not, nat_lt, nat_le, bytes_eq, if◌then◌else◌, Bool, true, false, Option, Some, None, is_some, List, [], ◌∷◌, ◌++◌, length, map, filter}
 use Rattle.std.specs.Int.{w16, w32, w64, cast_signed}
 use Rattle.std.specs.List.{list_all}
 use Rattle.std.specs.Option.{option_map_or}
@@ -52,6 +52,8 @@ use Rattle.object_table.specs.Rows.{row_of}
 use Rattle.object_table.specs.Values.{is_field_fault, is_present_value}
 use Rattle.object_table.specs.declared.object_site.ObjectSite.{ObjectSite}
 use Rattle.object_table.specs.declared.row.Row.{Row}
+use Rattle.state_codec.specs.declared.fault.CodecFault.{CodecFault}
+use Rattle.state_codec.specs.declared.fault.CodecFault.TheVariants as faults
 use Rattle.state_codec.specs.declared.reading_keys.Keys.{Keys}
 use Rattle.state_codec.specs.declared.reading_rows.Detection.{Detection}
 use Rattle.state_codec.specs.declared.reading_rows.Settings.{Settings}
@@ -448,6 +450,9 @@ outbox_at site classes = where_at posts_at (are_posts_of site classes)
 abbrev pub outbox_with : Site → List MailboxState → OutboxState
 outbox_with site posts = record { posts = posts; limit = site.device.outbox; timeout = site.device.apdu_timeout; retries = site.device.retries }
 
+unfoldable pub site_outbox_at : Site → List Class → List ℕ → Option (OutboxState × List ℕ)
+site_outbox_at site classes = made_at (outbox_at site classes) (outbox_with site)
+
 -- ---- all of it
 
 -- the version of the site's snapshots
@@ -481,47 +486,66 @@ all_alarms_at site rows last =
     and_at (all_enrolled_at rows last site.enrollments) λ enrolled.
     alarms_at rows last (filter is_behind (object_subjects site))
 
-abbrev pub RestData : Type 0
-RestData = List Class × (List EventLogState × List MailboxState)
-
-unfoldable pub rest_at : Site → List ℕ → Option (RestData × List ℕ)
-rest_at site =
-    and_at (classes_at site.classes) λ classes.
-    and_at (logs_at (has_rule site) (site_zone site) site.logs) λ logs.
-    outbox_at site classes
-
-abbrev pub SnapshotData : Type 0
-SnapshotData = HeadData × (List Row × (AlarmsData × RestData))
-
-unfoldable pub snapshot_at : Site → List ℕ → Option (SnapshotData × List ℕ)
-snapshot_at site =
-    and_at (head_at site) λ head.
-    and_at (each_at row_at site.objects) λ rows.
-    and_at (all_alarms_at site rows head.1.1) λ alarms.
-    rest_at site
-
 abbrev pub alarm_of : AlarmState × EnrollmentSite → AlarmState
 alarm_of x = x.0
 
 abbrev pub enrollment_of : AlarmState × EnrollmentSite → EnrollmentSite
 enrollment_of x = x.1
 
+-- the alarms by ascending identifier, and the enrollments
+abbrev pub AlarmParts : Type 0
+AlarmParts = List AlarmState × List EnrollmentSite
+
+abbrev pub alarm_parts : AlarmsData → AlarmParts
+alarm_parts x = (x.0 ++ (map alarm_of x.1.0 ++ x.1.1), map enrollment_of x.1.0)
+
+unfoldable pub alarm_parts_at : Site → List Row → ℕ → List ℕ → Option (AlarmParts × List ℕ)
+alarm_parts_at site rows last = made_at (all_alarms_at site rows last) alarm_parts
+
+abbrev pub RestData : Type 0
+RestData = List Class × (List EventLogState × OutboxState)
+
+unfoldable pub rest_at : Site → List ℕ → Option (RestData × List ℕ)
+rest_at site =
+    and_at (classes_at site.classes) λ classes.
+    and_at (logs_at (has_rule site) (site_zone site) site.logs) λ logs.
+    site_outbox_at site classes
+
+abbrev pub SnapshotData : Type 0
+SnapshotData = HeadData × (List Row × (AlarmParts × RestData))
+
+unfoldable pub snapshot_at : Site → List ℕ → Option (SnapshotData × List ℕ)
+snapshot_at site =
+    and_at (head_at site) λ head.
+    and_at (each_at row_at site.objects) λ rows.
+    and_at (alarm_parts_at site rows head.1.1) λ alarms.
+    rest_at site
+
 -- the parts of a core that a snapshot tells
-abbrev pub parts_with : Site → SnapshotData → Parts
-parts_with site x = record {
+abbrev pub parts_with : SnapshotData → Parts
+parts_with x = record {
   events = x.0.1.0;
   last_moment = x.0.1.1;
   table = x.1.0;
-  enrollments = map enrollment_of x.1.1.0.1.0;
-  alarms = x.1.1.0.0 ++ (map alarm_of x.1.1.0.1.0 ++ x.1.1.0.1.1);
+  enrollments = x.1.1.0.1;
+  alarms = x.1.1.0.0;
   classes = x.1.1.1.0;
   logs = x.1.1.1.1.0;
-  outbox = outbox_with site x.1.1.1.1.1;
+  outbox = x.1.1.1.1.1;
 }
 
--- the parts of a core that octets tell, and nothing behind them
-abbrev pub whole_of : Site → SnapshotData × List ℕ → Option Parts
-whole_of site x = value_if (length x.1 == 0) (parts_with site x.0)
+unfoldable pub parts_at : Site → List ℕ → Option (Parts × List ℕ)
+parts_at site = made_at (snapshot_at site) parts_with
+
+-- the parts of a core that octets tell, with nothing behind them
+abbrev pub whole_of : Parts × List ℕ → Option Parts
+whole_of x = value_if (length x.1 == 0) x.0
 
 abbrev pub parts_in : Site → List ℕ → Option Parts
-parts_in site octets = snapshot_at site octets >>= whole_of site
+parts_in site octets = parts_at site octets >>= whole_of
+
+-- what is answered: the parts that the octets tell, or that they tell none
+abbrev pub GivesParts : Result Parts CodecFault → Option Parts → Type 0
+GivesParts (Ok parts) read = read ≡ Some parts
+GivesParts (Err faults.NoMemory) read = Unit {0}
+GivesParts (Err (faults.Malformed place)) read = (place ≡ 0) × (read ≡ None)

@@ -15,10 +15,12 @@ mod reading_alarms;
 mod reading_keys;
 mod reading_lists;
 mod reading_logs;
+mod reading_outbox;
 mod reading_posts;
 mod reading_rest;
 mod reading_rows;
 mod reading_site;
+mod reading_state;
 mod reading_subjects;
 mod sizes;
 mod types;
@@ -31,6 +33,7 @@ mod writing_state;
 
 pub use event::{read_event, write_event};
 pub use fault::CodecFault;
+pub use reading_state::read_state;
 pub use laws::{
     allowed_event_has_record, bounds_are_low, records_are_short, records_have_one_spelling,
     snapshots_are_short,
