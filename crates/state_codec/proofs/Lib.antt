@@ -27,4 +27,8 @@ pub mod SubjectReads
 pub mod PostsRead
 pub mod Pairs
 pub mod PostsOf
+pub mod SubjectsOf
+pub mod Beside
+pub mod ToldAlarms
+pub mod WrittenSubjects
 pub mod SnapshotReads

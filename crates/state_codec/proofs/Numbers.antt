@@ -33,7 +33,7 @@ heads a b xs ys e = cc
 tails : (a b : ℕ) (xs ys : List ℕ) → a ∷ xs ≡ b ∷ ys → xs ≡ ys
 tails a b xs ys e = cc
 
-numbered_from : (total : ℕ) (entries : List LogRecord) → map number_of entries ≡ numbers_up_to total (length entries) → AreNumbered total entries
+pub numbered_from : (total : ℕ) (entries : List LogRecord) → map number_of entries ≡ numbers_up_to total (length entries) → AreNumbered total entries
 numbered_from total [] same place entry e = absurd cc
 numbered_from total (first ∷ others) same zero entry e =
     let is : first ≡ entry = some_is first entry e in

@@ -46,7 +46,7 @@ pub(crate) fn take_post(alloc: Global, bytes: &mut &[u8]) -> Result<(Post, Vec<N
 }
 
 /// Takes so many posts, and their notifications, one post's after the other's.
-fn take_list(
+pub(crate) fn take_list(
     alloc: Global,
     count: u16,
     bytes: &mut &[u8],
