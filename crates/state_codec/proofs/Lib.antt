@@ -32,3 +32,4 @@ pub mod Beside
 pub mod ToldAlarms
 pub mod WrittenSubjects
 pub mod SnapshotReads
+pub mod SnapshotStates

@@ -8,7 +8,7 @@ use Rattle.state_codec.specs.ReadingSteps.{◌>>=◌, Gives}
 use Rattle.state_codec.specs.SnapshotSteps.{and_at, stamp_at, hundredths_at, body_at, each_at, entry_at, entry_with, numbers_up_to}
 use Rattle.state_codec.proofs.Behind.{bind_some, some_is}
 
-abbrev number_of : LogRecord → ℕ
+abbrev pub number_of : LogRecord → ℕ
 number_of entry = entry.sequence
 
 entry_number : (has_rule : Bool) (zone : ZoneData) (sequence : ℕ) (octets : List ℕ) (entry : LogRecord) (after : List ℕ) → entry_at has_rule zone sequence octets ≡ Some (entry, after) → entry.sequence ≡ sequence

@@ -79,22 +79,70 @@ subjects_ascend site is = still_ascend object_of has_class (subjects_of site) (a
 
 -- ---- the enrollment with an identifier
 
-abbrev own_object : EnrollmentSite → ObjectIdData
+abbrev pub own_object : EnrollmentSite → ObjectIdData
 own_object site = site.object
 
-none_above : (object : ObjectIdData) (sites : List EnrollmentSite) → All (λ (e : EnrollmentSite). Below object e.object) sites → site_of object sites ≡ None
+none_above : (object : ObjectIdData) (sites : List EnrollmentSite) → All (Below object) (map own_object sites) → site_of object sites ≡ None
 none_above object [] above = refl
 none_above object (e ∷ sites) above =
-    let apart : is_object object e.object ≡ false = either_way object e.object ∙ less_is_other object e.object (All-head (λ (e : EnrollmentSite). Below object e.object) e sites above) in
-    ap (λ (b : Bool). cond b (Some e) (site_of object sites)) apart ∙ none_above object sites (All-tail (λ (e : EnrollmentSite). Below object e.object) e sites above)
+    let apart : is_object object e.object ≡ false = either_way object e.object ∙ less_is_other object e.object (All-head (Below object) e.object (map own_object sites) above) in
+    ap (λ (b : Bool). cond b (Some e) (site_of object sites)) apart ∙ none_above object sites (All-tail (Below object) e.object (map own_object sites) above)
 
-none_below : (object : ObjectIdData) (sites : List EnrollmentSite) → All (λ (e : EnrollmentSite). Below e.object object) sites → site_of object sites ≡ None
+abbrev Above : ObjectIdData → ObjectIdData → Type 0
+Above object other = Below other object
+
+none_below : (object : ObjectIdData) (sites : List EnrollmentSite) → All (Above object) (map own_object sites) → site_of object sites ≡ None
 none_below object [] below = refl
 none_below object (e ∷ sites) below =
-    ap (λ (b : Bool). cond b (Some e) (site_of object sites)) (less_is_other e.object object (All-head (λ (e : EnrollmentSite). Below e.object object) e sites below)) ∙ none_below object sites (All-tail (λ (e : EnrollmentSite). Below e.object object) e sites below)
+    ap (λ (b : Bool). cond b (Some e) (site_of object sites)) (less_is_other e.object object (All-head (Above object) e.object (map own_object sites) below))
+    ∙ none_below object sites (All-tail (Above object) e.object (map own_object sites) below)
+
+-- ---- those in front are below those behind
+
+all_front : {X : Type 0} (P : X → Type 0) (xs ys : List X) → All P (xs ++ ys) → All P xs
+all_front P [] ys all = All-nil P
+all_front P (x ∷ xs) ys all = All-cons P x xs (All-head P x (xs ++ ys) all) (all_front P xs ys (All-tail P x (xs ++ ys) all))
+
+all_behind : {X : Type 0} (P : X → Type 0) (xs ys : List X) → All P (xs ++ ys) → All P ys
+all_behind P [] ys all = all
+all_behind P (x ∷ xs) ys all = all_behind P xs ys (All-tail P x (xs ++ ys) all)
+
+heads_below : (object : ObjectIdData) (others : List ObjectIdData) → Ascends (object ∷ others) → All (Below object) others
+heads_below object others is k d within = is 0 (suc k) d (omega arith) (omega (arith, within))
+
+tails_ascend : (object : ObjectIdData) (others : List ObjectIdData) → Ascends (object ∷ others) → Ascends others
+tails_ascend object others is i j d before within = is (suc i) (suc j) d (omega (arith, before)) (omega (arith, within))
+
+abbrev BelowAll : List ObjectIdData → ObjectIdData → Type 0
+BelowAll others object = All (Below object) others
+
+abbrev AboveAll : List ObjectIdData → ObjectIdData → Type 0
+AboveAll others object = All (Above object) others
+
+front_below : (front behind : List ObjectIdData) → Ascends (front ++ behind) → All (BelowAll behind) front
+front_below [] behind is = All-nil (BelowAll behind)
+front_below (object ∷ front) behind is =
+    All-cons (BelowAll behind) object front (all_behind (Below object) front behind (heads_below object (front ++ behind) is)) (front_below front behind (tails_ascend object (front ++ behind) is))
+
+behind_above : (front behind : List ObjectIdData) → Ascends (front ++ behind) → All (AboveAll front) behind
+behind_above front behind is = let below = front_below front behind is in λ j d within i c inside. below i c inside j d within
+
+behind_ascend : (front behind : List ObjectIdData) → Ascends (front ++ behind) → Ascends behind
+behind_ascend [] behind is = is
+behind_ascend (object ∷ front) behind is = behind_ascend front behind (tails_ascend object (front ++ behind) is)
+
+front_ascend : (front behind : List ObjectIdData) → Ascends (front ++ behind) → Ascends front
+front_ascend [] behind is = λ i j d before within. absurd (omega (arith, within))
+front_ascend (object ∷ front) behind is = one_ascends object front (all_front (Below object) front behind (heads_below object (front ++ behind) is)) (front_ascend front behind (tails_ascend object (front ++ behind) is))
+  where
+    one_ascends : (object : ObjectIdData) (others : List ObjectIdData) → All (Below object) others → Ascends others → Ascends (object ∷ others)
+    one_ascends object others here later zero zero d before within = absurd (omega (arith, before))
+    one_ascends object others here later zero (suc j) d before within = here j d (omega (arith, within))
+    one_ascends object others here later (suc i) zero d before within = absurd (omega (arith, before))
+    one_ascends object others here later (suc i) (suc j) d before within = later i j d (omega (arith, before)) (omega (arith, within))
 
 -- an enrollment is found among those that ascend
-abbrev FindsItself : List EnrollmentSite → EnrollmentSite → Type 0
+abbrev pub FindsItself : List EnrollmentSite → EnrollmentSite → Type 0
 FindsItself all site = site_of site.object all ≡ Some site
 
 passed_first : (first : EnrollmentSite) (rest sites : List EnrollmentSite) → All (λ (e : EnrollmentSite). Below first.object e.object) sites → All (FindsItself rest) sites → All (FindsItself (first ∷ rest)) sites
@@ -112,11 +160,15 @@ each_found (e ∷ sites) is =
 
 -- ---- what is written
 
+flat_append : {X : Type 0} (f : X → List ℕ) (xs ys : List X) → flat_map f (xs ++ ys) ≡ flat_map f xs ++ flat_map f ys
+flat_append f [] ys = refl
+flat_append f (x ∷ xs) ys = ap (λ (t : List ℕ). f x ++ t) (flat_append f xs ys) ∙ sym (append_assoc (f x) (flat_map f xs) (flat_map f ys))
+
 module _ (state : CoreState) where
-  abbrev IsAlarmIn : Subject → AlarmState → Type 0
+  abbrev pub IsAlarmIn : Subject → AlarmState → Type 0
   IsAlarmIn subject alarm = alarm_in state subject.object ≡ alarm
 
-  abbrev HasNoSite : Subject → Type 0
+  abbrev pub HasNoSite : Subject → Type 0
   HasNoSite subject = site_of subject.object state.values.enrollments ≡ None
 
   -- of value objects the alarms alone
@@ -131,7 +183,7 @@ module _ (state : CoreState) where
       ap (λ (t : List ℕ). t ++ flat_map (written_subject state) subjects) one
       ∙ ap (λ (t : List ℕ). written_alarm a ++ t) (objects_written subjects alarms are.1 (All-tail HasNoSite s subjects none))
 
-  abbrev IsEnrolledIn : EnrollmentSite → AlarmState × EnrollmentSite → Type 0
+  abbrev pub IsEnrolledIn : EnrollmentSite → AlarmState × EnrollmentSite → Type 0
   IsEnrolledIn site x = (alarm_in state site.object ≡ x.0) × (site_of site.object state.values.enrollments ≡ Some x.1)
 
   -- of enrollments their settings too
@@ -145,3 +197,54 @@ module _ (state : CoreState) where
       ∙ ap (λ (a : AlarmState). written_alarm a ++ written_enrollment (Some x.1)) are.0.0 in
       ap (λ (t : List ℕ). t ++ flat_map (written_subject state) (map subject_of_enrollment sites)) one
       ∙ ap (λ (t : List ℕ). written_enrolled x ++ t) (enrollments_written sites enrolled are.1)
+
+  -- ---- all three
+
+  pub record AreInOrder (before : List Subject) (sites : List EnrollmentSite) (behind : List Subject) : Type 0 where
+    pub objects : map own_object state.values.enrollments ≡ map own_object sites
+    pub ascending : Ascends (map object_of (before ++ (map subject_of_enrollment sites ++ behind)))
+
+  objects_in_order : (before : List Subject) (sites : List EnrollmentSite) (behind : List Subject) → map object_of (before ++ (map subject_of_enrollment sites ++ behind)) ≡ map object_of before ++ (map own_object sites ++ map object_of behind)
+  objects_in_order [] [] behind = refl
+  objects_in_order [] (site ∷ sites) behind = ap (λ (os : List ObjectIdData). site.object ∷ os) (objects_in_order [] sites behind)
+  objects_in_order (s ∷ before) sites behind = ap (λ (os : List ObjectIdData). s.object ∷ os) (objects_in_order before sites behind)
+
+  all_of_map : {X : Type 0} (P : ObjectIdData → Type 0) (f : X → ObjectIdData) (xs : List X) → All P (map f xs) → All (λ x. P (f x)) xs
+  all_of_map P f [] h = All-nil (λ x. P (f x))
+  all_of_map P f (x ∷ xs) h = All-cons (λ y. P (f y)) x xs (All-head P (f x) (map f xs) h) (all_of_map P f xs (All-tail P (f x) (map f xs) h))
+
+  all_more : {X : Type 0} (P Q : X → Type 0) → ((x : X) → P x → Q x) → (xs : List X) → All P xs → All Q xs
+  all_more P Q f [] all = All-nil Q
+  all_more P Q f (x ∷ xs) all = All-cons Q x xs (f x (All-head P x xs all)) (all_more P Q f xs (All-tail P x xs all))
+
+  module _ (before : List Subject) (sites : List EnrollmentSite) (behind : List Subject) (are : AreInOrder before sites behind) where
+    abbrev enrolled_objects : List ObjectIdData
+    enrolled_objects = map own_object state.values.enrollments
+
+    in_order : Ascends (map object_of before ++ (enrolled_objects ++ map object_of behind))
+    in_order = subst (λ (os : List ObjectIdData). Ascends (map object_of before ++ (os ++ map object_of behind))) (sym are.objects) (subst Ascends (objects_in_order before sites behind) are.ascending)
+
+    pub before_has_none : All HasNoSite before
+    before_has_none =
+        all_of_map (λ (object : ObjectIdData). site_of object state.values.enrollments ≡ None) object_of before
+        (all_more (BelowAll (enrolled_objects ++ map object_of behind)) (λ (object : ObjectIdData). site_of object state.values.enrollments ≡ None)
+        (λ object below. none_above object state.values.enrollments (all_front (Below object) enrolled_objects (map object_of behind) below)) (map object_of before)
+        (front_below (map object_of before) (enrolled_objects ++ map object_of behind) in_order))
+
+    pub behind_has_none : All HasNoSite behind
+    behind_has_none =
+        all_of_map (λ (object : ObjectIdData). site_of object state.values.enrollments ≡ None) object_of behind
+        (all_more (AboveAll enrolled_objects) (λ (object : ObjectIdData). site_of object state.values.enrollments ≡ None)
+        (λ object above. none_below object state.values.enrollments above) (map object_of behind)
+        (behind_above enrolled_objects (map object_of behind) (behind_ascend (map object_of before) (enrolled_objects ++ map object_of behind) in_order)))
+
+    pub enrollments_found : All (FindsItself state.values.enrollments) state.values.enrollments
+    enrollments_found =
+        each_found state.values.enrollments (front_ascend enrolled_objects (map object_of behind) (behind_ascend (map object_of before) (enrolled_objects ++ map object_of behind) in_order))
+
+    pub all_written : (first : List AlarmState) (enrolled : List (AlarmState × EnrollmentSite)) (last : List AlarmState) → AllZip IsAlarmIn before first → AllZip IsEnrolledIn sites enrolled → AllZip IsAlarmIn behind last
+        → flat_map (written_subject state) (before ++ (map subject_of_enrollment sites ++ behind)) ≡ flat_map written_alarm first ++ (flat_map written_enrolled enrolled ++ flat_map written_alarm last)
+    all_written first enrolled last one two three =
+        flat_append (written_subject state) before (map subject_of_enrollment sites ++ behind)
+        ∙ ap (λ (t : List ℕ). flat_map (written_subject state) before ++ t) (flat_append (written_subject state) (map subject_of_enrollment sites) behind)
+        ∙ (λ k. objects_written before first one before_has_none k ++ (enrollments_written sites enrolled two k ++ objects_written behind last three behind_has_none k))
