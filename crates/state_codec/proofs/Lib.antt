@@ -33,3 +33,4 @@ pub mod ToldAlarms
 pub mod WrittenSubjects
 pub mod SnapshotReads
 pub mod SnapshotStates
+pub mod StatesAgain
