@@ -34,3 +34,4 @@ pub mod WrittenSubjects
 pub mod SnapshotReads
 pub mod SnapshotStates
 pub mod StatesAgain
+pub mod ReadState

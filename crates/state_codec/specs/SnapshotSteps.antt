@@ -40,6 +40,8 @@ use Rattle.outbox.specs.Outboxes.{OutboxState, peers_of, unfinished_in}
 use Rattle.outbox.specs.Posts.{is_post, most_octets, MailboxState}
 use Rattle.alarm_core.specs.Evaluations.{site_zone}
 use Rattle.alarm_core.specs.Logs.{SiteLogState, log_of}
+use Rattle.alarm_core.specs.Parts.{state_of_parts}
+use Rattle.alarm_core.specs.State.{CoreState}
 use Rattle.alarm_core.specs.declared.parts.Parts.{Parts}
 use Rattle.alarm_core.specs.declared.site.Site.{Site}
 use Rattle.enrollment.specs.Subjects.{is_detecting, subject_of_enrollment, subjects_of}
@@ -549,3 +551,9 @@ abbrev pub GivesParts : Result Parts CodecFault → Option Parts → Type 0
 GivesParts (Ok parts) read = read ≡ Some parts
 GivesParts (Err faults.NoMemory) read = Unit {0}
 GivesParts (Err (faults.Malformed place)) read = (place ≡ 0) × (read ≡ None)
+
+-- what is answered: the state of the parts that the octets tell, or that they tell none
+abbrev pub GivesState : Site → List ℕ → Result CoreState CodecFault → Type 0
+GivesState site octets (Ok state) = (parts : Parts) × (parts_in site octets ≡ Some parts) × (state ≡ state_of_parts site parts)
+GivesState site octets (Err faults.NoMemory) = Unit {0}
+GivesState site octets (Err (faults.Malformed place)) = (place ≡ 0) × (parts_in site octets ≡ None)

@@ -5,7 +5,7 @@ ghost use Rattle.alarm_core.specs.State.{CoreState};
 ghost use Rattle.alarm_core.specs.Parts.{ArePartsOf, state_of_parts};
 ghost use Rattle.enrollment.specs.Enrollments.{AscendById, IsEnrollment};
 ghost use Rattle.state_codec.specs.ReadingSteps.{Gives};
-ghost use Rattle.state_codec.specs.SnapshotSteps.{GivesParts, alarm_parts_at, each_at, events_at, head_at, last_moment_at, parts_at, parts_in, row_at, version_at};
+ghost use Rattle.state_codec.specs.SnapshotSteps.{GivesParts, GivesState, alarm_parts_at, each_at, events_at, head_at, last_moment_at, parts_at, parts_in, row_at, version_at};
 ghost use Rattle.state_codec.specs.Spelled.{SpellsNothing, SpellsState};
 
 use crate::CodecFault;
@@ -17,7 +17,7 @@ use crate::reading_site::{
     object_subjects, take_alarms, take_all_enrolled, take_logs, those_before, those_behind,
 };
 use crate::writing_state::{has_rule, version_of};
-use alarm_core::{Core, EnrollmentSite, Parts, Site, site_zone};
+use alarm_core::{Core, EnrollmentSite, Parts, Site, restores_what_it_tells, site_zone};
 use bac_values::{FIRST_MOMENT, Items, LAST_MOMENT, NoMemory};
 use enrollment::{Enrollments, copy_of_enrollments};
 use event_machine::Alarm;
@@ -210,6 +210,16 @@ fn restore(alloc: Global, site: &Site, parts: Parts) -> Result<Core, CodecFault>
     }
 }
 
+/// The core of a site that octets tell.
+fn state_in(alloc: Global, site: &Site, bytes: &[u8]) -> Result<Core, CodecFault>
+    requires site { IsSite site.now }
+    ensures exact { GivesState site.now bytes.now result }
+{
+    tests_posts();
+    let parts = parts_in(alloc, site, bytes)?;
+    restore(alloc, site, parts)
+}
+
 /// The core of a site whose snapshot the octets are. It goes on as the one of which the snapshot was written.
 pub fn read_state(alloc: Global, site: &Site, bytes: &[u8]) -> Result<Core, CodecFault>
     requires site { IsSite site.now }
@@ -217,11 +227,11 @@ pub fn read_state(alloc: Global, site: &Site, bytes: &[u8]) -> Result<Core, Code
     ensures found { IfOk result (λ core. SpellsState site.now bytes.now core) }
     // The state of which they are the snapshot is answered, or memory is refused.
     ensures only { (state : CoreState) → SpellsState site.now bytes.now state → IsOkAnd result (λ core. core ≡ state) ⊎ (result ≡ Err CodecFault.NoMemory) }
-    // Malformed comes only where they are the snapshot of no state of the site; where they are that of none, it comes, or memory is refused.
+    // Malformed comes only where they are the snapshot of no state of the site; where that is so, it comes, or memory is refused.
     ensures refused { (place : ℕ) → result ≡ Err (CodecFault.Malformed place) → (place ≡ 0) × SpellsNothing site.now bytes.now }
     ensures nothing { SpellsNothing site.now bytes.now → (result ≡ Err (CodecFault.Malformed 0)) ⊎ (result ≡ Err CodecFault.NoMemory) }
 {
     tests_posts();
-    let parts = parts_in(alloc, site, bytes)?;
-    restore(alloc, site, parts)
+    restores_what_it_tells();
+    state_in(alloc, site, bytes)
 }
