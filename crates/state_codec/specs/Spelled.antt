@@ -1,5 +1,5 @@
 -- Which octets are the snapshot of which state of a site.
-use Rattle.std.specs.Prelude.{◌≡◌, ℕ, ◌^◌, ◌<◌, All, IsTrue, List}
+use Rattle.std.specs.Prelude.{◌≡◌, ℕ, ◌^◌, ◌<◌, All, Bool, IsTrue, List}
 use Rattle.event_log.specs.declared.log_record.LogRecord.{LogRecord}
 use Rattle.notify_class.specs.declared.class.Class.{Class}
 use Rattle.outbox.specs.Posts.{MailboxState}
