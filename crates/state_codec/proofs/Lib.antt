@@ -34,4 +34,5 @@ pub mod WrittenSubjects
 pub mod SnapshotReads
 pub mod SnapshotStates
 pub mod StatesAgain
+pub mod TablesRead
 pub mod ReadState

@@ -296,8 +296,12 @@ twice first second (Some found) = refl
 snapshot_same : (site : Site) (octets : List ℕ) → snapshot_at site octets ≡ made_of with_alarm_parts (whole_at site octets)
 unfolding snapshot_at alarm_parts_at
 snapshot_same site octets =
-    inside (λ (x : List Row × (AlarmsData × RestData)). (x.0, (alarm_parts x.1.0, x.1.1))) (head_at site octets) _ _ (λ head later.
-    inside (λ (x : AlarmsData × RestData). (alarm_parts x.0, x.1)) (each_at row_at site.objects later) _ _ (λ rows behind.
+    inside (λ (x : List Row × (AlarmsData × RestData)). (x.0, (alarm_parts x.1.0, x.1.1))) (head_at site octets)
+    (λ head. and_at (each_at row_at site.objects) λ rows. and_at (all_alarms_at site rows head.1.1) λ alarms. rest_at site)
+    (λ head. and_at (each_at row_at site.objects) λ rows. and_at (alarm_parts_at site rows head.1.1) λ alarms. rest_at site) (λ head later.
+    inside (λ (x : AlarmsData × RestData). (alarm_parts x.0, x.1)) (each_at row_at site.objects later)
+    (λ rows. and_at (all_alarms_at site rows head.1.1) λ alarms. rest_at site)
+    (λ rows. and_at (alarm_parts_at site rows head.1.1) λ alarms. rest_at site) (λ rows behind.
     front alarm_parts (all_alarms_at site rows head.1.1 behind) (rest_at site)))
 
 -- the parts that octets tell are those of what stands there

@@ -32,7 +32,7 @@ use Rattle.alarm_core.specs.Subjects.{alarm_subjects, detecting_subjects, subjec
 use Rattle.alarm_core.specs.declared.site.Site.{Site}
 use Rattle.state_codec.specs.Snapshots.{has_rule, version_of, written_class, written_log, written_outbox, written_row, written_state, written_subject}
 use Rattle.state_codec.specs.SnapshotLaws.{AreHundredths, HasEntry, HasPost, HasRow, FitsRow}
-use Rattle.state_codec.specs.SnapshotSteps.{AlarmsData, alarm_of, alarm_parts, are_posts_of, enrollment_of, is_before, is_behind, kept_with, knows_classes, may_have_posts, numbers_up_to, object_subjects, outbox_with}
+use Rattle.state_codec.specs.SnapshotSteps.{AlarmsData, alarm_of, alarm_parts, are_posts_of, enrollment_of, is_before, is_behind, kept_with, knows_classes, may_have_posts, may_hold, numbers_up_to, object_subjects, outbox_with}
 use Rattle.state_codec.specs.Spelled.{FitsClass, FitsEntry, FitsLog, FitsPost, FitsState, SpellsState}
 use Rattle.state_codec.proofs.Behind.{both_true}
 use Rattle.state_codec.proofs.Beside.{beside_apart, beside_both, beside_each, beside_made, beside_mapped, beside_more, beside_unmapped, beside_with, same_of, seconds_all}
@@ -56,7 +56,7 @@ numbers_of rule zone (guide ∷ guides) (entry ∷ entries) are =
 
 shown_of : (rule : Option (List ℕ)) (zone : ZoneData) (stamp : Stamp) (hundredths : ℕ) → AreHundredths (is_some rule) zone stamp hundredths → IsNone rule → hundredths ≡ hundredths_shown zone stamp
 shown_of None zone stamp hundredths are none = are
-shown_of (Some text) zone stamp hundredths are none = absurd none
+shown_of (Some text) zone stamp hundredths are none = absurd (true≢false none)
 
 fit_of : (rule : Bool) (zone : ZoneData) (stamp : Stamp) (hundredths : ℕ) → AreHundredths rule zone stamp hundredths → IsTrue rule → hundredths < 2 ^ 64
 fit_of true zone stamp hundredths are is = are
@@ -69,7 +69,7 @@ module _ (site : Site) where
       same = refl;
       size = has.size;
       stops = has.stops;
-      log = is_log log.size log.stops log.enabled log.total log.records (omega (arith, is.most, has.size)) has.total has.few
+      log = is_log log.size log.stops log.enabled log.total log.records (omega (arith, is.most, has.size)) has.total (subst (λ (n : ℕ). may_hold n log.total (length log.records) ≡ true) (sym has.size) has.few)
       (numbered_from log.total log.records (numbers_of (has_rule site) (site_zone site) (numbers_up_to log.total (length log.records)) log.records has.records));
       records = seconds_all (HasEntry (has_rule site) (site_zone site)) (IsRecordOf site) (λ number entry h. record { short = h.short; shown = λ none. shown_of site.device.zone_rule (site_zone site) entry.stamp entry.hundredths h.hundredths none }) (numbers_up_to log.total (length log.records)) log.records has.records;
     },
@@ -101,7 +101,7 @@ module _ (site : Site) where
       (beside_more (HasSubject rows last) (map subject_of_enrollment site.enrollments) (filter is_behind (object_subjects site)) (map alarm_of x.1.0) x.1.1
       (beside_mapped (HasSubject rows last) subject_of_enrollment alarm_of site.enrollments x.1.0 (beside_each (HasEnrolled rows last) (λ (e : EnrollmentSite) (p : AlarmState × EnrollmentSite). HasSubject rows last (subject_of_enrollment e) p.0) (λ e p h. h.0) site.enrollments x.1.0 are.1.0)) are.1.1)
 
-  enrolled_of : (rows : List Row) (last : ℕ) (x : AlarmsData) → AreAlarms site rows last x → AllZip IsEnrollmentOf site.enrollments (map enrollment_of x.1.0)
+  pub enrolled_of : (rows : List Row) (last : ℕ) (x : AlarmsData) → AreAlarms site rows last x → AllZip IsEnrollmentOf site.enrollments (map enrollment_of x.1.0)
   enrolled_of rows last x are =
       beside_made IsEnrollmentOf enrollment_of site.enrollments x.1.0 (beside_each (HasEnrolled rows last) (λ (e : EnrollmentSite) (p : AlarmState × EnrollmentSite). IsEnrollmentOf e p.1) (λ e p h. h.1.own) site.enrollments x.1.0 are.1.0)
 

@@ -52,7 +52,7 @@ both_are false b e f = absurd (true≢false (sym e))
 -- ---- logs
 
 hundredths_of : (rule : Option (List ℕ)) (zone : ZoneData) (stamp : Stamp) (hundredths : ℕ) → (IsTrue (is_some rule) → hundredths < 2 ^ 64) → (IsNone rule → hundredths ≡ hundredths_shown zone stamp) → AreHundredths (is_some rule) zone stamp hundredths
-hundredths_of None zone stamp hundredths fits shown = shown tt
+hundredths_of None zone stamp hundredths fits shown = shown refl
 hundredths_of (Some text) zone stamp hundredths fits shown = fits refl
 
 module _ (site : Site) where

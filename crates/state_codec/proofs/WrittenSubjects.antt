@@ -31,27 +31,29 @@ is_itself object = grind (arith, nat_tests)
 either_way : (a b : ObjectIdData) → is_object a b ≡ is_object b a
 either_way a b = grind (arith, nat_tests)
 
+heads_below : (object : ObjectIdData) (others : List ObjectIdData) → Ascends (object ∷ others) → All (Below object) others
+heads_below object others is k d within = is 0 (suc k) d (omega arith) (omega (arith, within))
+
+tails_ascend : (object : ObjectIdData) (others : List ObjectIdData) → Ascends (object ∷ others) → Ascends others
+tails_ascend object others is i j d before within = is (suc i) (suc j) d (omega (arith, before)) (omega (arith, within))
+
+all_of_objects : {X : Type 0} (P : ObjectIdData → Type 0) (f : X → ObjectIdData) (xs : List X) → All P (map f xs) → All (λ x. P (f x)) xs
+all_of_objects P f [] h = All-nil (λ x. P (f x))
+all_of_objects P f (x ∷ xs) h = All-cons (λ y. P (f y)) x xs (All-head P (f x) (map f xs) h) (all_of_objects P f xs (All-tail P (f x) (map f xs) h))
+
 pairs_head : {X : Type 0} (f : X → ObjectIdData) (x : X) (xs : List X) → Ascends (map f (x ∷ xs)) → All (λ y. Below (f x) (f y)) xs
-pairs_head f x [] is = All-nil (λ y. Below (f x) (f y))
-pairs_head f x (y ∷ ys) is =
-    All-cons (λ z. Below (f x) (f z)) y ys (is 0 1 (f x) (omega arith) (omega arith)) (pairs_head f x ys (without_second f x y ys is))
-  where
-    without_second : {X : Type 0} (f : X → ObjectIdData) (x y : X) (ys : List X) → Ascends (map f (x ∷ y ∷ ys)) → Ascends (map f (x ∷ ys))
-    without_second f x y ys is zero zero d before within = absurd (omega (arith, before))
-    without_second f x y ys is zero (suc j) d before within = is 0 (suc (suc j)) d (omega arith) (omega (arith, within))
-    without_second f x y ys is (suc i) zero d before within = absurd (omega (arith, before))
-    without_second f x y ys is (suc i) (suc j) d before within = is (suc (suc i)) (suc (suc j)) d (omega (arith, before)) (omega (arith, within))
+pairs_head f x xs is = all_of_objects (Below (f x)) f xs (heads_below (f x) (map f xs) is)
 
 pairs_tail : {X : Type 0} (f : X → ObjectIdData) (x : X) (xs : List X) → Ascends (map f (x ∷ xs)) → Ascends (map f xs)
 pairs_tail f x xs is i j d before within = is (suc i) (suc j) d (omega (arith, before)) (omega (arith, within))
 
+all_of : {X : Type 0} (f : X → ObjectIdData) (x : X) (xs : List X) → All (λ y. Below (f x) (f y)) xs → All (Below (f x)) (map f xs)
+all_of f x [] here = All-nil (Below (f x))
+all_of f x (y ∷ ys) here = All-cons (Below (f x)) (f y) (map f ys) (All-head (λ z. Below (f x) (f z)) y ys here) (all_of f x ys (All-tail (λ z. Below (f x) (f z)) y ys here))
+
 pairs_more : {X : Type 0} (f : X → ObjectIdData) (x : X) (xs : List X) → All (λ y. Below (f x) (f y)) xs → Ascends (map f xs) → Ascends (map f (x ∷ xs))
 pairs_more f x xs here later zero zero d before within = absurd (omega (arith, before))
 pairs_more f x xs here later zero (suc j) d before within = all_of f x xs here j d (omega (arith, within))
-  where
-    all_of : {X : Type 0} (f : X → ObjectIdData) (x : X) (xs : List X) → All (λ y. Below (f x) (f y)) xs → All (Below (f x)) (map f xs)
-    all_of f x [] here = All-nil (Below (f x))
-    all_of f x (y ∷ ys) here = All-cons (Below (f x)) (f y) (map f ys) (All-head (λ z. Below (f x) (f z)) y ys here) (all_of f x ys (All-tail (λ z. Below (f x) (f z)) y ys here))
 pairs_more f x xs here later (suc i) zero d before within = absurd (omega (arith, before))
 pairs_more f x xs here later (suc i) (suc j) d before within = later i j d (omega (arith, before)) (omega (arith, within))
 
@@ -106,12 +108,6 @@ all_front P (x ∷ xs) ys all = All-cons P x xs (All-head P x (xs ++ ys) all) (a
 all_behind : {X : Type 0} (P : X → Type 0) (xs ys : List X) → All P (xs ++ ys) → All P ys
 all_behind P [] ys all = all
 all_behind P (x ∷ xs) ys all = all_behind P xs ys (All-tail P x (xs ++ ys) all)
-
-heads_below : (object : ObjectIdData) (others : List ObjectIdData) → Ascends (object ∷ others) → All (Below object) others
-heads_below object others is k d within = is 0 (suc k) d (omega arith) (omega (arith, within))
-
-tails_ascend : (object : ObjectIdData) (others : List ObjectIdData) → Ascends (object ∷ others) → Ascends others
-tails_ascend object others is i j d before within = is (suc i) (suc j) d (omega (arith, before)) (omega (arith, within))
 
 abbrev BelowAll : List ObjectIdData → ObjectIdData → Type 0
 BelowAll others object = All (Below object) others
@@ -209,10 +205,6 @@ module _ (state : CoreState) where
   objects_in_order [] (site ∷ sites) behind = ap (λ (os : List ObjectIdData). site.object ∷ os) (objects_in_order [] sites behind)
   objects_in_order (s ∷ before) sites behind = ap (λ (os : List ObjectIdData). s.object ∷ os) (objects_in_order before sites behind)
 
-  all_of_map : {X : Type 0} (P : ObjectIdData → Type 0) (f : X → ObjectIdData) (xs : List X) → All P (map f xs) → All (λ x. P (f x)) xs
-  all_of_map P f [] h = All-nil (λ x. P (f x))
-  all_of_map P f (x ∷ xs) h = All-cons (λ y. P (f y)) x xs (All-head P (f x) (map f xs) h) (all_of_map P f xs (All-tail P (f x) (map f xs) h))
-
   all_more : {X : Type 0} (P Q : X → Type 0) → ((x : X) → P x → Q x) → (xs : List X) → All P xs → All Q xs
   all_more P Q f [] all = All-nil Q
   all_more P Q f (x ∷ xs) all = All-cons Q x xs (f x (All-head P x xs all)) (all_more P Q f xs (All-tail P x xs all))
@@ -226,14 +218,14 @@ module _ (state : CoreState) where
 
     pub before_has_none : All HasNoSite before
     before_has_none =
-        all_of_map (λ (object : ObjectIdData). site_of object state.values.enrollments ≡ None) object_of before
+        all_of_objects (λ (object : ObjectIdData). site_of object state.values.enrollments ≡ None) object_of before
         (all_more (BelowAll (enrolled_objects ++ map object_of behind)) (λ (object : ObjectIdData). site_of object state.values.enrollments ≡ None)
         (λ object below. none_above object state.values.enrollments (all_front (Below object) enrolled_objects (map object_of behind) below)) (map object_of before)
         (front_below (map object_of before) (enrolled_objects ++ map object_of behind) in_order))
 
     pub behind_has_none : All HasNoSite behind
     behind_has_none =
-        all_of_map (λ (object : ObjectIdData). site_of object state.values.enrollments ≡ None) object_of behind
+        all_of_objects (λ (object : ObjectIdData). site_of object state.values.enrollments ≡ None) object_of behind
         (all_more (AboveAll enrolled_objects) (λ (object : ObjectIdData). site_of object state.values.enrollments ≡ None)
         (λ object above. none_below object state.values.enrollments above) (map object_of behind)
         (behind_above enrolled_objects (map object_of behind) (behind_ascend (map object_of before) (enrolled_objects ++ map object_of behind) in_order)))

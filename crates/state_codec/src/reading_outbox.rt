@@ -139,6 +139,7 @@ pub(crate) fn take_outbox(
     requires settings { AreSettings site.now.device.outbox site.now.device.apdu_timeout site.now.device.retries }
     ensures exact { Gives (λ x. (x, bytes.new.now)) result (site_outbox_at site.now classes.now bytes.old.now) }
 {
+    tests_posts();
     let (posts, notes) = take_posts(alloc, bytes)?;
     if !are_posts_of(alloc, site, classes, &posts, &notes)? {
         return Err(ReadFault::NothingThere);
