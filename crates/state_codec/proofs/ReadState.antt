@@ -12,6 +12,7 @@ use Rattle.state_codec.specs.declared.fault.CodecFault.{CodecFault}
 use Rattle.state_codec.specs.declared.fault.CodecFault.TheVariants as faults
 use Rattle.state_codec.specs.Snapshots.{has_rule, written_state}
 use Rattle.state_codec.specs.SnapshotSteps.{GivesState, parts_in}
+use Rattle.state_codec.specs.Laws.{OneSnapshot}
 use Rattle.state_codec.specs.Spelled.{SpellsNothing, SpellsState}
 use Rattle.state_codec.proofs.Behind.{AreOctets, some_is}
 use Rattle.state_codec.proofs.SnapshotReads.{Tells, data_with, tells, written_whole}
@@ -68,3 +69,14 @@ pub is_nothing : (site : Site) → IsSite site → TestsPosts → (octets : List
 is_nothing site is tests octets are (Ok state) given nothing = absurd (nothing state (is_found site is tests octets are (Ok state) given))
 is_nothing site is tests octets are (Err faults.NoMemory) given nothing = inr refl
 is_nothing site is tests octets are (Err (faults.Malformed place)) given nothing = inl (ap (λ (p : ℕ). Err (faults.Malformed p)) given.0)
+
+-- ---- one spelling
+
+pub one_snapshot : TestsPosts → RestoresWhatItTells → OneSnapshot
+one_snapshot tests law = record {
+  state = λ site octets x y is first second.
+      let a = is_read tests law octets x site is first in
+      let b = is_read tests law octets y site is second in
+      sym a.1 ∙ ap (state_of_parts site) (some_is (parts_of x) (parts_of y) (sym a.0 ∙ b.0)) ∙ b.1;
+  octets = λ site first second x one two. one.octets_are ∙ sym two.octets_are;
+}

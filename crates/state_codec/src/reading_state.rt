@@ -26,7 +26,7 @@ use outbox::tests_posts;
 use std::alloc::Global;
 
 /// How many events there may be, and one more.
-const TOO_MANY_EVENTS: u64 = 1 << 63;
+const TOO_MANY_EVENTS: u64 = 9_223_372_036_854_775_808;
 
 /// Takes the version of the site's snapshots.
 #[tactic(auto, unfolding(crate::specs::SnapshotSteps::version_at))]
