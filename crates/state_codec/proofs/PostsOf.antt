@@ -114,8 +114,7 @@ pub tested : TestsPosts → (site : Site) (posts : List Post) (notes : List Note
     → (few && can) ≡ may_have_posts site (restored_posts posts notes)
 tested tests site posts notes few can settings told is tells =
     let all = restored_posts posts notes in
-    same_test (few && can) (may_have_posts site all) (AreSitePosts site all)
-    (
+    same_test (few && can) (may_have_posts site all) (AreSitePosts site all) (
       λ e. let t = both_true few can e in record { few = leb-true _ _ (sym is ∙ t.0); outbox = (tells.0 t.1).1 },
       λ are. both_are few can (is ∙ le-leb _ _ are.few) (tells.1 (told, are.outbox)),
     )

@@ -70,7 +70,7 @@ module _ (site : Site) where
       size = has.size;
       stops = has.stops;
       log = is_log log.size log.stops log.enabled log.total log.records (omega (arith, is.most, has.size)) has.total (subst (λ (n : ℕ). may_hold n log.total (length log.records) ≡ true) (sym has.size) has.few)
-      (numbered_from log.total log.records (numbers_of (has_rule site) (site_zone site) (numbers_up_to log.total (length log.records)) log.records has.records));
+          (numbered_from log.total log.records (numbers_of (has_rule site) (site_zone site) (numbers_up_to log.total (length log.records)) log.records has.records));
       records = seconds_all (HasEntry (has_rule site) (site_zone site)) (IsRecordOf site) (λ number entry h. record { short = h.short; shown = λ none. shown_of site.device.zone_rule (site_zone site) entry.stamp entry.hundredths h.hundredths none }) (numbers_up_to log.total (length log.records)) log.records has.records;
     },
     seconds_all (HasEntry (has_rule site) (site_zone site)) (FitsEntry (has_rule site)) (λ number entry h. record { stamp = h.stamp; hundredths = λ is. fit_of (has_rule site) (site_zone site) entry.stamp entry.hundredths h.hundredths is }) (numbers_up_to log.total (length log.records)) log.records has.records,
@@ -205,9 +205,10 @@ module _ (site : Site) where
         enrolled_found [] [] same all = tt
         enrolled_found [] (p ∷ enrolled) same all = absurd same
         enrolled_found (e ∷ sites) [] same all = absurd same
-        enrolled_found (e ∷ sites) (p ∷ enrolled) same all =
-            (ap (λ (object : ObjectIdData). site_of object told_state.values.enrollments) (sym same.0) ∙ All-head (FindsItself told_state.values.enrollments) p.1 (map enrollment_of enrolled) all,
-             enrolled_found sites enrolled same.1 (All-tail (FindsItself told_state.values.enrollments) p.1 (map enrollment_of enrolled) all))
+        enrolled_found (e ∷ sites) (p ∷ enrolled) same all = (
+          ap (λ (object : ObjectIdData). site_of object told_state.values.enrollments) (sym same.0) ∙ All-head (FindsItself told_state.values.enrollments) p.1 (map enrollment_of enrolled) all,
+          enrolled_found sites enrolled same.1 (All-tail (FindsItself told_state.values.enrollments) p.1 (map enrollment_of enrolled) all),
+        )
 
     pub all_is_written : written_whole (has_rule site) x ≡ written_state told_state
     all_is_written =

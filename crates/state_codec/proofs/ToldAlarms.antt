@@ -85,9 +85,10 @@ module _ (site : Site) where
   all_later subject alarm rest [] [] above are = tt
   all_later subject alarm rest [] (a ∷ alarms) above are = absurd are
   all_later subject alarm rest (s ∷ subjects) [] above are = absurd are
-  all_later subject alarm rest (s ∷ subjects) (a ∷ alarms) above are =
-      (later_found subject s alarm a rest (is_detecting subject) (All-head (λ (s : Subject). Below subject.object s.object) s subjects above) are.0,
-       all_later subject alarm rest subjects alarms (All-tail (λ (s : Subject). Below subject.object s.object) s subjects above) are.1)
+  all_later subject alarm rest (s ∷ subjects) (a ∷ alarms) above are = (
+    later_found subject s alarm a rest (is_detecting subject) (All-head (λ (s : Subject). Below subject.object s.object) s subjects above) are.0,
+    all_later subject alarm rest subjects alarms (All-tail (λ (s : Subject). Below subject.object s.object) s subjects above) are.1,
+  )
 
   -- each is found again
   pub found_again : (subjects : List Subject) (alarms : List AlarmState) → Ascends (map object_of subjects) → AllZip MayHave subjects alarms → AllZip (IsToldOf (told subjects alarms)) subjects alarms
@@ -95,9 +96,10 @@ module _ (site : Site) where
   found_again [] (a ∷ alarms) ascending may = absurd may
   found_again (s ∷ subjects) [] ascending may = absurd may
   found_again (s ∷ subjects) (a ∷ alarms) ascending may =
-      let above : All (λ (other : Subject). Below s.object other.object) subjects = all_of_map (Below s.object) object_of subjects (pairs_head s.object (map object_of subjects) ascending) in
-      (first_found s a (told subjects alarms) (is_detecting s) refl may.0 (not_told s.object subjects alarms above),
-       all_later s a (told subjects alarms) subjects alarms above (found_again subjects alarms (pairs_tail s.object (map object_of subjects) ascending) may.1))
+      let above : All (λ (other : Subject). Below s.object other.object) subjects = all_of_map (Below s.object) object_of subjects (pairs_head s.object (map object_of subjects) ascending) in (
+        first_found s a (told subjects alarms) (is_detecting s) refl may.0 (not_told s.object subjects alarms above),
+        all_later s a (told subjects alarms) subjects alarms above (found_again subjects alarms (pairs_tail s.object (map object_of subjects) ascending) may.1),
+      )
 
   -- ---- those that are told of
 

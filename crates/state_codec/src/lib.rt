@@ -33,10 +33,10 @@ mod writing_state;
 
 pub use event::{read_event, write_event};
 pub use fault::CodecFault;
-pub use reading_state::read_state;
 pub use laws::{
     allowed_event_has_record, bounds_are_low, records_are_short, records_have_one_spelling,
     snapshots_are_short, snapshots_have_one_spelling,
 };
+pub use reading_state::read_state;
 pub use sizes::{need, snapshot_bound};
 pub use writing_state::write_state;

@@ -119,7 +119,10 @@ fn take_alarm_parts(
     let mut alarms = take_alarms(alloc, table, last, &before, bytes)?;
     let (own, enrollments) = take_all_enrolled(alloc, table, last, sites, bytes)?;
     let mut others = own;
-    add_all(&mut others, take_alarms(alloc, table, last, &behind, bytes)?)?;
+    add_all(
+        &mut others,
+        take_alarms(alloc, table, last, &behind, bytes)?,
+    )?;
     add_all(&mut alarms, others)?;
     Ok((alarms, enrollments))
 }
