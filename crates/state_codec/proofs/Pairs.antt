@@ -23,7 +23,7 @@ pub firsts : {X Y : Type 0} (xs : List X) (ys : List Y) → length xs ≡ length
 firsts [] [] same = refl
 firsts [] (b ∷ ys) same = absurd (omega (arith, same))
 firsts (a ∷ xs) [] same = absurd (omega (arith, same))
-firsts {X = X} (a ∷ xs) (b ∷ ys) same = ap (λ (as : List X). a ∷ as) (firsts xs ys (omega (arith, same)))
+firsts {X = X} (a ∷ xs) (b ∷ ys) same = ap (λ (rest : List X). a ∷ rest) (firsts xs ys (omega (arith, same)))
 
 pub seconds : {X Y : Type 0} (xs : List X) (ys : List Y) → length xs ≡ length ys → map second_of (zip xs ys) ≡ ys
 seconds [] [] same = refl

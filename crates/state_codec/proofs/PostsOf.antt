@@ -122,7 +122,20 @@ tested tests site posts notes few can settings told is tells =
 
 pub long_restored : (posts : List Post) (notes : List Note) → length (restored_posts posts notes) ≡ length posts
 long_restored [] notes = refl
-long_restored (post ∷ posts) notes = ap (λ (n : ℕ). 1 + n) (long_restored posts (drop post.notes notes))
+long_restored (post ∷ posts) notes = ap suc (long_restored posts (drop post.notes notes))
+
+-- where there are few, all hangs on whether an outbox can be made
+pub passes : TestsPosts → (site : Site) (posts : List Post) (notes : List Note) (can : Bool) → AreSettings site.device.outbox site.device.apdu_timeout site.device.retries → notes_told posts ≡ length notes
+    → length posts ≤ most_peers → IsTrue can ↔ AreParts posts notes site.device.outbox site.device.apdu_timeout site.device.retries
+    → can ≡ may_have_posts site (restored_posts posts notes)
+passes tests site posts notes can settings told few tells =
+    tested tests site posts notes true can settings told (sym (ap (λ (n : ℕ). leb n most_peers) (long_restored posts notes) ∙ le-leb _ _ few)) tells
+
+-- where there are many, the first test tells it
+pub refused : (site : Site) (posts : List Post) (notes : List Note) → leb (length posts) most_peers ≡ false → leb (length posts) most_peers ≡ may_have_posts site (restored_posts posts notes)
+refused site posts notes many =
+    let all = restored_posts posts notes in
+    many ∙ sym (ap (λ (b : Bool). b && (ascends (peers_of all) && (leb (unfinished_in all) site.device.outbox && list_all (is_post site.device.retries) all))) (ap (λ (n : ℕ). leb n most_peers) (long_restored posts notes) ∙ many))
 
 pub peers_restored : (posts : List Post) (notes : List Note) → peers_of (restored_posts posts notes) ≡ map (λ (post : Post). post.peer) posts
 peers_restored [] notes = refl

@@ -269,23 +269,23 @@ abbrev pair_of : {A B : Type 0} → Option (A × List ℕ) → (A → List ℕ �
 pair_of read next = read >>= λ found. next found.0 found.1 >>= λ second. Some ((found.0, second.0), second.1)
 
 second_made : {A B C : Type 0} (make : B → C) (a : A) (read : Option (B × List ℕ))
-    → (made_of make read >>= λ second. Some ((a, second.0), second.1)) ≡ made_of (λ (x : A × B). (x.0, make x.1)) (read >>= λ second. Some ((a, second.0), second.1))
+    → (made_of make read >>= λ second. Some ((a, second.0), second.1)) ≡ made_of {C = A × C} (λ (x : A × B). (x.0, make x.1)) (read >>= λ second. Some ((a, second.0), second.1))
 second_made make a None = refl
 second_made make a (Some found) = refl
 
 inside : {A B C : Type 0} (make : B → C) (read : Option (A × List ℕ)) (next : A → List ℕ → Option (B × List ℕ)) (other : A → List ℕ → Option (C × List ℕ))
-    → ((a : A) (octets : List ℕ) → other a octets ≡ made_of make (next a octets)) → pair_of read other ≡ made_of (λ (x : A × B). (x.0, make x.1)) (pair_of read next)
+    → ((a : A) (octets : List ℕ) → other a octets ≡ made_of make (next a octets)) → pair_of read other ≡ made_of {C = A × C} (λ (x : A × B). (x.0, make x.1)) (pair_of read next)
 inside make None next other same = refl
 inside {A = A} {C = C} make (Some found) next other same =
     ap (λ (o : Option (C × List ℕ)). o >>= λ second. Some ((found.0, second.0), second.1)) (same found.0 found.1) ∙ second_made make found.0 (next found.0 found.1)
 
 front_of : {A B C : Type 0} (make : A → C) (a : A) (read : Option (B × List ℕ))
-    → (read >>= λ second. Some ((make a, second.0), second.1)) ≡ made_of (λ (x : A × B). (make x.0, x.1)) (read >>= λ second. Some ((a, second.0), second.1))
+    → (read >>= λ second. Some ((make a, second.0), second.1)) ≡ made_of {C = C × B} (λ (x : A × B). (make x.0, x.1)) (read >>= λ second. Some ((a, second.0), second.1))
 front_of make a None = refl
 front_of make a (Some found) = refl
 
 front : {A B C : Type 0} (make : A → C) (read : Option (A × List ℕ)) (next : List ℕ → Option (B × List ℕ))
-    → pair_of (made_of make read) (λ c. next) ≡ made_of (λ (x : A × B). (make x.0, x.1)) (pair_of read (λ a. next))
+    → pair_of (made_of make read) (λ c. next) ≡ made_of {C = C × B} (λ (x : A × B). (make x.0, x.1)) (pair_of read (λ a. next))
 front make None next = refl
 front make (Some found) next = front_of make found.0 (next found.1)
 

@@ -154,7 +154,7 @@ module _ (state : CoreState) where
 
   map_append : (f : Subject → AlarmState) (xs ys : List Subject) → map f (xs ++ ys) ≡ map f xs ++ map f ys
   map_append f [] ys = refl
-  map_append f (x ∷ xs) ys = ap (λ (as : List AlarmState). f x ∷ as) (map_append f xs ys)
+  map_append f (x ∷ xs) ys = ap (λ (rest : List AlarmState). f x ∷ rest) (map_append f xs ys)
 
   abbrev before_it : List Subject
   before_it = filter is_before (object_subjects state.site)
@@ -192,11 +192,11 @@ module _ (state : CoreState) where
     split : map its_alarm (alarm_subjects state.site) ≡ map its_alarm before_it ++ (map its_alarm middle_of_it ++ map its_alarm behind_it)
     split =
         ap (map its_alarm) (subjects_split state.site) ∙ map_append its_alarm before_it (middle_of_it ++ behind_it)
-        ∙ ap (λ (as : List AlarmState). map its_alarm before_it ++ as) (map_append its_alarm middle_of_it behind_it)
+        ∙ ap (λ (rest : List AlarmState). map its_alarm before_it ++ rest) (map_append its_alarm middle_of_it behind_it)
 
     alarms_have : AreAlarms state.site state.values.rows state.last_moment whole_of_it.1.1.0
     alarms_have =
-        let all = subst (λ (as : List AlarmState). AllZip (HasSubject state.values.rows state.last_moment) (in_three state.site) as) split
+        let all = subst (λ (all : List AlarmState). AllZip (HasSubject state.values.rows state.last_moment) (in_three state.site) all) split
         (subst (λ (ss : List Subject). AllZip (HasSubject state.values.rows state.last_moment) ss (map its_alarm (alarm_subjects state.site))) (subjects_split state.site) have) in
         let a = beside_apart (HasSubject state.values.rows state.last_moment) before_it (middle_of_it ++ behind_it) (map its_alarm before_it) (map its_alarm middle_of_it ++ map its_alarm behind_it) (sym (length-map before_it its_alarm)) all in
         let b = beside_apart (HasSubject state.values.rows state.last_moment) middle_of_it behind_it (map its_alarm middle_of_it) (map its_alarm behind_it) (sym (length-map middle_of_it its_alarm)) a.1 in
@@ -231,7 +231,7 @@ module _ (state : CoreState) where
       last_moment = state.last_moment;
       table = state.values.rows;
       enrollments = seconds (map its_alarm middle_of_it) state.values.enrollments paired k;
-      alarms = (ap (λ (as : List AlarmState). map its_alarm before_it ++ (as ++ map its_alarm behind_it)) (firsts (map its_alarm middle_of_it) state.values.enrollments paired) ∙ sym split) k;
+      alarms = (ap (λ (rest : List AlarmState). map its_alarm before_it ++ (rest ++ map its_alarm behind_it)) (firsts (map its_alarm middle_of_it) state.values.enrollments paired) ∙ sym split) k;
       classes = state.classes;
       logs = map log_of state.logs;
       outbox = state.outbox;
