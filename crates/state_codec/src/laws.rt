@@ -1,7 +1,8 @@
-ghost use Rattle.state_codec.specs.Laws.{BoundsAreLow, HasRecordWhereAllowed, OneSpelling, RecordsAreShort, SnapshotsAreShort};
+ghost use Rattle.state_codec.specs.Laws.{BoundsAreLow, HasRecordWhereAllowed, OneSnapshot, OneSpelling, RecordsAreShort, SnapshotsAreShort};
 
 use crate::types::event_fits;
-use alarm_core::Event;
+use alarm_core::{Event, restores_what_it_tells};
+use outbox::tests_posts;
 
 /// Each event has one record, no two events have the same one, and no record begins another.
 pub fn records_have_one_spelling()
@@ -29,3 +30,11 @@ pub fn snapshots_are_short()
 pub fn bounds_are_low()
     ensures low { BoundsAreLow }
 {}
+
+/// No two states of a site have the same snapshot, and no state has two.
+pub fn snapshots_have_one_spelling()
+    ensures spelling { OneSnapshot }
+{
+    tests_posts();
+    restores_what_it_tells();
+}
