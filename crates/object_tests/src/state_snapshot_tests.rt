@@ -120,7 +120,7 @@ fn a_site_of_one_object_needs_493748_octets(rt: HostRuntime) -> Result<(), Fail>
 }
 
 /// The snapshot of the start.
-fn begun(alloc: Global) -> Result<Vec<u8>, Fail> {
+fn first_octets(alloc: Global) -> Result<Vec<u8>, Fail> {
     let mut octets = Vec::new(alloc);
     octets.extend_from_slice(&HEAD)?;
     octets.extend_from_slice(&ROW)?;
@@ -134,7 +134,7 @@ fn begun(alloc: Global) -> Result<Vec<u8>, Fail> {
 fn a_snapshot_is_read_and_written_again(rt: HostRuntime) -> Result<(), Fail> {
     let alloc = rt.alloc();
     let site = plant(alloc, tank(alloc, 10)?, 256)?;
-    let octets = begun(alloc)?;
+    let octets = first_octets(alloc)?;
     let core = read_state(alloc, &site, &octets)?;
     holds(&rt, write_state(alloc, &core)?.as_slice() == octets.as_slice());
     Ok(())
@@ -186,7 +186,7 @@ const DAMAGED: [(usize, u8); 30] = [
 fn each_damaged_snapshot_is_refused(rt: HostRuntime) -> Result<(), Fail> {
     let alloc = rt.alloc();
     let site = plant(alloc, tank(alloc, 10)?, 256)?;
-    let octets = begun(alloc)?;
+    let octets = first_octets(alloc)?;
     for (place, octet) in DAMAGED {
         let mut damaged = octets.clone()?;
         if let Some(slot) = damaged.get_mut(place) {
@@ -204,7 +204,7 @@ fn each_damaged_snapshot_is_refused(rt: HostRuntime) -> Result<(), Fail> {
 fn a_snapshot_ends_where_it_ends(rt: HostRuntime) -> Result<(), Fail> {
     let alloc = rt.alloc();
     let site = plant(alloc, tank(alloc, 10)?, 256)?;
-    let mut octets = begun(alloc)?;
+    let mut octets = first_octets(alloc)?;
     let front = octets.len() - 1;
     holds(&rt, read_state(alloc, &site, &octets[..front]).is_err());
     octets.push(0)?;
