@@ -16,6 +16,7 @@ use crate::reading_outbox::take_outbox;
 use crate::reading_site::{
     object_subjects, take_alarms, take_all_enrolled, take_logs, those_before, those_behind,
 };
+use crate::types::octets_fit;
 use crate::writing_state::{has_rule, version_of};
 use alarm_core::{Core, EnrollmentSite, Parts, Site, restores_what_it_tells, site_zone};
 use bac_values::{FIRST_MOMENT, Items, LAST_MOMENT, NoMemory};
@@ -84,6 +85,7 @@ fn take_table(alloc: Global, site: &Site, bytes: &mut &[u8]) -> Result<Table, Re
     ensures exact { Gives (λ x. (x, bytes.new.now)) result (each_at row_at site.now.objects bytes.old.now) }
     ensures allowed { IfOk result (λ x. All IsRow x) }
 {
+    octets_fit(*bytes);
     let sites = copy_of_objects(alloc, site.objects.as_slice())?;
     let rows = take_rows(alloc, sites, bytes)?;
     Ok(Table::restore(rows))
@@ -151,6 +153,7 @@ fn take_detecting(
     requires allowed { All IsRow table.now }
     ensures exact { Gives (λ x. ((x.0.items, x.1), bytes.new.now)) result (alarm_parts_at site.now table.now last bytes.old.now) }
 {
+    octets_fit(*bytes);
     let (alarms, enrollments) = take_alarm_parts(alloc, site, table, last, bytes)?;
     let enrollments = restored(alloc, enrollments)?;
     Ok((alarms, enrollments))

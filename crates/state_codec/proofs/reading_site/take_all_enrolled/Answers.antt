@@ -27,7 +27,7 @@ loop-site-preserved c =
     let alarm : AlarmState = c.in_ok-alarm.alarm in
     let enrollment : EnrollmentSite = c.in_ok-alarm.enrollment in
     let one : c.push.new.items.items ≡ alarms ++ alarm ∷ [] = c.in_ok-push.ensures.added in
-    let two : c.push-2.new.items.items ≡ enrollments ++ enrollment ∷ [] = c.in_ok-push-2.ensures.added in
+    let two : c.push-in-Some.new.items.items ≡ enrollments ++ enrollment ∷ [] = c.in_ok-push-2.ensures.added in
     let all : zip (alarms ++ alarm ∷ []) (enrollments ++ enrollment ∷ []) ≡ zip alarms enrollments ++ (alarm, enrollment) ∷ [] = one_more_pair alarms enrollments alarm enrollment c.loop-site.invariant.paired in
     record {
       read = rw (one, two, all) (each_goes_on read (zip alarms enrollments) c.loop-site.left.rest.items it c.next.new.self.rest.items c.loop-site.bytes.now (alarm, enrollment) c.take_enrolled.new.bytes.now (all_enrolled_at c.args.table.now c.args.last c.args.sites.items c.args.bytes.now.now) split c.in_ok-alarm.ensures.exact c.loop-site.invariant.read);
