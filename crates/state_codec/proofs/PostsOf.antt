@@ -152,3 +152,31 @@ classes_told known = all_told (knows_class known) (KnowsClass known) (λ class. 
 
 pub told_classes : (known : List PeerData) (classes : List Class) → All (KnowsClass known) classes → knows_classes known classes ≡ true
 told_classes known = told_all (knows_class known) (KnowsClass known) (λ class. told_all (is_among known) (Knows known) (λ peer e. e) (recipients_of class.destinations))
+
+-- ---- the posts of a site with some classes
+
+abbrev pub peers_told : List Post → List PeerData
+peers_told posts = map (λ (post : Post). post.peer) posts
+
+known_same : (posts : List Post) (notes : List Note) (known : List PeerData) → known ≡ peers_told posts → known ≡ peers_of (restored_posts posts notes)
+known_same posts notes known is = is ∙ sym (peers_restored posts notes)
+
+-- the peers of posts that passed the test ascend
+pub known_ascend : (site : Site) (posts : List Post) (notes : List Note) (known : List PeerData) → may_have_posts site (restored_posts posts notes) ≡ true → known ≡ peers_told posts → IsAscending known
+known_ascend site posts notes known e is =
+    let all = restored_posts posts notes in
+    let a = both_true (leb (length all) most_peers) (ascends (peers_of all) && (leb (unfinished_in all) site.device.outbox && list_all (is_post site.device.retries) all)) e in
+    let b = both_true (ascends (peers_of all)) (leb (unfinished_in all) site.device.outbox && list_all (is_post site.device.retries) all) a.1 in
+    subst IsAscending (sym (known_same posts notes known is)) (ascends_told (peers_of all) b.0)
+
+-- where they passed it, all hangs on whether each recipient is known
+pub all_hangs : (site : Site) (classes : List Class) (posts : List Post) (notes : List Note) (known : List PeerData) → may_have_posts site (restored_posts posts notes) ≡ true → known ≡ peers_told posts
+    → knows_classes known classes ≡ are_posts_of site classes (restored_posts posts notes)
+all_hangs site classes posts notes known e is =
+    ap (λ (peers : List PeerData). knows_classes peers classes) (known_same posts notes known is)
+    ∙ sym (ap (λ (b : Bool). b && knows_classes (peers_of (restored_posts posts notes)) classes) e)
+
+-- of posts that passed all tests an outbox may be made
+pub outbox_told : TestsPosts → (site : Site) → AreSettings site.device.outbox site.device.apdu_timeout site.device.retries → (classes : List Class) (posts : List MailboxState) → are_posts_of site classes posts ≡ true → IsOutbox (outbox_with site posts)
+outbox_told tests site settings classes posts e =
+    (posts_told tests site settings posts (both_true (may_have_posts site posts) (knows_classes (peers_of posts) classes) e).0).outbox

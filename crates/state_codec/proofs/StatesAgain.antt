@@ -49,6 +49,10 @@ both_are : (a b : Bool) → a ≡ true → b ≡ true → (a && b) ≡ true
 both_are true b e f = f
 both_are false b e f = absurd (true≢false (sym e))
 
+second_is : (a b : Bool) → b ≡ true → (a || b) ≡ true
+second_is true b e = refl
+second_is false b e = e
+
 -- ---- logs
 
 hundredths_of : (rule : Option (List ℕ)) (zone : ZoneData) (stamp : Stamp) (hundredths : ℕ) → (IsTrue (is_some rule) → hundredths < 2 ^ 64) → (IsNone rule → hundredths ≡ hundredths_shown zone stamp) → AreHundredths (is_some rule) zone stamp hundredths
@@ -77,7 +81,8 @@ module _ (site : Site) where
 
   held_of : (count total size : ℕ) → count ≤ size → (0 < count → 0 < total) → may_hold size total count ≡ true
   held_of zero total size few begun = both_are (leb 0 size) (eqb 0 0 || ltb 0 total) (le-leb 0 size few) refl
-  held_of (suc count) total size few begun = both_are (leb (suc count) size) (ltb 0 total) (le-leb (suc count) size few) (lt-ltb 0 total (begun (omega arith)))
+  held_of (suc count) total size few begun =
+      both_are (leb (suc count) size) (eqb (suc count) 0 || ltb 0 total) (le-leb (suc count) size few) (second_is (eqb (suc count) 0) (ltb 0 total) (lt-ltb 0 total (begun (omega arith))))
 
   log_held : (listed : LogSite) (kept : SiteLogState) → IsLogOf site listed kept → FitsLog (has_rule site) kept → HasHeld (has_rule site) (site_zone site) listed (log_of kept)
   log_held listed kept is fits = record {
