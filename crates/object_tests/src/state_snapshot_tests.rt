@@ -136,7 +136,10 @@ fn a_snapshot_is_read_and_written_again(rt: HostRuntime) -> Result<(), Fail> {
     let site = plant(alloc, tank(alloc, 10)?, 256)?;
     let octets = first_octets(alloc)?;
     let core = read_state(alloc, &site, &octets)?;
-    holds(&rt, write_state(alloc, &core)?.as_slice() == octets.as_slice());
+    holds(
+        &rt,
+        write_state(alloc, &core)?.as_slice() == octets.as_slice(),
+    );
     Ok(())
 }
 

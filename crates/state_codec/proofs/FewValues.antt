@@ -1,5 +1,5 @@
 -- No object has more than 32 alarm values.
-use Rattle.std.proofs.Common.{ℕ, ◌≤◌, Option, Some, None, length, ap, subst, sym, arith, List}
+use Rattle.std.proofs.Common.{ℕ, ◌≤◌, Option, Some, None, length, ap, arith, List}
 use Rattle.bac_values.specs.declared.object_kind.ObjectKind.{ObjectKind}
 use Rattle.bac_values.specs.declared.value.Value.{Value}
 use Rattle.object_table.specs.Objects.{IsObject, KeepsAlarmKeys}

@@ -1,5 +1,5 @@
 -- The posts of a site's outbox: the test of what was read tells what is so of every outbox.
-use Rattle.std.proofs.Common.{◌≡◌, ◌↔◌, IsTrue, ℕ, zero, suc, ◌+◌, ◌≤◌, ◌&&◌, leb, Bool, true, false, true≢false, List, [], ◌∷◌, length, map, drop, take, refl, sym, ◌∙◌, ap, subst, arith}
+use Rattle.std.proofs.Common.{◌≡◌, ◌↔◌, IsTrue, ℕ, zero, suc, ◌≤◌, ◌&&◌, leb, Bool, true, false, true≢false, List, [], ◌∷◌, length, map, drop, refl, sym, ◌∙◌, ap, subst, arith}
 use Rattle.std.specs.List.{All, AllPairs, list_all}
 use Rattle.std.specs.Ordering.{is_lt}
 use Rattle.std.specs.declared.cmp.Ordering.{Ordering}
@@ -13,7 +13,7 @@ use Rattle.notify_class.specs.Edits.{peers_of as recipients_of}
 use Rattle.notify_class.specs.Recipients.{DestinationData}
 use Rattle.notify_class.specs.declared.class.Class.{Class}
 use Rattle.outbox.specs.declared.post.Post.{Post}
-use Rattle.outbox.specs.Outboxes.{AreParts, AreSettings, IsOutbox, notes_told, peers_of, restored, restored_posts, unfinished_in}
+use Rattle.outbox.specs.Outboxes.{AreParts, AreSettings, IsOutbox, notes_told, peers_of, restored_posts, unfinished_in}
 use Rattle.outbox.specs.Posts.{IsPost, TestsPosts, is_post, MailboxState}
 use Rattle.alarm_core.specs.Known.{Knows, KnowsClass}
 use Rattle.alarm_core.specs.declared.site.Site.{Site}

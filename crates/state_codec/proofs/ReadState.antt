@@ -1,5 +1,5 @@
 -- Octets are read exactly where they are the snapshot of a state of the site.
-use Rattle.std.proofs.Common.{◌≡◌, ◌⊎◌, ℕ, Option, Some, None, List, Result, Ok, Err, IfOk, refl, sym, ap, subst, ◌∙◌, inl, inr}
+use Rattle.std.proofs.Common.{◌≡◌, ◌⊎◌, ℕ, Some, List, Result, Ok, Err, IfOk, refl, sym, ap, subst, ◌∙◌, inl, inr}
 use Rattle.std.specs.Prelude.{IsOkAnd}
 use Rattle.std.proofs.lemmas.Option.{none-some}
 use Rattle.outbox.specs.Posts.{TestsPosts}
@@ -10,12 +10,12 @@ use Rattle.alarm_core.specs.declared.parts.Parts.{Parts}
 use Rattle.alarm_core.specs.declared.site.Site.{Site}
 use Rattle.state_codec.specs.declared.fault.CodecFault.{CodecFault}
 use Rattle.state_codec.specs.declared.fault.CodecFault.TheVariants as faults
-use Rattle.state_codec.specs.Snapshots.{has_rule, written_state}
+use Rattle.state_codec.specs.Snapshots.{has_rule}
 use Rattle.state_codec.specs.SnapshotSteps.{GivesState, parts_in}
 use Rattle.state_codec.specs.Laws.{OneSnapshot}
 use Rattle.state_codec.specs.Spelled.{SpellsNothing, SpellsState}
 use Rattle.state_codec.proofs.Behind.{AreOctets, some_is}
-use Rattle.state_codec.proofs.SnapshotReads.{Tells, data_with, tells, written_whole}
+use Rattle.state_codec.proofs.SnapshotReads.{tells, written_whole}
 use Rattle.state_codec.proofs.SnapshotStates.{are_parts, is_spelled}
 use Rattle.state_codec.proofs.StatesAgain.{parts_again}
 

@@ -1,5 +1,5 @@
 -- Snapshots: each is read exactly as it is written, and those that a site may have.
-use Rattle.std.proofs.Common.{IsTrue, ◌≡◌, ℕ, ◌^◌, ◌<◌, ◌≤◌, ◌&&◌, Bool, true, false, cond, eqb, ltb, leb, Option, Some, None, List, [], ◌∷◌, ◌++◌, filter, find, length, map, refl, sym, ap, subst, ◌∙◌, append-nil, arith}
+use Rattle.std.proofs.Common.{◌≡◌, ℕ, ◌^◌, ◌<◌, ◌≤◌, ◌&&◌, Bool, true, false, cond, eqb, ltb, leb, Option, Some, None, List, [], ◌∷◌, ◌++◌, filter, length, refl, sym, ap, subst, ◌∙◌, append-nil, arith}
 use Rattle.std.specs.Int.{w32, w64, to_be_bytes}
 use Rattle.std.specs.List.{All, AllZip, flat_map}
 use Rattle.std.specs.Option.{option_map_or}
@@ -19,13 +19,12 @@ use Rattle.object_table.specs.Rows.{is_object, row_of}
 use Rattle.object_table.specs.declared.object_site.ObjectSite.{ObjectSite}
 use Rattle.object_table.specs.declared.row.Row.{Row}
 use Rattle.outbox.specs.Outboxes.{OutboxState}
-use Rattle.outbox.specs.Posts.{MailboxState}
 use Rattle.enrollment.specs.Subjects.{subject_of_enrollment}
 use Rattle.enrollment.specs.declared.enrollment_site.EnrollmentSite.{EnrollmentSite}
 use Rattle.enrollment.specs.declared.subject.Subject.{Subject}
 use Rattle.alarm_core.specs.Evaluations.{site_zone}
-use Rattle.alarm_core.specs.Logs.{SiteLogState, log_of}
-use Rattle.alarm_core.specs.SiteStates.{IsRowOf, alarm_values_in}
+use Rattle.alarm_core.specs.Logs.{log_of}
+use Rattle.alarm_core.specs.SiteStates.{alarm_values_in}
 use Rattle.alarm_core.specs.Sites.{IsLogSite, IsSite}
 use Rattle.alarm_core.specs.declared.site.Site.{Site}
 use Rattle.state_codec.specs.Snapshots.{has_rule, version_of, written_alarm, written_class, written_entry, written_log, written_outbox, written_row}

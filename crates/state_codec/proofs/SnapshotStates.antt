@@ -1,18 +1,15 @@
 -- The states that snapshots tell: what is read is the snapshot of a state that the site may have.
-use Rattle.std.proofs.Common.{IsTrue, IsNone, ◌≡◌, ◌&&◌, ℕ, ◌^◌, ◌<◌, ◌≤◌, Bool, true, false, true≢false, Option, Some, None, is_some, List, [], ◌∷◌, ◌++◌, append_assoc, filter, length, map, refl, sym, ap, subst, ◌∙◌, arith}
+use Rattle.std.proofs.Common.{IsTrue, IsNone, ◌≡◌, ℕ, ◌^◌, ◌<◌, Bool, true, false, true≢false, Option, Some, None, is_some, List, [], ◌∷◌, ◌++◌, append_assoc, filter, length, map, refl, sym, ap, subst, ◌∙◌, arith}
 use Rattle.std.specs.Int.{w64, to_be_bytes}
 use Rattle.std.specs.List.{All, AllZip, flat_map, zip}
 use Rattle.std.proofs.lemmas.List.Elements.{All-nil, All-cons, All-head, All-tail}
 use Rattle.std.proofs.lemmas.Slice.Zip.{AllZip-long}
 use Rattle.bac_values.specs.declared.stamp.Stamp.{Stamp}
 use Rattle.civil_stamp.specs.LocalTime.{ZoneData}
-use Rattle.event_log.specs.Log.{AreNumbered, EventLogState, IsLog}
+use Rattle.event_log.specs.Log.{EventLogState}
 use Rattle.event_log.specs.declared.log_record.LogRecord.{LogRecord}
 use Rattle.event_log.specs.declared.log_site.LogSite.{LogSite}
 use Rattle.event_machine.specs.Summary.{AlarmState}
-use Rattle.notify_class.specs.declared.class.Class.{Class}
-use Rattle.notify_class.specs.declared.class_site.ClassSite.{ClassSite}
-use Rattle.object_table.specs.declared.object_site.ObjectSite.{ObjectSite}
 use Rattle.object_table.specs.declared.row.Row.{Row}
 use Rattle.outbox.specs.Outboxes.{IsOutbox, OutboxState, peers_of}
 use Rattle.outbox.specs.Posts.{MailboxState, TestsPosts}
@@ -23,27 +20,26 @@ use Rattle.enrollment.specs.Subjects.{object_of, subject_of_enrollment}
 use Rattle.enrollment.specs.declared.enrollment_site.EnrollmentSite.{EnrollmentSite}
 use Rattle.enrollment.specs.declared.subject.Subject.{Subject}
 use Rattle.alarm_core.specs.Evaluations.{site_zone}
-use Rattle.alarm_core.specs.Logs.{SiteLogState}
 use Rattle.alarm_core.specs.Parts.{ArePartsOf, MayHave, kept_by, state_of_parts}
 use Rattle.alarm_core.specs.SiteStates.{IsClassOf, IsDetectedOf, IsEnrollmentOf, IsLogOf, IsRecordOf, IsRowOf, IsStateOf, hundredths_shown}
 use Rattle.alarm_core.specs.Sites.{IsLogSite, IsSite}
 use Rattle.alarm_core.specs.State.{CoreState}
-use Rattle.alarm_core.specs.Subjects.{alarm_subjects, detecting_subjects, subjects_of}
+use Rattle.alarm_core.specs.Subjects.{alarm_subjects, subjects_of}
 use Rattle.alarm_core.specs.declared.site.Site.{Site}
 use Rattle.state_codec.specs.Snapshots.{has_rule, version_of, written_class, written_log, written_outbox, written_row, written_state, written_subject}
 use Rattle.state_codec.specs.SnapshotLaws.{AreHundredths, HasEntry, HasPost, HasRow, FitsRow}
-use Rattle.state_codec.specs.SnapshotSteps.{AlarmsData, alarm_of, alarm_parts, are_posts_of, enrollment_of, is_before, is_behind, kept_with, knows_classes, may_have_posts, may_hold, numbers_up_to, object_subjects, outbox_with}
+use Rattle.state_codec.specs.SnapshotSteps.{AlarmsData, alarm_of, enrollment_of, is_before, is_behind, knows_classes, may_have_posts, may_hold, numbers_up_to, object_subjects}
 use Rattle.state_codec.specs.Spelled.{FitsClass, FitsEntry, FitsLog, FitsPost, FitsState, SpellsState}
 use Rattle.state_codec.proofs.Behind.{both_true}
-use Rattle.state_codec.proofs.Beside.{beside_apart, beside_both, beside_each, beside_made, beside_mapped, beside_more, beside_unmapped, beside_with, same_of, seconds_all}
+use Rattle.state_codec.proofs.Beside.{beside_apart, beside_both, beside_each, beside_made, beside_mapped, beside_more, beside_unmapped, same_of, seconds_all}
 use Rattle.state_codec.proofs.LogsHeld.{is_log}
 use Rattle.state_codec.proofs.Numbers.{number_of, numbered_from}
 use Rattle.state_codec.proofs.PostsOf.{classes_told, posts_told}
-use Rattle.state_codec.proofs.SnapshotReads.{AreAlarms, HasEnrolled, HasHeld, HasOutbox, HaveAlarms, IsListed, IsRest, IsWhole, Tells, WholeData, data_with, written_alarms, written_enrolled, written_held, written_whole}
+use Rattle.state_codec.proofs.SnapshotReads.{AreAlarms, HasEnrolled, HasHeld, IsListed, IsWhole, WholeData, data_with, written_alarms, written_held, written_whole}
 use Rattle.state_codec.proofs.SubjectReads.{HasSubject}
 use Rattle.state_codec.proofs.SubjectsOf.{in_three, subjects_split}
 use Rattle.state_codec.proofs.ToldAlarms.{detected_all, detecting_among, found_again, may_of}
-use Rattle.state_codec.proofs.WrittenSubjects.{AreInOrder, FindsItself, IsAlarmIn, IsEnrolledIn, all_written, enrollments_found, own_object, subjects_ascend}
+use Rattle.state_codec.proofs.WrittenSubjects.{AreInOrder, FindsItself, IsAlarmIn, all_written, enrollments_found, own_object, subjects_ascend}
 
 -- ---- logs
 

@@ -1,6 +1,6 @@
 -- The snapshot of a state that the site may have tells the parts of that state.
-use Rattle.std.proofs.Common.{IsTrue, IsNone, ◌≡◌, ◌&&◌, ◌||◌, ℕ, zero, suc, ◌+◌, ◌-◌, ◌^◌, ◌<◌, ◌≤◌, leb, ltb, eqb, Bool, true, false, true≢false, cond, Option, Some, None, is_some, slice_get, List, [], ◌∷◌, ◌++◌, filter, length, map, refl, sym, ap, subst, ◌∙◌, arith}
-use Rattle.std.specs.List.{All, AllZip, flat_map, zip}
+use Rattle.std.proofs.Common.{IsTrue, IsNone, ◌≡◌, ◌&&◌, ◌||◌, ℕ, zero, suc, ◌-◌, ◌^◌, ◌<◌, ◌≤◌, leb, ltb, eqb, Bool, true, false, true≢false, cond, Option, Some, None, is_some, List, [], ◌∷◌, ◌++◌, filter, length, map, refl, sym, ap, subst, ◌∙◌, arith}
+use Rattle.std.specs.List.{All, AllZip, zip}
 use Rattle.std.proofs.lemmas.Bool.{le-leb, lt-ltb}
 use Rattle.std.proofs.lemmas.List.{length-map}
 use Rattle.std.proofs.lemmas.List.Elements.{All-nil, All-cons, All-head, All-tail}
@@ -10,14 +10,11 @@ use Rattle.bac_values.specs.Address.{PeerData}
 use Rattle.bac_values.specs.declared.note.Note.{Note}
 use Rattle.bac_values.specs.declared.stamp.Stamp.{Stamp}
 use Rattle.civil_stamp.specs.LocalTime.{ZoneData}
-use Rattle.event_log.specs.Log.{AreNumbered, EventLogState, IsLog, number_back}
+use Rattle.event_log.specs.Log.{AreNumbered, number_back}
 use Rattle.event_log.specs.declared.log_record.LogRecord.{LogRecord}
 use Rattle.event_log.specs.declared.log_site.LogSite.{LogSite}
-use Rattle.event_machine.specs.Summary.{AlarmState, new_alarm}
-use Rattle.notify_class.specs.Edits.{most_peers}
-use Rattle.notify_class.specs.declared.class.Class.{Class}
-use Rattle.object_table.specs.declared.row.Row.{Row}
-use Rattle.outbox.specs.Outboxes.{IsOutbox, OutboxState, peers_of, unfinished_in}
+use Rattle.event_machine.specs.Summary.{AlarmState}
+use Rattle.outbox.specs.Outboxes.{IsOutbox, peers_of, unfinished_in}
 use Rattle.outbox.specs.Posts.{IsPost, MailboxState, TestsPosts, most_octets}
 use Rattle.enrollment.specs.Subjects.{is_detecting, subject_of_enrollment}
 use Rattle.enrollment.specs.declared.enrollment_site.EnrollmentSite.{EnrollmentSite}
@@ -33,12 +30,12 @@ use Rattle.alarm_core.specs.Subjects.{alarm_subjects, subjects_of}
 use Rattle.alarm_core.specs.declared.parts.Parts.{Parts}
 use Rattle.alarm_core.specs.declared.site.Site.{Site}
 use Rattle.state_codec.specs.Snapshots.{has_rule, version_of, written_state}
-use Rattle.state_codec.specs.SnapshotLaws.{AreHundredths, ArePosts, FitsRow, HasEntry, HasNote, HasPost, HasRow}
-use Rattle.state_codec.specs.SnapshotSteps.{are_posts_of, is_before, is_behind, kept_with, knows_classes, may_have_posts, may_hold, numbers_up_to, object_subjects, outbox_with, parts_in, values_in}
-use Rattle.state_codec.specs.Spelled.{FitsClass, FitsDetected, FitsEntry, FitsLog, FitsPost, FitsState, SpellsState}
+use Rattle.state_codec.specs.SnapshotLaws.{AreHundredths, FitsRow, HasEntry, HasNote, HasPost, HasRow}
+use Rattle.state_codec.specs.SnapshotSteps.{is_before, is_behind, knows_classes, may_have_posts, may_hold, numbers_up_to, object_subjects, outbox_with, parts_in, values_in}
+use Rattle.state_codec.specs.Spelled.{FitsClass, FitsDetected, FitsEntry, FitsLog, FitsPost, FitsState}
 use Rattle.state_codec.proofs.Beside.{beside_apart, beside_with}
 use Rattle.state_codec.proofs.Pairs.{firsts, seconds}
-use Rattle.state_codec.proofs.PostsOf.{AreSitePosts, told_classes, told_posts}
+use Rattle.state_codec.proofs.PostsOf.{told_classes, told_posts}
 use Rattle.state_codec.proofs.SnapshotReads.{AreAlarms, HasEnrolled, HasHeld, HasOutbox, IsListed, IsWhole, WholeData, data_with, told, written_whole}
 use Rattle.state_codec.proofs.SnapshotStates.{all_is_written}
 use Rattle.state_codec.proofs.SubjectReads.{HasSubject, MayHaveAlarm}
@@ -65,8 +62,7 @@ module _ (site : Site) where
   entries_from total (entry ∷ others) numbered are fit =
       let is = All-head (IsRecordOf site) entry others are in
       let fits = All-head (FitsEntry (has_rule site)) entry others fit in
-      let back : suc (length others) - 1 - 0 ≡ length others = omega arith in
-      (
+      let back : suc (length others) - 1 - 0 ≡ length others = omega arith in (
         record {
           stamp = fits.stamp;
           hundredths = hundredths_of site.device.zone_rule (site_zone site) entry.stamp entry.hundredths fits.hundredths is.shown;
@@ -171,11 +167,16 @@ module _ (state : CoreState) where
   middle_of_it = map subject_of_enrollment state.site.enrollments
 
   abbrev whole_of_it : WholeData
-  whole_of_it =
-      ((version_of state.site, (state.events, state.last_moment)),
-       (state.values.rows,
-        ((map its_alarm before_it, (zip (map its_alarm middle_of_it) state.values.enrollments, map its_alarm behind_it)),
-         (state.classes, (map log_of state.logs, state.outbox)))))
+  whole_of_it = (
+    (version_of state.site, (state.events, state.last_moment)),
+    (
+      state.values.rows,
+      (
+        (map its_alarm before_it, (zip (map its_alarm middle_of_it) state.values.enrollments, map its_alarm behind_it)),
+        (state.classes, (map log_of state.logs, state.outbox)),
+      ),
+    ),
+  )
 
   module _ (site : IsSite state.site) (tests : TestsPosts) (law : RestoresWhatItTells) (own : IsStateOf state.site state) (fits : FitsState state) where
     parts_are : ArePartsOf state.site (parts_of state)
@@ -215,17 +216,24 @@ module _ (state : CoreState) where
         record {
           posts = (posts_all state.outbox.retries posts own.outbox.posts fits.posts few, omega (arith, own.peers));
           tested = both_are (may_have_posts state.site posts) (knows_classes (peers_of posts) state.classes)
-          (told_posts tests state.site posts (record { few = own.peers; outbox = subst IsOutbox settings own.outbox })) (told_classes (peers_of posts) state.classes own.known);
+              (told_posts tests state.site posts (record { few = own.peers; outbox = subst IsOutbox settings own.outbox })) (told_classes (peers_of posts) state.classes own.known);
           settings = settings;
         }
 
     is_whole : IsWhole state.site whole_of_it
-    is_whole =
-        ((refl, (own.events, (own.moment, own.begun))),
-         (beside_with IsRowOf HasRow FitsRow (λ s r h f. record { written = h; fits = f }) state.site.objects state.values.rows own.rows fits.rows,
-          (alarms_have,
-           (beside_with IsClassOf IsListed FitsClass (λ listed class h f. record { same = h.same; destinations = (h.few, f) }) state.site.classes state.classes own.classes fits.classes,
-            (logs_held state.site state.site.logs state.logs own.logs fits.logs, outbox_has)))))
+    is_whole = (
+      (refl, (own.events, (own.moment, own.begun))),
+      (
+        beside_with IsRowOf HasRow FitsRow (λ s r h f. record { written = h; fits = f }) state.site.objects state.values.rows own.rows fits.rows,
+        (
+          alarms_have,
+          (
+            beside_with IsClassOf IsListed FitsClass (λ listed class h f. record { same = h.same; destinations = (h.few, f) }) state.site.classes state.classes own.classes fits.classes,
+            (logs_held state.site state.site.logs state.logs own.logs fits.logs, outbox_has),
+          ),
+        ),
+      ),
+    )
 
     paired : length (map its_alarm middle_of_it) ≡ length state.values.enrollments
     paired = length-map middle_of_it its_alarm ∙ length-map state.site.enrollments subject_of_enrollment ∙ sym (AllZip-long IsEnrollmentOf state.site.enrollments state.values.enrollments own.enrollments)

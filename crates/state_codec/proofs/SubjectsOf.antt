@@ -1,8 +1,6 @@
 -- The subjects that have alarms: the value objects before the enrollments, the enrollments, and the value objects behind them.
-use Rattle.std.proofs.Common.{◌≡◌, ◌&&◌, Bool, true, false, true≢false, not, cond, ltb, Some, List, [], ◌∷◌, ◌++◌, filter, map, is_some, refl, sym, ap, ◌∙◌, append-nil}
+use Rattle.std.proofs.Common.{◌≡◌, ◌&&◌, Bool, true, false, not, cond, List, [], ◌∷◌, ◌++◌, filter, map, is_some, refl, sym, ap, ◌∙◌, append-nil}
 use Rattle.std.proofs.lemmas.List.Elements.{filter-append}
-use Rattle.bac_values.specs.Identifier.{number_of_kind}
-use Rattle.bac_values.specs.declared.object_kind.ObjectKind.TheVariants.{EventEnrollment}
 use Rattle.object_table.specs.declared.object_site.ObjectSite.{ObjectSite}
 use Rattle.enrollment.specs.Subjects.{is_before_enrollments, is_behind_enrollments, subject_of_enrollment, subject_of_object}
 use Rattle.enrollment.specs.declared.enrollment_site.EnrollmentSite.{EnrollmentSite}

@@ -1,11 +1,11 @@
 -- What is read of a site's objects and enrollments makes a table, and enrollments in their order.
-use Rattle.std.proofs.Common.{◌≡◌, ℕ, Bool, List, [], ◌∷◌, length, map, Option, Some, refl, sym, ap, subst, ◌∙◌}
+use Rattle.std.proofs.Common.{◌≡◌, ℕ, Bool, List, [], ◌∷◌, Some, sym, ap, subst}
 use Rattle.std.specs.List.{All, AllZip}
 use Rattle.std.proofs.lemmas.List.Elements.{All-nil, All-cons, All-head, All-tail}
 use Rattle.algorithm_rules.specs.declared.table.Algorithm.{Algorithm}
 use Rattle.algorithm_rules.specs.declared.table.Algorithm.TheVariants.{CommandFailure, UnsignedRange}
-use Rattle.object_table.specs.Objects.{IsObject, IsRow}
-use Rattle.object_table.specs.Rows.{Ascends, AscendsById, RowsAscend, object_in, object_of}
+use Rattle.object_table.specs.Objects.{IsRow}
+use Rattle.object_table.specs.Rows.{Ascends, RowsAscend, object_in, object_of}
 use Rattle.object_table.specs.declared.object_site.ObjectSite.{ObjectSite}
 use Rattle.object_table.specs.declared.row.Row.{Row}
 use Rattle.enrollment.specs.Enrollments.{AscendById, IsEnrollment, KeepsAlgorithm, identifier_of}

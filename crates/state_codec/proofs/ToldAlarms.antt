@@ -1,6 +1,6 @@
 -- The alarms that are told of subjects: those of the objects whose event detection is enabled, of which each is found again.
-use Rattle.std.proofs.Common.{◌≡◌, ◌&&◌, ℕ, zero, suc, Bool, true, false, true≢false, cond, Option, Some, None, List, [], ◌∷◌, ◌++◌, filter, length, map, refl, sym, ap, subst, ◌∙◌, arith}
-use Rattle.std.specs.List.{All, AllPairs, AllZip, flat_map, zip}
+use Rattle.std.proofs.Common.{◌≡◌, ◌&&◌, ℕ, suc, Bool, true, false, true≢false, cond, Some, List, [], ◌∷◌, ◌++◌, filter, map, refl, sym, ap, ◌∙◌, arith}
+use Rattle.std.specs.List.{All, AllZip, flat_map, zip}
 use Rattle.std.proofs.lemmas.Bool.Decides.{nat_tests}
 use Rattle.std.proofs.lemmas.List.Elements.{All-nil, All-cons, All-head, All-tail}
 use Rattle.std.specs.declared.cmp.Ordering.TheVariants.{Less}
@@ -18,7 +18,6 @@ use Rattle.alarm_core.specs.Parts.{MayHave, detected_by, detected_with}
 use Rattle.alarm_core.specs.SiteStates.{IsDetectedOf}
 use Rattle.alarm_core.specs.State.{CoreState, DetectedObjectState}
 use Rattle.alarm_core.specs.Subjects.{has_class}
-use Rattle.state_codec.specs.SnapshotLaws.{HasAlarm}
 use Rattle.state_codec.specs.SnapshotSteps.{values_in}
 use Rattle.state_codec.specs.Spelled.{FitsDetected}
 use Rattle.state_codec.proofs.SubjectReads.{HasSubject, MayHaveAlarm}

@@ -1,4 +1,4 @@
-use Rattle.std.proofs.Common.{◌≡◌, true, sym, ◌∙◌}
+use Rattle.std.proofs.Common.{◌≡◌, true, ◌∙◌}
 use Rattle.state_codec.specs.SnapshotSteps.{may_have_posts}
 use Rattle.outbox.specs.Outboxes.{restored_posts}
 use Rattle.state_codec.proofs.PostsOf.{all_hangs, known_ascend, peers_told}

@@ -11,8 +11,8 @@ restored-requires-clause-outbox c =
     let site = c.args.site.now in
     let classes = c.args.classes.now in
     let are : are_posts_of site classes (restored_posts c.in_ok-posts.posts.items c.in_ok-posts.notes.items) ≡ true =
-        ap (λ (ps : List Post). are_posts_of site classes (restored_posts ps c.in_ok-posts.notes.items)) (sym c.deref.ensures.value)
-        ∙ ap (λ (ns : List Note). are_posts_of site classes (restored_posts c.deref.result.now ns)) (sym c.deref-2.ensures.value)
-        ∙ sym c.in_ok-are_posts_of.ensures.exact
-        ∙ c.if-not-branch.false in
+    ap (λ (ps : List Post). are_posts_of site classes (restored_posts ps c.in_ok-posts.notes.items)) (sym c.deref.ensures.value)
+    ∙ ap (λ (ns : List Note). are_posts_of site classes (restored_posts c.deref.result.now ns)) (sym c.deref-2.ensures.value)
+    ∙ sym c.in_ok-are_posts_of.ensures.exact
+    ∙ c.if-not-branch.false in
     outbox_told c.tests_posts.ensures.posts site c.requires.settings classes (restored_posts c.in_ok-posts.posts.items c.in_ok-posts.notes.items) are
