@@ -36,3 +36,6 @@ pub mod SnapshotStates
 pub mod StatesAgain
 pub mod TablesRead
 pub mod ReadState
+pub mod Following
+pub mod Recovered
+pub mod Committed

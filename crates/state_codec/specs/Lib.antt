@@ -8,3 +8,5 @@ pub mod Spelled
 pub mod WritingSteps
 pub mod Sizes
 pub mod Laws
+pub mod Contents
+pub mod DamageSteps

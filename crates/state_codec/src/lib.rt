@@ -22,6 +22,7 @@ mod reading_rows;
 mod reading_site;
 mod reading_state;
 mod reading_subjects;
+mod recovering;
 mod sizes;
 mod types;
 mod value;
@@ -38,5 +39,6 @@ pub use laws::{
     records_have_one_spelling, snapshots_are_short, snapshots_have_one_spelling,
 };
 pub use reading_state::read_state;
+pub use recovering::{RecoverFault, recover};
 pub use sizes::{need, snapshot_bound};
 pub use writing_state::write_state;
