@@ -36,3 +36,4 @@ pub mod SnapshotStates
 pub mod StatesAgain
 pub mod TablesRead
 pub mod ReadState
+pub mod StateTypes

@@ -23,6 +23,7 @@ mod reading_site;
 mod reading_state;
 mod reading_subjects;
 mod sizes;
+mod state_types;
 mod types;
 mod value;
 mod writing;
@@ -39,4 +40,5 @@ pub use laws::{
 };
 pub use reading_state::read_state;
 pub use sizes::{need, snapshot_bound};
+pub use state_types::state_fits;
 pub use writing_state::write_state;
