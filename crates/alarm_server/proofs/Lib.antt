@@ -14,3 +14,7 @@ pub mod OnFile
 pub mod Texts
 mod OfUnsent
 pub mod GeneratedText
+pub mod KeptLines
+pub mod KeptOpenings
+pub mod OneEmission
+pub mod LineFaults

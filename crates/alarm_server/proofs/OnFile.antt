@@ -1,12 +1,13 @@
 -- A session on a site's file, where its text is no site or isn't read.
 use Rattle.std.proofs.Common.{◌≡◌, ◌≢◌, ◌⊎◌, ℕ, Option, Some, None, Result, Ok, Err, List, [], IfSome, take, refl, ap, ◌∙◌, sym, inl, inr}
 use Rattle.ground_io.specs.Trace.{Told}
+use Rattle.alarm_core.specs.declared.event.Event.{Event}
 use Rattle.alarm_core.specs.declared.site.Site.{Site}
 use Rattle.site_config.specs.declared.fault.SiteFault.{SiteFault}
 use Rattle.site_config.specs.declared.fault.SiteFault.TheVariants as site_fault
 use Rattle.site_config.specs.Sites.{site_of}
 use Rattle.alarm_server.specs.declared.status.Status.{Status}
-use Rattle.alarm_server.specs.declared.status.Status.TheVariants.{Done, Usage, SiteRefused, ScriptRefused, ReadFault, EmitFault, NoMemory}
+use Rattle.alarm_server.specs.declared.status.Status.TheVariants.{Done, Usage, SiteRefused, ScriptRefused, ReadFault, EmitFault, DiskFault, JournalRefused, NoMemory}
 use Rattle.alarm_server.specs.Emission.{Going, Ends}
 use Rattle.alarm_server.specs.OnFile.{EndsOnFile, EndsOnSite, RefusesFile}
 use Rattle.alarm_server.specs.Report.{report_of}
@@ -18,14 +19,16 @@ use Rattle.alarm_server.proofs.Texts.{front_says}
 
 -- ---- nothing went out
 
-ends_on_site : (Goes : Going) → Composes Goes → (site : Site) (ended : Status) (script : List ℕ) (told : Option Told) → IsSiteFault ended → Ends Goes piece_text ended (report_of site [] script) told told
-ends_on_site Goes composes site Done script told fault = absurd fault
-ends_on_site Goes composes site Usage script told fault = absurd fault
-ends_on_site Goes composes site (SiteRefused f) script told fault = composes.nothing told
-ends_on_site Goes composes site (ScriptRefused line) script told fault = absurd fault
-ends_on_site Goes composes site ReadFault script told fault = ([], report_of site [] script, refl, composes.nothing told)
-ends_on_site Goes composes site EmitFault script told fault = absurd fault
-ends_on_site Goes composes site NoMemory script told fault = ([], report_of site [] script, refl, composes.nothing told)
+ends_on_site : (Goes : Going) → Composes Goes → (site : Site) (history : List Event) (ended : Status) (script : List ℕ) (told : Option Told) → IsSiteFault ended → Ends Goes piece_text ended (report_of site history script) told told
+ends_on_site Goes composes site history Done script told fault = absurd fault
+ends_on_site Goes composes site history Usage script told fault = absurd fault
+ends_on_site Goes composes site history (SiteRefused f) script told fault = composes.nothing told
+ends_on_site Goes composes site history (ScriptRefused line) script told fault = absurd fault
+ends_on_site Goes composes site history ReadFault script told fault = ([], report_of site history script, refl, composes.nothing told)
+ends_on_site Goes composes site history EmitFault script told fault = absurd fault
+ends_on_site Goes composes site history DiskFault script told fault = absurd fault
+ends_on_site Goes composes site history (JournalRefused refused) script told fault = absurd fault
+ends_on_site Goes composes site history NoMemory script told fault = ([], report_of site history script, refl, composes.nothing told)
 
 -- it is the text's own fault, or the text wasn't read
 own_fault : (octets : List ℕ) (fault : SiteFault) (ended : Status) → site_of octets ≡ Err fault → IsSiteFault ended → ((f : SiteFault) → ended ≡ SiteRefused f → RefusesFile (Some octets) f) →
@@ -36,10 +39,12 @@ own_fault octets fault (SiteRefused f) says site refused = let own : site_of oct
 own_fault octets fault (ScriptRefused line) says site refused = absurd site
 own_fault octets fault ReadFault says site refused = inr (inl refl)
 own_fault octets fault EmitFault says site refused = absurd site
+own_fault octets fault DiskFault says site refused = absurd site
+own_fault octets fault (JournalRefused why) says site refused = absurd site
 own_fault octets fault NoMemory says site refused = inr (inr refl)
 
-ends_by : (Goes : Going) → Composes Goes → (octets script : List ℕ) (ended : Status) (told : Option Told) (says : Result Site SiteFault) → site_of octets ≡ says → IsSiteFault ended → ((f : SiteFault) → ended ≡ SiteRefused f → RefusesFile (Some octets) f) → EndsOnSite Goes ended says script told told
-ends_by Goes composes octets script ended told (Ok site) says fault refused = ends_on_site Goes composes site ended script told fault
+ends_by : (Goes : Going) → Composes Goes → (octets script : List ℕ) (ended : Status) (told : Option Told) (says : Result Site SiteFault) → site_of octets ≡ says → IsSiteFault ended → ((f : SiteFault) → ended ≡ SiteRefused f → RefusesFile (Some octets) f) → EndsOnSite Goes ended octets says script told told
+ends_by Goes composes octets script ended told (Ok site) says fault refused = λ history stood. ends_on_site Goes composes site history ended script told fault
 ends_by Goes composes octets script ended told (Err f) says fault refused = (own_fault octets f ended says fault refused, composes.nothing told)
 
 pub ends_unopened : (Goes : Going) → Composes Goes → (site script : Option (List ℕ)) (ended : Status) (told : Option Told) → IsSiteFault ended → ((f : SiteFault) → ended ≡ SiteRefused f → RefusesFile site f) → EndsOnFile Goes ended site script told told

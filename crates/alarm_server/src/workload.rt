@@ -1,8 +1,11 @@
-ghost use Rattle.std.specs.Prelude.{◌≡◌, ◌≢◌, ◌∷◌, ℕ, [], OnOk, IfErr, IfOk, IsErrOf};
+ghost use Rattle.std.specs.Prelude.{◌≡◌, ◌≢◌, ◌≤◌, ◌∷◌, length, ℕ, [], OnOk, IfErr, IfOk, IsErrOf};
 ghost use Rattle.ground_io.specs.Counts.{HasCause};
 ghost use Rattle.ground_io.specs.Trace.{Adds};
 ghost use Rattle.script_lines.specs.Report.{report_text};
+ghost use Rattle.alarm_core.specs.Limits.{KeepsLimits};
 ghost use Rattle.alarm_core.specs.Sites.{IsSite};
+ghost use Rattle.state_codec.specs.Sizes.{most_text};
+ghost use Rattle.alarm_server.specs.Keeping.{StoodFor, journal_of};
 ghost use Rattle.site_config.specs.declared.fault.SiteFault.{SiteFault};
 ghost use Rattle.site_config.specs.Sites.{site_of};
 ghost use Rattle.work_load.specs.Site.{workload_site};
@@ -19,30 +22,46 @@ use alarm_core::Site;
 use bac_values::ReportLine;
 use ground_io::{Ground, MemoryGround, MemorySource};
 use site_config::read_site;
+use state_codec::need;
 use std::alloc::Global;
 use work_load::{make_script, make_site};
 
-// The generated site.
+// The generated site, with its text.
 #[tactic(auto, using(crate::proofs::GeneratedText::reads))]
-fn generated_site(alloc: Global) -> Result<Site, Status>
-    ensures site { IfOk result (λ site. site ≡ generated_site) }
-    ensures keeps { IfOk result IsSite }
+fn generated_site(alloc: Global) -> Result<(Site, Vec<u8>), Status>
+    ensures site { IfOk result (λ made. made.0 ≡ generated_site) }
+    ensures text { IfOk result (λ made. made.1.items ≡ workload_site) }
+    ensures keeps { IfOk result (λ made. IsSite made.0) }
+    ensures limits { IfOk result (λ made. KeepsLimits made.0) }
     ensures memory { IfErr result (λ status. status ≡ Status.NoMemory) }
     ensures fault { IfErr result IsInnerFault }
     ensures no_line { IfErr result IsSiteFault }
 {
     let text = make_site(alloc)?;
     let site = read_site(alloc, text.as_slice())?;
-    Ok(site)
+    Ok((site, text))
 }
 
-// How a session over a source and a ground in memory ends. No call of theirs is to fail, so the ground fails for want of
-// memory alone, and the source not at all.
+// A blank device in memory, as large as a site's journal needs, none of whose calls fails.
+fn blank_device(alloc: Global, site: &Site, text: &[u8]) -> Result<MemoryGround, Status>
+    requires limits { KeepsLimits site.now }
+    requires short { length text.now ≤ most_text }
+    ensures stands { IfOk result (λ device. StoodFor (journal_of site.now text.now) site.now [] device.told) }
+    ensures memory { IfErr result (λ status. status ≡ Status.NoMemory) }
+{
+    let size = need(site, text.len() as u64);
+    let octets = vec![in alloc; 0u8; size as usize]?;
+    Ok(MemoryGround::new(alloc, octets, Vec::new(alloc)))
+}
+
+// How a session over a source and a blank ground in memory ends. No call of theirs is to fail, so the ground fails for want
+// of memory alone, and the source not at all.
 fn of_memory(status: Status) -> Status
     ensures status { result ≡ of_memory status }
 {
     match status {
-        Status::ReadFault | Status::EmitFault => Status::NoMemory,
+        Status::ReadFault | Status::EmitFault | Status::DiskFault | Status::JournalRefused { .. } =>
+            Status::NoMemory,
         other => other,
     }
 }
@@ -55,10 +74,11 @@ fn tally_of(alloc: Global, seed: u64, count: u32) -> Result<Tally, Status>
     ensures takes_site { (fault : SiteFault) → result ≢ Err (Status.SiteRefused fault) }
     ensures fault { IfErr result IsInnerFault }
 {
-    let site = generated_site(alloc)?;
+    let (site, text) = generated_site(alloc)?;
     let mut script = MemorySource::new(make_script(alloc, seed, count)?, Vec::new(alloc));
-    let mut ground = MemoryGround::new(alloc, Vec::new(alloc), Vec::new(alloc));
-    match play_site(alloc, &site, &mut script, &mut ground) {
+    let device = blank_device(alloc, &site, text.as_slice())?;
+    let (_device, played) = play_site(alloc, &site, text.as_slice(), &mut script, device);
+    match played {
         Ok(tally) => Ok(tally),
         Err(status) => Err(of_memory(status)),
     }
