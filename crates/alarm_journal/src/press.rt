@@ -4,7 +4,7 @@ ghost use Rattle.ground_io.specs.Trace.{Adds};
 ghost use Rattle.alarm_journal.specs.Emissions.{EmitsAll};
 ghost use Rattle.alarm_journal.specs.Journal.{Content, Site, batches_of, framed, nothing, only_snapshot, with_batch};
 ghost use Rattle.alarm_journal.specs.Opened.{LieBetween, Shows, StandsAt, content_in};
-ghost use Rattle.alarm_journal.specs.Press.{Answers, Between, IsBelow, IsOpening, IsSmall, Lasts, Reopens, Settled, Throughout, WasBlank, behind_batch, behind_snapshot, other_of, room_of, selector_of, start_of};
+ghost use Rattle.alarm_journal.specs.Press.{Answers, Between, IsBelow, IsOpening, IsSmall, Lasts, Reopens, ReopensSynced, Settled, Throughout, WasBlank, behind_batch, behind_snapshot, other_of, room_of, selector_of, start_of};
 ghost use Rattle.alarm_journal.specs.Protocol.{AddsSome, IsTwoCutShort, two_writes};
 ghost use Rattle.alarm_journal.specs.declared.open_fault.OpenFault.TheVariants.{DiskFault};
 
@@ -108,9 +108,9 @@ impl<G: Ground> Press<G> {
             (λ read. G.disk_faults device ≤ G.disk_faults read.0.device)
             (λ refused. HasCause (G.disk_faults device) (G.disk_faults refused.0) (refused.1 ≡ DiskFault)) }
 
-        // A crash at any moment from the first sync on.
+        // A crash at any moment from the first sync on, which an `Ok` has done.
         ensures any_moment { MatchResult result
-            (λ read. Reopens (record { text = site_text.now; need = need }) (G.told device) (G.told read.0.device))
+            (λ read. ReopensSynced (record { text = site_text.now; need = need }) (G.told device) (G.told read.0.device))
             (λ refused. Reopens (record { text = site_text.now; need = need }) (G.told device) (G.told refused.0)) }
         ensures writes { MatchResult result
             (λ read. AddsSome (IsOpening site_text.now (G.size device)) (G.told device) (G.told read.0.device))
