@@ -1,5 +1,5 @@
 -- The site of a draft that keeps to the limits keeps to them.
-use Rattle.std.proofs.Common.{◌≡◌, ◌×◌, ◌⊎◌, ℕ, ◌+◌, ◌≤◌, ◌==◌, nat_lt, ltb, eqb, cond, Bool, true, false, List, [], ◌∷◌, length, map, Result, Ok, Err, if◌then◌else◌, refl, ap, ◌∙◌, arith, inl, inr}
+use Rattle.std.proofs.Common.{◌≡◌, ◌⊎◌, ℕ, ◌+◌, ◌≤◌, ◌==◌, nat_lt, ltb, eqb, cond, Bool, true, false, List, [], ◌∷◌, length, map, Result, Ok, Err, if◌then◌else◌, refl, ap, ◌∙◌, arith, inl, inr}
 use Rattle.std.specs.List.{All, count_by, list_any, sum_by}
 use Rattle.std.proofs.lemmas.Bool.{cases_Bool, eqb-true, ltb-false, or_parts}
 use Rattle.std.proofs.lemmas.List.{length-map}
