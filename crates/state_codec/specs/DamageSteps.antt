@@ -1,5 +1,5 @@
 -- Where a journal that was opened is damaged: at a snapshot of no state of its site, or at a record that isn't one, or whose event may not come there.
-use Rattle.std.specs.Prelude.{◌≡◌, ◌⊎◌, ℕ, ◌+◌, ◌<◌, ◌^◌, List, [], ◌∷◌, ◌++◌, length, take, drop}
+use Rattle.std.specs.Prelude.{◌≡◌, ◌⊎◌, ℕ, ◌+◌, ◌<◌, List, [], ◌∷◌, ◌++◌, length, take, drop}
 use Rattle.alarm_core.specs.declared.event.Event.{Event}
 use Rattle.alarm_core.specs.declared.site.Site.{Site}
 use Rattle.alarm_core.specs.CoreSteps.{first_state}
@@ -52,10 +52,6 @@ pub record IsDamagedIn (state : CoreState) (body : List ℕ) (offset : ℕ) : Ty
   pub some : 0 < length rest
   pub none : NoneFollows reached rest
   pub place : offset ≡ length front
-
--- a body ends at a place of a device
-abbrev pub EndsOnDevice : Body → Type 0
-EndsOnDevice body = body.place + body.length < 2 ^ 64
 
 -- in one of some bodies, behind others that lead to another state
 pub record IsDamagedRecord (state : CoreState) (bodies : List Body) (octets : List ℕ) (at : ℕ) : Type 0 where
