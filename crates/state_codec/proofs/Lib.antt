@@ -12,3 +12,6 @@ pub mod AllowedLaws
 pub mod SizeLaws
 pub mod RowLimits
 pub mod WithClass
+pub mod Following
+pub mod Recovered
+pub mod Committed

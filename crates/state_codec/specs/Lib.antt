@@ -5,3 +5,7 @@ pub mod Snapshots
 pub mod WritingSteps
 pub mod Sizes
 pub mod Laws
+pub mod SnapshotLaws
+pub mod Spelled
+pub mod Contents
+pub mod DamageSteps

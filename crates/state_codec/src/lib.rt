@@ -10,6 +10,7 @@ mod fault;
 mod laws;
 mod parts;
 mod reading;
+mod recovering;
 mod sizes;
 mod types;
 mod value;
@@ -25,5 +26,6 @@ pub use laws::{
     allowed_event_has_record, bounds_are_low, records_are_short, records_have_one_spelling,
     snapshots_are_short,
 };
+pub use recovering::{RecoverFault, recover};
 pub use sizes::{need, snapshot_bound};
 pub use writing_state::write_state;
