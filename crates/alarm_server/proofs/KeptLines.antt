@@ -1,5 +1,5 @@
 -- What a crash leaves, stretch by stretch: of the first piece, of each line, of the lines so far, and of the end.
-use Rattle.std.proofs.Common.{◌≡◌, ◌⊎◌, ℕ, ◌+◌, ◌-◌, ◌≤◌, ⊤, Option, Some, None, List, [], ◌∷◌, ◌++◌, length, take, refl, ap, ◌∙◌, sym, subst, inl, inr, arith, append_assoc}
+use Rattle.std.proofs.Common.{◌≡◌, ◌⊎◌, ℕ, ◌+◌, ◌-◌, ◌≤◌, Option, Some, None, List, [], ◌∷◌, ◌++◌, length, take, refl, ap, ◌∙◌, sym, subst, inl, inr, arith, append_assoc}
 use Rattle.std.proofs.lemmas.List.{append-nil, append_cancel_left, length-append, take-append-le, take_all}
 use Rattle.std.proofs.Math.Seq.{take-append-add}
 use Rattle.ground_io.specs.Disk.{Disk, Each, Always, after_entry, disk_after}
@@ -7,11 +7,11 @@ use Rattle.ground_io.specs.Sent.{Along, AreQuiet, emissions, sent_after, sent_wi
 use Rattle.ground_io.specs.Trace.{Told, Adds, disk_of}
 use Rattle.ground_io.specs.declared.entry.Entry.{Entry}
 use Rattle.ground_io.specs.declared.entry.Entry.TheVariants.{Wrote, Broke, Synced, Emitted, Lost}
-use Rattle.ground_io.proofs.Crashes.{adds_both, disk_adds}
+use Rattle.ground_io.proofs.Crashes.{adds_both, adds_none, disk_adds}
 use Rattle.ground_io.proofs.Sendings.{along-append, quiet_sends_nothing}
 use Rattle.alarm_journal.specs.Journal.{Content, OpensTo}
 use Rattle.alarm_journal.specs.Journal.{Site as Journal}
-use Rattle.alarm_journal.specs.Press.{Between, Throughout}
+use Rattle.alarm_journal.specs.Press.{Between, Lasts, Throughout}
 use Rattle.script_lines.specs.declared.line.Line.{Line}
 use Rattle.alarm_core.specs.declared.event.Event.{Event}
 use Rattle.alarm_core.specs.declared.site.Site.{Site}
@@ -26,7 +26,7 @@ pub history-none : (site : Site) (history : List Event) → history_over site hi
 unfolding history_over
 history-none site history = refl
 
-history-one : (site : Site) (history : List Event) (line : Line) → history_over site history (line ∷ []) ≡ history_with site history line
+pub history-one : (site : Site) (history : List Event) (line : Line) → history_over site history (line ∷ []) ≡ history_with site history line
 unfolding history_over
 history-one site history line = refl
 
@@ -191,3 +191,12 @@ module _ (journal : Journal) (site : Site) where
       let two : Along Q sent (disk_of mid) others = along_few Q (λ image. OpensTo journal image content) (length (sent_after others sent)) to sent (disk_of mid) others (omega arith) always in
       let there : Along Q sent (disk_after entries (disk_of old)) others = subst (λ (d : Disk). Along Q sent d others) (disk_adds old mid entries adds) two in
       (entries ++ others, adds_both (Some old) (Some mid) (Some new) entries others adds adds_too, along-append Q [] (disk_of old) entries others one there)
+
+  -- nothing was done
+  pub untouched : (history : List Event) (lines : List Line) (before : ℕ) (content : Content) (told : Option Told) → StandsForHistory site content history → Lasts journal told content → KeepsLines journal site history lines before told told
+  untouched history lines before content None stands lasts = tt
+  untouched history lines before content (Some told) stands lasts = (
+    [],
+    adds_none (Some told),
+    λ image may. (0, omega arith, omega arith, record { content = content; opens = lasts image may; stands = subst (λ (h : List Event). StandsForHistory site content h) (sym (history-none site history)) stands }),
+  )

@@ -1,5 +1,5 @@
 -- What a crash leaves of an opening, and of a session behind it.
-use Rattle.std.proofs.Common.{◌≡◌, ◌⊎◌, ℕ, ◌+◌, ◌≤◌, ⊤, Option, Some, None, Ok, List, [], ◌∷◌, ◌++◌, length, refl, ap, ◌∙◌, sym, subst, inl, inr, arith}
+use Rattle.std.proofs.Common.{◌≡◌, ◌⊎◌, ℕ, ◌+◌, ◌≤◌, Option, Some, None, Ok, List, [], ◌∷◌, ◌++◌, length, refl, ap, ◌∙◌, sym, subst, inl, inr, arith}
 use Rattle.std.proofs.lemmas.List.{append_cancel_left}
 use Rattle.ground_io.specs.Disk.{Disk, Always, disk_after}
 use Rattle.ground_io.specs.Sent.{Along, AreQuiet, emissions, sent_after}
@@ -37,7 +37,7 @@ module _ (journal : Journal) (site : Site) where
       (λ s image few same. reopened history lines before (disk_of old).contents image s few stood same) [] (record { contents = (disk_of old).contents; loose = [] }) opens.entries
       (omega (arith, ap (λ (l : List Entry). length l) (quiet_sends_nothing [] opens.entries opens.quiet))) opens.always
 
-  pub opening_kept : (history : List Event) (lines : List Line) (before : ℕ) (old new : Option Told) → StoodFor journal site history old → Reopens journal old new → KeepsOpened journal site history lines before old new
+  pub opening_kept : (history : List Event) (lines : List Line) (before : ℕ) (old new : Option Told) → StoodFor journal site history old new → Reopens journal old new → KeepsOpened journal site history lines before old new
   opening_kept history lines before old None stood opens = tt
   opening_kept history lines before None (Some new) stood opens = absurd opens
   opening_kept history lines before (Some old) (Some new) stood (inl nothing) = inl nothing

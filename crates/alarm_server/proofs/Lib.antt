@@ -18,3 +18,7 @@ pub mod KeptLines
 pub mod KeptOpenings
 pub mod OneEmission
 pub mod LineFaults
+pub mod AtRest
+pub mod Quiet
+pub mod KeptProgress
+pub mod KeptLine

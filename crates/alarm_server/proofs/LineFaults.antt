@@ -1,6 +1,5 @@
 -- A line was in the way: its event wasn't kept, or its piece didn't go out.
-use Rattle.std.proofs.Common.{◌≡◌, ℕ, ◌≤◌, Option, List, Err, IsErrOf, arith}
-use Rattle.ground_io.specs.Counts.{HasCause, Rose}
+use Rattle.std.proofs.Common.{ℕ, Option, Some, None, List, IfSome}
 use Rattle.ground_io.specs.Trace.{Told}
 use Rattle.alarm_server.specs.declared.emission.Unsent.{Unsent}
 use Rattle.alarm_server.specs.declared.emission.Unsent.TheVariants as unsent
@@ -58,3 +57,8 @@ is_line_fault EmitFault fault = absurd fault
 is_line_fault DiskFault fault = tt
 is_line_fault (JournalRefused why) fault = absurd fault
 is_line_fault NoMemory fault = tt
+
+-- the same of what goes out of a whole script's report
+pub ends_script_as : {X : Type 0} (Goes : Going) (text : X → List ℕ) (ended : Status) (pieces : List ℕ → List X) (script : Option (List ℕ)) (old new : Option Told) → IsLineFault ended → IfSome script (λ t. Ends Goes text (of_unsent (way_of ended)) (pieces t) old new) → IfSome script (λ t. Ends Goes text ended (pieces t) old new)
+ends_script_as Goes text ended pieces None old new fault ends = tt
+ends_script_as Goes text ended pieces (Some t) old new fault ends = ends_as Goes text ended (pieces t) old new fault ends

@@ -1,5 +1,5 @@
 -- A single datagram that a press emits.
-use Rattle.std.proofs.Common.{◌≡◌, ◌⊎◌, ℕ, ◌+◌, ◌<◌, ⊤, Option, Some, None, List, [], ◌∷◌, refl, ap, ◌∙◌, subst, inl, inr, arith}
+use Rattle.std.proofs.Common.{◌≡◌, ◌⊎◌, ℕ, ◌+◌, ◌<◌, Option, Some, None, List, [], ◌∷◌, refl, ap, ◌∙◌, subst, inl, inr, arith}
 use Rattle.bac_values.specs.declared.note.Send.{Send}
 use Rattle.ground_io.specs.Trace.{Told, Adds}
 use Rattle.ground_io.specs.declared.entry.Entry.{Entry}

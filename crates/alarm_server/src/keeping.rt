@@ -1,14 +1,15 @@
-ghost use Rattle.std.specs.Prelude.{◌≡◌, ◌<◌, ◌≤◌, ◌+◌, ℕ, List, ◌∷◌, All, MatchResult, IfErr, IfOk, length};
+ghost use Rattle.std.specs.Prelude.{◌≡◌, ◌<◌, ◌≤◌, ◌+◌, ℕ, List, [], ◌∷◌, All, MatchResult, IfErr, IfOk, length};
 ghost use Rattle.ground_io.specs.Counts.{HasCause};
 ghost use Rattle.alarm_journal.specs.Journal.{Content, only_snapshot, with_batch};
 ghost use Rattle.alarm_journal.specs.Journal.{Site as Journal};
-ghost use Rattle.alarm_journal.specs.Press.{Between, Settled, room_of};
+ghost use Rattle.alarm_journal.specs.Press.{Between, room_of};
 ghost use Rattle.alarm_core.specs.Allowed.{Represents};
 ghost use Rattle.alarm_core.specs.Fits.{FitsEvent};
 ghost use Rattle.alarm_core.specs.Limits.{KeepsLimits};
 ghost use Rattle.alarm_core.specs.declared.event.Event.{Event as Happening};
 ghost use Rattle.state_codec.specs.Records.{HasRecord};
-ghost use Rattle.alarm_server.specs.Keeping.{Commits, HoldsHistory};
+ghost use Rattle.alarm_server.specs.Emission.{Emits};
+ghost use Rattle.alarm_server.specs.Keeping.{Commits, HoldsHistory, Rests};
 ghost use Rattle.alarm_server.specs.Status.{IsKeepFault};
 
 use crate::status::Status;
@@ -36,15 +37,15 @@ fn keep_record<G: Ground>(
     requires fits { length octets.now ≤ room_of press.layout }
 
     // What stood, and the batch behind it.
-    ensures settled { (journal : Journal) (content : Content) → Settled journal press.layout (G.told press.device) content
-        → IfOk result (λ kept. Settled journal kept.layout (G.told kept.device) (with_batch content octets.now)) }
+    ensures rests { (journal : Journal) (content : Content) → Rests journal press.layout (G.told press.device) content
+        → IfOk result (λ kept. Rests journal kept.layout (G.told kept.device) (with_batch content octets.now)) }
 
     // A crash at any moment leaves what stood, with the batch or without.
-    ensures any_moment { (journal : Journal) (content : Content) → Settled journal press.layout (G.told press.device) content
+    ensures any_moment { (journal : Journal) (content : Content) → Rests journal press.layout (G.told press.device) content
         → MatchResult result
         (λ kept. Between journal content (with_batch content octets.now) (G.told press.device) (G.told kept.device))
         (λ lost. Between journal content (with_batch content octets.now) (G.told press.device) (G.told lost.0)) }
-    ensures half { IfOk result (λ kept. kept.layout.half ≡ press.layout.half) }
+    ensures quiet { MatchResult result (λ kept. Emits (G.told press.device) (G.told kept.device) []) (λ lost. Emits (G.told press.device) (G.told lost.0) []) }
     ensures fault { IfErr result (λ lost. IsKeepFault lost.1) }
     ensures cause { MatchResult result
         (λ kept. G.disk_faults press.device ≤ G.disk_faults kept.device)
@@ -72,15 +73,15 @@ fn keep_snapshot<G: Ground>(
     requires fits { length octets.now + 5 ≤ press.layout.half }
 
     // The snapshot alone.
-    ensures settled { (journal : Journal) (content : Content) → Settled journal press.layout (G.told press.device) content
-        → IfOk result (λ kept. Settled journal kept.layout (G.told kept.device) (only_snapshot octets.now)) }
+    ensures rests { (journal : Journal) (content : Content) → Rests journal press.layout (G.told press.device) content
+        → IfOk result (λ kept. Rests journal kept.layout (G.told kept.device) (only_snapshot octets.now)) }
 
     // A crash at any moment leaves what stood, or the snapshot alone.
-    ensures any_moment { (journal : Journal) (content : Content) → Settled journal press.layout (G.told press.device) content
+    ensures any_moment { (journal : Journal) (content : Content) → Rests journal press.layout (G.told press.device) content
         → MatchResult result
         (λ kept. Between journal content (only_snapshot octets.now) (G.told press.device) (G.told kept.device))
         (λ lost. Between journal content (only_snapshot octets.now) (G.told press.device) (G.told lost.0)) }
-    ensures half { IfOk result (λ kept. kept.layout.half ≡ press.layout.half) }
+    ensures quiet { MatchResult result (λ kept. Emits (G.told press.device) (G.told kept.device) []) (λ lost. Emits (G.told press.device) (G.told lost.0) []) }
     ensures fault { IfErr result (λ lost. IsKeepFault lost.1) }
     ensures cause { MatchResult result
         (λ kept. G.disk_faults press.device ≤ G.disk_faults kept.device)
@@ -97,6 +98,7 @@ fn keep_snapshot<G: Ground>(
     }
 }
 
+
 // Commits the state of a core as a snapshot. A state that is longer than its area takes is as good as no memory for it.
 fn keep_state<G: Ground>(
     alloc: Global,
@@ -110,7 +112,7 @@ fn keep_state<G: Ground>(
         → MatchResult result
         (λ kept. Commits journal core.now.site before history (G.told press.device) (G.told kept.device))
         (λ lost. Commits journal core.now.site before history (G.told press.device) (G.told lost.0)) }
-    ensures half { IfOk result (λ kept. kept.layout.half ≡ press.layout.half) }
+    ensures quiet { MatchResult result (λ kept. Emits (G.told press.device) (G.told kept.device) []) (λ lost. Emits (G.told press.device) (G.told lost.0) []) }
     ensures fault { IfErr result (λ lost. IsKeepFault lost.1) }
     ensures cause { MatchResult result
         (λ kept. G.disk_faults press.device ≤ G.disk_faults kept.device)
@@ -149,7 +151,7 @@ pub fn keep_event<G: Ground>(
         → MatchResult result
         (λ kept. Commits journal core.now.site older (event.now ∷ older) (G.told press.device) (G.told kept.device))
         (λ lost. Commits journal core.now.site older (event.now ∷ older) (G.told press.device) (G.told lost.0)) }
-    ensures half { IfOk result (λ kept. kept.layout.half ≡ press.layout.half) }
+    ensures quiet { MatchResult result (λ kept. Emits (G.told press.device) (G.told kept.device) []) (λ lost. Emits (G.told press.device) (G.told lost.0) []) }
     ensures fault { IfErr result (λ lost. IsKeepFault lost.1) }
     ensures cause { MatchResult result
         (λ kept. G.disk_faults press.device ≤ G.disk_faults kept.device)

@@ -15,6 +15,7 @@ mod run;
 mod session;
 mod settings;
 mod status;
+mod taken;
 mod tally;
 mod text;
 mod trial;

@@ -3,8 +3,9 @@ ghost use Rattle.ground_io.specs.Counts.{HasCause};
 ghost use Rattle.ground_io.specs.Trace.{Adds};
 ghost use Rattle.alarm_journal.specs.Journal.{Content};
 ghost use Rattle.alarm_journal.specs.Journal.{Site as Journal};
-ghost use Rattle.alarm_journal.specs.Press.{Settled};
+ghost use Rattle.alarm_journal.specs.Press.{Throughout};
 ghost use Rattle.alarm_server.specs.Emission.{Sends};
+ghost use Rattle.alarm_server.specs.Keeping.{Rests};
 ghost use Rattle.alarm_server.specs.Pieces.{piece_text};
 
 use crate::emission::Unsent;
@@ -32,8 +33,8 @@ pub fn emit_piece<G: Ground>(
     piece: &[ReportLine],
 ) -> Result<(), Unsent>
     ensures sends { Sends Adds piece_text result (piece.now ∷ []) (G.told press.old.device) (G.told press.new.device) }
-    ensures settled { (journal : Journal) (content : Content) → Settled journal press.old.layout (G.told press.old.device) content → Settled journal press.new.layout (G.told press.new.device) content }
-    ensures layout { press.new.layout ≡ press.old.layout }
+    ensures rests { (journal : Journal) (content : Content) → Rests journal press.old.layout (G.told press.old.device) content → Rests journal press.new.layout (G.told press.new.device) content }
+    ensures any_moment { (journal : Journal) (content : Content) → Rests journal press.old.layout (G.told press.old.device) content → Throughout journal content (G.told press.old.device) (G.told press.new.device) }
     ensures size { G.size press.new.device ≡ G.size press.old.device }
     ensures disk { G.disk_faults press.new.device ≡ G.disk_faults press.old.device }
     ensures cause { HasCause (G.emit_faults press.old.device) (G.emit_faults press.new.device) (IsErrOf result Unsent.Lost) }

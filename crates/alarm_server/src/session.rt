@@ -1,4 +1,4 @@
-ghost use Rattle.std.specs.Prelude.{◌≡◌, ℕ, ◌<◌, ◌≤◌, ◌×◌, ◌^◌, ◌∷◌, ◌++◌, [], List, None, max, IfErr, IfOk, IfSome, IsErrOf, MatchResult, OnErr, OnOk, map};
+ghost use Rattle.std.specs.Prelude.{◌≡◌, ℕ, ◌≤◌, ◌∷◌, [], List, None, IfErr, IfOk, IfSome, IsErrOf, MatchResult, OnOk};
 ghost use Rattle.std.specs.Io.KnownBytes.{IsAtEnd};
 ghost use Rattle.bac_values.specs.Moments.{IsMoment};
 ghost use Rattle.ground_io.specs.Counts.{HasCause};
@@ -7,21 +7,17 @@ ghost use Rattle.script_lines.specs.declared.line.Grammar.TheVariants.{Session};
 ghost use Rattle.script_lines.specs.Script.{lines_of};
 ghost use Rattle.alarm_journal.specs.Journal.{Content};
 ghost use Rattle.alarm_journal.specs.Journal.{Site as Journal};
-ghost use Rattle.alarm_journal.specs.Press.{Settled};
+ghost use Rattle.alarm_journal.specs.Press.{Throughout};
 ghost use Rattle.state_codec.specs.Records.{HasRecord};
-ghost use Rattle.alarm_core.specs.State.{CoreState};
 ghost use Rattle.alarm_core.specs.declared.event.Event.{Event as Happening};
-ghost use Rattle.alarm_core.specs.Allowed.{IsAllowed, Represents};
+ghost use Rattle.alarm_core.specs.Allowed.{Represents};
 ghost use Rattle.alarm_core.specs.Limits.{KeepsLimits};
-ghost use Rattle.alarm_server.specs.Keeping.{Commits, HoldsHistory, KeepsLines, KeepsReport};
+ghost use Rattle.alarm_server.specs.Keeping.{Commits, HoldsHistory, KeepsLines, KeepsReport, Rests};
 ghost use Rattle.alarm_server.specs.Report.{history_by, history_with};
-ghost use Rattle.alarm_core.specs.History.{moved_by, raised};
-ghost use Rattle.alarm_core.specs.CoreSteps.{next_sends, next_state, next_transitions};
-ghost use Rattle.alarm_core.specs.Verdicts.{Answers, step_verdict};
 ghost use Rattle.alarm_server.specs.Emission.{Emits, Ends, Sends, sent};
 ghost use Rattle.alarm_server.specs.Script.{refused_line, spelled_in};
-ghost use Rattle.alarm_server.specs.SessionSteps.{session_over, state_by, state_front, state_over, state_with};
-ghost use Rattle.alarm_server.specs.Pieces.{decision_for, end_piece, event_in, open_piece, piece_by, piece_of, piece_text, reply_lines, send_line};
+ghost use Rattle.alarm_server.specs.SessionSteps.{session_over, state_front, state_over, state_with};
+ghost use Rattle.alarm_server.specs.Pieces.{decision_for, end_piece, event_in, open_piece, piece_of, piece_text};
 ghost use Rattle.alarm_server.specs.Status.{IsKeepFault, IsLineFault, IsPlayFault, status_of};
 ghost use Rattle.alarm_server.specs.Stopping.{StopsReading};
 ghost use Rattle.alarm_server.specs.Tallies.{tally_of, tally_with};
@@ -30,187 +26,14 @@ use crate::emission::Unsent;
 use crate::keeping::keep_event;
 use crate::pieces::emit_piece;
 use crate::status::Status;
+use crate::taken::{Taken, take};
 use crate::tally::Tally;
-use alarm_core::{Core, Event, Outcome, StepFault};
+use alarm_core::{Core, Event};
 use alarm_journal::Press;
-use bac_values::{Moved, NoMemory, ReportLine, Send, push, single};
-use event_machine::Steps;
+use bac_values::{NoMemory, ReportLine, single};
 use ground_io::{Ground, Source};
 use script_lines::{Line, Lines};
-use service_desk::{Decision, decide};
-use state_codec::allowed_event_has_record;
 use std::alloc::Global;
-use std::marker::Brand;
-use std::sync::ledger::{Blank, Ledger};
-
-// A line that was taken: its piece, and the event that it entered, if it did.
-#[derive(Drop)]
-struct Taken {
-    piece: Vec<ReportLine>,
-    event: Option<Event>,
-}
-
-// How many events a history may have. One more is as good as no memory for it.
-const MOST_EVENTS: u64 = 1 << 63;
-
-// The lines of a piece that tell of changes of event states.
-fn add_changes(piece: &mut Vec<ReportLine>, number: u64, moves: &[Moved]) -> Result<(), NoMemory>
-    ensures changes { OnOk result (piece.new.items ≡ piece.old.items ++ map (λ moved. ReportLine.Change number moved) moves.now) }
-{
-    for moved in moves {
-        let line = ReportLine::Change {
-            line: number,
-            moved: *moved,
-        };
-        push(piece, line)?;
-    }
-    Ok(())
-}
-
-// The lines of a piece that tell of what is sent.
-fn add_sends(piece: &mut Vec<ReportLine>, number: u64, sends: Vec<Send>) -> Result<(), NoMemory>
-    ensures sends { OnOk result (piece.new.items ≡ piece.old.items ++ map (send_line number) sends.items) }
-{
-    for send in sends {
-        push(piece, ReportLine::Sent { line: number, send })?;
-    }
-    Ok(())
-}
-
-fn add_reply(piece: &mut Vec<ReportLine>, number: u64, reply: Option<Send>) -> Result<(), NoMemory>
-    ensures reply { OnOk result (piece.new.items ≡ piece.old.items ++ reply_lines number reply) }
-{
-    match reply {
-        Some(send) => push(piece, ReportLine::Sent { line: number, send }),
-        None => Ok(()),
-    }
-}
-
-// The piece of a line whose event's notifications don't fit the outbox.
-fn full_piece(
-    alloc: Global,
-    number: u64,
-    would: u32,
-    limit: u32,
-    full: Option<Send>,
-) -> Result<Vec<ReportLine>, NoMemory>
-    ensures piece { IfOk result (λ piece. piece.items ≡ ReportLine.Full number would limit ∷ reply_lines number full) }
-{
-    let line = ReportLine::Full {
-        line: number,
-        would,
-        limit,
-    };
-    let mut piece = single(alloc, line)?;
-    add_reply(&mut piece, number, full)?;
-    Ok(piece)
-}
-
-// The core takes an event. Its steps are counted in a ledger of their own, that nobody reads.
-fn counted<L: Ledger>(core: &mut Core, event: &Event, blank: Blank) -> Result<Outcome, StepFault>
-    requires name { blank.name ≡ L.name }
-    requires parts { blank.parts ≡ L.parts }
-    requires some { 0 < blank.parts }
-    requires moment { IsMoment event.now.moment }
-    requires allowed { IsAllowed core.old event.now.act }
-    requires few { core.old.events < 2 ^ 63 }
-    ensures state { OnOk result (core.new ≡ next_state (raised core.old.last_moment event.now) core.old) }
-    ensures moment { IfOk result (λ outcome. outcome.moment ≡ max event.now.moment core.old.last_moment) }
-    ensures moves { IfOk result (λ outcome. outcome.moves ≡ map moved_by (next_transitions (raised core.old.last_moment event.now) core.old)) }
-    ensures sends { IfOk result (λ outcome. outcome.sends ≡ next_sends (raised core.old.last_moment event.now) core.old) }
-    ensures same { OnErr result (core.new ≡ core.old) }
-    ensures verdict { Answers result (step_verdict (raised core.old.last_moment event.now) core.old) }
-{
-    let mut steps = Steps::<L>::new(blank);
-    core.step(event, &mut steps)
-}
-
-// The event with another moment. It has a record.
-fn moved_to(moment: u64, event: Event) -> Event
-    requires range { IsMoment moment }
-    requires allowed { (state : CoreState) × IsAllowed state event.act }
-    ensures moved { result ≡ record event { moment = moment } }
-    ensures record { HasRecord result }
-{
-    let moved = Event {
-        moment,
-        act: event.act,
-    };
-    allowed_event_has_record(&moved);
-    moved
-}
-
-// Enters an event, and gives the piece of its line.
-fn enter(
-    alloc: Global,
-    core: &mut Core,
-    number: u64,
-    event: Event,
-    reply: Option<Send>,
-    full: Option<Send>,
-) -> Result<Taken, NoMemory>
-    requires moment { IsMoment event.moment }
-    requires allowed { IsAllowed core.old event.act }
-    ensures state { OnOk result (core.new ≡ state_by core.old (event_in core.old (Decision.Enter event reply full))) }
-    ensures piece { IfOk result (λ taken. taken.piece.items ≡ piece_by number core.old (Decision.Enter event reply full)) }
-    ensures event { IfOk result (λ taken. taken.event ≡ event_in core.old (Decision.Enter event reply full)) }
-    ensures record { IfOk result (λ taken. IfSome taken.event HasRecord) }
-{
-    if core.events() >= MOST_EVENTS {
-        return Err(NoMemory);
-    }
-    let outcome = match counted::<Brand>(core, &event, Blank::new(1)) {
-        Ok(outcome) => outcome,
-        Err(StepFault::Full { would, limit }) => {
-            let piece = full_piece(alloc, number, would, limit, full)?;
-            let event = None;
-            return Ok(Taken { piece, event });
-        }
-        Err(StepFault::NoMemory) => return Err(NoMemory),
-    };
-    let entered = ReportLine::Entered {
-        line: number,
-        event: core.events(),
-        moment: outcome.moment,
-    };
-    let mut piece = single(alloc, entered)?;
-    add_changes(&mut piece, number, outcome.moves.as_slice())?;
-    add_sends(&mut piece, number, outcome.sends.into_vec())?;
-    add_reply(&mut piece, number, reply)?;
-    let event = Some(moved_to(core.last_moment(), event));
-    Ok(Taken { piece, event })
-}
-
-// The piece of a line that is answered without an event.
-fn replied(alloc: Global, number: u64, send: Send) -> Result<Vec<ReportLine>, NoMemory>
-    ensures piece { IfOk result (λ piece. piece.items ≡ ReportLine.Reply number ∷ (ReportLine.Sent number send ∷ [])) }
-{
-    let mut piece = single(alloc, ReportLine::Reply { line: number })?;
-    push(&mut piece, ReportLine::Sent { line: number, send })?;
-    Ok(piece)
-}
-
-// Takes a line, and gives its piece, with the event that it is, if it is one.
-fn take(alloc: Global, core: &mut Core, line: &Line) -> Result<Taken, NoMemory>
-    requires moment { IsMoment line.now.moment }
-    ensures state { OnOk result (core.new ≡ state_with core.old line.now) }
-    ensures piece { IfOk result (λ taken. taken.piece.items ≡ piece_of core.old line.now) }
-    ensures event { IfOk result (λ taken. taken.event ≡ event_in core.old (decision_for core.old line.now)) }
-    ensures record { IfOk result (λ taken. IfSome taken.event HasRecord) }
-{
-    let number = line.number;
-    let piece = match decide(alloc, core, &line.input, line.moment)? {
-        Decision::Ignore => single(alloc, ReportLine::Ignored { line: number })?,
-        Decision::Idle => single(alloc, ReportLine::Idle { line: number })?,
-        Decision::Refuse { why } => single(alloc, ReportLine::Refused { line: number, why })?,
-        Decision::Reply { send } => replied(alloc, number, send)?,
-        Decision::Enter { event, reply, full } => {
-            return enter(alloc, core, number, event, reply, full);
-        }
-    };
-    let event = None;
-    Ok(Taken { piece, event })
-}
 
 // Commits what a line entered, if it entered anything.
 fn keep<G: Ground>(
@@ -227,7 +50,7 @@ fn keep<G: Ground>(
         → MatchResult result
         (λ kept. Commits journal core.now.site older (history_by older event.now) (G.told press.device) (G.told kept.device))
         (λ lost. Commits journal core.now.site older (history_by older event.now) (G.told press.device) (G.told lost.0)) }
-    ensures half { IfOk result (λ kept. kept.layout.half ≡ press.layout.half) }
+    ensures quiet { MatchResult result (λ kept. Emits (G.told press.device) (G.told kept.device) []) (λ lost. Emits (G.told press.device) (G.told lost.0) []) }
     ensures fault { IfErr result (λ lost. IsKeepFault lost.1) }
     ensures cause { MatchResult result
         (λ kept. G.disk_faults press.device ≤ G.disk_faults kept.device)
@@ -252,6 +75,8 @@ fn play_line<G: Ground>(
     requires moment { IsMoment line.now.moment }
     requires limits { KeepsLimits core.old.site }
     ensures state { OnOk result (core.new ≡ state_with core.old line.now) }
+    ensures represents { (history : List Happening) → Represents core.old history → OnOk result (Represents core.new (history_with core.old.site history line.now)) }
+    ensures site { OnOk result (core.new.site ≡ core.old.site) }
     ensures tally { OnOk result (tally.new ≡ tally_with (piece_of core.old line.now) tally.old) }
 
     // The piece goes out, or the line is in the way.
@@ -266,7 +91,6 @@ fn play_line<G: Ground>(
         → MatchResult result
         (λ kept. KeepsLines journal core.old.site history (line.now ∷ []) 0 (G.told press.device) (G.told kept.device))
         (λ lost. KeepsLines journal core.old.site history (line.now ∷ []) 0 (G.told press.device) (G.told lost.0)) }
-    ensures half { IfOk result (λ kept. kept.layout.half ≡ press.layout.half) }
     ensures fault { IfErr result (λ lost. IsLineFault lost.1) }
     ensures size { MatchResult result (λ kept. G.size kept.device ≡ G.size press.device) (λ lost. G.size lost.0 ≡ G.size press.device) }
     ensures disk_cause { MatchResult result
@@ -297,6 +121,8 @@ fn count_line(
     requires moment { IsMoment line.now.moment }
     ensures state { OnOk result (core.new ≡ state_with core.old line.now) }
     ensures tally { OnOk result (tally.new ≡ tally_with (piece_of core.old line.now) tally.old) }
+    ensures represents { (history : List Happening) → Represents core.old history → OnOk result (Represents core.new (history_with core.old.site history line.now)) }
+    ensures site { OnOk result (core.new.site ≡ core.old.site) }
     ensures piece { IfOk result (λ taken. taken.piece.items ≡ piece_of core.old line.now) }
     ensures event { IfOk result (λ taken. taken.event ≡ event_in core.old (decision_for core.old line.now)) }
     ensures record { IfOk result (λ taken. IfSome taken.event HasRecord) }
@@ -309,8 +135,8 @@ fn count_line(
 // Emits the first piece.
 fn begin<G: Ground>(alloc: Global, core: &Core, press: &mut Press<G>) -> Result<(), Unsent>
     ensures sends { Sends Adds piece_text result (open_piece core.now ∷ []) (G.told press.old.device) (G.told press.new.device) }
-    ensures settled { (journal : Journal) (content : Content) → Settled journal press.old.layout (G.told press.old.device) content → Settled journal press.new.layout (G.told press.new.device) content }
-    ensures layout { press.new.layout ≡ press.old.layout }
+    ensures rests { (journal : Journal) (content : Content) → Rests journal press.old.layout (G.told press.old.device) content → Rests journal press.new.layout (G.told press.new.device) content }
+    ensures any_moment { (journal : Journal) (content : Content) → Rests journal press.old.layout (G.told press.old.device) content → Throughout journal content (G.told press.old.device) (G.told press.new.device) }
     ensures size { G.size press.new.device ≡ G.size press.old.device }
     ensures disk { G.disk_faults press.new.device ≡ G.disk_faults press.old.device }
     ensures cause { HasCause (G.emit_faults press.old.device) (G.emit_faults press.new.device) (IsErrOf result Unsent.Lost) }
@@ -328,8 +154,8 @@ fn end<G: Ground>(
     core: &Core,
 ) -> Result<(), Unsent>
     ensures sends { Sends Adds piece_text result (end_piece lines core.now ∷ []) (G.told press.old.device) (G.told press.new.device) }
-    ensures settled { (journal : Journal) (content : Content) → Settled journal press.old.layout (G.told press.old.device) content → Settled journal press.new.layout (G.told press.new.device) content }
-    ensures layout { press.new.layout ≡ press.old.layout }
+    ensures rests { (journal : Journal) (content : Content) → Rests journal press.old.layout (G.told press.old.device) content → Rests journal press.new.layout (G.told press.new.device) content }
+    ensures any_moment { (journal : Journal) (content : Content) → Rests journal press.old.layout (G.told press.old.device) content → Throughout journal content (G.told press.old.device) (G.told press.new.device) }
     ensures size { G.size press.new.device ≡ G.size press.old.device }
     ensures disk { G.disk_faults press.new.device ≡ G.disk_faults press.old.device }
     ensures cause { HasCause (G.emit_faults press.old.device) (G.emit_faults press.new.device) (IsErrOf result Unsent.Lost) }
