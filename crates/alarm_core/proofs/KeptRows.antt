@@ -87,6 +87,7 @@ delay_there _ _ row taken = refl
 -- a present value that replaces one of the site's kind is of that kind, and as long
 length_kept : (old now value : Value) → has_length_of old now ≡ true → has_length_of now value ≡ true → has_length_of old value ≡ true
 length_kept (Bits old) (Bits now) (Bits value) one two = ap (λ (n : ℕ). value.size == n) (sym (eqb-true now.size old.size one)) ∙ two
+length_kept (Bits old) (Bits now) _ one two = absurd (true≢false (sym two))
 length_kept _ _ _ one two = absurd (true≢false (sym one))
 
 present_kept : (kind : Option ObjectKind) (site row : ObjectSite) (value : Value) → row.states ≡ site.states → is_present_value kind site row.value ≡ true → is_present_value kind row value ≡ true → is_present_value kind site value ≡ true
