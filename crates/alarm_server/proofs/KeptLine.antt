@@ -19,7 +19,6 @@ use Rattle.alarm_server.specs.Pieces.{decision_for, event_in, piece_text}
 use Rattle.alarm_server.specs.Report.{history_by, history_with}
 use Rattle.alarm_server.specs.SessionSteps.{state_by}
 use Rattle.alarm_server.specs.Status.{of_unsent}
-use Rattle.alarm_server.proofs.AtRest.{between_now}
 use Rattle.alarm_server.proofs.Emitting.{emits, emits_sent, emits_up_to}
 use Rattle.alarm_server.proofs.KeptLines.{committed, told_line, untouched}
 use Rattle.alarm_server.proofs.KeptProgress.{few_sent}
@@ -39,23 +38,15 @@ with_line state state' line event history stands is own next P Q to p =
     let got : Q state'.site (history_by history event) = to (subst (λ (h : List Event). Represents state' h) (sym same) next) (subst (λ (s : Site). P s history) (sym own) p) in
     subst (λ (s : Site). Q s (history_with state.site history line)) own (subst (λ (h : List Event). Q state'.site h) same got)
 
--- nothing is committed where a line is no event
-pub nothing_committed : (journal : Journal) (site : Site) (history : List Event) (layout : Layout) (told : Option Told) → HoldsHistory journal site history layout told → Commits journal site history history told told
-nothing_committed journal site history layout told (content, rests, stands) = (content, content, stands, stands, between_now journal content content told rests.1)
-
 -- the line wasn't taken
 pub not_taken : (journal : Journal) (site : Site) (history : List Event) (layout : Layout) (told : Option Told) (line : Line) → HoldsHistory journal site history layout told → KeepsLines journal site history (line ∷ []) 0 told told
 not_taken journal site history layout told line (content, rests, stands) = untouched journal site history (line ∷ []) 0 content told stands rests.1
-
--- its event is committed, or not
-pub line_committed : (journal : Journal) (site : Site) (history : List Event) (line : Line) (old new : Option Told) → Commits journal site history (history_with site history line) old new → KeepsLines journal site history (line ∷ []) 0 old new
-line_committed journal site history line old new (first, second, before, after, between) = committed journal site history line first second old new before after between
 
 -- and then its piece goes out, in part at least
 pub line_told : (journal : Journal) (site : Site) (history : List Event) (line : Line) (layout : Layout) (old mid new : Option Told) (piece : List Entry) → Commits journal site history (history_with site history line) old mid
     → HoldsHistory journal site (history_with site history line) layout mid → Emits old mid [] → ((content : Content) → Rests journal layout mid content → Throughout journal content mid new) → Emits mid new piece → length piece ≤ 1 → KeepsLines journal site history (line ∷ []) 0 old new
 line_told journal site history line layout old mid new piece commits (content, rests, stands) quiet throughout goes few =
-    told_line journal site history line content old mid new piece stands (line_committed journal site history line old mid commits) quiet (throughout content rests) goes few
+    told_line journal site history line content old mid new piece stands (committed journal site history line old mid commits) quiet (throughout content rests) goes few
 
 -- what goes out of the piece
 pub line_sent : (piece : List ReportLine) (old mid new : Option Told) → Emits old mid [] → Adds mid new (sent piece_text (piece ∷ [])) → Emits old new (sent piece_text (piece ∷ []))

@@ -11,13 +11,13 @@ use Rattle.ground_io.proofs.Crashes.{adds_both, adds_none, disk_adds}
 use Rattle.ground_io.proofs.Sendings.{along-append, quiet_sends_nothing}
 use Rattle.alarm_journal.specs.Journal.{Content, OpensTo}
 use Rattle.alarm_journal.specs.Journal.{Site as Journal}
-use Rattle.alarm_journal.specs.Press.{Between, Lasts, Throughout}
+use Rattle.alarm_journal.specs.Press.{Lasts, Throughout}
 use Rattle.script_lines.specs.declared.line.Line.{Line}
 use Rattle.alarm_core.specs.declared.event.Event.{Event}
 use Rattle.alarm_core.specs.declared.site.Site.{Site}
 use Rattle.state_codec.specs.Contents.{ImageStands, StandsForHistory}
 use Rattle.alarm_server.specs.Emission.{Emits}
-use Rattle.alarm_server.specs.Keeping.{KeepsLines, KeepsReport, LeavesLines, LeavesReport}
+use Rattle.alarm_server.specs.Keeping.{Commits, KeepsLines, KeepsReport, LeavesLines, LeavesReport}
 use Rattle.alarm_server.specs.Report.{history_over, history_with}
 
 -- ---- the history over some lines
@@ -111,22 +111,21 @@ module _ (journal : Journal) (site : Site) where
   -- ---- one line
 
   -- its event is committed, or not
-  pub committed : (history : List Event) (line : Line) (content after : Content) (old new : Option Told) → StandsForHistory site content history → StandsForHistory site after (history_with site history line)
-      → Between journal content after old new → KeepsLines journal site history (line ∷ []) 0 old new
-  committed history line content after old None before behind between = tt
-  committed history line content after None (Some new) before behind between = absurd between
-  committed history line content after (Some old) (Some new) before behind between =
-      (between.entries, between.adds, along_few P Q 0 to [] (disk_of old) between.entries (quiet between.entries between.quiet) between.always)
+  pub committed : (history : List Event) (line : Line) (old new : Option Told) → Commits journal site history (history_with site history line) old new → KeepsLines journal site history (line ∷ []) 0 old new
+  committed history line old None commits = tt
+  committed history line None (Some new) commits = absurd commits
+  committed history line (Some old) (Some new) commits =
+      (commits.entries, commits.adds, along_few P Q 0 to [] (disk_of old) commits.entries (quiet commits.entries commits.quiet) commits.always)
     where
       P : List Entry → List ℕ → Type 0
       P = LeavesLines journal site history (line ∷ []) 0
 
       Q : List ℕ → Type 0
-      Q image = OpensTo journal image content ⊎ OpensTo journal image after
+      Q image = ImageStands journal site image history ⊎ ImageStands journal site image (history_with site history line)
 
       to : (sent : List Entry) (image : List ℕ) → length sent ≤ 0 → Q image → P sent image
-      to sent image few (inl opens) = (0, omega arith, omega (arith, few), record { content = content; opens = opens; stands = subst (λ (h : List Event). StandsForHistory site content h) (sym (history-none site history)) before })
-      to sent image few (inr opens) = (1, omega arith, omega (arith, few), record { content = after; opens = opens; stands = subst (λ (h : List Event). StandsForHistory site after h) (sym (history-one site history line)) behind })
+      to sent image few (inl stands) = (0, omega arith, omega (arith, few), subst (λ (h : List Event). ImageStands journal site image h) (sym (history-none site history)) stands)
+      to sent image few (inr stands) = (1, omega arith, omega (arith, few), subst (λ (h : List Event). ImageStands journal site image h) (sym (history-one site history line)) stands)
 
       quiet : (entries : List Entry) → AreQuiet entries → length (sent_after entries []) ≤ 0
       quiet entries are = omega (arith, ap (λ (l : List Entry). length l) (quiet_sends_nothing [] entries are))

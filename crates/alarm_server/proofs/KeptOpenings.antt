@@ -6,7 +6,7 @@ use Rattle.ground_io.specs.Sent.{Along, AreQuiet, emissions, sent_after}
 use Rattle.ground_io.specs.Trace.{Told, Adds, disk_of}
 use Rattle.ground_io.specs.declared.entry.Entry.{Entry}
 use Rattle.ground_io.specs.declared.entry.Entry.TheVariants.{Synced}
-use Rattle.ground_io.proofs.Crashes.{adds_both, disk_adds}
+use Rattle.ground_io.proofs.Crashes.{adds_both, adds_none, disk_adds}
 use Rattle.ground_io.proofs.Sendings.{along-append, quiet_sends_nothing}
 use Rattle.alarm_journal.specs.Journal.{Content, OpensTo, opened_from}
 use Rattle.alarm_journal.specs.Journal.{Site as Journal}
@@ -42,6 +42,11 @@ module _ (journal : Journal) (site : Site) where
   opening_kept history lines before None (Some new) stood opens = absurd opens
   opening_kept history lines before (Some old) (Some new) stood (inl nothing) = inl nothing
   opening_kept history lines before (Some old) (Some new) stood (inr opens) = inr (opens.entries, opens.adds, along_opening history lines before old new stood opens)
+
+  -- nothing was done
+  pub untouched_at_once : (history : List Event) (lines : List Line) (before : ℕ) (told : Option Told) → KeepsOpened journal site history lines before told told
+  untouched_at_once history lines before None = tt
+  untouched_at_once history lines before (Some told) = inl (adds_none (Some told))
 
   -- and a session behind it, where it has begun with the sync
   pub session_kept : (history : List Event) (lines : List Line) (before : ℕ) (old mid : Told) (new : Option Told) → ImageStands journal site (disk_of old).contents history → OpensSame journal old mid → KeepsReport journal site history lines before (Some mid) new

@@ -22,3 +22,6 @@ pub mod AtRest
 pub mod Quiet
 pub mod KeptProgress
 pub mod KeptLine
+pub mod Committing
+pub mod BehindOpening
+pub mod Openings

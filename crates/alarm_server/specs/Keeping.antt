@@ -10,7 +10,8 @@ use Rattle.script_lines.specs.declared.line.Line.{Line}
 use Rattle.alarm_core.specs.declared.event.Event.{Event}
 use Rattle.alarm_core.specs.declared.site.Site.{Site}
 use Rattle.alarm_journal.specs.Journal.{Content}
-use Rattle.alarm_journal.specs.Press.{Between, Lasts, Settled}
+use Rattle.alarm_journal.specs.Press.{Lasts, Settled}
+use Rattle.alarm_journal.specs.Protocol.{Leads}
 use Rattle.alarm_journal.specs.declared.layout.Layout.{Layout}
 use Rattle.state_codec.specs.Sizes.{need}
 use Rattle.state_codec.specs.Contents.{ImageStands, StandsForHistory}
@@ -28,10 +29,9 @@ Rests journal layout told content = Settled journal layout told content × Lasts
 abbrev pub HoldsHistory : Journal → Site → List Event → Layout → Option Told → Type 0
 HoldsHistory journal site history layout told = (content : Content) × Rests journal layout told content × StandsForHistory site content history
 
--- On the way from one to the other, each image opens to a content that stands for the one history or for the other, and nothing is sent; where it tells.
+-- On the way from one to the other nothing is sent, and each image that a crash may leave stands for the one history or for the other; where it tells.
 abbrev pub Commits : Journal → Site → List Event → List Event → Option Told → Option Told → Type 0
-Commits journal site before after old new =
-    (first second : Content) × StandsForHistory site first before × StandsForHistory site second after × Between journal first second old new
+Commits journal site before after old new = Leads (λ image. ImageStands journal site image before ⊎ ImageStands journal site image after) old new
 
 -- The octets of a device stood for a history, where its ground told them and still tells.
 abbrev pub StoodFor : Journal → Site → List Event → Option Told → Option Told → Type 0

@@ -20,7 +20,7 @@ use Rattle.alarm_server.specs.Stopping.{StopsReading}
 -- What went out, by the site that the file's text is: its report from a history on that the journal holds. Where the text is no site nothing went out, and the session ended with the text's fault, or before it was found.
 abbrev pub EndsOnSite : Going → Status → List ℕ → Result Site SiteFault → List ℕ → Option Told → Option Told → Type 0
 EndsOnSite Goes ended text (Ok site) script old new =
-    (history : List Event) → StoodFor (journal_of site text) site history old → Ends Goes piece_text ended (report_of site history script) old new
+    (history : List Event) → StoodFor (journal_of site text) site history old new → Ends Goes piece_text ended (report_of site history script) old new
 EndsOnSite Goes ended text (Err fault) script old new =
     ((ended ≡ SiteRefused fault) ⊎ ((ended ≡ ReadFault) ⊎ (ended ≡ NoMemory))) × Goes old new []
 
@@ -38,7 +38,7 @@ RefusesFile site fault = (fault ≢ site_fault.NoMemory) × IfSome site (λ octe
 -- the script of a session of this site stopped being read, and what its whole lines give went out; there is no session where the text is no site
 abbrev pub StopsInScript : Going → List ℕ → Result Site SiteFault → List ℕ → List ℕ → Option Told → Option Told → Type 0
 StopsInScript Goes text (Ok site) script rest old new =
-    (history : List Event) → StoodFor (journal_of site text) site history old → StopsReading Goes piece_text (front_pieces site history) grammar.Session script rest old new
+    (history : List Event) → StoodFor (journal_of site text) site history old new → StopsReading Goes piece_text (front_pieces site history) grammar.Session script rest old new
 StopsInScript Goes text (Err fault) script rest old new = ⊥
 
 -- either the file failed, and nothing went out; or the script did
@@ -50,7 +50,7 @@ StopsOnFile Goes FileFailed ScriptFailed site script rest old new =
 -- of each history that the journal holds, a crash at any moment leaves it and the events of some lines
 abbrev pub KeepsOnSite : List ℕ → Result Site SiteFault → List ℕ → Option Told → Option Told → Type 0
 KeepsOnSite text (Ok site) script old new =
-    (history : List Event) → StoodFor (journal_of site text) site history old → KeepsOpened (journal_of site text) site history (spelled_in grammar.Session 0 (lines_of script)) 1 old new
+    (history : List Event) → StoodFor (journal_of site text) site history old new → KeepsOpened (journal_of site text) site history (spelled_in grammar.Session 0 (lines_of script)) 1 old new
 KeepsOnSite text (Err fault) script old new = Adds old new []
 
 abbrev pub KeepsOnFile : Option (List ℕ) → Option (List ℕ) → Option Told → Option Told → Type 0

@@ -8,6 +8,7 @@ ghost use Rattle.alarm_core.specs.Fits.{FitsEvent};
 ghost use Rattle.alarm_core.specs.Limits.{KeepsLimits};
 ghost use Rattle.alarm_core.specs.declared.event.Event.{Event as Happening};
 ghost use Rattle.state_codec.specs.Records.{HasRecord};
+ghost use Rattle.state_codec.specs.Spelled.{FitsState};
 ghost use Rattle.alarm_server.specs.Emission.{Emits};
 ghost use Rattle.alarm_server.specs.Keeping.{Commits, HoldsHistory, Rests};
 ghost use Rattle.alarm_server.specs.Status.{IsKeepFault};
@@ -17,7 +18,7 @@ use alarm_core::{Core, Event, event_fits, site_fits};
 use alarm_journal::{Job, Press};
 use bac_values::NoMemory;
 use ground_io::Ground;
-use state_codec::{records_are_short, write_event, write_state};
+use state_codec::{records_are_short, snapshots_are_short, write_event, write_state};
 use std::alloc::Global;
 
 /// How many octets a snapshot takes of its area beside its own.
@@ -25,6 +26,9 @@ const FRAME: u64 = 5;
 
 /// No snapshot has so many octets.
 const MOST_OCTETS: u64 = 36_000_000;
+
+/// No snapshot tells of so many events.
+const MOST_EVENTS: u64 = 1 << 63;
 
 // Commits a record as a batch of its own. An `Err` gives the ground back.
 fn keep_record<G: Ground>(
@@ -99,14 +103,22 @@ fn keep_snapshot<G: Ground>(
 }
 
 
-// Commits the state of a core as a snapshot. A state that is longer than its area takes is as good as no memory for it.
+// A core's state keeps the rules of the types of its parts.
+fn state_fits(core: &Core)
+    ensures fits { FitsState core.now }
+{
+    let _events = core.events();
+}
+
+// Commits the state of a core as a snapshot. One that is longer than its area takes, or has no snapshot for the number of
+// its events, is as good as no memory for it.
 fn keep_state<G: Ground>(
     alloc: Global,
     press: Press<G>,
     core: &Core,
 ) -> Result<Press<G>, (G, Status)>
     requires limits { KeepsLimits core.now.site }
-    ensures holds { (journal : Journal) (history : List Happening) (content : Content) → Represents core.now history → All FitsEvent history → Settled journal press.layout (G.told press.device) content
+    ensures holds { (journal : Journal) (history before : List Happening) → Represents core.now history → All FitsEvent history → HoldsHistory journal core.now.site before press.layout (G.told press.device)
         → IfOk result (λ kept. HoldsHistory journal core.now.site history kept.layout (G.told kept.device)) }
     ensures keeps { (journal : Journal) (history before : List Happening) → Represents core.now history → All FitsEvent history → HoldsHistory journal core.now.site before press.layout (G.told press.device)
         → MatchResult result
@@ -125,10 +137,13 @@ fn keep_state<G: Ground>(
         Err(NoMemory) => return Err((press.into_ground(), Status::NoMemory)),
     };
     let length = octets.len() as u64;
-    if length + FRAME > press.area() || length >= MOST_OCTETS {
+    let fits = core.events() < MOST_EVENTS && length < MOST_OCTETS;
+    if !fits || length + FRAME > press.area() {
         return Err((press.into_ground(), Status::NoMemory));
     }
     site_fits(core.site());
+    state_fits(core);
+    snapshots_are_short();
     keep_snapshot(alloc, press, octets.as_slice())
 }
 

@@ -1,4 +1,4 @@
-ghost use Rattle.std.specs.Prelude.{◌≡◌, ◌×◌, ◌≤◌, ℕ, List, length, [], None, OnOk, OnErr, IfErr, IfOk, IfSome, IsErrOf};
+ghost use Rattle.std.specs.Prelude.{◌≡◌, ◌≢◌, ◌≤◌, ℕ, List, length, [], None, Some, Err, OnOk, OnErr, IfErr, IfOk, IfSome, IsErrOf};
 ghost use Rattle.std.specs.Io.KnownBytes.{IsAtEnd};
 ghost use Rattle.ground_io.specs.Counts.{HasCause, Rose};
 ghost use Rattle.ground_io.specs.Trace.{WhereTold};
@@ -21,12 +21,10 @@ ghost use Rattle.alarm_server.specs.Script.{refused_line, spelled_in};
 ghost use Rattle.alarm_server.specs.Pieces.{piece_text};
 ghost use Rattle.alarm_server.specs.Status.{IsFault, IsSessionFault, IsSiteFault, status_of};
 ghost use Rattle.alarm_server.specs.Stopping.{StopsReading};
-ghost use Rattle.alarm_server.specs.Tallies.{tally_of};
 
 use crate::opening::open_journal;
 use crate::session::play_session;
 use crate::status::Status;
-use crate::tally::Tally;
 use crate::text::read_text;
 use alarm_core::Site;
 use ground_io::{Ground, Source};
@@ -37,6 +35,7 @@ use std::alloc::Global;
 fn open_site<S: Source>(alloc: Global, source: &mut S) -> Result<(Site, Vec<u8>), Status>
     ensures site { IfOk result (λ read. IfSome (S.left source.old) (λ octets. (site_of octets ≡ Ok read.0) × (octets ≡ read.1.items))) }
     ensures keeps { IfOk result (λ read. IsSite read.0) }
+    ensures limits { IfOk result (λ read. KeepsLimits read.0) }
     ensures short { IfOk result (λ read. length read.1.items ≤ most_text) }
     ensures refused { (fault : SiteFault) → result ≡ Err (Status.SiteRefused fault) → RefusesFile (S.left source.old) fault }
     ensures fault { IfErr result IsSiteFault }
@@ -48,29 +47,30 @@ fn open_site<S: Source>(alloc: Global, source: &mut S) -> Result<(Site, Vec<u8>)
 }
 
 /// Plays a script to a site, whose text is given, from what the journal on the device holds on, and goes on with the
-/// journal. The answer is how many lines of each kind the report has; the ground comes back.
-pub fn play_site<T: Source, G: Ground>(
+/// journal. The ground comes back.
+fn play_site<T: Source, G: Ground>(
     alloc: Global,
     site: &Site,
     text: &[u8],
     script: &mut T,
     device: G,
-) -> (G, Result<Tally, Status>)
+) -> (G, Result<(), Status>)
     requires site { IsSite site.now }
     requires limits { KeepsLimits site.now }
     requires short { length text.now ≤ most_text }
 
-    // Of each history that the device's octets stand for: the report goes on from it, and a crash at any moment leaves it
+    // Of each history that the device's octets stood for: the report goes on from it, and a crash at any moment leaves it
     // with the events of some lines.
-    ensures ends { (history : List Happening) → StoodFor (journal_of site.now text.now) site.now history (G.told device) → IfSome (T.left script.old) (λ text.
+    ensures ends { (history : List Happening) → StoodFor (journal_of site.now text.now) site.now history (G.told device) (G.told result.0) → IfSome (T.left script.old) (λ text.
         Ends Emits piece_text (status_of result.1) (report_of site.now history text) (G.told device) (G.told result.0)) }
-    ensures tally { (history : List Happening) → StoodFor (journal_of site.now text.now) site.now history (G.told device)
-        → IfOk result.1 (λ tally. IfSome (T.left script.old) (λ text. tally ≡ tally_of (report_of site.now history text))) }
-    ensures keeps { (history : List Happening) → StoodFor (journal_of site.now text.now) site.now history (G.told device) → IfSome (T.left script.old) (λ script.
+    ensures keeps { (history : List Happening) → StoodFor (journal_of site.now text.now) site.now history (G.told device) (G.told result.0) → IfSome (T.left script.old) (λ script.
         KeepsOpened (journal_of site.now text.now) site.now history (spelled_in Session 0 (lines_of script)) 1 (G.told device) (G.told result.0)) }
-    ensures stops { (history : List Happening) → StoodFor (journal_of site.now text.now) site.now history (G.told device) → result.1 ≡ Err Status.ReadFault → WhereTold (T.left script.old) (T.left script.new)
+    ensures stops { (history : List Happening) → StoodFor (journal_of site.now text.now) site.now history (G.told device) (G.told result.0) → result.1 ≡ Err Status.ReadFault → WhereTold (T.left script.old) (T.left script.new)
         (λ text rest. StopsReading Emits piece_text (front_pieces site.now history) Session text rest (G.told device) (G.told result.0)) }
+
+    // The journal is refused for what its octets are, and never where they stood for a history; then nothing goes out.
     ensures refuses_journal { (fault : Refusal) → result.1 ≡ Err (Status.JournalRefused fault) → IsRefusedFor site.now text.now (G.told device) (G.told result.0) fault × Emits (G.told device) (G.told result.0) [] }
+    ensures stands { (history : List Happening) (fault : Refusal) → StoodFor (journal_of site.now text.now) site.now history (G.told device) (G.told result.0) → result.1 ≢ Err (Status.JournalRefused fault) }
     ensures to_end { OnOk result.1 (IsAtEnd (T.left script.new)) }
     ensures accepted { OnOk result.1 (IfSome (T.left script.old) (λ text. refused_line Session text ≡ None)) }
     ensures refused { (line : ℕ) → result.1 ≡ Err (Status.ScriptRefused line) →
@@ -81,9 +81,14 @@ pub fn play_site<T: Source, G: Ground>(
     ensures disk_cause { HasCause (G.disk_faults device) (G.disk_faults result.0) (IsErrOf result.1 Status.DiskFault) }
     ensures emit_cause { HasCause (G.emit_faults device) (G.emit_faults result.0) (IsErrOf result.1 Status.EmitFault) }
 {
-    match open_journal(alloc, site, text, device) {
-        Ok((press, mut core)) => play_session(alloc, press, &mut core, script),
-        Err((device, status)) => (device, Err(status)),
+    let (press, mut core) = match open_journal(alloc, site, text, device) {
+        Ok(opened) => opened,
+        Err((device, status)) => return (device, Err(status)),
+    };
+    let (device, played) = play_session(alloc, press, &mut core, script);
+    match played {
+        Ok(_tally) => (device, Ok(())),
+        Err(status) => (device, Err(status)),
     }
 }
 
@@ -128,9 +133,5 @@ pub fn session<S: Source, T: Source, G: Ground>(
         Ok(read) => read,
         Err(status) => return (device, Err(status)),
     };
-    let (device, played) = play_site(alloc, &opened, text.as_slice(), script, device);
-    match played {
-        Ok(_tally) => (device, Ok(())),
-        Err(status) => (device, Err(status)),
-    }
+    play_site(alloc, &opened, text.as_slice(), script, device)
 }

@@ -5,7 +5,6 @@ ghost use Rattle.script_lines.specs.Report.{report_text};
 ghost use Rattle.alarm_core.specs.Limits.{KeepsLimits};
 ghost use Rattle.alarm_core.specs.Sites.{IsSite};
 ghost use Rattle.state_codec.specs.Sizes.{most_text};
-ghost use Rattle.alarm_server.specs.Keeping.{StoodFor, journal_of};
 ghost use Rattle.site_config.specs.declared.fault.SiteFault.{SiteFault};
 ghost use Rattle.site_config.specs.Sites.{site_of};
 ghost use Rattle.work_load.specs.Site.{workload_site};
@@ -15,10 +14,11 @@ ghost use Rattle.alarm_server.specs.GeneratedSite.{generated_site};
 ghost use Rattle.alarm_server.specs.Workloads.{AcceptsGenerated, ReadsGenerated, RefusesGenerated, summary_line, summary_of};
 
 use crate::emission::emit;
-use crate::on_file::play_site;
+use crate::session::play_session;
 use crate::status::Status;
 use crate::tally::Tally;
-use alarm_core::Site;
+use alarm_core::{Core, Site};
+use alarm_journal::Press;
 use bac_values::ReportLine;
 use ground_io::{Ground, MemoryGround, MemorySource};
 use site_config::read_site;
@@ -42,16 +42,19 @@ fn generated_site(alloc: Global) -> Result<(Site, Vec<u8>), Status>
     Ok((site, text))
 }
 
-// A blank device in memory, as large as a site's journal needs, none of whose calls fails.
-fn blank_device(alloc: Global, site: &Site, text: &[u8]) -> Result<MemoryGround, Status>
+// A press on a blank device in memory, as large as a site's journal needs, none of whose calls fails.
+fn blank_press(alloc: Global, site: &Site, text: &[u8]) -> Result<Press<MemoryGround>, Status>
     requires limits { KeepsLimits site.now }
     requires short { length text.now ≤ most_text }
-    ensures stands { IfOk result (λ device. StoodFor (journal_of site.now text.now) site.now [] device.told) }
     ensures memory { IfErr result (λ status. status ≡ Status.NoMemory) }
 {
     let size = need(site, text.len() as u64);
     let octets = vec![in alloc; 0u8; size as usize]?;
-    Ok(MemoryGround::new(alloc, octets, Vec::new(alloc)))
+    let device = MemoryGround::new(alloc, octets, Vec::new(alloc));
+    match Press::open(alloc, device, text, size) {
+        Ok((press, _opened)) => Ok(press),
+        Err((_device, _fault)) => Err(Status::NoMemory),
+    }
 }
 
 // How a session over a source and a blank ground in memory ends. No call of theirs is to fail, so the ground fails for want
@@ -76,8 +79,9 @@ fn tally_of(alloc: Global, seed: u64, count: u32) -> Result<Tally, Status>
 {
     let (site, text) = generated_site(alloc)?;
     let mut script = MemorySource::new(make_script(alloc, seed, count)?, Vec::new(alloc));
-    let device = blank_device(alloc, &site, text.as_slice())?;
-    let (_device, played) = play_site(alloc, &site, text.as_slice(), &mut script, device);
+    let mut core = Core::start(alloc, &site)?;
+    let press = blank_press(alloc, &site, text.as_slice())?;
+    let (_device, played) = play_session(alloc, press, &mut core, &mut script);
     match played {
         Ok(tally) => Ok(tally),
         Err(status) => Err(of_memory(status)),

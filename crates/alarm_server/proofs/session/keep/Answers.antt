@@ -1,4 +1,4 @@
-use Rattle.alarm_server.proofs.KeptLine.{nothing_committed}
+use Rattle.alarm_server.proofs.Committing.{nothing_committed}
 use Rattle.alarm_server.proofs.session.keep.Goals as goal
 
 pub returns-in-Some-clause-holds : goal.returns-in-Some-clause-holds
@@ -8,4 +8,4 @@ pub returns-in-Some-clause-keeps : goal.returns-in-Some-clause-keeps
 returns-in-Some-clause-keeps g c = rw c.in-Some.is c.keep_event.ensures.keeps
 
 pub returns-in-None-clause-keeps : goal.returns-in-None-clause-keeps
-returns-in-None-clause-keeps g c = rw c.in-None.is (λ journal older stands holds. nothing_committed journal c.args.core.now.site older c.args.press.layout (g.G.Ground.told c.args.press.device) holds)
+returns-in-None-clause-keeps g c = rw c.in-None.is (λ journal older stands holds. nothing_committed journal c.args.core.now.site older older c.args.press.layout (g.G.Ground.told c.args.press.device) holds)

@@ -6,7 +6,8 @@ use Rattle.alarm_server.specs.Keeping.{Commits, HoldsHistory}
 use Rattle.alarm_server.specs.Pieces.{piece_of, piece_text}
 use Rattle.alarm_server.specs.Report.{history_with}
 use Rattle.alarm_server.proofs.Emitting.{emits_sent}
-use Rattle.alarm_server.proofs.KeptLine.{line_committed, line_ends, line_sent, line_told, not_taken, with_line}
+use Rattle.alarm_server.proofs.KeptLine.{line_ends, line_sent, line_told, not_taken, with_line}
+use Rattle.alarm_server.proofs.KeptLines.{committed}
 use Rattle.alarm_server.proofs.KeptProgress.{few_sent}
 use Rattle.alarm_server.proofs.session.play_line.Goals as goal
 
@@ -21,7 +22,7 @@ returns-in_err-press-clause-keeps g c = λ journal history stands holds.
     let new = g.G.Ground.told c.in_err-press.field-0.0.0 in
     let next = c.in-Ok.ensures.represents history stands in
     rw (p.1, p.2)
-    (line_committed journal c.args.core.now.site history c.args.line.now old new
+    (committed journal c.args.core.now.site history c.args.line.now old new
     (with_line c.args.core.now c.count_line.new.core c.args.line.now c.in-Ok.taken.event history stands c.in-Ok.ensures.event c.in-Ok.ensures.site next
     (λ s h. HoldsHistory journal s h c.args.press.layout old) (λ s h. Commits journal s history h old new) (c.in_err-press.ensures.keeps journal history) holds))
 
