@@ -6,7 +6,7 @@ use crate::comparing::holds;
 use alarm_core::*;
 use bac_values::{Items, ObjectId, ObjectKind, Text, Value};
 use object_table::ObjectSite;
-use state_codec::{need, snapshot_bound, write_state};
+use state_codec::{CodecFault, need, read_state, snapshot_bound, write_state};
 use std::alloc::Global;
 use std::process::Abort;
 use std::test::Fail;
@@ -116,5 +116,101 @@ fn a_site_of_one_object_needs_493748_octets(rt: HostRuntime) -> Result<(), Fail>
     let site = plant(rt.alloc(), tank(rt.alloc(), 10)?, 256)?;
     holds(&rt, snapshot_bound(&site) == 493_748);
     holds(&rt, need(&site, 100) == 22 + 100 + 2 * (60_010 + 493_748));
+    Ok(())
+}
+
+/// The snapshot of the start.
+fn first_octets(alloc: Global) -> Result<Vec<u8>, Fail> {
+    let mut octets = Vec::new(alloc);
+    octets.extend_from_slice(&HEAD)?;
+    octets.extend_from_slice(&ROW)?;
+    octets.extend_from_slice(&ALARM)?;
+    octets.extend_from_slice(&CLASS)?;
+    octets.extend_from_slice(&OUTBOX)?;
+    Ok(octets)
+}
+
+#[test]
+fn a_snapshot_is_read_and_written_again(rt: HostRuntime) -> Result<(), Fail> {
+    let alloc = rt.alloc();
+    let site = plant(alloc, tank(alloc, 10)?, 256)?;
+    let octets = first_octets(alloc)?;
+    let core = read_state(alloc, &site, &octets)?;
+    holds(
+        &rt,
+        write_state(alloc, &core)?.as_slice() == octets.as_slice(),
+    );
+    Ok(())
+}
+
+/// A place, and an octet with which no state of the site has the snapshot.
+const DAMAGED: [(usize, u8); 30] = [
+    // Version 2 at a site without a zone rule; 2^63 events; a moment before the start, and one after 2^48.
+    (0, 2),
+    (1, 0x80),
+    (11, 0),
+    (9, 1),
+    // An unsigned value of an integer value; a flag of 2; a fault that the field doesn't have; a fourth transition.
+    (17, 2),
+    (22, 2),
+    (25, 1),
+    (26, 8),
+    // Time_Delay_Normal where the site has none, with its flag and without it; a third limit.
+    (31, 1),
+    (35, 1),
+    (48, 4),
+    // A state to which the limits don't lead; a fourth acknowledged transition; to-offnormal and to-fault entered others.
+    (49, 2),
+    (50, 8),
+    (75, 0),
+    (76, 2),
+    // A cause where there are no alarm values; no reliability; a run that starts in 1970; a start and a key without a run.
+    (81, 1),
+    (82, 99),
+    (83, 1),
+    (91, 1),
+    (95, 1),
+    // 33 recipients; an eighth day; a first time behind the day's end; a recipient that is not known.
+    (122, 33),
+    (123, 128),
+    (124, 1),
+    (135, 6),
+    // A station on the local network, and behind it; a flag of 2.
+    (140, 1),
+    (147, 1),
+    (152, 2),
+    // Two posts where there is one; an attempt, and a deadline, where nothing is in flight.
+    (155, 2),
+    (173, 1),
+    (181, 1),
+];
+
+#[test]
+fn each_damaged_snapshot_is_refused(rt: HostRuntime) -> Result<(), Fail> {
+    let alloc = rt.alloc();
+    let site = plant(alloc, tank(alloc, 10)?, 256)?;
+    let octets = first_octets(alloc)?;
+    for (place, octet) in DAMAGED {
+        let mut damaged = octets.clone()?;
+        if let Some(slot) = damaged.get_mut(place) {
+            *slot = octet;
+        }
+        match read_state(alloc, &site, &damaged) {
+            Err(CodecFault::Malformed { at }) => holds(&rt, at == 0),
+            _ => return Err("it is read".into()),
+        }
+    }
+    Ok(())
+}
+
+#[test]
+fn a_snapshot_ends_where_it_ends(rt: HostRuntime) -> Result<(), Fail> {
+    let alloc = rt.alloc();
+    let site = plant(alloc, tank(alloc, 10)?, 256)?;
+    let mut octets = first_octets(alloc)?;
+    let front = octets.len() - 1;
+    holds(&rt, read_state(alloc, &site, &octets[..front]).is_err());
+    octets.push(0)?;
+    holds(&rt, read_state(alloc, &site, &octets).is_err());
     Ok(())
 }

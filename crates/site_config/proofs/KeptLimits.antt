@@ -1,5 +1,5 @@
 -- The site of a draft that keeps to the limits keeps to them.
-use Rattle.std.proofs.Common.{◌≡◌, ◌⊎◌, ℕ, ◌+◌, ◌≤◌, ◌==◌, nat_lt, ltb, eqb, cond, Bool, true, false, List, [], ◌∷◌, length, map, Result, Ok, Err, if◌then◌else◌, refl, ap, ◌∙◌, arith, inl, inr}
+use Rattle.std.proofs.Common.{◌≡◌, ◌⊎◌, ℕ, ◌+◌, ◌≤◌, ◌==◌, nat_lt, ltb, eqb, cond, Bool, true, false, List, [], ◌∷◌, length, map, get_or, Result, Ok, Err, if◌then◌else◌, refl, ap, ◌∙◌, arith, inl, inr}
 use Rattle.std.specs.List.{All, count_by, list_any, sum_by}
 use Rattle.std.proofs.lemmas.Bool.{cases_Bool, eqb-true, ltb-false, or_parts}
 use Rattle.std.proofs.lemmas.List.{length-map}
@@ -62,7 +62,7 @@ named_or_few number all (destination ∷ rest) h =
           inr (omega (arith, ltb-false 32 (count_of destination.class.instance all) parts.0, ap (λ n. count_of n all) is))
       | inr other ↦
           let one : count_of number (destination ∷ rest) ≡ cond (names_class number destination) 1 0 + count_of number rest = sum_by-cons (λ (d : DestinationSite). cond (names_class number d) 1 0) destination rest in
-          elim (named_or_few number all rest parts.1) [ inl none ↦ inl (omega (arith, one, ap (λ b. cond b 1 0) other, none)) | inr few ↦ inr few ]
+          elim (named_or_few number all rest parts.1) [ inl none ↦ inl (omega (arith, one, ap {B = ℕ} (λ (b : Bool). cond b 1 0) other, none)) | inr few ↦ inr few ]
     ]
 
 few_named : (number : ℕ) (destinations : List DestinationSite) → are_crowded destinations ≡ false → count_of number destinations ≤ 32
@@ -87,7 +87,7 @@ pub limits_kept : (draft : Draft) → IsSmall draft → KeepsLimits (site_of_dra
 limits_kept draft small = record {
   objects = omega (arith, no_more id_of_object draft.objects, no_more id_of_enrollment draft.enrollments, small.objects);
   classes = omega (arith, length-map (in_order id_of_class draft.classes) (with_destinations draft.destinations), no_more id_of_class draft.classes, small.classes);
-  destinations = All-map HasFewDestinations (with_destinations draft.destinations) (in_order id_of_class draft.classes) (λ k d within. has_few draft.destinations _ small.crowded);
+  destinations = All-map HasFewDestinations (with_destinations draft.destinations) (in_order id_of_class draft.classes) (λ k d within. has_few draft.destinations (get_or (in_order id_of_class draft.classes) k d) small.crowded);
   logs = omega (arith, no_more id_of_log draft.logs, small.logs);
   records = omega (arith, fold_weighs identifier_order id_of_log size_of draft.logs, small.records);
 }

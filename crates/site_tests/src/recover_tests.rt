@@ -106,14 +106,19 @@ fn left_of(alloc: Global, site: &Site, opened: &Opened) -> Left
     }
 }
 
+fn left_on(alloc: Global, site: &Site, device: MemoryGround) -> Left
+    requires site { IsSite site.now }
+{
+    match Press::open(alloc, device, b"site", 60) {
+        Ok((_, opened)) => left_of(alloc, site, &opened),
+        Err(_) => Left::Refused,
+    }
+}
+
 /// What a journal of these batches leaves of the tank's site.
 fn recovered(alloc: Global, bodies: &[&'static [u8]]) -> Result<Left, Fail> {
     let site = tank(alloc)?;
-    let device = committed(alloc, bodies)?;
-    match Press::open(alloc, device, b"site", 60) {
-        Ok((_, opened)) => Ok(left_of(alloc, &site, &opened)),
-        Err(_) => Ok(Left::Refused),
-    }
+    Ok(left_on(alloc, &site, committed(alloc, bodies)?))
 }
 
 /// That such a journal leaves this.
@@ -163,4 +168,33 @@ fn what_cannot_follow_is_damaged_at_its_place(rt: HostRuntime) -> Result<(), Fai
 fn no_record_runs_on_in_the_next_batch(rt: HostRuntime) -> Result<(), Fail> {
     let at = FIRST_BODY + 22;
     leaves(&rt, rt.alloc(), &[HALF, REST], Left::Damaged { at })
+}
+
+/// A device whose journal holds these octets as a snapshot.
+fn with_snapshot(alloc: Global, octets: &[u8]) -> Result<MemoryGround, Fail> {
+    match Press::open(alloc, committed(alloc, &[])?, b"site", 60) {
+        Ok((press, _)) => {
+            let fits = octets.len() as u64 + 5 <= press.area() && octets.len() < 60_000;
+            if octets.is_empty() || !fits {
+                return Ok(press.into_ground());
+            }
+            let job = Job::snapshot(alloc, octets)?;
+            match press.commit_snapshot(&job) {
+                Ok(press) => Ok(press.into_ground()),
+                Err(device) => Ok(device),
+            }
+        }
+        Err((device, _)) => Ok(device),
+    }
+}
+
+#[test]
+fn a_snapshot_of_no_state_is_damaged_at_its_first_octet(rt: HostRuntime) -> Result<(), Fail> {
+    let alloc = rt.alloc();
+    let site = tank(alloc)?;
+    let device = with_batch(alloc, with_snapshot(alloc, &[9])?, FIRST)?;
+    // The second area begins behind the header, of 26 octets, and the first one, of 187; the snapshot behind its length.
+    let at = 217;
+    same(&rt, &left_on(alloc, &site, device), &Left::Damaged { at });
+    Ok(())
 }

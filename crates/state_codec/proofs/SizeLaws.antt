@@ -16,7 +16,6 @@ use Rattle.bac_values.specs.declared.object_kind.ObjectKind.TheVariants.{BinaryV
 use Rattle.event_log.specs.declared.log_record.LogRecord.{LogRecord}
 use Rattle.event_log.specs.declared.log_site.LogSite.{LogSite}
 use Rattle.algorithm_rules.specs.Rules.{rules_of}
-use Rattle.event_machine.specs.AlarmRecord.{never}
 use Rattle.event_machine.specs.Runs.{places}
 use Rattle.event_machine.specs.Summary.{AlarmState, new_alarm, transitions}
 use Rattle.event_machine.specs.declared.run.Run.{Run}

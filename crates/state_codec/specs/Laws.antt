@@ -11,6 +11,7 @@ use Rattle.alarm_core.specs.declared.site.Site.{Site}
 use Rattle.state_codec.specs.Records.{HasRecord, SpellsEvent, written_event}
 use Rattle.state_codec.specs.Sizes.{KeepsTypes, most_text, need, snapshot_bound}
 use Rattle.state_codec.specs.Snapshots.{written_state}
+use Rattle.state_codec.specs.Spelled.{SpellsState}
 
 -- no record begins another: whatever follows two of them, where the octets are the same, the records are, and so are their events
 abbrev pub OneSpelling : Type 0
@@ -37,3 +38,8 @@ pub record SnapshotsAreShort : Type 0 where
 pub record BoundsAreLow : Type 0 where
   pub snapshot : (site : Site) → IsSite site → KeepsLimits site → snapshot_bound site < 36_000_000
   pub device : (site : Site) (text : ℕ) → IsSite site → KeepsLimits site → text ≤ most_text → need site text < 72_000_000
+
+-- octets are the snapshot of one state of a site at most; and a state has one snapshot
+pub record OneSnapshot : Type 0 where
+  pub state : (site : Site) (octets : List ℕ) (x y : CoreState) → IsSite site → SpellsState site octets x → SpellsState site octets y → x ≡ y
+  pub octets : (site : Site) (first second : List ℕ) (x : CoreState) → SpellsState site first x → SpellsState site second x → first ≡ second

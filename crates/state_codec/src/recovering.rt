@@ -1,6 +1,6 @@
 //! What a journal holds becomes the core of its site: the state of its snapshot, or the first one, and then the events of
 //! its records, one after the other.
-ghost use Rattle.std.specs.Prelude.{◌≡◌, All, ◌≤◌, ◌<◌, ◌^◌, ◌+◌, ℕ, List, ◌⊎◌, IfOk, IsOkAnd, OnErr, OnOk, Err, length};
+ghost use Rattle.std.specs.Prelude.{◌≡◌, All, ◌≤◌, ◌<◌, ◌^◌, ◌+◌, ℕ, List, IfOk, OnErr, OnOk, Err, length};
 ghost use Rattle.bac_tags.specs.Places.{IsSpelledAt};
 ghost use Rattle.bac_values.specs.Moments.{IsMoment};
 ghost use Rattle.alarm_core.specs.declared.event.Event.{Event as Happening};
@@ -12,12 +12,12 @@ ghost use Rattle.alarm_core.specs.Verdicts.{Answers, step_verdict};
 ghost use Rattle.alarm_journal.specs.Opened.{EndsOnDevice, content_in, pieces, sum_of};
 ghost use Rattle.state_codec.specs.Contents.{StandsForHistory};
 ghost use Rattle.state_codec.specs.DamageSteps.{BodiesLeadTo, ContentLeadsTo, IsDamagedAt, IsDamagedIn, IsDamagedRecord, IsDamagedSnapshot, LeadsTo, Tells};
-ghost use Rattle.state_codec.specs.Spelled.{SpellsNothing, SpellsState};
+ghost use Rattle.state_codec.specs.Spelled.{SpellsState};
 ghost use Rattle.alarm_core.specs.State.{CoreState};
 ghost use Rattle.alarm_core.specs.FollowingSteps.{MayFollow};
 ghost use Rattle.state_codec.specs.Records.{SpellsEvent};
 
-use crate::{CodecFault, read_event};
+use crate::{CodecFault, read_event, read_state};
 use alarm_core::{Core, Event, Site, StepFault};
 use alarm_journal::{Body, Opened};
 use bac_values::NoMemory;
@@ -39,17 +39,6 @@ pub enum RecoverFault {
     },
     /// Memory was refused.
     NoMemory,
-}
-
-// (a stand-in until what reads snapshots is there)
-fn read_state(_alloc: Global, site: &Site, bytes: &[u8]) -> Result<Core, CodecFault>
-    requires site { IsSite site.now }
-    ensures found { IfOk result (λ core. SpellsState site.now bytes.now core) }
-    ensures only { (state : CoreState) → SpellsState site.now bytes.now state → IsOkAnd result (λ core. core ≡ state) ⊎ (result ≡ Err CodecFault.NoMemory) }
-    ensures refused { (place : ℕ) → result ≡ Err (CodecFault.Malformed place) → (place ≡ 0) × SpellsNothing site.now bytes.now }
-    ensures nothing { SpellsNothing site.now bytes.now → (result ≡ Err (CodecFault.Malformed 0)) ⊎ (result ≡ Err CodecFault.NoMemory) }
-{
-    Err(CodecFault::NoMemory)
 }
 
 impl From<NoMemory> for RecoverFault {

@@ -1,11 +1,18 @@
 ghost use Rattle.std.specs.Prelude.{◌≡◌, ◌<◌, ◌^◌, All, length};
 ghost use Rattle.state_codec.specs.Records.{IsDestination, IsPeer};
-ghost use Rattle.state_codec.specs.Types.{FitsAct, FitsValue, FitsWhat};
+ghost use Rattle.state_codec.specs.Types.{AreOctets, FitsAct, FitsValue, FitsWhat};
 
 use alarm_core::{Act, Event};
 use bac_values::{Peer, Value};
 use notify_class::Destination;
 use object_table::What;
+
+/// Octets are below 2^8. The call does nothing.
+pub(crate) fn octets_fit(octets: &[u8])
+    ensures below { AreOctets octets.now }
+{
+    let _octets = octets;
+}
 
 /// A number of 16 bits is below 2^16.
 fn half_fits(number: u16)
