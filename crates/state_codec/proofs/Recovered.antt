@@ -39,16 +39,11 @@ older_is_history site (event ∷ newer) older is = older_is_history site newer o
 
 -- a verdict that is no refusal as full is a good one
 not_full : (notes : List Note) (outbox : OutboxState) → ((would limit : ℕ) → queue_verdict notes outbox ≡ Err (Full would limit) → ⊥) → queue_verdict notes outbox ≡ Ok tt
-not_full notes outbox never = by (nat_lt 0 (length notes) && nat_lt outbox.limit would) refl
+not_full notes outbox never = by (nat_lt 0 (length notes) && nat_lt outbox.limit (unfinished_in outbox.posts + length notes)) refl
   where
-    would : ℕ
-    would = unfinished_in outbox.posts + length notes
-    answer : Bool → Result (Unit {0}) StepFault
-    answer more = if more then Err (Full would outbox.limit) else Ok tt
-    by : (more : Bool) → (nat_lt 0 (length notes) && nat_lt outbox.limit would) ≡ more → queue_verdict notes outbox ≡ Ok tt
-    unfolding would answer
-    by true e = absurd (never would outbox.limit (ap answer e))
-    by false e = ap answer e
+    by : (more : Bool) → (nat_lt 0 (length notes) && nat_lt outbox.limit (unfinished_in outbox.posts + length notes)) ≡ more → queue_verdict notes outbox ≡ Ok tt
+    by true e = absurd (never (unfinished_in outbox.posts + length notes) outbox.limit (ap (λ (b : Bool). if b then Err (Full (unfinished_in outbox.posts + length notes) outbox.limit) else Ok tt) e))
+    by false e = ap (λ (b : Bool). if b then Err (Full (unfinished_in outbox.posts + length notes) outbox.limit) else Ok tt) e
 
 -- the next event of a history may follow the state of those before it
 may_come : (site : Site) (event : Event) (older : List Event) → IsSite site → IsHistory site (event ∷ older) → MayFollow event (state_of site older)
