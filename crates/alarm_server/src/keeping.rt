@@ -1,4 +1,4 @@
-ghost use Rattle.std.specs.Prelude.{◌≡◌, ◌<◌, ◌≤◌, ◌+◌, ℕ, List, [], ◌∷◌, All, MatchResult, IfErr, IfOk, length};
+ghost use Rattle.std.specs.Prelude.{◌≡◌, ◌<◌, ◌≤◌, ◌+◌, ◌^◌, ℕ, List, [], ◌∷◌, All, IsTrue, MatchResult, IfErr, IfOk, length};
 ghost use Rattle.ground_io.specs.Counts.{HasCause};
 ghost use Rattle.alarm_journal.specs.Journal.{Content, only_snapshot, with_batch};
 ghost use Rattle.alarm_journal.specs.Journal.{Site as Journal};
@@ -103,6 +103,15 @@ fn keep_snapshot<G: Ground>(
 }
 
 
+// Whether the state after so many events is a snapshot, and one of so many octets fits an area.
+fn takes_state(events: u64, length: u64, area: u64) -> bool
+    ensures few { IsTrue result → events < 2 ^ 63 }
+    ensures short { IsTrue result → length < 36000000 }
+    ensures fits { IsTrue result → length + 5 ≤ area }
+{
+    events < MOST_EVENTS && length < MOST_OCTETS && length + FRAME <= area
+}
+
 // A core's state keeps the rules of the types of its parts.
 fn state_fits(core: &Core)
     ensures fits { FitsState core.now }
@@ -136,9 +145,7 @@ fn keep_state<G: Ground>(
         Ok(octets) => octets,
         Err(NoMemory) => return Err((press.into_ground(), Status::NoMemory)),
     };
-    let length = octets.len() as u64;
-    let fits = core.events() < MOST_EVENTS && length < MOST_OCTETS;
-    if !fits || length + FRAME > press.area() {
+    if !takes_state(core.events(), octets.len() as u64, press.area()) {
         return Err((press.into_ground(), Status::NoMemory));
     }
     site_fits(core.site());

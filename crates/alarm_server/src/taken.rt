@@ -1,4 +1,4 @@
-ghost use Rattle.std.specs.Prelude.{◌≡◌, ◌<◌, ◌×◌, ◌^◌, ◌∷◌, ◌++◌, [], List, None, max, IfOk, IfSome, OnErr, OnOk, map};
+ghost use Rattle.std.specs.Prelude.{◌≡◌, ◌<◌, ◌^◌, ◌∷◌, ◌++◌, [], List, None, max, IfOk, IfSome, OnErr, OnOk, map};
 ghost use Rattle.bac_values.specs.Moments.{IsMoment};
 ghost use Rattle.state_codec.specs.Records.{HasRecord};
 ghost use Rattle.alarm_core.specs.State.{CoreState};
