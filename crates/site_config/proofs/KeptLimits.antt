@@ -1,6 +1,6 @@
 -- The site of a draft that keeps to the limits keeps to them.
-use Rattle.std.proofs.Common.{◌≡◌, ◌⊎◌, ℕ, ◌+◌, ◌≤◌, ◌==◌, nat_lt, ltb, eqb, cond, Bool, true, false, List, [], ◌∷◌, length, map, get_or, Result, Ok, Err, if◌then◌else◌, refl, ap, ◌∙◌, arith, inl, inr}
-use Rattle.std.specs.List.{All, count_by, list_any, sum_by}
+use Rattle.std.proofs.Common.{◌≡◌, ◌⊎◌, ℕ, ◌+◌, ◌≤◌, nat_lt, cond, Bool, true, false, List, [], ◌∷◌, length, get_or, Result, Ok, Err, if◌then◌else◌, refl, ap, arith, inl, inr}
+use Rattle.std.specs.List.{list_any, sum_by}
 use Rattle.std.proofs.lemmas.Bool.{cases_Bool, eqb-true, ltb-false, or_parts}
 use Rattle.std.proofs.lemmas.List.{length-map}
 use Rattle.std.proofs.lemmas.List.Elements.{All-map}

@@ -1,6 +1,5 @@
 -- Events that follow a state, and the records of which they are read.
-use Rattle.std.proofs.Common.{◌≡◌, ℕ, ◌+◌, ◌-◌, ◌≤◌, ◌<◌, List, [], ◌∷◌, ◌++◌, length, take, drop, get_or, All, refl, ap, ◌∙◌, sym, subst, arith, append_assoc, Result, Ok, Err, ◌⊎◌, inl, inr}
-use Rattle.std.specs.List.{flat_map}
+use Rattle.std.proofs.Common.{◌≡◌, ℕ, ◌+◌, ◌≤◌, ◌<◌, List, [], ◌∷◌, ◌++◌, length, take, drop, get_or, refl, ap, ◌∙◌, sym, subst, arith, append_assoc, Result, Ok, Err, ◌⊎◌, inl, inr}
 use Rattle.std.specs.Int.{w64, to_be_bytes}
 use Rattle.std.proofs.lemmas.List.{append-nil, drop-drop, drop_more, length-append, length-drop, length-take, take_all, take-append-drop}
 use Rattle.std.proofs.Math.Seq.{take-append_seam}
@@ -10,12 +9,12 @@ use Rattle.bac_tags.specs.Places.{IsSpelledAt}
 use Rattle.alarm_core.specs.declared.event.Event.{Event}
 use Rattle.alarm_core.specs.CoreSteps.{next_state}
 use Rattle.alarm_core.specs.State.{CoreState}
-use Rattle.state_codec.specs.Contents.{SpellsEvents, SpellEvents, records_of}
+use Rattle.state_codec.specs.Contents.{SpellsEvents, SpellEvents}
 use Rattle.alarm_journal.specs.Opened.{pieces, sum_of}
 use Rattle.alarm_journal.specs.declared.body.Body.{Body}
-use Rattle.state_codec.specs.DamageSteps.{LeadsTo, BodiesLeadTo, IsDamagedIn, IsDamagedRecord, NoneFollows}
+use Rattle.state_codec.specs.DamageSteps.{LeadsTo, BodiesLeadTo, IsDamagedIn, IsDamagedRecord}
 use Rattle.alarm_core.specs.FollowingSteps.{AreAllowed, MayFollow, state_over}
-use Rattle.state_codec.specs.Records.{SpellsEvent, HasRecord, written_act, written_event}
+use Rattle.state_codec.specs.Records.{SpellsEvent, HasRecord, written_act}
 use Rattle.state_codec.specs.declared.fault.CodecFault.{CodecFault}
 use Rattle.state_codec.specs.declared.fault.CodecFault.TheVariants as faults
 

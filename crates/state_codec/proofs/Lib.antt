@@ -39,3 +39,4 @@ pub mod ReadState
 pub mod Following
 pub mod Recovered
 pub mod Committed
+pub mod StateTypes

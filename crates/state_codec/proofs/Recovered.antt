@@ -1,21 +1,18 @@
 -- A journal that holds a history of its site is followed to its end, and the state reached is the one that the history leaves.
-use Rattle.std.proofs.Common.{◌≡◌, ℕ, ◌+◌, ◌≤◌, ◌<◌, List, [], ◌∷◌, ◌++◌, ◌&&◌, nat_lt, Bool, true, false, if◌then◌else◌, length, take, drop, reverse, All, refl, ap, ◌∙◌, sym, subst, arith, append_assoc, Result, Ok, Err}
-use Rattle.std.specs.List.{flat_map}
+use Rattle.std.proofs.Common.{◌≡◌, ℕ, ◌+◌, ◌≤◌, List, [], ◌∷◌, ◌++◌, ◌&&◌, nat_lt, Bool, true, false, if◌then◌else◌, length, take, drop, reverse, All, refl, ap, ◌∙◌, sym, subst, arith, append_assoc, Ok, Err}
 use Rattle.std.specs.Int.{w64, to_be_bytes}
 use Rattle.std.proofs.lemmas.List.{append-nil, append_cancel_left, drop-drop, length-append, reverse-append}
 use Rattle.std.proofs.lemmas.List.Elements.{All-head, All-tail}
-use Rattle.bac_values.specs.Moments.{IsMoment}
 use Rattle.alarm_core.specs.declared.event.Event.{Event}
-use Rattle.alarm_core.specs.declared.event.StepFault.{StepFault}
 use Rattle.alarm_core.specs.declared.event.StepFault.TheVariants.{Full}
 use Rattle.alarm_core.specs.declared.site.Site.{Site}
 use Rattle.alarm_core.specs.Allowed.{Comes, IsHistory, Represents}
-use Rattle.alarm_core.specs.CoreSteps.{first_state, next_notes, next_state}
+use Rattle.alarm_core.specs.CoreSteps.{next_notes, next_state}
 use Rattle.alarm_core.specs.Deliveries.{outbox_after}
 use Rattle.alarm_core.specs.FollowingSteps.{AreAllowed, MayFollow, state_over}
 use Rattle.alarm_core.specs.Sites.{IsSite}
 use Rattle.alarm_core.specs.State.{CoreState, state_of}
-use Rattle.alarm_core.specs.Verdicts.{queue_verdict, step_verdict}
+use Rattle.alarm_core.specs.Verdicts.{queue_verdict}
 use Rattle.alarm_core.proofs.Counting.{counts_the_longer_history}
 use Rattle.alarm_core.proofs.Following.{stands_over_events}
 use Rattle.alarm_core.proofs.Standing.{stands}
@@ -26,8 +23,8 @@ use Rattle.alarm_journal.specs.Opened.{content_in, pieces, sum_of}
 use Rattle.alarm_journal.specs.declared.body.Body.{Body}
 use Rattle.alarm_journal.specs.declared.opened.Opened.{Opened}
 use Rattle.state_codec.specs.Contents.{IsSnapshotAfter, SpellEvents, SpellsEvents, StandsForHistory, records_of}
-use Rattle.state_codec.specs.DamageSteps.{BodiesLeadTo, IsDamagedAt, IsDamagedIn, IsDamagedRecord, IsDamagedSnapshot, LeadsTo, Tells}
-use Rattle.state_codec.specs.Records.{HasRecord, SpellsEvent, written_act, written_event}
+use Rattle.state_codec.specs.DamageSteps.{BodiesLeadTo, IsDamagedIn, IsDamagedRecord, IsDamagedSnapshot, Tells}
+use Rattle.state_codec.specs.Records.{HasRecord, written_act, written_event}
 use Rattle.state_codec.specs.Spelled.{SpellsState}
 use Rattle.state_codec.proofs.EventLaws.{one_spelling}
 

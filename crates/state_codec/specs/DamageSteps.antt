@@ -9,8 +9,8 @@ use Rattle.alarm_journal.specs.Journal.{Content}
 use Rattle.alarm_journal.specs.Opened.{pieces, sum_of}
 use Rattle.alarm_journal.specs.declared.body.Body.{Body}
 use Rattle.alarm_journal.specs.declared.opened.Opened.{Opened}
-use Rattle.state_codec.specs.Contents.{SpellEvents, SpellsEvents, records_of}
-use Rattle.state_codec.specs.Records.{HasRecord, SpellsEvent}
+use Rattle.state_codec.specs.Contents.{SpellEvents, SpellsEvents}
+use Rattle.state_codec.specs.Records.{SpellsEvent}
 use Rattle.state_codec.specs.Spelled.{SpellsNothing, SpellsState}
 
 -- a snapshot tells a state; where there is none, it is the first one of the site

@@ -9,9 +9,9 @@ use Rattle.alarm_core.specs.SiteStates.{IsStateOf}
 use Rattle.alarm_core.specs.Sites.{IsSite}
 use Rattle.alarm_core.specs.declared.site.Site.{Site}
 use Rattle.state_codec.specs.Records.{HasRecord, SpellsEvent, written_event}
-use Rattle.state_codec.specs.Sizes.{KeepsTypes, most_text, need, snapshot_bound}
+use Rattle.state_codec.specs.Sizes.{most_text, need, snapshot_bound}
 use Rattle.state_codec.specs.Snapshots.{written_state}
-use Rattle.state_codec.specs.Spelled.{SpellsState}
+use Rattle.state_codec.specs.Spelled.{FitsState, SpellsState}
 
 -- no record begins another: whatever follows two of them, where the octets are the same, the records are, and so are their events
 abbrev pub OneSpelling : Type 0
@@ -31,7 +31,7 @@ HasRecordWhereAllowed event = (state : CoreState) → IsMoment event.moment → 
 
 -- the snapshot of a state that a site may have is at most as long as the site's bound, and not empty
 pub record SnapshotsAreShort : Type 0 where
-  pub most : (site : Site) (state : CoreState) → IsStateOf site state → KeepsTypes state → length (written_state state) ≤ snapshot_bound site
+  pub most : (site : Site) (state : CoreState) → IsStateOf site state → FitsState state → length (written_state state) ≤ snapshot_bound site
   pub some : (state : CoreState) → 1 ≤ length (written_state state)
 
 -- a site that keeps its limits needs fewer than 36,000,000 octets for a snapshot, and fewer than 72,000,000 for its device

@@ -24,6 +24,7 @@ mod reading_state;
 mod reading_subjects;
 mod recovering;
 mod sizes;
+mod state_types;
 mod types;
 mod value;
 mod writing;
@@ -41,4 +42,5 @@ pub use laws::{
 pub use reading_state::read_state;
 pub use recovering::{RecoverFault, recover};
 pub use sizes::{need, snapshot_bound};
+pub use state_types::state_fits;
 pub use writing_state::write_state;

@@ -36,7 +36,7 @@ fn flags_fit(flags: [bool; 3])
 }
 
 /// A peer keeps the rules of its type.
-fn peer_fits(peer: &Peer)
+pub(crate) fn peer_fits(peer: &Peer)
     ensures fits { IsPeer peer.now }
 {
     word_fits(peer.ip);
@@ -46,7 +46,7 @@ fn peer_fits(peer: &Peer)
 }
 
 /// A value keeps the rules of its type.
-fn value_fits(value: &Value)
+pub(crate) fn value_fits(value: &Value)
     ensures fits { FitsValue value.now }
 {
     match value {
@@ -94,7 +94,7 @@ fn destination_fits(recipient: &Destination)
 }
 
 /// Recipients keep the rules of their type.
-fn destinations_fit(recipients: &[Destination])
+pub(crate) fn destinations_fit(recipients: &[Destination])
     ensures fit { All IsDestination recipients.now }
 {
     for recipient in recipients {

@@ -1,4 +1,4 @@
-use Rattle.std.proofs.Common.{◌≡◌, ◌+◌, ◌<◌, ℕ, List, ◌∷◌, ◌++◌, [], length, take, drop, get_or, sym, ap, ◌∙◌, subst, arith, Err}
+use Rattle.std.proofs.Common.{◌≡◌, ◌+◌, List, take, drop, get_or, sym, ap, ◌∙◌, subst, arith, Err}
 use Rattle.std.proofs.lemmas.List.{take_more}
 use Rattle.alarm_journal.specs.Opened.{EndsOnDevice}
 use Rattle.alarm_journal.specs.declared.body.Body.{Body}

@@ -1,5 +1,4 @@
-use Rattle.std.proofs.Common.{◌≡◌, ◌+◌, take}
-use Rattle.alarm_journal.specs.Opened.{sum_of}
+use Rattle.std.proofs.Common.{take}
 use Rattle.state_codec.proofs.Following.{IsBehind}
 use Rattle.state_codec.proofs.recovering.follow_bodies.Given as goal
 

@@ -1,4 +1,4 @@
-use Rattle.std.proofs.Common.{◌≡◌, Ok, Err, ◌∙◌, subst}
+use Rattle.std.proofs.Common.{◌≡◌, Err, subst}
 use Rattle.std.proofs.lemmas.Result.{err_from_is_err_and}
 use Rattle.alarm_core.specs.declared.event.Event.{Event as Happening}
 use Rattle.state_codec.specs.declared.fault.CodecFault.TheVariants.{Malformed}

@@ -29,7 +29,7 @@ returns-in_err-follow_bodies-clause-stands c = λ history stood at e.
     let is : c.follow_bodies.result ≡ Err (Damaged at) = was ∙ ap Err (sym p.2 ∙ err_is p.0 (Damaged at) (sym p.1 ∙ e)) in
     let begun : core ≡ state_of site stood.older = begun_so site (content_in opened) history core stood (λ other spells. c.in_ok-core.ensures.only other spells) c.in_ok-core.ensures.tells in
     let damaged : IsDamagedRecord core opened.bodies opened.batches at =
-        subst (λ (bodies : List Body). IsDamagedRecord core bodies opened.batches at) c.as_slice.ensures.same (subst (λ (octets : List ℕ). IsDamagedRecord core c.as_slice.result.now octets at) c.as_slice-2.ensures.same (c.follow_bodies.ensures.damaged at is)) in
+    subst (λ (bodies : List Body). IsDamagedRecord core bodies opened.batches at) c.as_slice.ensures.same (subst (λ (octets : List ℕ). IsDamagedRecord core c.as_slice.result.now octets at) c.as_slice-2.ensures.same (c.follow_bodies.ensures.damaged at is)) in
     not_damaged_so site opened history core at c.requires.site stood begun damaged
 
 pub returns-clause-site : goal.returns-clause-site
@@ -43,5 +43,5 @@ returns-clause-represents c = λ history stood.
     let reached = c.follow_bodies.new.core in
     let begun : core ≡ state_of site stood.older = begun_so site (content_in opened) history core stood (λ other spells. c.in_ok-core.ensures.only other spells) c.in_ok-core.ensures.tells in
     let lead : BodiesLeadTo core (pieces opened.bodies opened.batches) reached =
-        subst (λ (bodies : List Body). BodiesLeadTo core (pieces bodies opened.batches) reached) c.as_slice.ensures.same (subst (λ (octets : List ℕ). BodiesLeadTo core (pieces c.as_slice.result.now octets) reached) c.as_slice-2.ensures.same c.in_ok-follow_bodies.ensures.followed) in
+    subst (λ (bodies : List Body). BodiesLeadTo core (pieces bodies opened.batches) reached) c.as_slice.ensures.same (subst (λ (octets : List ℕ). BodiesLeadTo core (pieces c.as_slice.result.now octets) reached) c.as_slice-2.ensures.same c.in_ok-follow_bodies.ensures.followed) in
     recovered site (content_in opened) history core reached c.requires.site stood begun lead
