@@ -1,5 +1,5 @@
 -- What a commit leaves of a history, by what it leaves of the content that stands for it.
-use Rattle.std.proofs.Common.{◌≡◌, ◌⊎◌, ℕ, ◌≤◌, ◌<◌, ◌^◌, Option, Some, None, Result, Ok, Err, IfOk, MatchResult, List, [], ◌∷◌, All, length, ap, ◌∙◌, subst, inl, inr, arith}
+use Rattle.std.proofs.Common.{◌≡◌, ◌⊎◌, ℕ, ◌≤◌, ◌<◌, ◌^◌, Option, Some, None, Result, Ok, Err, IfOk, MatchResult, List, [], ◌∷◌, All, length, ap, ◌∙◌, sym, subst, inl, inr, arith}
 use Rattle.std.proofs.lemmas.List.Elements.{All-cons}
 use Rattle.ground_io.specs.Trace.{Told, disk_of}
 use Rattle.ground_io.proofs.Crashes.{adds_none, always_weaker}
@@ -13,7 +13,9 @@ use Rattle.alarm_core.specs.Allowed.{Represents}
 use Rattle.alarm_core.specs.Fits.{FitsEvent, FitsSite}
 use Rattle.alarm_core.specs.Limits.{KeepsLimits}
 use Rattle.alarm_core.specs.Sites.{IsSite}
-use Rattle.alarm_core.specs.State.{CoreState}
+use Rattle.alarm_core.specs.SiteStates.{IsStateOf}
+use Rattle.alarm_core.specs.State.{state_of, CoreState}
+use Rattle.alarm_core.proofs.KeptSites.{keeps_to_its_site}
 use Rattle.state_codec.specs.Contents.{ImageStands, StandsForHistory}
 use Rattle.state_codec.specs.Snapshots.{written_state}
 use Rattle.state_codec.specs.Spelled.{FitsState}
@@ -55,13 +57,17 @@ module _ (journal : Journal) (site : Site) (before after : List Event) where
 -- ---- an event and a state in octets
 
 -- the snapshot of a core's state
-pub snapshot_of_core : (core : CoreState) (history : List Event) (octets : List ℕ) → Represents core history → IsSite core.site → KeepsLimits core.site → FitsSite core.site → All FitsEvent history → core.events < 2 ^ 63 → 1 ≤ length (written_state core) → octets ≡ written_state core → FitsState core
+pub snapshot_of_core : (core : CoreState) (history : List Event) (octets : List ℕ) → Represents core history → IsSite core.site → KeepsLimits core.site → FitsSite core.site → All FitsEvent history → core.events < 2 ^ 63 → 1 ≤ length (written_state core) → octets ≡ written_state core → (IsStateOf core.site core → FitsState core)
     → StandsForHistory core.site (only_snapshot octets) history
 snapshot_of_core core history octets stands is limits fits fit few some same typed =
-    let count : core.events ≡ length history = ap (λ (s : CoreState). s.events) stands.shows in
+    let left = state_of core.site history in
+    let shows : core ≡ left = stands.shows in
+    let count : core.events ≡ length history = ap (λ (s : CoreState). s.events) shows in
+    let brief : length history < 2 ^ 63 = omega (arith, few, count) in
     let long : 0 < length octets = omega (arith, some, ap (λ (l : List ℕ). length l) same) in
-    snapshot_stands core.site history octets is limits fits stands.is_history fit (omega (arith, few, count)) long
-    (same ∙ ap written_state stands.shows) (subst (λ (s : CoreState). FitsState s) stands.shows typed)
+    let own : IsStateOf core.site left = keeps_to_its_site.keeps core.site is limits fits history stands.is_history fit brief in
+    let its_types : FitsState core = typed (subst (λ (s : CoreState). IsStateOf core.site s) (sym shows) own) in
+    snapshot_stands core.site history octets is limits fits stands.is_history fit brief long (same ∙ ap written_state shows) (subst (λ (s : CoreState). FitsState s) shows its_types)
 
 -- the history with an event is one whose values fit
 pub fits_more : (site : Site) (content : Content) (event : Event) (older : List Event) → StandsForHistory site content older → FitsEvent event → All FitsEvent (event ∷ older)

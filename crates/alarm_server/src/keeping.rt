@@ -1,4 +1,4 @@
-ghost use Rattle.std.specs.Prelude.{◌≡◌, ◌<◌, ◌≤◌, ◌+◌, ◌^◌, ℕ, List, [], ◌∷◌, All, IsTrue, MatchResult, IfErr, IfOk, length};
+ghost use Rattle.std.specs.Prelude.{◌≡◌, ◌<◌, ◌≤◌, ◌+◌, ◌^◌, ℕ, List, [], ◌∷◌, All, IsTrue, MatchResult, IfErr, IfOk, OnOk, length};
 ghost use Rattle.ground_io.specs.Counts.{HasCause};
 ghost use Rattle.alarm_journal.specs.Journal.{Content, only_snapshot, with_batch};
 ghost use Rattle.alarm_journal.specs.Journal.{Site as Journal};
@@ -6,8 +6,10 @@ ghost use Rattle.alarm_journal.specs.Press.{Between, room_of};
 ghost use Rattle.alarm_core.specs.Allowed.{Represents};
 ghost use Rattle.alarm_core.specs.Fits.{FitsEvent};
 ghost use Rattle.alarm_core.specs.Limits.{KeepsLimits};
+ghost use Rattle.alarm_core.specs.SiteStates.{IsStateOf};
 ghost use Rattle.alarm_core.specs.declared.event.Event.{Event as Happening};
 ghost use Rattle.state_codec.specs.Records.{HasRecord};
+ghost use Rattle.state_codec.specs.Snapshots.{written_state};
 ghost use Rattle.state_codec.specs.Spelled.{FitsState};
 ghost use Rattle.alarm_server.specs.Emission.{Emits};
 ghost use Rattle.alarm_server.specs.Keeping.{Commits, HoldsHistory, Rests};
@@ -18,7 +20,9 @@ use alarm_core::{Core, Event, event_fits, site_fits};
 use alarm_journal::{Job, Press};
 use bac_values::NoMemory;
 use ground_io::Ground;
-use state_codec::{records_are_short, snapshots_are_short, write_event, write_state};
+use state_codec::{
+    records_are_short, snapshots_are_short, state_fits, write_event, write_state,
+};
 use std::alloc::Global;
 
 /// How many octets a snapshot takes of its area beside its own.
@@ -112,11 +116,13 @@ fn takes_state(events: u64, length: u64, area: u64) -> bool
     events < MOST_EVENTS && length < MOST_OCTETS && length + FRAME <= area
 }
 
-// A core's state keeps the rules of the types of its parts.
-fn state_fits(core: &Core)
-    ensures fits { FitsState core.now }
+// The state of a core in octets. It keeps to the rules of the types of its parts.
+fn state_octets(alloc: Global, core: &Core) -> Result<Vec<u8>, NoMemory>
+    ensures octets { IfOk result (λ octets. octets.items ≡ written_state core.now) }
+    ensures fits { OnOk result (IsStateOf core.now.site core.now → FitsState core.now) }
 {
-    let _events = core.events();
+    state_fits(alloc, core)?;
+    write_state(alloc, core)
 }
 
 // Commits the state of a core as a snapshot. One that is longer than its area takes, or has no snapshot for the number of
@@ -141,7 +147,7 @@ fn keep_state<G: Ground>(
     ensures same { MatchResult result (λ kept. G.size kept.device ≡ G.size press.device) (λ lost. G.size lost.0 ≡ G.size press.device) }
     ensures emitted { MatchResult result (λ kept. G.emit_faults kept.device ≡ G.emit_faults press.device) (λ lost. G.emit_faults lost.0 ≡ G.emit_faults press.device) }
 {
-    let octets = match write_state(alloc, core) {
+    let octets = match state_octets(alloc, core) {
         Ok(octets) => octets,
         Err(NoMemory) => return Err((press.into_ground(), Status::NoMemory)),
     };
@@ -149,7 +155,6 @@ fn keep_state<G: Ground>(
         return Err((press.into_ground(), Status::NoMemory));
     }
     site_fits(core.site());
-    state_fits(core);
     snapshots_are_short();
     keep_snapshot(alloc, press, octets.as_slice())
 }

@@ -14,8 +14,8 @@ pub returns-clause-holds : goal.returns-clause-holds
 returns-clause-holds g c = λ journal history before stands fit holds.
     let core = c.args.core.now in
     let octets = c.as_slice.result.now in
-    let same = c.as_slice.ensures.value ∙ c.in-Ok.ensures.written in
-    let stood : StandsForHistory core.site (only_snapshot octets) history = ? in
+    let same = c.as_slice.ensures.value ∙ c.in-Ok.ensures.octets in
+    let stood : StandsForHistory core.site (only_snapshot octets) history = snapshot_of_core core history octets stands c.site.ensures.keeps c.requires.limits (rw c.site.ensures.site at c.site_fits.ensures.fits) fit ? (c.snapshots_are_short.ensures.short.some core) same c.in-Ok.ensures.fits in
     let (content, rests, before_it) = holds in
     if_ok_more (λ kept. Rests journal kept.layout (g.G.Ground.told kept.device) (only_snapshot octets)) (λ kept. HoldsHistory journal core.site history kept.layout (g.G.Ground.told kept.device)) c.keep_snapshot.result
     (λ kept after. (only_snapshot octets, after, stood)) (c.keep_snapshot.ensures.rests journal content rests)
@@ -25,8 +25,8 @@ returns-clause-keeps g c = λ journal history before stands fit holds.
     let core = c.args.core.now in
     let octets = c.as_slice.result.now in
     let old = g.G.Ground.told c.args.press.device in
-    let same = c.as_slice.ensures.value ∙ c.in-Ok.ensures.written in
-    let stood : StandsForHistory core.site (only_snapshot octets) history = ? in
+    let same = c.as_slice.ensures.value ∙ c.in-Ok.ensures.octets in
+    let stood : StandsForHistory core.site (only_snapshot octets) history = snapshot_of_core core history octets stands c.site.ensures.keeps c.requires.limits (rw c.site.ensures.site at c.site_fits.ensures.fits) fit ? (c.snapshots_are_short.ensures.short.some core) same c.in-Ok.ensures.fits in
     let (content, rests, before_it) = holds in
     match_more (λ kept. Between journal content (only_snapshot octets) old (g.G.Ground.told kept.device)) (λ kept. Commits journal core.site before history old (g.G.Ground.told kept.device))
     (λ lost. Between journal content (only_snapshot octets) old (g.G.Ground.told lost.0)) (λ lost. Commits journal core.site before history old (g.G.Ground.told lost.0)) c.keep_snapshot.result
