@@ -20,9 +20,7 @@ use alarm_core::{Core, Event, event_fits, site_fits};
 use alarm_journal::{Job, Press};
 use bac_values::NoMemory;
 use ground_io::Ground;
-use state_codec::{
-    records_are_short, snapshots_are_short, state_fits, write_event, write_state,
-};
+use state_codec::{records_are_short, snapshots_are_short, state_fits, write_event, write_state};
 use std::alloc::Global;
 
 /// How many octets a snapshot takes of its area beside its own.
@@ -105,7 +103,6 @@ fn keep_snapshot<G: Ground>(
         Err(NoMemory) => Err((press.into_ground(), Status::NoMemory)),
     }
 }
-
 
 // Whether the state after so many events is a snapshot, and one of so many octets fits an area.
 fn takes_state(events: u64, length: u64, area: u64) -> bool
