@@ -1,5 +1,5 @@
 -- A session on a site's file, where its text is no site or isn't read.
-use Rattle.std.proofs.Common.{◌≡◌, ◌≢◌, ◌⊎◌, ℕ, Option, Some, None, Result, Ok, Err, List, [], IfSome, take, refl, ap, ◌∙◌, sym, subst, inl, inr}
+use Rattle.std.proofs.Common.{◌≡◌, ◌≢◌, ◌⊎◌, ℕ, Option, Some, None, Result, Ok, Err, List, [], IfSome, OnOk, take, refl, ap, ◌∙◌, sym, subst, inl, inr}
 use Rattle.ground_io.specs.Trace.{Told, WhereTold}
 use Rattle.ground_io.proofs.Crashes.{adds_none}
 use Rattle.script_lines.specs.declared.line.Grammar.TheVariants.{Session}
@@ -83,6 +83,22 @@ pub each_told : {A B : Type 0} (P : A → Type 0) (Q : B → B → A → Type 0)
 each_told P Q None left told all = tt
 each_told P Q (Some t) None told all = absurd told
 each_told P Q (Some t) (Some rest) told all = all
+
+-- the same where the text was handed on
+pub on_read : (P : List ℕ → Result Site SiteFault → Type 0) (source : Option (List ℕ)) (site : Site) (read text : List ℕ) → text ≡ read → IfSome source (λ octets. (site_of octets ≡ Ok site) × (octets ≡ read)) → P text (Ok site) → IfSome source (λ octets. P octets (site_of octets))
+on_read P None site read text handed is p = tt
+on_read P (Some octets) site read text handed (says, same) p = subst (λ (r : Result Site SiteFault). P octets r) (sym says) (subst (λ (o : List ℕ). P o (Ok site)) (handed ∙ sym same) p)
+
+-- what is so where a call ended well
+pub on_ok_more : {A E : Type 0} (P Q : Type 0) (result : Result A E) → (P → Q) → OnOk result P → OnOk result Q
+on_ok_more P Q (Ok x) to p = to p
+on_ok_more P Q (Err fault) to p = tt
+
+-- where it was told before and is told now
+pub told_more : {A : Type 0} (P : A → A → Type 0) (before now : Option A) → WhereTold before now P → WhereTold before now (λ t rest. Unit {0})
+told_more P None now p = tt
+told_more P (Some t) None p = p
+told_more P (Some t) (Some rest) p = tt
 
 -- ---- what is read is as good as the whole text
 

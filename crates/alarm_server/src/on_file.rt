@@ -1,4 +1,4 @@
-ghost use Rattle.std.specs.Prelude.{◌≡◌, ◌≢◌, ◌≤◌, ℕ, List, length, [], None, Some, Err, OnOk, OnErr, IfErr, IfOk, IfSome, IsErrOf};
+ghost use Rattle.std.specs.Prelude.{◌≡◌, ◌≢◌, ◌≤◌, ⊤, ℕ, List, length, [], None, Some, Err, OnOk, OnErr, IfErr, IfOk, IfSome, IsErrOf};
 ghost use Rattle.std.specs.Io.KnownBytes.{IsAtEnd};
 ghost use Rattle.ground_io.specs.Counts.{HasCause, Rose};
 ghost use Rattle.ground_io.specs.Trace.{WhereTold};
@@ -67,6 +67,7 @@ fn play_site<T: Source, G: Ground>(
         KeepsOpened (journal_of site.now text.now) site.now history (spelled_in Session 0 (lines_of script)) 1 (G.told device) (G.told result.0)) }
     ensures stops { (history : List Happening) → StoodFor (journal_of site.now text.now) site.now history (G.told device) (G.told result.0) → result.1 ≡ Err Status.ReadFault → WhereTold (T.left script.old) (T.left script.new)
         (λ text rest. StopsReading Emits piece_text (front_pieces site.now history) Session text rest (G.told device) (G.told result.0)) }
+    ensures script_told { result.1 ≡ Err Status.ReadFault → WhereTold (T.left script.old) (T.left script.new) (λ text rest. ⊤) }
 
     // The journal is refused for what its octets are, and never where they stood for a history; then nothing goes out.
     ensures refuses_journal { (fault : Refusal) → result.1 ≡ Err (Status.JournalRefused fault) → IsRefusedFor site.now text.now (G.told device) (G.told result.0) fault × Emits (G.told device) (G.told result.0) [] }

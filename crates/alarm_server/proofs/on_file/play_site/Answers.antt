@@ -7,10 +7,13 @@ use Rattle.alarm_server.specs.Keeping.{journal_of, KeepsOpened}
 use Rattle.alarm_server.specs.Pieces.{piece_text}
 use Rattle.alarm_server.specs.Report.{report_of}
 use Rattle.alarm_server.specs.Script.{spelled_in}
+use Rattle.alarm_server.specs.SessionSteps.{state_front}
 use Rattle.alarm_server.specs.Status.{status_of}
+use Rattle.alarm_server.specs.Stopping.{StopsReading}
 use Rattle.alarm_server.proofs.BehindOpening.{ends_refused, ends_session, keeps_session, stops_session}
 use Rattle.alarm_server.proofs.KeptOpenings.{opening_kept}
 use Rattle.alarm_server.proofs.KeptProgress.{in_any}
+use Rattle.alarm_server.proofs.OnFile.{told_more}
 use Rattle.alarm_server.proofs.on_file.play_site.Goals as goal
 
 pub returns-in-Err-clause-ends : goal.returns-in-Err-clause-ends
@@ -81,3 +84,10 @@ returns-clause-stops g c = λ history stood e.
     let new = g.G.Ground.told c.play_session-device.result.0 in
     let opened = c.in-Ok.ensures in
     stops_session (journal_of c.args.site.now c.args.text.now) c.args.site.now c.requires.site core opened.site press.layout history c.in-Err-played.status old mid new stood opened.quiet (opened.represents history) (g.T.Source.left c.args.script.now) (g.T.Source.left c.play_session-device.new.script) (c.play_session-device.ensures.stops (c.in-Err-played.is ∙ ap Err same))
+
+pub returns-clause-script_told : goal.returns-clause-script_told
+returns-clause-script_told g c = λ e.
+    let same : c.in-Err-played.status ≡ ReadFault = cc in
+    let old = g.G.Ground.told c.in-Ok.opened.0.device in
+    let new = g.G.Ground.told c.play_session-device.result.0 in
+    told_more (λ t rest. StopsReading Emits piece_text (state_front c.in-Ok.opened.1) Session t rest old new) (g.T.Source.left c.args.script.now) (g.T.Source.left c.play_session-device.new.script) (c.play_session-device.ensures.stops (c.in-Err-played.is ∙ ap Err same))
