@@ -60,3 +60,12 @@ module _ (site : Site) (text : List ℕ) (opened : Opened) where
       let content : stood.content ≡ content_in opened = cc in
       never (subst (λ (c : Content). StandsForHistory site c history) content stood.stands) at refl
   never_refused history (Some old) (Some new) NoMemory fault stood answers never = λ same. absurd cc
+
+  -- what was opened stands for the history that the octets stood for
+  pub opened_stands : (history : List Event) (old new : Option Told) → StoodFor (journal_of site text) site history old new → Answers (journal_of site text) old new (Ok (content_in opened)) → StandsForHistory site (content_in opened) history
+  opened_stands history None new stood answers = absurd stood
+  opened_stands history (Some old) None stood answers = absurd stood
+  opened_stands history (Some old) (Some new) stood answers =
+      let both = sym answers ∙ stood.opens in
+      let content : stood.content ≡ content_in opened = cc in
+      subst (λ (c : Content). StandsForHistory site c history) content stood.stands
