@@ -80,5 +80,5 @@ returns-clause-stops g c = λ e.
     let script = g.T.Source.left c.args.script.now in
     let rest = g.T.Source.left c.play_site.new.script in
     let stood : IfSome (g.S.Source.left c.args.site.now) (λ octets. WhereTold script rest (λ t left. StopsInScript Emits octets (site_of octets) t left old new)) = on_read (λ octets says. WhereTold script rest (λ t left. StopsInScript Emits octets says t left old new)) (g.S.Source.left c.args.site.now) site c.in-Ok.read.1.items text c.as_slice.ensures.value c.in-Ok.ensures.site
-        (each_told (λ history. StoodFor (journal_of site text) site history old new) (λ t left history. StopsReading Emits piece_text (front_pieces site history) Session t left old new) script rest (c.play_site.ensures.script_told e) (λ history before. c.play_site.ensures.stops history before e)) in
+    (each_told (λ history. StoodFor (journal_of site text) site history old new) (λ t left history. StopsReading Emits piece_text (front_pieces site history) Session t left old new) script rest (c.play_site.ensures.script_told e) (λ history before. c.play_site.ensures.stops history before e)) in
     inr (c.play_site.ensures.read_cause.rose e, stood)
