@@ -1,24 +1,84 @@
-use Rattle.std.proofs.Common.{◌≡◌, ◌∙◌, Err, ap}
-use Rattle.std.proofs.lemmas.Result.{err_from_is_err_and}
+use Rattle.std.proofs.Common.{◌≡◌, ◌∙◌, ℕ, List, Ok, Err, None, IfSome, IsOk, OnErr, Result, ap, refl, inr}
+use Rattle.ground_io.specs.Trace.{WhereTold}
+use Rattle.script_lines.specs.declared.line.Grammar.TheVariants.{Session}
+use Rattle.script_lines.specs.Script.{lines_of}
+use Rattle.alarm_core.specs.declared.event.Event.{Event}
+use Rattle.alarm_core.specs.declared.site.Site.{Site}
+use Rattle.site_config.specs.declared.fault.SiteFault.{SiteFault}
+use Rattle.site_config.specs.Sites.{site_of}
 use Rattle.alarm_server.specs.declared.status.Status.TheVariants.{SiteRefused}
-use Rattle.alarm_server.specs.Emission.{Emits}
-use Rattle.alarm_server.proofs.Emitting.{emits, leaves_at_once}
-use Rattle.alarm_server.proofs.OnFile.{ends_unopened}
+use Rattle.alarm_server.specs.Emission.{Emits, Ends}
+use Rattle.alarm_server.specs.Keeping.{KeepsOpened, StoodFor, journal_of}
+use Rattle.alarm_server.specs.OnFile.{AcceptsOnFile, EndsOnSite, KeepsOnSite, StopsInScript}
+use Rattle.alarm_server.specs.OpeningSteps.{RefusesOnSite}
+use Rattle.alarm_server.specs.Pieces.{piece_text}
+use Rattle.alarm_server.specs.Report.{front_pieces, report_of}
+use Rattle.alarm_server.specs.Script.{refused_line, spelled_in}
+use Rattle.alarm_server.specs.Status.{status_of}
+use Rattle.alarm_server.specs.Stopping.{StopsReading}
+use Rattle.alarm_server.proofs.Emitting.{emits}
+use Rattle.alarm_server.proofs.OnFile.{each_script, each_told, ends_unopened, keeps_unopened, on_ok_more, on_read}
 use Rattle.alarm_server.proofs.on_file.session.Goals as goal
 
-pub returns-in_err-opened-clause-ends : goal.returns-in_err-opened-clause-ends
-returns-in_err-opened-clause-ends g c =
-    let p = err_from_is_err_and c.from_residual.result c.from_residual.ensures.1 in
-    let fault = c.in_err-opened.field-0.0 in
-    rw (p.1, p.2)
-    (ends_unopened Emits emits (g.S.Source.left c.args.site.now) (g.T.Source.left c.args.script.now) fault (g.G.Ground.told c.args.device.now) c.in_err-opened.ensures.fault
-    (λ own same. c.open_site.ensures.refused own (c.in_err-opened.was ∙ ap Err same)))
+pub returns-in-Err-clause-ends : goal.returns-in-Err-clause-ends
+returns-in-Err-clause-ends g c =
+    ends_unopened Emits emits (g.S.Source.left c.args.site.now) (g.T.Source.left c.args.script.now) c.in-Err.status (g.G.Ground.told c.args.device) c.in-Err.ensures.fault
+    (λ own same. c.open_site.ensures.refused own (c.in-Err.is ∙ ap Err same))
 
-pub returns-in_err-opened-clause-refuses_site : goal.returns-in_err-opened-clause-refuses_site
-returns-in_err-opened-clause-refuses_site g c = λ own e.
-    let p = err_from_is_err_and c.from_residual.result c.from_residual.ensures.1 in
-    let same : c.in_err-opened.field-0.0 ≡ SiteRefused own = cc in
-    c.open_site.ensures.refused own (c.in_err-opened.was ∙ ap Err same)
+pub returns-in-Err-clause-keeps : goal.returns-in-Err-clause-keeps
+returns-in-Err-clause-keeps g c = keeps_unopened (g.S.Source.left c.args.site.now) (g.T.Source.left c.args.script.now) (g.G.Ground.told c.args.device)
 
-pub returns-in_err-opened-clause-alone : goal.returns-in_err-opened-clause-alone
-returns-in_err-opened-clause-alone g c = leaves_at_once (g.G.Ground.told c.args.device.now)
+pub returns-in-Err-clause-refuses_site : goal.returns-in-Err-clause-refuses_site
+returns-in-Err-clause-refuses_site g c = λ own e.
+    let same : c.in-Err.status ≡ SiteRefused own = cc in
+    c.open_site.ensures.refused own (c.in-Err.is ∙ ap Err same)
+
+pub returns-clause-ends : goal.returns-clause-ends
+returns-clause-ends g c =
+    let site = c.in-Ok.read.0 in
+    let text = c.as_slice.result.now in
+    let old = g.G.Ground.told c.args.device in
+    let new = g.G.Ground.told c.play_site.result.0 in
+    let script = g.T.Source.left c.args.script.now in
+    let ended = status_of c.play_site.result.1 in
+    on_read (λ octets says. IfSome script (λ t. EndsOnSite Emits ended octets says t old new)) (g.S.Source.left c.args.site.now) site c.in-Ok.read.1.items text c.as_slice.ensures.value c.in-Ok.ensures.site
+    (each_script (λ history. StoodFor (journal_of site text) site history old new) (λ t history. Ends Emits piece_text ended (report_of site history t) old new) script c.play_site.ensures.ends)
+
+pub returns-clause-keeps : goal.returns-clause-keeps
+returns-clause-keeps g c =
+    let site = c.in-Ok.read.0 in
+    let text = c.as_slice.result.now in
+    let old = g.G.Ground.told c.args.device in
+    let new = g.G.Ground.told c.play_site.result.0 in
+    let script = g.T.Source.left c.args.script.now in
+    on_read (λ octets says. IfSome script (λ t. KeepsOnSite octets says t old new)) (g.S.Source.left c.args.site.now) site c.in-Ok.read.1.items text c.as_slice.ensures.value c.in-Ok.ensures.site
+    (each_script (λ history. StoodFor (journal_of site text) site history old new) (λ t history. KeepsOpened (journal_of site text) site history (spelled_in Session 0 (lines_of t)) 1 old new) script c.play_site.ensures.keeps)
+
+pub returns-clause-accepted : goal.returns-clause-accepted
+returns-clause-accepted g c =
+    let left = g.S.Source.left c.args.site.now in
+    let script = g.T.Source.left c.args.script.now in
+    let taken : IfSome left (λ octets. IsOk (site_of octets)) = on_read (λ octets says. IsOk says) left c.in-Ok.read.0 c.in-Ok.read.1.items c.as_slice.result.now c.as_slice.ensures.value c.in-Ok.ensures.site refl in
+    on_ok_more (IfSome script (λ t. refused_line Session t ≡ None)) (AcceptsOnFile left script) c.play_site.result.1 (λ lines. (taken, lines)) c.play_site.ensures.accepted
+
+pub returns-clause-refuses_journal : goal.returns-clause-refuses_journal
+returns-clause-refuses_journal g c = λ fault e.
+    let old = g.G.Ground.told c.args.device in
+    let new = g.G.Ground.told c.play_site.result.0 in
+    on_read (λ octets says. RefusesOnSite octets says old new fault) (g.S.Source.left c.args.site.now) c.in-Ok.read.0 c.in-Ok.read.1.items c.as_slice.result.now c.as_slice.ensures.value c.in-Ok.ensures.site (c.play_site.ensures.refuses_journal fault e)
+
+pub returns-clause-unread : goal.returns-clause-unread
+returns-clause-unread g c =
+    on_read (λ octets says. OnErr says (c.play_site.new.script ≡ c.args.script.now)) (g.S.Source.left c.args.site.now) c.in-Ok.read.0 c.in-Ok.read.1.items c.as_slice.result.now c.as_slice.ensures.value c.in-Ok.ensures.site tt
+
+pub returns-clause-stops : goal.returns-clause-stops
+returns-clause-stops g c = λ e.
+    let site = c.in-Ok.read.0 in
+    let text = c.as_slice.result.now in
+    let old = g.G.Ground.told c.args.device in
+    let new = g.G.Ground.told c.play_site.result.0 in
+    let script = g.T.Source.left c.args.script.now in
+    let rest = g.T.Source.left c.play_site.new.script in
+    let stood : IfSome (g.S.Source.left c.args.site.now) (λ octets. WhereTold script rest (λ t left. StopsInScript Emits octets (site_of octets) t left old new)) = on_read (λ octets says. WhereTold script rest (λ t left. StopsInScript Emits octets says t left old new)) (g.S.Source.left c.args.site.now) site c.in-Ok.read.1.items text c.as_slice.ensures.value c.in-Ok.ensures.site
+    (each_told (λ history. StoodFor (journal_of site text) site history old new) (λ t left history. StopsReading Emits piece_text (front_pieces site history) Session t left old new) script rest (c.play_site.ensures.script_told e) (λ history before. c.play_site.ensures.stops history before e)) in
+    inr (c.play_site.ensures.read_cause.rose e, stood)
