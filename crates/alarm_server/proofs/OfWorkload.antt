@@ -23,8 +23,8 @@ summarised seed count site core script tally is made stands own drawn accepted c
     let all = workload_script seed count in
     let none : refused_line Session all ≡ None = subst (λ (s : List ℕ). refused_line Session s ≡ None) drawn accepted in
     let by_history : tally ≡ tally_of (report_of generated_site [] all) =
-        counted
-        ∙ (ap (λ (r : List (List ReportLine)). tally_of r) (reports site is [] core stands own script)
-        ∙ (ap (λ (s : Site). tally_of (report_of s [] script)) made
-        ∙ ap (λ (s : List ℕ). tally_of (report_of generated_site [] s)) drawn)) in
+    counted
+    ∙ (ap (λ (r : List (List ReportLine)). tally_of r) (reports site is [] core stands own script)
+    ∙ (ap (λ (s : Site). tally_of (report_of s [] script)) made
+    ∙ ap (λ (s : List ℕ). tally_of (report_of generated_site [] s)) drawn)) in
     ap (summary_by seed count all) none ∙ ap (λ (t : Tally). summary_line seed count t ∷ []) (sym by_history)

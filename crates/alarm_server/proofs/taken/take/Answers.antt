@@ -22,8 +22,9 @@ returns-clause-represents c = λ history stands.
     let came = c.in_ok-decide.field-0 in
     let is : came ≡ decision_for state line = c.in_ok-decide.ensures.decision in
     let none : event_in state (decision_for state line) ≡ None = elim c.match-branch-2.branch [
-      in-Ignore+in_ok-piece-in-Ignore w ↦ decided state line came _ is w.in-Ignore.is refl
-    | in-Idle+in_ok-piece-in-Idle w ↦ decided state line came _ is w.in-Idle.is refl
-    | in-Refuse+in_ok-piece-in-Refuse w ↦ decided state line came _ is w.in-Refuse.is refl
-    | in-Reply+in_ok-piece-in-Reply w ↦ decided state line came _ is w.in-Reply.is refl ] in
+      | in-Ignore+in_ok-piece-in-Ignore w ↦ decided state line came _ is w.in-Ignore.is refl
+      | in-Idle+in_ok-piece-in-Idle w ↦ decided state line came _ is w.in-Idle.is refl
+      | in-Refuse+in_ok-piece-in-Refuse w ↦ decided state line came _ is w.in-Refuse.is refl
+      | in-Reply+in_ok-piece-in-Reply w ↦ decided state line came _ is w.in-Reply.is refl
+    ] in
     without_event state history line stands none
