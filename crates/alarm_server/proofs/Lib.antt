@@ -5,6 +5,7 @@ pub mod Fronts
 pub mod Course
 pub mod Progress
 pub mod PieceLines
+pub mod Entering
 pub mod Comings
 pub mod Played
 pub mod Tallied
@@ -14,6 +15,7 @@ pub mod OnFile
 pub mod Texts
 mod OfUnsent
 pub mod GeneratedText
+pub mod OfWorkload
 pub mod KeptLines
 pub mod KeptOpenings
 pub mod OneEmission

@@ -2,6 +2,7 @@ pub mod Settings
 pub mod Looks
 pub mod Watched
 pub mod Status
+pub mod Faults
 pub mod Causes
 pub mod Emission
 pub mod Stopping

@@ -14,7 +14,8 @@ ghost use Rattle.bac_values.specs.declared.value.Value.TheVariants.{Signed};
 ghost use Rattle.event_machine.specs.Points.{Incident, Looked, Point};
 ghost use Rattle.alarm_server.specs.Looks.{looks_after, point_at};
 ghost use Rattle.alarm_server.specs.Emission.{Sends, Ends};
-ghost use Rattle.alarm_server.specs.Status.{status_of, IsPlayFault};
+ghost use Rattle.alarm_server.specs.Faults.{IsTrialFault};
+ghost use Rattle.alarm_server.specs.Status.{status_of};
 ghost use Rattle.alarm_server.specs.Script.{refused_line};
 ghost use Rattle.alarm_server.specs.Trial.{SendsTransitions, front_transitions, move_line, newest_moves, report_over};
 ghost use Rattle.alarm_server.specs.Watched.{HasSeen};
@@ -135,7 +136,7 @@ pub fn play<T: Source, G: Ground>(
         IfSome (T.left script.old) (λ text. refused_line Trial text ≡ Some line) }
     ensures stops { result ≡ Err Status.ReadFault → WhereTold (T.left script.old) (T.left script.new)
         (λ text rest. StopsReading Adds report_text (front_transitions settings) Trial text rest (G.told device.old) (G.told device.new)) }
-    ensures fault { IfErr result IsPlayFault }
+    ensures fault { IfErr result IsTrialFault }
     ensures size { G.size device.new ≡ G.size device.old }
     ensures disk { G.disk_faults device.new ≡ G.disk_faults device.old }
     ensures read_cause { HasCause (T.faults script.old) (T.faults script.new) (IsErrOf result Status.ReadFault) }

@@ -9,7 +9,8 @@ ghost use Rattle.site_config.specs.declared.fault.SiteFault.{SiteFault};
 ghost use Rattle.site_config.specs.Sites.{site_of};
 ghost use Rattle.work_load.specs.Site.{workload_site};
 ghost use Rattle.alarm_server.specs.Emission.{Ends};
-ghost use Rattle.alarm_server.specs.Status.{IsFault, IsInnerFault, IsSiteFault, of_memory, status_of};
+ghost use Rattle.alarm_server.specs.Faults.{IsWorkloadFault};
+ghost use Rattle.alarm_server.specs.Status.{IsInnerFault, IsSiteFault, of_memory, status_of};
 ghost use Rattle.alarm_server.specs.GeneratedSite.{generated_site};
 ghost use Rattle.alarm_server.specs.Workloads.{AcceptsGenerated, ReadsGenerated, RefusesGenerated, summary_line, summary_of};
 
@@ -27,12 +28,13 @@ use std::alloc::Global;
 use work_load::{make_script, make_site};
 
 // The generated site, with its text.
-#[tactic(auto, using(crate::proofs::GeneratedText::reads))]
+#[tactic(auto, using(crate::proofs::GeneratedText::reads, crate::proofs::GeneratedText::short))]
 fn generated_site(alloc: Global) -> Result<(Site, Vec<u8>), Status>
     ensures site { IfOk result (λ made. made.0 ≡ generated_site) }
     ensures text { IfOk result (λ made. made.1.items ≡ workload_site) }
     ensures keeps { IfOk result (λ made. IsSite made.0) }
     ensures limits { IfOk result (λ made. KeepsLimits made.0) }
+    ensures short { IfOk result (λ made. length made.1.items ≤ most_text) }
     ensures memory { IfErr result (λ status. status ≡ Status.NoMemory) }
     ensures fault { IfErr result IsInnerFault }
     ensures no_line { IfErr result IsSiteFault }
@@ -102,7 +104,7 @@ pub fn workload<G: Ground>(
     ensures accepted { OnOk result (AcceptsGenerated seed count) }
     ensures refused { (line : ℕ) → result ≡ Err (Status.ScriptRefused line) → RefusesGenerated seed count line }
     ensures takes_site { (fault : SiteFault) → result ≢ Err (Status.SiteRefused fault) }
-    ensures fault { IfErr result IsFault }
+    ensures fault { IfErr result IsWorkloadFault }
     ensures unread { result ≢ Err Status.ReadFault }
     ensures size { G.size device.new ≡ G.size device.old }
     ensures disk { G.disk_faults device.new ≡ G.disk_faults device.old }

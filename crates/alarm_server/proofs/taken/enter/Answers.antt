@@ -1,16 +1,18 @@
-use Rattle.std.proofs.Common.{◌≡◌, ◌+◌, ◌++◌, ◌∷◌, [], Ok, map, ◌∙◌, rules}
+use Rattle.std.proofs.Common.{◌≡◌, ◌+◌, ◌++◌, ◌∷◌, [], Ok, Err, map, ◌∙◌, rules}
 use Rattle.bac_values.specs.declared.report.ReportLine.TheVariants.{Entered, Change}
+use Rattle.alarm_core.specs.declared.event.StepFault.TheVariants.{Full}
 use Rattle.alarm_core.specs.History.{moved_by, raised}
 use Rattle.alarm_core.specs.CoreSteps.{next_sends, next_transitions}
 use Rattle.alarm_core.specs.Verdicts.{step_verdict}
 use Rattle.alarm_server.specs.Pieces.{reply_lines, send_line}
+use Rattle.alarm_server.proofs.Entering.{entered, not_entered}
 use Rattle.alarm_server.proofs.PieceLines.{fits_is}
 use Rattle.alarm_server.proofs.taken.enter.Goals as goal
 
 pub returns-clause-piece : goal.returns-clause-piece
 returns-clause-piece c =
     let state = c.args.core.now in
-    let event = raised state.last_moment c.args.event.now in
+    let event = raised state.last_moment c.args.event in
     let moment = c.in-Ok.outcome.moment in
     let moved = c.as_slice.result.now in
     let gone = c.into_vec.result.items in
@@ -26,3 +28,19 @@ returns-clause-piece c =
     let reply : c.add_reply.new.piece.items ≡ c.add_sends.new.piece.items ++ reply_lines number c.args.reply = c.in_ok-add_reply.ensures.reply in
     let lines : c.add_reply.new.piece.items ≡ (((Entered number c.events-2.result moment ∷ []) ++ map (λ moved. Change number moved) moved) ++ map (send_line number) gone) ++ reply_lines number c.args.reply = cc in
     lines ∙ fits_is number state event c.args.reply c.args.full (step_verdict event state) moved gone c.events-2.result moment fits same_events same_moment same_moves same_sends
+
+pub returns-in-Err-Full-clause-represents : goal.returns-in-Err-Full-clause-represents
+returns-in-Err-Full-clause-represents c = λ history stands.
+    let state = c.args.core.now in
+    let event = raised state.last_moment c.args.event in
+    let verdict : step_verdict event state ≡ Err (Full c.in-Err-Full.would c.in-Err-Full.limit) = search rules in
+    not_entered event history (step_verdict event state) c.in-Err-Full.would c.in-Err-Full.limit state c.counted.new.core verdict c.in-Err-Full.ensures.same stands
+
+pub returns-clause-represents : goal.returns-clause-represents
+returns-clause-represents c = λ history stands.
+    let state = c.args.core.now in
+    let event = raised state.last_moment c.args.event in
+    entered event history (step_verdict event state) c.counted.new.core c.in-Ok.ensures.verdict (c.in-Ok.ensures.represents history stands)
+
+pub moved_to-requires-clause-allowed : goal.moved_to-requires-clause-allowed
+moved_to-requires-clause-allowed c = (c.args.core.now, c.requires.allowed)
