@@ -14,3 +14,14 @@ pub mod OnFile
 pub mod Texts
 mod OfUnsent
 pub mod GeneratedText
+pub mod KeptLines
+pub mod KeptOpenings
+pub mod OneEmission
+pub mod LineFaults
+pub mod AtRest
+pub mod Quiet
+pub mod KeptProgress
+pub mod KeptLine
+pub mod Committing
+pub mod BehindOpening
+pub mod Openings

@@ -1,31 +1,40 @@
 -- A session on a site's file, where its text is no site or isn't read.
-use Rattle.std.proofs.Common.{◌≡◌, ◌≢◌, ◌⊎◌, ℕ, Option, Some, None, Result, Ok, Err, List, [], IfSome, take, refl, ap, ◌∙◌, sym, inl, inr}
-use Rattle.ground_io.specs.Trace.{Told}
+use Rattle.std.proofs.Common.{◌≡◌, ◌≢◌, ◌⊎◌, ℕ, Option, Some, None, Result, Ok, Err, List, [], IfSome, take, refl, ap, ◌∙◌, sym, subst, inl, inr}
+use Rattle.ground_io.specs.Trace.{Told, WhereTold}
+use Rattle.ground_io.proofs.Crashes.{adds_none}
+use Rattle.script_lines.specs.declared.line.Grammar.TheVariants.{Session}
+use Rattle.script_lines.specs.Script.{lines_of}
+use Rattle.alarm_core.specs.declared.event.Event.{Event}
 use Rattle.alarm_core.specs.declared.site.Site.{Site}
 use Rattle.site_config.specs.declared.fault.SiteFault.{SiteFault}
 use Rattle.site_config.specs.declared.fault.SiteFault.TheVariants as site_fault
 use Rattle.site_config.specs.Sites.{site_of}
 use Rattle.alarm_server.specs.declared.status.Status.{Status}
-use Rattle.alarm_server.specs.declared.status.Status.TheVariants.{Done, Usage, SiteRefused, ScriptRefused, ReadFault, EmitFault, NoMemory}
+use Rattle.alarm_server.specs.declared.status.Status.TheVariants.{Done, Usage, SiteRefused, ScriptRefused, ReadFault, EmitFault, DiskFault, JournalRefused, NoMemory}
 use Rattle.alarm_server.specs.Emission.{Going, Ends}
-use Rattle.alarm_server.specs.OnFile.{EndsOnFile, EndsOnSite, RefusesFile}
+use Rattle.alarm_server.specs.Keeping.{journal_of}
+use Rattle.alarm_server.specs.OnFile.{EndsOnFile, EndsOnSite, KeepsOnFile, KeepsOnSite, RefusesFile}
+use Rattle.alarm_server.specs.Script.{spelled_in}
 use Rattle.alarm_server.specs.Report.{report_of}
 use Rattle.alarm_server.specs.Pieces.{piece_text}
 use Rattle.alarm_server.specs.Status.{IsSiteFault, of_site_fault}
 use Rattle.alarm_server.specs.Text.{most_octets}
+use Rattle.alarm_server.proofs.KeptOpenings.{untouched_at_once}
 use Rattle.alarm_server.proofs.Sending.{Composes}
-use Rattle.alarm_server.proofs.Texts.{front_says}
+use Rattle.alarm_server.proofs.Texts.{front_says, whole_site}
 
 -- ---- nothing went out
 
-ends_on_site : (Goes : Going) → Composes Goes → (site : Site) (ended : Status) (script : List ℕ) (told : Option Told) → IsSiteFault ended → Ends Goes piece_text ended (report_of site [] script) told told
-ends_on_site Goes composes site Done script told fault = absurd fault
-ends_on_site Goes composes site Usage script told fault = absurd fault
-ends_on_site Goes composes site (SiteRefused f) script told fault = composes.nothing told
-ends_on_site Goes composes site (ScriptRefused line) script told fault = absurd fault
-ends_on_site Goes composes site ReadFault script told fault = ([], report_of site [] script, refl, composes.nothing told)
-ends_on_site Goes composes site EmitFault script told fault = absurd fault
-ends_on_site Goes composes site NoMemory script told fault = ([], report_of site [] script, refl, composes.nothing told)
+ends_on_site : (Goes : Going) → Composes Goes → (site : Site) (history : List Event) (ended : Status) (script : List ℕ) (told : Option Told) → IsSiteFault ended → Ends Goes piece_text ended (report_of site history script) told told
+ends_on_site Goes composes site history Done script told fault = absurd fault
+ends_on_site Goes composes site history Usage script told fault = absurd fault
+ends_on_site Goes composes site history (SiteRefused f) script told fault = composes.nothing told
+ends_on_site Goes composes site history (ScriptRefused line) script told fault = absurd fault
+ends_on_site Goes composes site history ReadFault script told fault = ([], report_of site history script, refl, composes.nothing told)
+ends_on_site Goes composes site history EmitFault script told fault = absurd fault
+ends_on_site Goes composes site history DiskFault script told fault = absurd fault
+ends_on_site Goes composes site history (JournalRefused refused) script told fault = absurd fault
+ends_on_site Goes composes site history NoMemory script told fault = ([], report_of site history script, refl, composes.nothing told)
 
 -- it is the text's own fault, or the text wasn't read
 own_fault : (octets : List ℕ) (fault : SiteFault) (ended : Status) → site_of octets ≡ Err fault → IsSiteFault ended → ((f : SiteFault) → ended ≡ SiteRefused f → RefusesFile (Some octets) f) →
@@ -36,10 +45,12 @@ own_fault octets fault (SiteRefused f) says site refused = let own : site_of oct
 own_fault octets fault (ScriptRefused line) says site refused = absurd site
 own_fault octets fault ReadFault says site refused = inr (inl refl)
 own_fault octets fault EmitFault says site refused = absurd site
+own_fault octets fault DiskFault says site refused = absurd site
+own_fault octets fault (JournalRefused why) says site refused = absurd site
 own_fault octets fault NoMemory says site refused = inr (inr refl)
 
-ends_by : (Goes : Going) → Composes Goes → (octets script : List ℕ) (ended : Status) (told : Option Told) (says : Result Site SiteFault) → site_of octets ≡ says → IsSiteFault ended → ((f : SiteFault) → ended ≡ SiteRefused f → RefusesFile (Some octets) f) → EndsOnSite Goes ended says script told told
-ends_by Goes composes octets script ended told (Ok site) says fault refused = ends_on_site Goes composes site ended script told fault
+ends_by : (Goes : Going) → Composes Goes → (octets script : List ℕ) (ended : Status) (told : Option Told) (says : Result Site SiteFault) → site_of octets ≡ says → IsSiteFault ended → ((f : SiteFault) → ended ≡ SiteRefused f → RefusesFile (Some octets) f) → EndsOnSite Goes ended octets says script told told
+ends_by Goes composes octets script ended told (Ok site) says fault refused = λ history stood. ends_on_site Goes composes site history ended script told fault
 ends_by Goes composes octets script ended told (Err f) says fault refused = (own_fault octets f ended says fault refused, composes.nothing told)
 
 pub ends_unopened : (Goes : Going) → Composes Goes → (site script : Option (List ℕ)) (ended : Status) (told : Option Told) → IsSiteFault ended → ((f : SiteFault) → ended ≡ SiteRefused f → RefusesFile site f) → EndsOnFile Goes ended site script told told
@@ -47,12 +58,38 @@ ends_unopened Goes composes None script ended told fault refused = tt
 ends_unopened Goes composes (Some octets) None ended told fault refused = tt
 ends_unopened Goes composes (Some octets) (Some text) ended told fault refused = ends_by Goes composes octets text ended told (site_of octets) refl fault refused
 
+keeps_by : (octets script : List ℕ) (told : Option Told) (says : Result Site SiteFault) → KeepsOnSite octets says script told told
+keeps_by octets script told (Ok site) = λ history stood. untouched_at_once (journal_of site octets) site history (spelled_in Session 0 (lines_of script)) 1 told
+keeps_by octets script told (Err f) = adds_none told
+
+pub keeps_unopened : (site script : Option (List ℕ)) (told : Option Told) → KeepsOnFile site script told told
+keeps_unopened None script told = tt
+keeps_unopened (Some octets) None told = tt
+keeps_unopened (Some octets) (Some text) told = keeps_by octets text told (site_of octets)
+
+-- ---- a site's text
+
+-- what is so of the text and the site that it is
+pub on_site : (P : List ℕ → Result Site SiteFault → Type 0) (source : Option (List ℕ)) (site : Site) (text : List ℕ) → IfSome source (λ octets. (site_of octets ≡ Ok site) × (octets ≡ text)) → P text (Ok site) → IfSome source (λ octets. P octets (site_of octets))
+on_site P None site text is p = tt
+on_site P (Some octets) site text (says, same) p = subst (λ (r : Result Site SiteFault). P octets r) (sym says) (subst (λ (o : List ℕ). P o (Ok site)) (sym same) p)
+
+-- what is so of each script, whatever history there was before it
+pub each_script : {A B : Type 0} (P : A → Type 0) (Q : B → A → Type 0) (script : Option B) → ((a : A) → P a → IfSome script (λ t. Q t a)) → IfSome script (λ t. (a : A) → P a → Q t a)
+each_script P Q None all = tt
+each_script P Q (Some t) all = all
+
+pub each_told : {A B : Type 0} (P : A → Type 0) (Q : B → B → A → Type 0) (script left : Option B) → WhereTold script left (λ t rest. Unit {0}) → ((a : A) → P a → WhereTold script left (λ t rest. Q t rest a)) → WhereTold script left (λ t rest. (a : A) → P a → Q t rest a)
+each_told P Q None left told all = tt
+each_told P Q (Some t) None told all = absurd told
+each_told P Q (Some t) (Some rest) told all = all
+
 -- ---- what is read is as good as the whole text
 
--- the text that was read is this site
-pub file_is : (source : Option (List ℕ)) (text : List ℕ) (site : Site) → IfSome source (λ octets. text ≡ take most_octets octets) → site_of text ≡ Ok site → IfSome source (λ octets. site_of octets ≡ Ok site)
+-- the text that was read is this site, and it is the whole text
+pub file_is : (source : Option (List ℕ)) (text : List ℕ) (site : Site) → IfSome source (λ octets. text ≡ take most_octets octets) → site_of text ≡ Ok site → IfSome source (λ octets. (site_of octets ≡ Ok site) × (octets ≡ text))
 file_is None text site front says = tt
-file_is (Some octets) text site front says = sym (front_says octets) ∙ (ap site_of (sym front) ∙ says)
+file_is (Some octets) text site front says = (sym (front_says octets) ∙ (ap site_of (sym front) ∙ says), whole_site octets text site front says)
 
 own_refusal : (found fault : SiteFault) → of_site_fault found ≡ SiteRefused fault → (found ≡ fault) × (found ≢ site_fault.NoMemory)
 own_refusal site_fault.TooLong fault same = (cc, λ e. absurd cc)

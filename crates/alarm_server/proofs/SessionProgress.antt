@@ -48,23 +48,23 @@ pub record Progress (Goes : Going) (start : CoreState) (text come : Option (List
   pub counted : tally ≡ tally_of (front start lines)
 
 -- what is told at two steps is told over both
-where_then : {A : Type 0} (a b c : Option A) (P Q R : A → A → Type 0) → ((x y z : A) → P x y → Q y z → R x z) → WhereTold a b P → WhereTold b c Q → WhereTold a c R
+pub where_then : {A : Type 0} (a b c : Option A) (P Q R : A → A → Type 0) → ((x y z : A) → P x y → Q y z → R x z) → WhereTold a b P → WhereTold b c Q → WhereTold a c R
 where_then None b c P Q R f first second = tt
 where_then (Some x) None c P Q R f first second = absurd first
 where_then (Some x) (Some y) None P Q R f first second = second
 where_then (Some x) (Some y) (Some z) P Q R f first second = f x y z first second
 
-remains_all : (text : Option (List ℕ)) → WhereTold text (prepend_known [] text) (Remains [] 0)
+pub remains_all : (text : Option (List ℕ)) → WhereTold text (prepend_known [] text) (Remains [] 0)
 remains_all None = tt
 remains_all (Some script) = record { spelled = refl; refused = refl; count = omega arith }
 
-takes_none : (text : Option (List ℕ)) → WhereTold text (prepend_known [] text) (TakesLines 0 0)
+pub takes_none : (text : Option (List ℕ)) → WhereTold text (prepend_known [] text) (TakesLines 0 0)
 takes_none None = tt
 takes_none (Some script) = record { taken = []; whole = inl refl; front = refl; count = omega arith }
 
 module _ (Goes : Going) (composes : Composes Goes) where
   -- behind the first piece
-  pub begins : (start : CoreState) (text : Option (List ℕ)) (old new : Option Told) (tally : Tally) → tally ≡ no_tally → Goes old new (sent piece_text (open_piece start ∷ [])) → Progress Goes start text (prepend_known [] text) old new 0 false start tally
+  unfoldable pub begins : (start : CoreState) (text : Option (List ℕ)) (old new : Option Told) (tally : Tally) → tally ≡ no_tally → Goes old new (sent piece_text (open_piece start ∷ [])) → Progress Goes start text (prepend_known [] text) old new 0 false start tally
   begins start text old new tally none opened = record {
     lines = [];
     reached = sym (states-none start);
@@ -73,6 +73,10 @@ module _ (Goes : Going) (composes : Composes Goes) where
     whole = λ h. takes_none text;
     counted = none ∙ (sym (tally-open start) ∙ ap (λ ps. tally_of (open_piece start ∷ ps)) (sym (pieces-none start)));
   }
+
+  pub begins-lines : (start : CoreState) (text : Option (List ℕ)) (old new : Option Told) (tally : Tally) (none : tally ≡ no_tally) (opened : Goes old new (sent piece_text (open_piece start ∷ []))) → (begins start text old new tally none opened).lines ≡ []
+  unfolding begins
+  begins-lines start text old new tally none opened = refl
 
   -- what is left to report behind these lines
   abbrev rest_of : CoreState → List Line → ℕ → List ℕ → List (List ReportLine)
@@ -108,7 +112,7 @@ module _ (Goes : Going) (composes : Composes Goes) where
   ends_at_once start None told = tt
   ends_at_once start (Some script) told = ([], session_over start (lines_of script), refl, composes.nothing told)
 
-  ends_front : (fault : Unsent) (pieces : List (List ReportLine)) (old new : Option Told) → SendsUpTo Goes piece_text fault pieces old new → Ends Goes piece_text (of_unsent fault) pieces old new
+  pub ends_front : (fault : Unsent) (pieces : List (List ReportLine)) (old new : Option Told) → SendsUpTo Goes piece_text fault pieces old new → Ends Goes piece_text (of_unsent fault) pieces old new
   ends_front unsent.Lost pieces old new h = h
   ends_front unsent.NoMemory pieces old new h = h
 
@@ -156,7 +160,7 @@ module _ (Goes : Going) (composes : Composes Goes) where
       p.remains.refused ∙ (spells_refused Session (lines_of octets) number line read.0).refused
 
   -- one more line was taken
-  remains_next : (lines : List Line) (number number' : ℕ) (line : Line) (script octets rest : List ℕ) → Remains lines number script octets → ReadsLine Session number number' (Ok (Some line)) octets rest → Remains (lines ++ line ∷ []) number' script rest
+  pub remains_next : (lines : List Line) (number number' : ℕ) (line : Line) (script octets rest : List ℕ) → Remains lines number script octets → ReadsLine Session number number' (Ok (Some line)) octets rest → Remains (lines ++ line ∷ []) number' script rest
   remains_next lines number number' line script octets rest r (next, is) =
       let h = spelled_gives Session (lines_of octets) number line (lines_of rest) next in
       let behind = spelled_in Session line.number (lines_of rest) in
@@ -167,7 +171,7 @@ module _ (Goes : Going) (composes : Composes Goes) where
       }
 
   -- the pieces with one more
-  front-next : (start : CoreState) (lines : List Line) (line : Line) (state : CoreState) → state ≡ state_over start lines → front start (lines ++ line ∷ []) ≡ front start lines ++ piece_of state line ∷ []
+  pub front-next : (start : CoreState) (lines : List Line) (line : Line) (state : CoreState) → state ≡ state_over start lines → front start (lines ++ line ∷ []) ≡ front start lines ++ piece_of state line ∷ []
   front-next start lines line state reached =
       ap (λ ps. open_piece start ∷ ps) (pieces-next lines line start) ∙ ap (λ s. front start lines ++ piece_of s line ∷ []) (sym reached)
 
@@ -187,7 +191,7 @@ module _ (Goes : Going) (composes : Composes Goes) where
       (front_more Goes piece_text fault old new' (front start p.lines ++ piece ∷ []) more (front_then Goes composes piece_text fault old new new' (front start p.lines) (piece ∷ []) p.out sends)))
 
   -- one more line
-  pub goes_on : (start : CoreState) (text come come' : Option (List ℕ)) (old new new' : Option Told) (number number' : ℕ) (ended ended' : Bool) (state state' : CoreState) (tally tally' : Tally) (line : Line) (piece : List ReportLine) → Progress Goes start text come old new number ended state tally → WhereTold come come' (ReadsLine Session number number' (Ok (Some line))) →
+  unfoldable pub goes_on : (start : CoreState) (text come come' : Option (List ℕ)) (old new new' : Option Told) (number number' : ℕ) (ended ended' : Bool) (state state' : CoreState) (tally tally' : Tally) (line : Line) (piece : List ReportLine) → Progress Goes start text come old new number ended state tally → WhereTold come come' (ReadsLine Session number number' (Ok (Some line))) →
       (ended' ≡ false → ended ≡ false) → (ended' ≡ false → WhereTold come come' (TakesLines number number')) → state' ≡ state_with state line → piece ≡ piece_of state line → tally' ≡ tally_with piece tally → Goes new new' (sent piece_text (piece ∷ [])) → Progress Goes start text come' old new' number' ended' state' tally'
   goes_on start text come come' old new new' number number' ended ended' state state' tally tally' line piece p read stays taken moved same counts sends =
       let pieces = front-next start p.lines line state p.reached ∙ ap (λ x. front start p.lines ++ x ∷ []) (sym same) in
@@ -201,6 +205,12 @@ module _ (Goes : Going) (composes : Composes Goes) where
             (λ script octets rest first_lines more. takes_then 0 number number' script octets rest first_lines more) (p.whole (stays e)) (taken e);
         counted = counts ∙ (ap (tally_with piece) p.counted ∙ (sym (tally-next (front start p.lines) piece) ∙ ap tally_of (sym pieces)));
       }
+
+  pub goes_on-lines : (start : CoreState) (text come come' : Option (List ℕ)) (old new new' : Option Told) (number number' : ℕ) (ended ended' : Bool) (state state' : CoreState) (tally tally' : Tally) (line : Line) (piece : List ReportLine) (p : Progress Goes start text come old new number ended state tally) (read : WhereTold come come' (ReadsLine Session number number' (Ok (Some line)))) →
+      (stays : ended' ≡ false → ended ≡ false) (taken : ended' ≡ false → WhereTold come come' (TakesLines number number')) (moved : state' ≡ state_with state line) (same : piece ≡ piece_of state line) (counts : tally' ≡ tally_with piece tally) (sends : Goes new new' (sent piece_text (piece ∷ []))) →
+      (goes_on start text come come' old new new' number number' ended ended' state state' tally tally' line piece p read stays taken moved same counts sends).lines ≡ p.lines ++ line ∷ []
+  unfolding goes_on
+  goes_on-lines start text come come' old new new' number number' ended ended' state state' tally tally' line piece p read stays taken moved same counts sends = refl
 
   -- behind the last line, the end is all that is left to report
   report_end : (start : CoreState) (octets script : List ℕ) (number number' : ℕ) (lines : List Line) (state : CoreState) → state ≡ state_over start lines → Remains lines number script octets → next_in Session number (lines_of octets) ≡ AtEnd number' →

@@ -1,8 +1,9 @@
 -- The front of a site's text that is read is as good as the whole of it.
-use Rattle.std.proofs.Common.{◌≡◌, ◌≤◌, ◌<◌, ℕ, Bool, true, false, nat_lt, if◌then◌else◌, Option, Some, None, Err, List, [], ◌++◌, IfSome, length, take, refl, ap, ◌∙◌, sym, arith, append-nil, inl, inr}
+use Rattle.std.proofs.Common.{◌≡◌, ◌≤◌, ◌<◌, ℕ, Bool, true, false, nat_lt, if◌then◌else◌, Option, Some, None, Ok, Err, List, [], ◌++◌, IfSome, length, take, refl, ap, ◌∙◌, sym, arith, append-nil, inl, inr}
 use Rattle.std.specs.Io.KnownBytes.{IsAtEnd, Keeps, prepend_known}
 use Rattle.std.proofs.lemmas.Bool.{cases_Bool, ltb-false, ltb-true}
 use Rattle.std.proofs.lemmas.List.{length-take, take-append-le, take_all}
+use Rattle.alarm_core.specs.declared.site.Site.{Site}
 use Rattle.site_config.specs.declared.fault.SiteFault.TheVariants.{TooLong}
 use Rattle.site_config.specs.Sites.{document_of, site_of, site_or_no_toml}
 use Rattle.alarm_server.specs.Text.{most_octets}
@@ -42,3 +43,17 @@ front_says octets = elim (cases_Bool (nat_lt 1048576 (length octets))) [
       too_long (take most_octets octets) (is_above 1048576 (length (take most_octets octets)) front) ∙ sym (too_long octets above)
   | inr low ↦ let short = ltb-false 1048576 (length octets) low in ap site_of (take_all most_octets octets (omega (arith, short)))
 ]
+
+-- a text that is a site isn't too long
+pub short_site : (text : List ℕ) (site : Site) → site_of text ≡ Ok site → length text ≤ 1048576
+short_site text site says = elim (cases_Bool (nat_lt 1048576 (length text))) [
+  | inl above ↦ let refused = too_long text above in absurd cc
+  | inr low ↦ ltb-false 1048576 (length text) low
+]
+
+-- and where it was read, it is the whole of its source
+pub whole_site : (octets text : List ℕ) (site : Site) → text ≡ take most_octets octets → site_of text ≡ Ok site → octets ≡ text
+whole_site octets text site front says =
+    let short = short_site text site says in
+    let count = length-take most_octets octets in
+    sym (take_all most_octets octets (omega (arith, short, count, ap (λ (l : List ℕ). length l) front))) ∙ sym front

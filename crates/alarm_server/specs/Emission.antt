@@ -66,4 +66,6 @@ Ends Goes text (status.SiteRefused fault) pieces old new = Goes old new []
 Ends Goes text (status.ScriptRefused line) pieces old new = Goes old new (sent text pieces)
 Ends Goes text status.ReadFault pieces old new = SendsFront Goes text pieces old new
 Ends Goes text status.EmitFault pieces old new = LosesNext Goes text pieces old new
+Ends Goes text status.DiskFault pieces old new = SendsFront Goes text pieces old new
+Ends Goes text (status.JournalRefused fault) pieces old new = Goes old new []
 Ends Goes text status.NoMemory pieces old new = SendsFront Goes text pieces old new

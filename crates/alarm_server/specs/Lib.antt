@@ -18,3 +18,5 @@ pub mod Script
 pub mod Trial
 pub mod Paths
 pub mod Pieces
+pub mod Keeping
+pub mod OpeningSteps

@@ -10,8 +10,8 @@ use Rattle.site_config.specs.Sites.{site_of}
 use Rattle.alarm_server.specs.declared.command.Command.{Command}
 use Rattle.alarm_server.specs.declared.command.Command.TheVariants.{Trial, Session, Workload}
 use Rattle.alarm_server.specs.declared.status.Status.{Status}
-use Rattle.alarm_server.specs.Emission.{Emits, Ends, LeavesDisk}
-use Rattle.alarm_server.specs.OnFile.{AcceptsOnFile, EndsOnFile, RefusesFile, StopsOnFile}
+use Rattle.alarm_server.specs.Emission.{Emits, Ends}
+use Rattle.alarm_server.specs.OnFile.{AcceptsOnFile, EndsOnFile, KeepsOnFile, RefusesFile, StopsOnFile}
 use Rattle.alarm_server.specs.Script.{refused_line}
 use Rattle.alarm_server.specs.Stopping.{StopsReading}
 use Rattle.alarm_server.specs.Trial.{front_transitions, report_over}
@@ -74,9 +74,16 @@ LeavesScript (Some Session) site Same = IfSome site (λ octets. OnErr (site_of o
 LeavesScript (Some (Workload seed count)) site Same = Same
 LeavesScript None site Same = Same
 
--- A session leaves the disk alone. Of the others, what goes out is all that happens to the ground.
-abbrev pub LeavesDiskAs : Option Command → Option Told → Option Told → Type 0
-LeavesDiskAs (Some Session) old new = LeavesDisk old new
-LeavesDiskAs (Some (Trial settings)) old new = ⊤
-LeavesDiskAs (Some (Workload seed count)) old new = ⊤
-LeavesDiskAs None old new = ⊤
+-- only a session touches the disk
+abbrev pub LeavesDiskAs : Option Command → Type 0 → Type 0
+LeavesDiskAs (Some Session) Same = ⊤
+LeavesDiskAs (Some (Trial settings)) Same = Same
+LeavesDiskAs (Some (Workload seed count)) Same = Same
+LeavesDiskAs None Same = Same
+
+-- A session keeps its journal. Of the others, what goes out is all that happens to the ground.
+abbrev pub KeepsAs : Option Command → Option (List ℕ) → Option (List ℕ) → Option Told → Option Told → Type 0
+KeepsAs (Some Session) site script old new = KeepsOnFile site script old new
+KeepsAs (Some (Trial settings)) site script old new = ⊤
+KeepsAs (Some (Workload seed count)) site script old new = ⊤
+KeepsAs None site script old new = ⊤

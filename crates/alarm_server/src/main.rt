@@ -6,13 +6,16 @@
 
 mod command;
 mod emission;
+mod keeping;
 mod on_file;
+mod opening;
 mod paths;
 mod pieces;
 mod run;
 mod session;
 mod settings;
 mod status;
+mod taken;
 mod tally;
 mod text;
 mod trial;
@@ -25,7 +28,7 @@ use crate::status::Status;
 use crate::text::read_text;
 use ground_io::{FileGround, StdSource};
 use site_config::{SiteFault, line_of_refusal};
-use std::fs::File;
+use std::fs::{File, OpenOptions};
 use std::io::Read;
 use std::process::ExitCode;
 use std::{env, io};
@@ -42,10 +45,11 @@ milliseconds since 1970. Each move of the event state gives the line
 
 alarm-server session SITE JOURNAL < SCRIPT
 
-session plays a script to the site that the file SITE describes, from no event
-on. Each line of SCRIPT gives a piece of the report: what it came to, the
-changes of event states, and the datagrams that go out. JOURNAL isn't opened
-yet.
+session plays a script to the site that the file SITE describes, and goes on
+from the events that the file JOURNAL holds. Each line of SCRIPT gives a piece
+of the report: what it came to, the changes of event states, and the datagrams
+that go out. An event is in JOURNAL, and on the disk, before its piece is
+printed.
 
 alarm-server workload SEED COUNT
 
@@ -58,8 +62,9 @@ alarm-server --version   prints the version
 
 It ends with 0, or says why not and ends with 1 (a file can't be opened), 2 (the
 words are of no form), 3 (the site's text is refused), 4 (a line of the script
-is refused), 5 (a file can't be read), 6 (the report can't be written) or 9 (no
-memory). docs/SITE.md and docs/SCRIPT.md describe SITE and SCRIPT.";
+is refused), 5 (a file can't be read), 6 (the report can't be written), 7 (the
+journal can't be written), 8 (the journal is refused) or 9 (no memory).
+docs/SITE.md, docs/SCRIPT.md and docs/JOURNAL.md describe the files.";
 
 fn words_given(rt: &HostRuntime) -> io::Result<Vec<String>> {
     let mut words = Vec::new(rt.alloc());
@@ -88,14 +93,24 @@ fn ends_with(rt: &HostRuntime, status: Status) -> io::Result<ExitCode> {
     Ok(ExitCode::from(status.code()))
 }
 
-// Runs what the words ask for, with a site's text from a reader, and answers how that ended.
-fn run_with<R: Read + Drop>(rt: &HostRuntime, words: &[String], site: R) -> io::Result<Status> {
+// Runs what the words ask for, with a site's text from a reader and a device, and answers how that ended.
+fn run_with<R: Read + Drop>(
+    rt: &HostRuntime,
+    words: &[String],
+    site: R,
+    journal: Option<File>,
+) -> io::Result<Status> {
     let mut site = StdSource::new(site);
     let mut script = StdSource::new(rt.reader());
-    let console = FileGround::new(None, io::writer(rt), None)?;
-    let (console, status) = run(rt.alloc(), words, &mut site, &mut script, console);
-    drop(console);
+    let device = FileGround::new(journal, io::writer(rt), None)?;
+    let (device, status) = run(rt.alloc(), words, &mut site, &mut script, device);
+    drop(device);
     Ok(status)
+}
+
+// The file of a journal, to be read and written. It isn't made.
+fn open_journal_file(rt: &HostRuntime, path: &str) -> io::Result<File> {
+    OpenOptions::new().read(true).write(true).open(rt, path)
 }
 
 // The number of the line in which the reader of TOML refuses the text of a file, which is read once more.
@@ -122,18 +137,27 @@ fn ends_on_file(rt: &HostRuntime, path: &str, status: Status) -> io::Result<Exit
     Ok(code)
 }
 
-// Runs what the words ask for, with the site's text from the file of that path.
-fn run_on_file(rt: &HostRuntime, words: &[String], path: &str) -> io::Result<ExitCode> {
-    match File::open(rt, path) {
-        Ok(file) => {
-            let status = run_with(rt, words, file)?;
-            ends_on_file(rt, path, status)
-        }
-        Err(_refused) => {
-            eprintln!(rt; "cannot open")?;
-            Ok(ExitCode::from(1))
-        }
-    }
+// Says that a file can't be opened.
+fn cannot_open(rt: &HostRuntime) -> io::Result<ExitCode> {
+    eprintln!(rt; "cannot open")?;
+    Ok(ExitCode::from(1))
+}
+
+// Runs what the words ask for, with the site's text and the journal from the files of these paths.
+fn run_on_files(
+    rt: &HostRuntime,
+    words: &[String],
+    path: &str,
+    journal: &str,
+) -> io::Result<ExitCode> {
+    let Ok(file) = File::open(rt, path) else {
+        return cannot_open(rt);
+    };
+    let Ok(journal) = open_journal_file(rt, journal) else {
+        return cannot_open(rt);
+    };
+    let status = run_with(rt, words, file, Some(journal))?;
+    ends_on_file(rt, path, status)
 }
 
 fn main(rt: HostRuntime) -> io::Result<ExitCode> {
@@ -145,10 +169,12 @@ fn main(rt: HostRuntime) -> io::Result<ExitCode> {
     let Some(paths) = paths_of(&words) else {
         return ends_with(&rt, Status::Usage);
     };
-    match paths.site.and_then(|place| words.get(place)) {
-        Some(path) => run_on_file(&rt, &words, path.as_str()),
-        None => {
-            let status = run_with(&rt, &words, io::empty())?;
+    let site = paths.site.and_then(|place| words.get(place));
+    let journal = paths.journal.and_then(|place| words.get(place));
+    match (site, journal) {
+        (Some(site), Some(journal)) => run_on_files(&rt, &words, site.as_str(), journal.as_str()),
+        _ => {
+            let status = run_with(&rt, &words, io::empty(), None)?;
             ends_with(&rt, status)
         }
     }

@@ -1,107 +1,137 @@
-ghost use Rattle.std.specs.Prelude.{◌≡◌, ℕ, [], None, OnOk, OnErr, IfErr, IfOk, IfSome, IsErrOf};
+ghost use Rattle.std.specs.Prelude.{◌≡◌, ◌≢◌, ◌≤◌, ℕ, List, length, [], None, Some, Err, OnOk, OnErr, IfErr, IfOk, IfSome, IsErrOf};
 ghost use Rattle.std.specs.Io.KnownBytes.{IsAtEnd};
 ghost use Rattle.ground_io.specs.Counts.{HasCause, Rose};
 ghost use Rattle.ground_io.specs.Trace.{WhereTold};
 ghost use Rattle.script_lines.specs.declared.line.Grammar.TheVariants.{Session};
+ghost use Rattle.alarm_journal.specs.declared.open_fault.OpenFault.{OpenFault as Refusal};
+ghost use Rattle.alarm_core.specs.declared.event.Event.{Event as Happening};
+ghost use Rattle.alarm_core.specs.Limits.{KeepsLimits};
 ghost use Rattle.alarm_core.specs.Sites.{IsSite};
+ghost use Rattle.script_lines.specs.Script.{lines_of};
+ghost use Rattle.state_codec.specs.Sizes.{most_text};
+ghost use Rattle.alarm_server.specs.Keeping.{KeepsOpened, StoodFor, journal_of};
+ghost use Rattle.alarm_server.specs.OpeningSteps.{IsRefusedFor, RefusesJournal};
 ghost use Rattle.site_config.specs.declared.fault.SiteFault.{SiteFault};
 ghost use Rattle.site_config.specs.Sites.{site_of};
 ghost use Rattle.alarm_server.specs.Causes.{HasCauseInEither};
-ghost use Rattle.alarm_server.specs.Emission.{Emits, Ends, LeavesDisk};
-ghost use Rattle.alarm_server.specs.OnFile.{AcceptsOnFile, EndsOnFile, RefusesFile, StopsOnFile};
+ghost use Rattle.alarm_server.specs.Emission.{Emits, Ends};
+ghost use Rattle.alarm_server.specs.OnFile.{AcceptsOnFile, EndsOnFile, KeepsOnFile, RefusesFile, StopsOnFile};
 ghost use Rattle.alarm_server.specs.Report.{front_pieces, report_of};
-ghost use Rattle.alarm_server.specs.Script.{refused_line};
+ghost use Rattle.alarm_server.specs.Script.{refused_line, spelled_in};
 ghost use Rattle.alarm_server.specs.Pieces.{piece_text};
-ghost use Rattle.alarm_server.specs.Status.{IsFault, IsPlayFault, IsSiteFault, status_of};
+ghost use Rattle.alarm_server.specs.Status.{IsFault, IsSessionFault, IsSiteFault, status_of};
 ghost use Rattle.alarm_server.specs.Stopping.{StopsReading};
-ghost use Rattle.alarm_server.specs.Tallies.{tally_of};
 
+use crate::opening::open_journal;
 use crate::session::play_session;
 use crate::status::Status;
-use crate::tally::Tally;
 use crate::text::read_text;
-use alarm_core::{Core, Site};
+use alarm_core::Site;
 use ground_io::{Ground, Source};
 use site_config::read_site;
 use std::alloc::Global;
 
-// The site whose text a source has.
-fn open_site<S: Source>(alloc: Global, source: &mut S) -> Result<Site, Status>
-    ensures site { IfOk result (λ site. IfSome (S.left source.old) (λ octets. site_of octets ≡ Ok site)) }
-    ensures keeps { IfOk result IsSite }
+// The site whose text a source has, with the text.
+fn open_site<S: Source>(alloc: Global, source: &mut S) -> Result<(Site, Vec<u8>), Status>
+    ensures site { IfOk result (λ read. IfSome (S.left source.old) (λ octets. (site_of octets ≡ Ok read.0) × (octets ≡ read.1.items))) }
+    ensures keeps { IfOk result (λ read. IsSite read.0) }
+    ensures limits { IfOk result (λ read. KeepsLimits read.0) }
+    ensures short { IfOk result (λ read. length read.1.items ≤ most_text) }
     ensures refused { (fault : SiteFault) → result ≡ Err (Status.SiteRefused fault) → RefusesFile (S.left source.old) fault }
     ensures fault { IfErr result IsSiteFault }
     ensures cause { HasCause (S.faults source.old) (S.faults source.new) (IsErrOf result Status.ReadFault) }
 {
     let text = read_text(alloc, source)?;
     let site = read_site(alloc, text.as_slice())?;
-    Ok(site)
+    Ok((site, text))
 }
 
-/// Plays a script to a site, from no event on. The answer is how many lines of each kind the report has.
-pub fn play_site<T: Source, G: Ground>(
+/// Plays a script to a site, whose text is given, from what the journal on the device holds on, and goes on with the
+/// journal. The ground comes back.
+fn play_site<T: Source, G: Ground>(
     alloc: Global,
     site: &Site,
+    text: &[u8],
     script: &mut T,
-    device: &mut G,
-) -> Result<Tally, Status>
+    device: G,
+) -> (G, Result<(), Status>)
     requires site { IsSite site.now }
-    ensures ends { IfSome (T.left script.old) (λ text.
-        Ends Emits piece_text (status_of result) (report_of site.now [] text) (G.told device.old) (G.told device.new)) }
-    ensures tally { IfOk result (λ tally. IfSome (T.left script.old) (λ text. tally ≡ tally_of (report_of site.now [] text))) }
-    ensures to_end { OnOk result (IsAtEnd (T.left script.new)) }
-    ensures accepted { OnOk result (IfSome (T.left script.old) (λ text. refused_line Session text ≡ None)) }
-    ensures refused { (line : ℕ) → result ≡ Err (Status.ScriptRefused line) →
+    requires limits { KeepsLimits site.now }
+    requires short { length text.now ≤ most_text }
+
+    // Of each history that the device's octets stood for: the report goes on from it, and a crash at any moment leaves it
+    // with the events of some lines.
+    ensures ends { (history : List Happening) → StoodFor (journal_of site.now text.now) site.now history (G.told device) (G.told result.0) → IfSome (T.left script.old) (λ text.
+        Ends Emits piece_text (status_of result.1) (report_of site.now history text) (G.told device) (G.told result.0)) }
+    ensures keeps { (history : List Happening) → StoodFor (journal_of site.now text.now) site.now history (G.told device) (G.told result.0) → IfSome (T.left script.old) (λ script.
+        KeepsOpened (journal_of site.now text.now) site.now history (spelled_in Session 0 (lines_of script)) 1 (G.told device) (G.told result.0)) }
+    ensures stops { (history : List Happening) → StoodFor (journal_of site.now text.now) site.now history (G.told device) (G.told result.0) → result.1 ≡ Err Status.ReadFault → WhereTold (T.left script.old) (T.left script.new)
+        (λ text rest. StopsReading Emits piece_text (front_pieces site.now history) Session text rest (G.told device) (G.told result.0)) }
+
+    // The journal is refused for what its octets are, and never where they stood for a history; then nothing goes out.
+    ensures refuses_journal { (fault : Refusal) → result.1 ≡ Err (Status.JournalRefused fault) → IsRefusedFor site.now text.now (G.told device) (G.told result.0) fault × Emits (G.told device) (G.told result.0) [] }
+    ensures stands { (history : List Happening) (fault : Refusal) → StoodFor (journal_of site.now text.now) site.now history (G.told device) (G.told result.0) → result.1 ≢ Err (Status.JournalRefused fault) }
+    ensures to_end { OnOk result.1 (IsAtEnd (T.left script.new)) }
+    ensures accepted { OnOk result.1 (IfSome (T.left script.old) (λ text. refused_line Session text ≡ None)) }
+    ensures refused { (line : ℕ) → result.1 ≡ Err (Status.ScriptRefused line) →
         IfSome (T.left script.old) (λ text. refused_line Session text ≡ Some line) }
-    ensures stops { result ≡ Err Status.ReadFault → WhereTold (T.left script.old) (T.left script.new)
-        (λ text rest. StopsReading Emits piece_text (front_pieces site.now []) Session text rest (G.told device.old) (G.told device.new)) }
-    ensures alone { LeavesDisk (G.told device.old) (G.told device.new) }
-    ensures fault { IfErr result IsPlayFault }
-    ensures size { G.size device.new ≡ G.size device.old }
-    ensures disk { G.disk_faults device.new ≡ G.disk_faults device.old }
-    ensures read_cause { HasCause (T.faults script.old) (T.faults script.new) (IsErrOf result Status.ReadFault) }
-    ensures emit_cause { HasCause (G.emit_faults device.old) (G.emit_faults device.new) (IsErrOf result Status.EmitFault) }
+    ensures fault { IfErr result.1 IsSessionFault }
+    ensures size { G.size result.0 ≡ G.size device }
+    ensures read_cause { HasCause (T.faults script.old) (T.faults script.new) (IsErrOf result.1 Status.ReadFault) }
+    ensures disk_cause { HasCause (G.disk_faults device) (G.disk_faults result.0) (IsErrOf result.1 Status.DiskFault) }
+    ensures emit_cause { HasCause (G.emit_faults device) (G.emit_faults result.0) (IsErrOf result.1 Status.EmitFault) }
 {
-    let mut core = Core::start(alloc, site)?;
-    play_session(alloc, &mut core, script, device)
+    let (press, mut core) = match open_journal(alloc, site, text, device) {
+        Ok(opened) => opened,
+        Err((device, status)) => return (device, Err(status)),
+    };
+    let (device, played) = play_session(alloc, press, &mut core, script);
+    match played {
+        Ok(_tally) => (device, Ok(())),
+        Err(status) => (device, Err(status)),
+    }
 }
 
-/// Plays a script to the site whose text a source has, from no event on. Where the text is no site, the script isn't
-/// touched and nothing goes out.
+/// Plays a script to the site whose text a source has, from what its journal holds on. Where the text is no site, the
+/// script isn't touched and nothing else is done. The ground comes back.
 pub fn session<S: Source, T: Source, G: Ground>(
     alloc: Global,
     site: &mut S,
     script: &mut T,
-    device: &mut G,
-) -> Result<(), Status>
-    // What went out: the whole report of the site, or a front of it, as the status says.
-    ensures ends { EndsOnFile Emits (status_of result) (S.left site.old) (T.left script.old) (G.told device.old) (G.told device.new) }
+    device: G,
+) -> (G, Result<(), Status>)
+    // What went out: the whole report from a history of the journal's on, or a front of it, as the status says.
+    ensures ends { EndsOnFile Emits (status_of result.1) (S.left site.old) (T.left script.old) (G.told device) (G.told result.0) }
+
+    // A crash at any moment leaves the history and the events of some lines: of each at least whose piece went out.
+    ensures keeps { KeepsOnFile (S.left site.old) (T.left script.old) (G.told device) (G.told result.0) }
 
     // A session that is played to its end has a site, and no line that is refused.
-    ensures to_end { OnOk result (IsAtEnd (T.left script.new)) }
-    ensures accepted { OnOk result (AcceptsOnFile (S.left site.old) (T.left script.old)) }
+    ensures to_end { OnOk result.1 (IsAtEnd (T.left script.new)) }
+    ensures accepted { OnOk result.1 (AcceptsOnFile (S.left site.old) (T.left script.old)) }
 
-    // The line that is refused is the first outside the grammar; the text that is refused is no site.
-    ensures refused { (line : ℕ) → result ≡ Err (Status.ScriptRefused line) →
+    // The line that is refused is the first outside the grammar; the text that is refused is no site; and the journal is
+    // refused for what its octets are.
+    ensures refused { (line : ℕ) → result.1 ≡ Err (Status.ScriptRefused line) →
         IfSome (T.left script.old) (λ text. refused_line Session text ≡ Some line) }
-    ensures refuses_site { (fault : SiteFault) → result ≡ Err (Status.SiteRefused fault) → RefusesFile (S.left site.old) fault }
+    ensures refuses_site { (fault : SiteFault) → result.1 ≡ Err (Status.SiteRefused fault) → RefusesFile (S.left site.old) fault }
+    ensures refuses_journal { (fault : Refusal) → result.1 ≡ Err (Status.JournalRefused fault) → RefusesJournal (S.left site.old) (G.told device) (G.told result.0) fault }
     ensures unread { IfSome (S.left site.old) (λ octets. OnErr (site_of octets) (script.new ≡ script.old)) }
 
     // With ReadFault either the site's source failed and nothing else was done, or the script's failed.
-    ensures stops { result ≡ Err Status.ReadFault → StopsOnFile Emits
+    ensures stops { result.1 ≡ Err Status.ReadFault → StopsOnFile Emits
         ((script.new ≡ script.old) × Rose (S.faults site.old) (S.faults site.new))
         (Rose (T.faults script.old) (T.faults script.new))
-        (S.left site.old) (T.left script.old) (T.left script.new) (G.told device.old) (G.told device.new) }
-
-    // The disk is left alone.
-    ensures alone { LeavesDisk (G.told device.old) (G.told device.new) }
-    ensures fault { IfErr result IsFault }
-    ensures size { G.size device.new ≡ G.size device.old }
-    ensures disk { G.disk_faults device.new ≡ G.disk_faults device.old }
-    ensures read_cause { HasCauseInEither (S.faults site.old) (S.faults site.new) (T.faults script.old) (T.faults script.new) (IsErrOf result Status.ReadFault) }
-    ensures emit_cause { HasCause (G.emit_faults device.old) (G.emit_faults device.new) (IsErrOf result Status.EmitFault) }
+        (S.left site.old) (T.left script.old) (T.left script.new) (G.told device) (G.told result.0) }
+    ensures fault { IfErr result.1 IsFault }
+    ensures size { G.size result.0 ≡ G.size device }
+    ensures read_cause { HasCauseInEither (S.faults site.old) (S.faults site.new) (T.faults script.old) (T.faults script.new) (IsErrOf result.1 Status.ReadFault) }
+    ensures disk_cause { HasCause (G.disk_faults device) (G.disk_faults result.0) (IsErrOf result.1 Status.DiskFault) }
+    ensures emit_cause { HasCause (G.emit_faults device) (G.emit_faults result.0) (IsErrOf result.1 Status.EmitFault) }
 {
-    let opened = open_site(alloc, site)?;
-    let _tally = play_site(alloc, &opened, script, device)?;
-    Ok(())
+    let (opened, text) = match open_site(alloc, site) {
+        Ok(read) => read,
+        Err(status) => return (device, Err(status)),
+    };
+    play_site(alloc, &opened, text.as_slice(), script, device)
 }

@@ -1,9 +1,11 @@
 ghost use Rattle.std.specs.Prelude.{◌≡◌, ◌↔◌, ℕ, map, None, OnOk, IfErr, IsErrOf, string_bytes};
 ghost use Rattle.ground_io.specs.Counts.{HasCause, Rose};
+ghost use Rattle.alarm_journal.specs.declared.open_fault.OpenFault.{OpenFault as Refusal};
 ghost use Rattle.site_config.specs.declared.fault.SiteFault.{SiteFault};
+ghost use Rattle.alarm_server.specs.OpeningSteps.{RefusesJournalAs};
 ghost use Rattle.alarm_server.specs.Causes.{HasCauseInEither};
 ghost use Rattle.alarm_server.specs.Commands.{command_of};
-ghost use Rattle.alarm_server.specs.Outcomes.{AcceptsAs, EndsAs, LeavesDiskAs, LeavesScript, LeavesSite, ReadsToEnd, RefusesAs, RefusesSiteAs, StopsAs};
+ghost use Rattle.alarm_server.specs.Outcomes.{AcceptsAs, EndsAs, KeepsAs, LeavesDiskAs, LeavesScript, LeavesSite, ReadsToEnd, RefusesAs, RefusesSiteAs, StopsAs};
 ghost use Rattle.alarm_server.specs.Status.{IsFault, status_of};
 
 use crate::command::{Command, read_command};
@@ -20,46 +22,54 @@ fn carry_out<S: Source, T: Source, G: Ground>(
     command: &Command,
     site: &mut S,
     script: &mut T,
-    device: &mut G,
-) -> Result<(), Status>
-    ensures ends { EndsAs (Some command.now) (status_of result) (S.left site.old) (T.left script.old) (G.told device.old) (G.told device.new) }
-    ensures to_end { OnOk result (ReadsToEnd (Some command.now) (T.left script.new)) }
-    ensures accepted { OnOk result (AcceptsAs (Some command.now) (S.left site.old) (T.left script.old)) }
-    ensures refused { (line : ℕ) → result ≡ Err (Status.ScriptRefused line) → RefusesAs (Some command.now) (T.left script.old) line }
-    ensures refuses_site { (fault : SiteFault) → result ≡ Err (Status.SiteRefused fault) → RefusesSiteAs (Some command.now) (S.left site.old) fault }
-    ensures stops { result ≡ Err Status.ReadFault → StopsAs (Some command.now)
+    mut device: G,
+) -> (G, Result<(), Status>)
+    ensures ends { EndsAs (Some command.now) (status_of result.1) (S.left site.old) (T.left script.old) (G.told device) (G.told result.0) }
+    ensures to_end { OnOk result.1 (ReadsToEnd (Some command.now) (T.left script.new)) }
+    ensures accepted { OnOk result.1 (AcceptsAs (Some command.now) (S.left site.old) (T.left script.old)) }
+    ensures refused { (line : ℕ) → result.1 ≡ Err (Status.ScriptRefused line) → RefusesAs (Some command.now) (T.left script.old) line }
+    ensures refuses_site { (fault : SiteFault) → result.1 ≡ Err (Status.SiteRefused fault) → RefusesSiteAs (Some command.now) (S.left site.old) fault }
+    ensures stops { result.1 ≡ Err Status.ReadFault → StopsAs (Some command.now)
         ((script.new ≡ script.old) × Rose (S.faults site.old) (S.faults site.new))
         (Rose (T.faults script.old) (T.faults script.new))
-        (S.left site.old) (T.left script.old) (T.left script.new) (G.told device.old) (G.told device.new) }
+        (S.left site.old) (T.left script.old) (T.left script.new) (G.told device) (G.told result.0) }
     ensures site { LeavesSite (Some command.now) (site.new ≡ site.old) }
     ensures unread { LeavesScript (Some command.now) (S.left site.old) (script.new ≡ script.old) }
-    ensures alone { LeavesDiskAs (Some command.now) (G.told device.old) (G.told device.new) }
-    ensures fault { IfErr result IsFault }
-    ensures size { G.size device.new ≡ G.size device.old }
-    ensures disk { G.disk_faults device.new ≡ G.disk_faults device.old }
-    ensures read_cause { HasCauseInEither (S.faults site.old) (S.faults site.new) (T.faults script.old) (T.faults script.new) (IsErrOf result Status.ReadFault) }
-    ensures emit_cause { HasCause (G.emit_faults device.old) (G.emit_faults device.new) (IsErrOf result Status.EmitFault) }
+    ensures keeps { KeepsAs (Some command.now) (S.left site.old) (T.left script.old) (G.told device) (G.told result.0) }
+    ensures refuses_journal { (fault : Refusal) → result.1 ≡ Err (Status.JournalRefused fault) → RefusesJournalAs (Some command.now) (S.left site.old) (G.told device) (G.told result.0) fault }
+    ensures fault { IfErr result.1 IsFault }
+    ensures size { G.size result.0 ≡ G.size device }
+    ensures disk { LeavesDiskAs (Some command.now) (G.disk_faults result.0 ≡ G.disk_faults device) }
+    ensures disk_cause { HasCause (G.disk_faults device) (G.disk_faults result.0) (IsErrOf result.1 Status.DiskFault) }
+    ensures read_cause { HasCauseInEither (S.faults site.old) (S.faults site.new) (T.faults script.old) (T.faults script.new) (IsErrOf result.1 Status.ReadFault) }
+    ensures emit_cause { HasCause (G.emit_faults device) (G.emit_faults result.0) (IsErrOf result.1 Status.EmitFault) }
 {
     match command {
-        Command::Trial { settings } => play(alloc, *settings, script, device),
+        Command::Trial { settings } => {
+            let played = play(alloc, *settings, script, &mut device);
+            (device, played)
+        }
         Command::Session => session(alloc, site, script, device),
-        Command::Workload { seed, count } => workload(alloc, *seed, *count, device),
+        Command::Workload { seed, count } => {
+            let played = workload(alloc, *seed, *count, &mut device);
+            (device, played)
+        }
     }
 }
 
 /// Does what the words say, emits the report to the console, and gives the ground back.
 ///
 /// `trial LOW HIGH DEADBAND DELAY NORMAL` puts one Integer Value on trial by the script, and emits a line for each of its
-/// moves. `session SITE JOURNAL` plays the script to the site whose text the site's source has, from no event on, and emits
-/// a piece for each line of the script. `workload SEED COUNT` plays a generated script to a generated site, in memory, and
-/// emits one line, which sums the report up. All leave the disk alone; only a session reads the site's source, and a
-/// workload reads nothing.
+/// moves. `session SITE JOURNAL` opens the journal of the site whose text the site's source has, goes on from what it holds,
+/// and plays the script; each event is on the disk before the piece of its line is emitted. `workload SEED COUNT` plays a
+/// generated script to a generated site, in memory, and emits one line, which sums the report up. Only a session touches the
+/// disk and reads the site's source, and a workload reads nothing.
 pub fn run<S: Source, T: Source, G: Ground>(
     alloc: Global,
     words: &[String],
     site: &mut S,
     script: &mut T,
-    mut device: G,
+    device: G,
 ) -> (G, Status)
     // The words are of no form exactly where they are refused, and then nothing is read and nothing goes out.
     ensures usage { (result.1 ≡ Status.Usage) ↔ (command_of (map string_bytes words.now) ≡ None) }
@@ -93,15 +103,26 @@ pub fn run<S: Source, T: Source, G: Ground>(
     ensures read_cause { HasCauseInEither (S.faults site.old) (S.faults site.new) (T.faults script.old) (T.faults script.new) (result.1 ≡ Status.ReadFault) }
     ensures emit_cause { HasCause (G.emit_faults device) (G.emit_faults result.0) (result.1 ≡ Status.EmitFault) }
 
-    // The disk is left alone.
-    ensures alone { LeavesDiskAs (command_of (map string_bytes words.now)) (G.told device) (G.told result.0) }
+    ensures disk_cause { HasCause (G.disk_faults device) (G.disk_faults result.0) (result.1 ≡ Status.DiskFault) }
+
+    // A crash at any moment from the opening's first sync on leaves, of each history that the device's octets stood for when
+    // the session began, a history that begins with it and goes on with the events of the script's first lines: at least
+    // those whose piece was emitted by then.
+    ensures keeps { KeepsAs (command_of (map string_bytes words.now)) (S.left site.old) (T.left script.old) (G.told device) (G.told result.0) }
+
+    // The journal is refused for what its octets are.
+    ensures refuses_journal { (fault : Refusal) → result.1 ≡ Status.JournalRefused fault →
+        RefusesJournalAs (command_of (map string_bytes words.now)) (S.left site.old) (G.told device) (G.told result.0) fault }
+
+    // All but a session leave the disk alone.
     ensures size { G.size result.0 ≡ G.size device }
-    ensures disk { G.disk_faults result.0 ≡ G.disk_faults device }
+    ensures disk { LeavesDiskAs (command_of (map string_bytes words.now)) (G.disk_faults result.0 ≡ G.disk_faults device) }
 {
     let Some(command) = read_command(words) else {
         return (device, Status::Usage);
     };
-    match carry_out(alloc, &command, site, script, &mut device) {
+    let (device, done) = carry_out(alloc, &command, site, script, device);
+    match done {
         Ok(()) => (device, Status::Done),
         Err(status) => (device, status),
     }

@@ -1,11 +1,13 @@
 ghost use Rattle.std.specs.Prelude.{◌≡◌};
-ghost use Rattle.alarm_server.specs.Status.{code_of, of_line_fault, of_site_fault, of_unsent, status_text};
+ghost use Rattle.alarm_server.specs.Status.{code_of, of_line_fault, of_open_fault, of_recover_fault, of_site_fault, of_unsent, open_fault_text, status_text};
 
 use crate::emission::Unsent;
+use alarm_journal::OpenFault;
 use bac_values::NoMemory;
 use ground_io::Failed;
 use script_lines::LineFault;
 use site_config::SiteFault;
+use state_codec::RecoverFault;
 use std::alloc::AllocError;
 use std::fmt;
 
@@ -34,6 +36,13 @@ pub enum Status {
     ReadFault,
     /// An emission failed.
     EmitFault,
+    /// A call of the device failed.
+    DiskFault,
+    /// The device holds no journal of the site, or a damaged one.
+    JournalRefused {
+        /// Why, by its first fault.
+        fault: OpenFault,
+    },
     /// Memory was refused.
     NoMemory,
 }
@@ -50,7 +59,33 @@ impl Status {
             Status::ScriptRefused { .. } => 4,
             Status::ReadFault => 5,
             Status::EmitFault => 6,
+            Status::DiskFault => 7,
+            Status::JournalRefused { .. } => 8,
             Status::NoMemory => 9,
+        }
+    }
+}
+
+/// Why a journal isn't opened, as a status says it.
+#[derive(Clone, Copy)]
+struct Refused {
+    fault: OpenFault,
+}
+
+impl fmt::Display for Refused {
+    ghost use Rattle.std.specs.Prelude.{Some};
+
+    ghost output = { λ refused. Some (open_fault_text refused.fault) };
+
+    fn fmt<W: fmt::Write>(&self, f: &mut fmt::Formatter<W>) -> fmt::Result {
+        match self.fault {
+            OpenFault::DiskFault => write!(f, "disk fault"),
+            OpenFault::SmallDevice { size, need } => {
+                write!(f, "journal refused: small-device {size} {need}")
+            }
+            OpenFault::Foreign { at } => write!(f, "journal refused: foreign {at}"),
+            OpenFault::Damaged { at } => write!(f, "journal refused: damaged {at}"),
+            OpenFault::NoMemory => write!(f, "no memory"),
         }
     }
 }
@@ -68,6 +103,11 @@ impl fmt::Display for Status {
             Status::ScriptRefused { line } => write!(f, "script refused: line {line}"),
             Status::ReadFault => write!(f, "read fault"),
             Status::EmitFault => write!(f, "emit fault"),
+            Status::DiskFault => write!(f, "disk fault"),
+            Status::JournalRefused { fault } => {
+                let refused = Refused { fault: *fault };
+                write!(f, "{refused}")
+            }
             Status::NoMemory => write!(f, "no memory"),
         }
     }
@@ -124,6 +164,31 @@ impl From<Unsent> for Status {
         match unsent {
             Unsent::Lost => Status::EmitFault,
             Unsent::NoMemory => Status::NoMemory,
+        }
+    }
+}
+
+impl From<OpenFault> for Status {
+    ghost from_gives = { λ fault status. status ≡ of_open_fault fault };
+
+    fn from(fault: OpenFault) -> Status {
+        match fault {
+            OpenFault::DiskFault => Status::DiskFault,
+            OpenFault::NoMemory => Status::NoMemory,
+            fault => Status::JournalRefused { fault },
+        }
+    }
+}
+
+impl From<RecoverFault> for Status {
+    ghost from_gives = { λ fault status. status ≡ of_recover_fault fault };
+
+    fn from(fault: RecoverFault) -> Status {
+        match fault {
+            RecoverFault::Damaged { at } => Status::JournalRefused {
+                fault: OpenFault::Damaged { at },
+            },
+            RecoverFault::NoMemory => Status::NoMemory,
         }
     }
 }

@@ -1,8 +1,10 @@
-ghost use Rattle.std.specs.Prelude.{◌≡◌, ◌≢◌, ◌∷◌, ℕ, [], OnOk, IfErr, IfOk, IsErrOf};
+ghost use Rattle.std.specs.Prelude.{◌≡◌, ◌≢◌, ◌≤◌, ◌∷◌, length, ℕ, [], OnOk, IfErr, IfOk, IsErrOf};
 ghost use Rattle.ground_io.specs.Counts.{HasCause};
 ghost use Rattle.ground_io.specs.Trace.{Adds};
 ghost use Rattle.script_lines.specs.Report.{report_text};
+ghost use Rattle.alarm_core.specs.Limits.{KeepsLimits};
 ghost use Rattle.alarm_core.specs.Sites.{IsSite};
+ghost use Rattle.state_codec.specs.Sizes.{most_text};
 ghost use Rattle.site_config.specs.declared.fault.SiteFault.{SiteFault};
 ghost use Rattle.site_config.specs.Sites.{site_of};
 ghost use Rattle.work_load.specs.Site.{workload_site};
@@ -12,37 +14,57 @@ ghost use Rattle.alarm_server.specs.GeneratedSite.{generated_site};
 ghost use Rattle.alarm_server.specs.Workloads.{AcceptsGenerated, ReadsGenerated, RefusesGenerated, summary_line, summary_of};
 
 use crate::emission::emit;
-use crate::on_file::play_site;
+use crate::session::play_session;
 use crate::status::Status;
 use crate::tally::Tally;
-use alarm_core::Site;
+use alarm_core::{Core, Site};
+use alarm_journal::Press;
 use bac_values::ReportLine;
 use ground_io::{Ground, MemoryGround, MemorySource};
 use site_config::read_site;
+use state_codec::need;
 use std::alloc::Global;
 use work_load::{make_script, make_site};
 
-// The generated site.
+// The generated site, with its text.
 #[tactic(auto, using(crate::proofs::GeneratedText::reads))]
-fn generated_site(alloc: Global) -> Result<Site, Status>
-    ensures site { IfOk result (λ site. site ≡ generated_site) }
-    ensures keeps { IfOk result IsSite }
+fn generated_site(alloc: Global) -> Result<(Site, Vec<u8>), Status>
+    ensures site { IfOk result (λ made. made.0 ≡ generated_site) }
+    ensures text { IfOk result (λ made. made.1.items ≡ workload_site) }
+    ensures keeps { IfOk result (λ made. IsSite made.0) }
+    ensures limits { IfOk result (λ made. KeepsLimits made.0) }
     ensures memory { IfErr result (λ status. status ≡ Status.NoMemory) }
     ensures fault { IfErr result IsInnerFault }
     ensures no_line { IfErr result IsSiteFault }
 {
     let text = make_site(alloc)?;
     let site = read_site(alloc, text.as_slice())?;
-    Ok(site)
+    Ok((site, text))
 }
 
-// How a session over a source and a ground in memory ends. No call of theirs is to fail, so the ground fails for want of
-// memory alone, and the source not at all.
+// A press on a blank device in memory, as large as a site's journal needs, none of whose calls fails.
+fn blank_press(alloc: Global, site: &Site, text: &[u8]) -> Result<Press<MemoryGround>, Status>
+    requires limits { KeepsLimits site.now }
+    requires short { length text.now ≤ most_text }
+    ensures memory { IfErr result (λ status. status ≡ Status.NoMemory) }
+{
+    let size = need(site, text.len() as u64);
+    let octets = vec![in alloc; 0u8; size as usize]?;
+    let device = MemoryGround::new(alloc, octets, Vec::new(alloc));
+    match Press::open(alloc, device, text, size) {
+        Ok((press, _opened)) => Ok(press),
+        Err((_device, _fault)) => Err(Status::NoMemory),
+    }
+}
+
+// How a session over a source and a blank ground in memory ends. No call of theirs is to fail, so the ground fails for want
+// of memory alone, and the source not at all.
 fn of_memory(status: Status) -> Status
     ensures status { result ≡ of_memory status }
 {
     match status {
-        Status::ReadFault | Status::EmitFault => Status::NoMemory,
+        Status::ReadFault | Status::EmitFault | Status::DiskFault | Status::JournalRefused { .. } =>
+            Status::NoMemory,
         other => other,
     }
 }
@@ -55,10 +77,12 @@ fn tally_of(alloc: Global, seed: u64, count: u32) -> Result<Tally, Status>
     ensures takes_site { (fault : SiteFault) → result ≢ Err (Status.SiteRefused fault) }
     ensures fault { IfErr result IsInnerFault }
 {
-    let site = generated_site(alloc)?;
+    let (site, text) = generated_site(alloc)?;
     let mut script = MemorySource::new(make_script(alloc, seed, count)?, Vec::new(alloc));
-    let mut ground = MemoryGround::new(alloc, Vec::new(alloc), Vec::new(alloc));
-    match play_site(alloc, &site, &mut script, &mut ground) {
+    let mut core = Core::start(alloc, &site)?;
+    let press = blank_press(alloc, &site, text.as_slice())?;
+    let (_device, played) = play_session(alloc, press, &mut core, &mut script);
+    match played {
         Ok(tally) => Ok(tally),
         Err(status) => Err(of_memory(status)),
     }

@@ -5,6 +5,7 @@ use Rattle.site_config.specs.Sites.{site_of}
 use Rattle.alarm_server.specs.declared.status.Status.TheVariants.{SiteRefused}
 use Rattle.alarm_server.specs.Status.{of_site_fault}
 use Rattle.alarm_server.proofs.OnFile.{file_is, file_refused}
+use Rattle.alarm_server.proofs.Texts.{short_site}
 use Rattle.alarm_server.proofs.on_file.open_site.Goals as goal
 
 pub returns-in_err-site-clause-refused : goal.returns-in_err-site-clause-refused
@@ -19,3 +20,8 @@ pub returns-clause-site : goal.returns-clause-site
 returns-clause-site g c =
     let says : site_of c.in_ok-text.text.items ≡ Ok c.in_ok-site.site = rw c.as_slice.ensures.value at c.in_ok-site.ensures.answer in
     file_is (g.S.Source.left c.args.source.now) c.in_ok-text.text.items c.in_ok-site.site c.in_ok-text.ensures.text says
+
+pub returns-clause-short : goal.returns-clause-short
+returns-clause-short g c =
+    let says : site_of c.in_ok-text.text.items ≡ Ok c.in_ok-site.site = rw c.as_slice.ensures.value at c.in_ok-site.ensures.answer in
+    short_site c.in_ok-text.text.items c.in_ok-site.site says

@@ -1,18 +1,83 @@
+use Rattle.std.proofs.Common.{◌≡◌, ◌∙◌, Err, ap}
+use Rattle.script_lines.specs.declared.line.Grammar.TheVariants.{Session}
+use Rattle.script_lines.specs.Script.{lines_of}
+use Rattle.alarm_server.specs.declared.status.Status.TheVariants.{Done, ReadFault}
 use Rattle.alarm_server.specs.Emission.{Emits, Ends}
+use Rattle.alarm_server.specs.Keeping.{journal_of, KeepsOpened}
 use Rattle.alarm_server.specs.Pieces.{piece_text}
+use Rattle.alarm_server.specs.Report.{report_of}
+use Rattle.alarm_server.specs.Script.{spelled_in}
 use Rattle.alarm_server.specs.Status.{status_of}
-use Rattle.alarm_server.proofs.ByHistory.{by_history, stops_by_history, tally_by_history}
+use Rattle.alarm_server.proofs.BehindOpening.{ends_refused, ends_session, keeps_session, stops_session}
+use Rattle.alarm_server.proofs.KeptOpenings.{opening_kept}
+use Rattle.alarm_server.proofs.KeptProgress.{in_any}
 use Rattle.alarm_server.proofs.on_file.play_site.Goals as goal
 
-pub returns-clause-ends : goal.returns-clause-ends
-returns-clause-ends g c =
-    by_history c.args.site.now c.requires.site c.in_ok-core.core c.in_ok-core.ensures.starts (g.T.Source.left c.args.script.now)
-    (λ pieces. Ends Emits piece_text (status_of c.play_session.result) pieces (g.G.Ground.told c.args.device.now) (g.G.Ground.told c.play_session.new.device)) c.play_session.ensures.ends
+pub returns-in-Err-clause-ends : goal.returns-in-Err-clause-ends
+returns-in-Err-clause-ends g c = λ history stood.
+    let old = g.G.Ground.told c.args.device in
+    let new = g.G.Ground.told c.in-Err.device in
+    in_any (λ t. Ends Emits piece_text c.in-Err.status (report_of c.args.site.now history t) old new) (g.T.Source.left c.args.script.now)
+    (λ t. ends_refused piece_text c.in-Err.status (report_of c.args.site.now history t) old new c.in-Err.ensures.fault c.in-Err.ensures.quiet)
 
-pub returns-clause-tally : goal.returns-clause-tally
-returns-clause-tally g c = tally_by_history c.args.site.now c.requires.site c.in_ok-core.core c.in_ok-core.ensures.starts (g.T.Source.left c.args.script.now) c.play_session.result c.play_session.ensures.tally
+pub returns-in-Err-clause-keeps : goal.returns-in-Err-clause-keeps
+returns-in-Err-clause-keeps g c = λ history stood.
+    let old = g.G.Ground.told c.args.device in
+    let new = g.G.Ground.told c.in-Err.device in
+    let journal = journal_of c.args.site.now c.args.text.now in
+    in_any (λ t. KeepsOpened journal c.args.site.now history (spelled_in Session 0 (lines_of t)) 1 old new) (g.T.Source.left c.args.script.now)
+    (λ t. opening_kept journal c.args.site.now history (spelled_in Session 0 (lines_of t)) 1 old new stood c.in-Err.ensures.reopens)
+
+pub returns-in-Err-clause-stands : goal.returns-in-Err-clause-stands
+returns-in-Err-clause-stands g c = λ history fault stood same. c.in-Err.ensures.stands history fault stood cc
+
+pub returns-in-Ok-played-clause-ends : goal.returns-in-Ok-played-clause-ends
+returns-in-Ok-played-clause-ends g c = λ history stood.
+    let old = g.G.Ground.told c.args.device in
+    let press = c.in-Ok.opened.0 in
+    let core = c.in-Ok.opened.1 in
+    let mid = g.G.Ground.told press.device in
+    let new = g.G.Ground.told c.play_session-device.result.0 in
+    let opened = c.in-Ok.ensures in
+    ends_session (journal_of c.args.site.now c.args.text.now) c.args.site.now c.requires.site core opened.site press.layout history Done old mid new stood opened.quiet (opened.represents history) (g.T.Source.left c.args.script.now) (rw c.in-Ok-played.is at c.play_session-device.ensures.ends)
+
+pub returns-in-Ok-played-clause-keeps : goal.returns-in-Ok-played-clause-keeps
+returns-in-Ok-played-clause-keeps g c = λ history stood.
+    let old = g.G.Ground.told c.args.device in
+    let press = c.in-Ok.opened.0 in
+    let core = c.in-Ok.opened.1 in
+    let mid = g.G.Ground.told press.device in
+    let new = g.G.Ground.told c.play_session-device.result.0 in
+    let opened = c.in-Ok.ensures in
+    keeps_session (journal_of c.args.site.now c.args.text.now) c.args.site.now c.requires.site core opened.site press.layout history Done old mid new stood opened.quiet (opened.represents history) (g.T.Source.left c.args.script.now) opened.reopens (opened.holds history) (rw c.in-Ok-played.is at c.play_session-device.ensures.ends) (c.play_session-device.ensures.keeps (journal_of c.args.site.now c.args.text.now) history)
+
+pub returns-clause-ends : goal.returns-clause-ends
+returns-clause-ends g c = λ history stood.
+    let old = g.G.Ground.told c.args.device in
+    let press = c.in-Ok.opened.0 in
+    let core = c.in-Ok.opened.1 in
+    let mid = g.G.Ground.told press.device in
+    let new = g.G.Ground.told c.play_session-device.result.0 in
+    let opened = c.in-Ok.ensures in
+    ends_session (journal_of c.args.site.now c.args.text.now) c.args.site.now c.requires.site core opened.site press.layout history c.in-Err-played.status old mid new stood opened.quiet (opened.represents history) (g.T.Source.left c.args.script.now) (rw c.in-Err-played.is at c.play_session-device.ensures.ends)
+
+pub returns-clause-keeps : goal.returns-clause-keeps
+returns-clause-keeps g c = λ history stood.
+    let old = g.G.Ground.told c.args.device in
+    let press = c.in-Ok.opened.0 in
+    let core = c.in-Ok.opened.1 in
+    let mid = g.G.Ground.told press.device in
+    let new = g.G.Ground.told c.play_session-device.result.0 in
+    let opened = c.in-Ok.ensures in
+    keeps_session (journal_of c.args.site.now c.args.text.now) c.args.site.now c.requires.site core opened.site press.layout history c.in-Err-played.status old mid new stood opened.quiet (opened.represents history) (g.T.Source.left c.args.script.now) opened.reopens (opened.holds history) (rw c.in-Err-played.is at c.play_session-device.ensures.ends) (c.play_session-device.ensures.keeps (journal_of c.args.site.now c.args.text.now) history)
 
 pub returns-clause-stops : goal.returns-clause-stops
-returns-clause-stops g c = λ e.
-    stops_by_history Emits c.args.site.now c.requires.site c.in_ok-core.core c.in_ok-core.ensures.starts (g.T.Source.left c.args.script.now) (g.T.Source.left c.play_session.new.script) (g.G.Ground.told c.args.device.now) (g.G.Ground.told c.play_session.new.device)
-    (c.play_session.ensures.stops e)
+returns-clause-stops g c = λ history stood e.
+    let same : c.in-Err-played.status ≡ ReadFault = cc in
+    let old = g.G.Ground.told c.args.device in
+    let press = c.in-Ok.opened.0 in
+    let core = c.in-Ok.opened.1 in
+    let mid = g.G.Ground.told press.device in
+    let new = g.G.Ground.told c.play_session-device.result.0 in
+    let opened = c.in-Ok.ensures in
+    stops_session (journal_of c.args.site.now c.args.text.now) c.args.site.now c.requires.site core opened.site press.layout history c.in-Err-played.status old mid new stood opened.quiet (opened.represents history) (g.T.Source.left c.args.script.now) (g.T.Source.left c.play_session-device.new.script) (c.play_session-device.ensures.stops (c.in-Err-played.is ∙ ap Err same))

@@ -1,248 +1,327 @@
-use Rattle.std.proofs.Common.{◌≡◌, ◌∷◌, [], Err, ap, subst, ◌∙◌, arith, refl}
-use Rattle.std.proofs.lemmas.Result.{err_from_is_err_and}
+use Rattle.std.proofs.Common.{◌≡◌, ◌∷◌, [], List, Err, Ok, Some, None, ap, subst, ◌∙◌, arith, refl}
 use Rattle.ground_io.specs.Trace.{WhereTold}
 use Rattle.script_lines.specs.declared.line.Grammar.TheVariants.{Session}
 use Rattle.script_lines.specs.ReadingSteps.{octets_to_come}
-use Rattle.script_lines.specs.Script.{ReadsLine}
+use Rattle.script_lines.specs.Script.{lines_of, ReadsLine}
 use Rattle.alarm_server.specs.declared.status.Status.TheVariants.{ScriptRefused, ReadFault}
+use Rattle.alarm_journal.specs.Journal.{Site as Journal}
+use Rattle.alarm_core.specs.declared.event.Event.{Event}
+use Rattle.alarm_core.specs.declared.site.Site.{Site}
+use Rattle.alarm_core.specs.Allowed.{Represents}
+use Rattle.alarm_server.specs.Keeping.{HoldsHistory, KeepsLines, KeepsReport}
 use Rattle.alarm_server.specs.Pieces.{end_piece, open_piece, piece_of, piece_text}
 use Rattle.alarm_server.specs.Emission.{Emits}
-use Rattle.alarm_server.specs.Status.{of_line_fault, of_unsent}
-use Rattle.alarm_server.proofs.Emitting.{emits, emits_sent, emits_up_to, leaves_at_once, leaves_sent, leaves_then, leaves_up_to}
-use Rattle.alarm_server.proofs.OfUnsent.{emit_cause, is_fault, is_no_read_fault, read_cause, refuses_no_line}
+use Rattle.alarm_server.specs.Script.{spelled_in}
+use Rattle.alarm_server.specs.SessionSteps.{session_over}
+use Rattle.alarm_server.specs.Status.{of_line_fault}
+use Rattle.alarm_server.proofs.Emitting.{emits, emits_sent, emits_up_to}
+use Rattle.alarm_server.proofs.KeptProgress.{in_any, KeepsLine, kept_at_end, kept_at_first, kept_at_line, kept_at_once, kept_between, plays_first, plays_on}
+use Rattle.alarm_server.proofs.LineFaults.{ends_script_as, sends_by, way_of}
 use Rattle.alarm_server.proofs.Progress.{grammar_fault, read_fault}
-use Rattle.alarm_server.proofs.SessionProgress.{accepts, begins, ends, ends_at_end, ends_at_first, ends_at_line, ends_at_once, ends_at_piece, goes_on, reaches, refused_first, stops_reading, tallies}
+use Rattle.alarm_server.proofs.SessionProgress.{accepts, ends, ends_at_end, ends_at_first, ends_at_line, ends_at_piece, reaches, refused_first, stops_reading, tallies}
 use Rattle.alarm_server.proofs.session.play_session.Goals as goal
 
-pub returns-in_err-lines-clause-ends : goal.returns-in_err-lines-clause-ends
-returns-in_err-lines-clause-ends g c =
-    let p = err_from_is_err_and c.from_residual.result c.from_residual.ensures.1 in
-    rw (p.1, p.2) (ends_at_once Emits emits c.args.core.now (g.T.Source.left c.args.script.now) (g.G.Ground.told c.args.device.now))
+pub returns-in-Err-clause-keeps : goal.returns-in-Err-clause-keeps
+returns-in-Err-clause-keeps g c = λ journal history stands holds.
+    rw c.into_ground.ensures.same
+    (in_any (λ t. KeepsReport journal c.args.core.now.site history (spelled_in Session 0 (lines_of t)) 1 (g.G.Ground.told c.args.press.device) (g.G.Ground.told c.args.press.device)) (g.T.Source.left c.args.script.now)
+    (λ t. kept_at_once journal c.args.core.now.site history c.args.press.layout (g.G.Ground.told c.args.press.device) (spelled_in Session 0 (lines_of t)) holds))
 
-pub returns-in_err-lines-clause-alone : goal.returns-in_err-lines-clause-alone
-returns-in_err-lines-clause-alone g c = leaves_at_once (g.G.Ground.told c.args.device.now)
+pub returns-in-Err-begin-clause-ends : goal.returns-in-Err-begin-clause-ends
+returns-in-Err-begin-clause-ends g c =
+    let old = g.G.Ground.told c.args.press.device in
+    let new = g.G.Ground.told c.begin.new.press.device in
+    let fault = c.in-Err-begin.unsent in
+    rw (c.into_ground-in-Err-begin.ensures.same, c.from.ensures)
+    (ends_at_first Emits emits c.args.core.now (g.T.Source.left c.args.script.now) old new fault (emits_up_to piece_text fault (open_piece c.args.core.now ∷ []) old new c.in-Err-begin.ensures.sends))
 
-pub returns-in_err-begin-clause-ends : goal.returns-in_err-begin-clause-ends
-returns-in_err-begin-clause-ends g c =
-    let p = err_from_is_err_and c.from_residual-in_err-begin.result c.from_residual-in_err-begin.ensures.1 in
-    rw (p.1, p.2) (ends_at_first Emits emits c.args.core.now (g.T.Source.left c.args.script.now) (g.G.Ground.told c.args.device.now) (g.G.Ground.told c.begin.new.device) c.in_err-begin.field-0.0
-    (emits_up_to piece_text c.in_err-begin.field-0.0 (open_piece c.args.core.now ∷ []) (g.G.Ground.told c.args.device.now) (g.G.Ground.told c.begin.new.device) c.in_err-begin.ensures.sends))
+pub returns-in-Err-begin-clause-keeps : goal.returns-in-Err-begin-clause-keeps
+returns-in-Err-begin-clause-keeps g c = λ journal history stands holds.
+    let old = g.G.Ground.told c.args.press.device in
+    let new = g.G.Ground.told c.begin.new.press.device in
+    rw c.into_ground-in-Err-begin.ensures.same
+    (in_any (λ t. KeepsReport journal c.args.core.now.site history (spelled_in Session 0 (lines_of t)) 1 old new) (g.T.Source.left c.args.script.now)
+    (λ t. kept_at_first journal c.args.core.now.site history c.args.press.layout old new (spelled_in Session 0 (lines_of t)) c.in-Err-begin.unsent (open_piece c.args.core.now) holds (c.begin.ensures.any_moment journal) c.in-Err-begin.ensures.sends))
 
-pub returns-in_err-begin-clause-alone : goal.returns-in_err-begin-clause-alone
-returns-in_err-begin-clause-alone g c = leaves_up_to piece_text c.in_err-begin.field-0.0 (open_piece c.args.core.now ∷ []) (g.G.Ground.told c.args.device.now) (g.G.Ground.told c.begin.new.device) c.in_err-begin.ensures.sends
-
-pub loop-lines-init : goal.loop-lines-init
-loop-lines-init g c =
-    rw c.in_ok-lines.ensures.start
+pub loop-line-init : goal.loop-line-init
+loop-line-init g c =
+    rw c.in-Ok.ensures.start
     (record {
-      progress = begins Emits emits c.args.core.now (g.T.Source.left c.args.script.now) (g.G.Ground.told c.args.device.now) (g.G.Ground.told c.begin.new.device) c.new-tally.result c.new-tally.ensures.nothing
-          (emits_sent piece_text (open_piece c.args.core.now ∷ []) (g.G.Ground.told c.args.device.now) (g.G.Ground.told c.begin.new.device) c.in_ok-begin.ensures.sends);
-      alone = leaves_sent piece_text (open_piece c.args.core.now ∷ []) (g.G.Ground.told c.args.device.now) (g.G.Ground.told c.begin.new.device) c.in_ok-begin.ensures.sends;
+      plays = plays_first c.args.core.now (g.T.Source.left c.args.script.now) c.args.press.layout c.begin.new.press.layout (g.G.Ground.told c.args.press.device) (g.G.Ground.told c.begin.new.press.device) c.new-tally.result c.new-tally.ensures.nothing
+          (emits_sent piece_text (open_piece c.args.core.now ∷ []) (g.G.Ground.told c.args.press.device) (g.G.Ground.told c.begin.new.press.device) c.in_default.ensures.sends) c.begin.ensures.any_moment c.begin.ensures.rests;
+      site = refl;
       grammar = refl;
       source = λ e. absurd cc;
       size = c.begin.ensures.size;
-      disk = c.begin.ensures.disk;
+      disk = omega arith;
       read = omega arith;
       emitted = c.begin.ensures.cause.later;
     })
 
-pub returns-in_err-line-clause-ends : goal.returns-in_err-line-clause-ends
-returns-in_err-line-clause-ends g c =
-    let p = err_from_is_err_and c.from_residual-in_err-line.result c.from_residual-in_err-line.ensures.1 in
-    let here = c.loop-lines in
+pub returns-in-Err-next_line-clause-ends : goal.returns-in-Err-next_line-clause-ends
+returns-in-Err-next_line-clause-ends g c =
+    let here = c.loop-line in
     let next = c.next_line.new in
-    rw (p.1, p.2)
-    (ends_at_line Emits emits c.args.core.now (g.T.Source.left c.args.script.now) (octets_to_come here.lines (g.T.Source.left here.script)) (octets_to_come next.self (g.T.Source.left next.source)) (g.G.Ground.told c.args.device.now) (g.G.Ground.told here.device) here.lines.number next.self.number here.lines.ended here.core here.tally c.in_err-line.field-0.0 here.invariant.progress (rw here.invariant.grammar at c.in_err-line.ensures.line))
+    rw (c.into_ground-in-Err-next_line.ensures.same, c.from-in-Err-next_line.ensures)
+    (ends_at_line Emits emits c.args.core.now (g.T.Source.left c.args.script.now) (octets_to_come here.lines (g.T.Source.left here.script)) (octets_to_come next.self (g.T.Source.left next.source)) (g.G.Ground.told c.args.press.device) (g.G.Ground.told here.press.device) here.lines.number next.self.number here.lines.ended here.core here.tally c.in-Err-next_line.fault here.invariant.plays.progress (rw here.invariant.grammar at c.in-Err-next_line.ensures.line))
 
-pub returns-in_err-line-clause-refused : goal.returns-in_err-line-clause-refused
-returns-in_err-line-clause-refused g c = λ line e.
-    let p = err_from_is_err_and c.from_residual-in_err-line.result c.from_residual-in_err-line.ensures.1 in
-    let same : of_line_fault c.in_err-line.field-0.0 ≡ ScriptRefused line = cc in
-    let fault = grammar_fault c.in_err-line.field-0.0 line same in
-    let here = c.loop-lines in
-    let next = c.next_line.new in
-    let come = octets_to_come here.lines (g.T.Source.left here.script) in
-    let come' = octets_to_come next.self (g.T.Source.left next.source) in
-    let read = subst (λ f. WhereTold come come' (ReadsLine Session here.lines.number next.self.number (Err f))) fault (rw here.invariant.grammar at c.in_err-line.ensures.line) in
-    refused_first Emits emits c.args.core.now (g.T.Source.left c.args.script.now) come come' (g.G.Ground.told c.args.device.now) (g.G.Ground.told here.device) here.lines.number next.self.number here.lines.ended here.core here.tally line here.invariant.progress read
+pub returns-in-Err-next_line-clause-keeps : goal.returns-in-Err-next_line-clause-keeps
+returns-in-Err-next_line-clause-keeps g c = λ journal history stands holds.
+    let here = c.loop-line in
+    rw c.into_ground-in-Err-next_line.ensures.same
+    (kept_between c.args.core.now (g.T.Source.left c.args.script.now) (octets_to_come here.lines (g.T.Source.left here.script)) c.args.press.layout here.press.layout (g.G.Ground.told c.args.press.device) (g.G.Ground.told here.press.device) here.lines.number here.lines.ended here.core here.tally here.invariant.plays journal history stands holds)
 
-pub returns-in_err-line-clause-stops : goal.returns-in_err-line-clause-stops
-returns-in_err-line-clause-stops g c = λ e.
-    let p = err_from_is_err_and c.from_residual-in_err-line.result c.from_residual-in_err-line.ensures.1 in
-    let same : of_line_fault c.in_err-line.field-0.0 ≡ ReadFault = cc in
-    let fault = read_fault c.in_err-line.field-0.0 same in
-    let here = c.loop-lines in
+pub returns-in-Err-next_line-clause-refused : goal.returns-in-Err-next_line-clause-refused
+returns-in-Err-next_line-clause-refused g c = λ line e.
+    let same : of_line_fault c.in-Err-next_line.fault ≡ ScriptRefused line = cc in
+    let fault = grammar_fault c.in-Err-next_line.fault line same in
+    let here = c.loop-line in
     let next = c.next_line.new in
     let come = octets_to_come here.lines (g.T.Source.left here.script) in
     let come' = octets_to_come next.self (g.T.Source.left next.source) in
-    let read = subst (λ f. WhereTold come come' (ReadsLine Session here.lines.number next.self.number (Err f))) fault (rw here.invariant.grammar at c.in_err-line.ensures.line) in
-    stops_reading Emits emits c.args.core.now (g.T.Source.left c.args.script.now) come (g.T.Source.left next.source) next.self.pending (g.G.Ground.told c.args.device.now) (g.G.Ground.told here.device) here.lines.number next.self.number here.lines.ended next.self.ended here.core here.tally here.invariant.progress read c.next_line.ensures.ended c.next_line.ensures.whole_lines (c.next_line.ensures.waits (c.in_err-line.was ∙ ap Err fault))
+    let read = subst (λ f. WhereTold come come' (ReadsLine Session here.lines.number next.self.number (Err f))) fault (rw here.invariant.grammar at c.in-Err-next_line.ensures.line) in
+    refused_first Emits emits c.args.core.now (g.T.Source.left c.args.script.now) come come' (g.G.Ground.told c.args.press.device) (g.G.Ground.told here.press.device) here.lines.number next.self.number here.lines.ended here.core here.tally line here.invariant.plays.progress read
 
-pub returns-in_err-play_line-clause-ends : goal.returns-in_err-play_line-clause-ends
-returns-in_err-play_line-clause-ends g c =
-    let p = err_from_is_err_and c.from_residual-in_err-play_line.result c.from_residual-in_err-play_line.ensures.1 in
-    let here = c.loop-lines in
+pub returns-in-Err-next_line-clause-stops : goal.returns-in-Err-next_line-clause-stops
+returns-in-Err-next_line-clause-stops g c = λ e.
+    let same : of_line_fault c.in-Err-next_line.fault ≡ ReadFault = cc in
+    let fault = read_fault c.in-Err-next_line.fault same in
+    let here = c.loop-line in
     let next = c.next_line.new in
-    let read = rw (c.in-Some.is, here.invariant.grammar) at c.in_ok-line.ensures.line in
-    let line = c.in-Some.line in
-    rw (p.1, p.2)
-    (ends_at_piece Emits emits c.args.core.now (g.T.Source.left c.args.script.now) (octets_to_come here.lines (g.T.Source.left here.script)) (octets_to_come next.self (g.T.Source.left next.source)) (g.G.Ground.told c.args.device.now) (g.G.Ground.told here.device) (g.G.Ground.told c.play_line.new.device) here.lines.number next.self.number here.lines.ended here.core here.tally line (piece_of here.core line) c.in_err-play_line.field-0.0 here.invariant.progress read refl c.in_err-play_line.ensures.sends)
+    let text = g.T.Source.left c.args.script.now in
+    let come = octets_to_come here.lines (g.T.Source.left here.script) in
+    let come' = octets_to_come next.self (g.T.Source.left next.source) in
+    let old = g.G.Ground.told c.args.press.device in
+    let mid = g.G.Ground.told here.press.device in
+    let read = subst (λ f. WhereTold come come' (ReadsLine Session here.lines.number next.self.number (Err f))) fault (rw here.invariant.grammar at c.in-Err-next_line.ensures.line) in
+    rw c.into_ground-in-Err-next_line.ensures.same
+    (stops_reading Emits emits c.args.core.now text come (g.T.Source.left next.source) next.self.pending old mid here.lines.number next.self.number here.lines.ended next.self.ended here.core here.tally here.invariant.plays.progress read c.next_line.ensures.ended c.next_line.ensures.whole_lines (c.next_line.ensures.waits (c.in-Err-next_line.is ∙ ap Err fault)))
 
-pub returns-in_err-play_line-clause-alone : goal.returns-in_err-play_line-clause-alone
-returns-in_err-play_line-clause-alone g c =
-    let here = c.loop-lines in
-    leaves_then (g.G.Ground.told c.args.device.now) (g.G.Ground.told here.device) (g.G.Ground.told c.play_line.new.device) here.invariant.alone c.play_line.ensures.alone
-
-pub returns-in_err-play_line-clause-refused : goal.returns-in_err-play_line-clause-refused
-returns-in_err-play_line-clause-refused g c = λ line e.
-    let p = err_from_is_err_and c.from_residual-in_err-play_line.result c.from_residual-in_err-play_line.ensures.1 in
-    let same : of_unsent c.in_err-play_line.field-0.0 ≡ ScriptRefused line = cc in
-    refuses_no_line c.in_err-play_line.field-0.0 line same
-
-pub returns-in_err-play_line-clause-stops : goal.returns-in_err-play_line-clause-stops
-returns-in_err-play_line-clause-stops g c = λ e.
-    let p = err_from_is_err_and c.from_residual-in_err-play_line.result c.from_residual-in_err-play_line.ensures.1 in
-    let same : of_unsent c.in_err-play_line.field-0.0 ≡ ReadFault = cc in
-    is_no_read_fault c.in_err-play_line.field-0.0 same
-
-pub returns-in_err-play_line-clause-fault : goal.returns-in_err-play_line-clause-fault
-returns-in_err-play_line-clause-fault g c =
-    let p = err_from_is_err_and c.from_residual-in_err-play_line.result c.from_residual-in_err-play_line.ensures.1 in
-    rw (p.1, p.2) (is_fault c.in_err-play_line.field-0.0)
-
-pub returns-in_err-play_line-clause-read_cause : goal.returns-in_err-play_line-clause-read_cause
-returns-in_err-play_line-clause-read_cause g c =
-    let p = err_from_is_err_and c.from_residual-in_err-play_line.result c.from_residual-in_err-play_line.ensures.1 in
-    let here = c.loop-lines in
-    rw (p.1, p.2) (read_cause c.in_err-play_line.field-0.0 (g.T.Source.faults c.args.script.now) (g.T.Source.faults here.script) (g.T.Source.faults c.next_line.new.source) here.invariant.read c.next_line.ensures.cause.later)
-
-pub returns-in_err-play_line-clause-emit_cause : goal.returns-in_err-play_line-clause-emit_cause
-returns-in_err-play_line-clause-emit_cause g c =
-    let p = err_from_is_err_and c.from_residual-in_err-play_line.result c.from_residual-in_err-play_line.ensures.1 in
-    let here = c.loop-lines in
-    rw (p.1, p.2) (emit_cause c.in_err-play_line.field-0.0 (g.G.Ground.emit_faults c.args.device.now) (g.G.Ground.emit_faults here.device) (g.G.Ground.emit_faults c.play_line.new.device) here.invariant.emitted c.in_err-play_line.ensures.cause)
-
-pub loop-lines-preserved-in_ok-play_line : goal.loop-lines-preserved-in_ok-play_line
-loop-lines-preserved-in_ok-play_line g c =
-    let here = c.loop-lines in
+pub returns-in-Err-play_line-clause-ends : goal.returns-in-Err-play_line-clause-ends
+returns-in-Err-play_line-clause-ends g c =
+    let here = c.loop-line in
     let next = c.next_line.new in
-    let read = rw (c.in-Some.is, here.invariant.grammar) at c.in_ok-line.ensures.line in
-    let line = c.in-Some.line in
+    let text = g.T.Source.left c.args.script.now in
+    let come = octets_to_come here.lines (g.T.Source.left here.script) in
+    let come' = octets_to_come next.self (g.T.Source.left next.source) in
+    let old = g.G.Ground.told c.args.press.device in
+    let mid = g.G.Ground.told here.press.device in
+    let read = rw (c.in-Ok-Some.field-0-is, here.invariant.grammar) at c.in-Ok-Some.ensures.line in
+    let line = c.in-Ok-Some.line in
+    let lost = c.in-Err-play_line.status in
+    let new = g.G.Ground.told c.in-Err-play_line.device in
+    let fault = c.in-Err-play_line.ensures.fault in
+    ends_script_as Emits piece_text lost (λ t. session_over c.args.core.now (lines_of t)) text old new fault
+    (ends_at_piece Emits emits c.args.core.now text come come' old mid new here.lines.number next.self.number here.lines.ended here.core here.tally line (piece_of here.core line) (way_of lost) here.invariant.plays.progress read refl
+    (sends_by Emits piece_text lost (piece_of here.core line ∷ []) mid new fault c.in-Err-play_line.ensures.sends))
+
+pub returns-in-Err-play_line-clause-keeps : goal.returns-in-Err-play_line-clause-keeps
+returns-in-Err-play_line-clause-keeps g c = λ journal history stands holds.
+    let here = c.loop-line in
+    let next = c.next_line.new in
+    let text = g.T.Source.left c.args.script.now in
+    let come = octets_to_come here.lines (g.T.Source.left here.script) in
+    let come' = octets_to_come next.self (g.T.Source.left next.source) in
+    let old = g.G.Ground.told c.args.press.device in
+    let mid = g.G.Ground.told here.press.device in
+    let read = rw (c.in-Ok-Some.field-0-is, here.invariant.grammar) at c.in-Ok-Some.ensures.line in
+    kept_at_line c.args.core.now text come c.args.press.layout here.press.layout old mid here.lines.number here.lines.ended here.core here.tally here.invariant.plays journal history stands holds come' (g.G.Ground.told c.in-Err-play_line.device) next.self.number c.in-Ok-Some.line read
+    (subst (λ (s : Site). (journal : Journal) (history : List Event) → Represents here.core history → HoldsHistory journal s history here.press.layout mid → KeepsLines journal s history (c.in-Ok-Some.line ∷ []) 0 mid (g.G.Ground.told c.in-Err-play_line.device)) here.invariant.site c.in-Err-play_line.ensures.keeps)
+
+pub loop-line-preserved : goal.loop-line-preserved
+loop-line-preserved g c =
+    let here = c.loop-line in
+    let next = c.next_line.new in
+    let text = g.T.Source.left c.args.script.now in
+    let come = octets_to_come here.lines (g.T.Source.left here.script) in
+    let come' = octets_to_come next.self (g.T.Source.left next.source) in
+    let old = g.G.Ground.told c.args.press.device in
+    let mid = g.G.Ground.told here.press.device in
+    let new = g.G.Ground.told c.in-Ok-play_line.press.device in
+    let read = rw (c.in-Ok-Some.field-0-is, here.invariant.grammar) at c.in-Ok-Some.ensures.line in
+    let line = c.in-Ok-Some.line in
+    let kept : KeepsLine here.core.site here.core c.play_line.new.core line here.press.layout c.in-Ok-play_line.press.layout mid new = record { keeps = c.in-Ok-play_line.ensures.keeps; holds = c.in-Ok-play_line.ensures.holds; stands = c.in-Ok-play_line.ensures.represents } in
     record {
-      progress = goes_on Emits emits c.args.core.now (g.T.Source.left c.args.script.now) (octets_to_come here.lines (g.T.Source.left here.script)) (octets_to_come next.self (g.T.Source.left next.source)) (g.G.Ground.told c.args.device.now) (g.G.Ground.told here.device) (g.G.Ground.told c.play_line.new.device) here.lines.number next.self.number here.lines.ended next.self.ended here.core c.play_line.new.core here.tally c.play_line.new.tally line (piece_of here.core line) here.invariant.progress read c.next_line.ensures.ended c.next_line.ensures.whole_lines c.in_ok-play_line.ensures.state refl c.in_ok-play_line.ensures.tally c.in_ok-play_line.ensures.sends;
-      alone = leaves_then (g.G.Ground.told c.args.device.now) (g.G.Ground.told here.device) (g.G.Ground.told c.play_line.new.device) here.invariant.alone c.play_line.ensures.alone;
+      plays = plays_on c.args.core.now text come come' c.args.press.layout here.press.layout c.in-Ok-play_line.press.layout old mid new here.lines.number next.self.number here.lines.ended next.self.ended here.core c.play_line.new.core here.tally c.play_line.new.tally line here.invariant.plays read c.next_line.ensures.ended c.next_line.ensures.whole_lines c.in-Ok-play_line.ensures.state c.in-Ok-play_line.ensures.tally c.in-Ok-play_line.ensures.sends
+          (subst (λ (s : Site). KeepsLine s here.core c.play_line.new.core line here.press.layout c.in-Ok-play_line.press.layout mid new) here.invariant.site kept);
+      site = c.in-Ok-play_line.ensures.site ∙ here.invariant.site;
       grammar = c.next_line.ensures.grammar ∙ here.invariant.grammar;
       source = c.next_line.ensures.source;
-      size = c.play_line.ensures.size ∙ here.invariant.size;
-      disk = c.play_line.ensures.disk ∙ here.invariant.disk;
+      size = c.in-Ok-play_line.ensures.size ∙ here.invariant.size;
+      disk = omega (arith, here.invariant.disk, c.in-Ok-play_line.ensures.disk_cause);
       read = omega (arith, here.invariant.read, c.next_line.ensures.cause.later);
-      emitted = omega (arith, here.invariant.emitted, c.play_line.ensures.cause.later);
+      emitted = omega (arith, here.invariant.emitted, c.in-Ok-play_line.ensures.emit_cause);
     }
 
-pub loop-lines-preserved-in_ok-play_line-2 : goal.loop-lines-preserved-in_ok-play_line-2
-loop-lines-preserved-in_ok-play_line-2 g c =
-    let here = c.loop-lines in
+pub loop-line-preserved-in-Ok-play_line : goal.loop-line-preserved-in-Ok-play_line
+loop-line-preserved-in-Ok-play_line g c =
+    let here = c.loop-line in
     let next = c.next_line.new in
-    let read = rw (c.in-Some.is, here.invariant.grammar) at c.in_ok-line.ensures.line in
-    let line = c.in-Some.line in
+    let text = g.T.Source.left c.args.script.now in
+    let come = octets_to_come here.lines (g.T.Source.left here.script) in
+    let come' = octets_to_come next.self (g.T.Source.left next.source) in
+    let old = g.G.Ground.told c.args.press.device in
+    let mid = g.G.Ground.told here.press.device in
+    let new = g.G.Ground.told c.in-Ok-play_line.press.device in
+    let read = rw (c.in-Ok-Some.field-0-is, here.invariant.grammar) at c.in-Ok-Some.ensures.line in
+    let line = c.in-Ok-Some.line in
+    let kept : KeepsLine here.core.site here.core c.play_line.new.core line here.press.layout c.in-Ok-play_line.press.layout mid new = record { keeps = c.in-Ok-play_line.ensures.keeps; holds = c.in-Ok-play_line.ensures.holds; stands = c.in-Ok-play_line.ensures.represents } in
     record {
-      progress = goes_on Emits emits c.args.core.now (g.T.Source.left c.args.script.now) (octets_to_come here.lines (g.T.Source.left here.script)) (octets_to_come next.self (g.T.Source.left next.source)) (g.G.Ground.told c.args.device.now) (g.G.Ground.told here.device) (g.G.Ground.told c.play_line.new.device) here.lines.number next.self.number here.lines.ended next.self.ended here.core c.play_line.new.core here.tally c.play_line.new.tally line (piece_of here.core line) here.invariant.progress read c.next_line.ensures.ended c.next_line.ensures.whole_lines c.in_ok-play_line.ensures.state refl c.in_ok-play_line.ensures.tally c.in_ok-play_line.ensures.sends;
-      alone = leaves_then (g.G.Ground.told c.args.device.now) (g.G.Ground.told here.device) (g.G.Ground.told c.play_line.new.device) here.invariant.alone c.play_line.ensures.alone;
+      plays = plays_on c.args.core.now text come come' c.args.press.layout here.press.layout c.in-Ok-play_line.press.layout old mid new here.lines.number next.self.number here.lines.ended next.self.ended here.core c.play_line.new.core here.tally c.play_line.new.tally line here.invariant.plays read c.next_line.ensures.ended c.next_line.ensures.whole_lines c.in-Ok-play_line.ensures.state c.in-Ok-play_line.ensures.tally c.in-Ok-play_line.ensures.sends
+          (subst (λ (s : Site). KeepsLine s here.core c.play_line.new.core line here.press.layout c.in-Ok-play_line.press.layout mid new) here.invariant.site kept);
+      site = c.in-Ok-play_line.ensures.site ∙ here.invariant.site;
       grammar = c.next_line.ensures.grammar ∙ here.invariant.grammar;
       source = c.next_line.ensures.source;
-      size = c.play_line.ensures.size ∙ here.invariant.size;
-      disk = c.play_line.ensures.disk ∙ here.invariant.disk;
+      size = c.in-Ok-play_line.ensures.size ∙ here.invariant.size;
+      disk = omega (arith, here.invariant.disk, c.in-Ok-play_line.ensures.disk_cause);
       read = omega (arith, here.invariant.read, c.next_line.ensures.cause.later);
-      emitted = omega (arith, here.invariant.emitted, c.play_line.ensures.cause.later);
+      emitted = omega (arith, here.invariant.emitted, c.in-Ok-play_line.ensures.emit_cause);
     }
 
-pub loop-lines-preserved-in_ok-play_line-3 : goal.loop-lines-preserved-in_ok-play_line-3
-loop-lines-preserved-in_ok-play_line-3 g c =
-    let here = c.loop-lines in
+pub loop-line-preserved-in-Ok-play_line-2 : goal.loop-line-preserved-in-Ok-play_line-2
+loop-line-preserved-in-Ok-play_line-2 g c =
+    let here = c.loop-line in
     let next = c.next_line.new in
-    let read = rw (c.in-Some.is, here.invariant.grammar) at c.in_ok-line.ensures.line in
-    let line = c.in-Some.line in
+    let text = g.T.Source.left c.args.script.now in
+    let come = octets_to_come here.lines (g.T.Source.left here.script) in
+    let come' = octets_to_come next.self (g.T.Source.left next.source) in
+    let old = g.G.Ground.told c.args.press.device in
+    let mid = g.G.Ground.told here.press.device in
+    let new = g.G.Ground.told c.in-Ok-play_line.press.device in
+    let read = rw (c.in-Ok-Some.field-0-is, here.invariant.grammar) at c.in-Ok-Some.ensures.line in
+    let line = c.in-Ok-Some.line in
+    let kept : KeepsLine here.core.site here.core c.play_line.new.core line here.press.layout c.in-Ok-play_line.press.layout mid new = record { keeps = c.in-Ok-play_line.ensures.keeps; holds = c.in-Ok-play_line.ensures.holds; stands = c.in-Ok-play_line.ensures.represents } in
     record {
-      progress = goes_on Emits emits c.args.core.now (g.T.Source.left c.args.script.now) (octets_to_come here.lines (g.T.Source.left here.script)) (octets_to_come next.self (g.T.Source.left next.source)) (g.G.Ground.told c.args.device.now) (g.G.Ground.told here.device) (g.G.Ground.told c.play_line.new.device) here.lines.number next.self.number here.lines.ended next.self.ended here.core c.play_line.new.core here.tally c.play_line.new.tally line (piece_of here.core line) here.invariant.progress read c.next_line.ensures.ended c.next_line.ensures.whole_lines c.in_ok-play_line.ensures.state refl c.in_ok-play_line.ensures.tally c.in_ok-play_line.ensures.sends;
-      alone = leaves_then (g.G.Ground.told c.args.device.now) (g.G.Ground.told here.device) (g.G.Ground.told c.play_line.new.device) here.invariant.alone c.play_line.ensures.alone;
+      plays = plays_on c.args.core.now text come come' c.args.press.layout here.press.layout c.in-Ok-play_line.press.layout old mid new here.lines.number next.self.number here.lines.ended next.self.ended here.core c.play_line.new.core here.tally c.play_line.new.tally line here.invariant.plays read c.next_line.ensures.ended c.next_line.ensures.whole_lines c.in-Ok-play_line.ensures.state c.in-Ok-play_line.ensures.tally c.in-Ok-play_line.ensures.sends
+          (subst (λ (s : Site). KeepsLine s here.core c.play_line.new.core line here.press.layout c.in-Ok-play_line.press.layout mid new) here.invariant.site kept);
+      site = c.in-Ok-play_line.ensures.site ∙ here.invariant.site;
       grammar = c.next_line.ensures.grammar ∙ here.invariant.grammar;
       source = c.next_line.ensures.source;
-      size = c.play_line.ensures.size ∙ here.invariant.size;
-      disk = c.play_line.ensures.disk ∙ here.invariant.disk;
+      size = c.in-Ok-play_line.ensures.size ∙ here.invariant.size;
+      disk = omega (arith, here.invariant.disk, c.in-Ok-play_line.ensures.disk_cause);
       read = omega (arith, here.invariant.read, c.next_line.ensures.cause.later);
-      emitted = omega (arith, here.invariant.emitted, c.play_line.ensures.cause.later);
+      emitted = omega (arith, here.invariant.emitted, c.in-Ok-play_line.ensures.emit_cause);
     }
 
-pub loop-lines-preserved : goal.loop-lines-preserved
-loop-lines-preserved g c =
-    let here = c.loop-lines in
+pub loop-line-preserved-in-Ok-play_line-3 : goal.loop-line-preserved-in-Ok-play_line-3
+loop-line-preserved-in-Ok-play_line-3 g c =
+    let here = c.loop-line in
     let next = c.next_line.new in
-    let read = rw (c.in-Some.is, here.invariant.grammar) at c.in_ok-line.ensures.line in
-    let line = c.in-Some.line in
+    let text = g.T.Source.left c.args.script.now in
+    let come = octets_to_come here.lines (g.T.Source.left here.script) in
+    let come' = octets_to_come next.self (g.T.Source.left next.source) in
+    let old = g.G.Ground.told c.args.press.device in
+    let mid = g.G.Ground.told here.press.device in
+    let new = g.G.Ground.told c.in-Ok-play_line.press.device in
+    let read = rw (c.in-Ok-Some.field-0-is, here.invariant.grammar) at c.in-Ok-Some.ensures.line in
+    let line = c.in-Ok-Some.line in
+    let kept : KeepsLine here.core.site here.core c.play_line.new.core line here.press.layout c.in-Ok-play_line.press.layout mid new = record { keeps = c.in-Ok-play_line.ensures.keeps; holds = c.in-Ok-play_line.ensures.holds; stands = c.in-Ok-play_line.ensures.represents } in
     record {
-      progress = goes_on Emits emits c.args.core.now (g.T.Source.left c.args.script.now) (octets_to_come here.lines (g.T.Source.left here.script)) (octets_to_come next.self (g.T.Source.left next.source)) (g.G.Ground.told c.args.device.now) (g.G.Ground.told here.device) (g.G.Ground.told c.play_line.new.device) here.lines.number next.self.number here.lines.ended next.self.ended here.core c.play_line.new.core here.tally c.play_line.new.tally line (piece_of here.core line) here.invariant.progress read c.next_line.ensures.ended c.next_line.ensures.whole_lines c.in_ok-play_line.ensures.state refl c.in_ok-play_line.ensures.tally c.in_ok-play_line.ensures.sends;
-      alone = leaves_then (g.G.Ground.told c.args.device.now) (g.G.Ground.told here.device) (g.G.Ground.told c.play_line.new.device) here.invariant.alone c.play_line.ensures.alone;
+      plays = plays_on c.args.core.now text come come' c.args.press.layout here.press.layout c.in-Ok-play_line.press.layout old mid new here.lines.number next.self.number here.lines.ended next.self.ended here.core c.play_line.new.core here.tally c.play_line.new.tally line here.invariant.plays read c.next_line.ensures.ended c.next_line.ensures.whole_lines c.in-Ok-play_line.ensures.state c.in-Ok-play_line.ensures.tally c.in-Ok-play_line.ensures.sends
+          (subst (λ (s : Site). KeepsLine s here.core c.play_line.new.core line here.press.layout c.in-Ok-play_line.press.layout mid new) here.invariant.site kept);
+      site = c.in-Ok-play_line.ensures.site ∙ here.invariant.site;
       grammar = c.next_line.ensures.grammar ∙ here.invariant.grammar;
       source = c.next_line.ensures.source;
-      size = c.play_line.ensures.size ∙ here.invariant.size;
-      disk = c.play_line.ensures.disk ∙ here.invariant.disk;
+      size = c.in-Ok-play_line.ensures.size ∙ here.invariant.size;
+      disk = omega (arith, here.invariant.disk, c.in-Ok-play_line.ensures.disk_cause);
       read = omega (arith, here.invariant.read, c.next_line.ensures.cause.later);
-      emitted = omega (arith, here.invariant.emitted, c.play_line.ensures.cause.later);
+      emitted = omega (arith, here.invariant.emitted, c.in-Ok-play_line.ensures.emit_cause);
     }
 
-pub returns-in_err-end-clause-ends : goal.returns-in_err-end-clause-ends
-returns-in_err-end-clause-ends g c =
-    let p = err_from_is_err_and c.from_residual-in_err-end.result c.from_residual-in_err-end.ensures.1 in
-    let here = c.loop-lines in
+pub returns-in-Ok-end-clause-ends : goal.returns-in-Ok-end-clause-ends
+returns-in-Ok-end-clause-ends g c =
+    let here = c.loop-line in
     let next = c.next_line.new in
-    let read = rw (c.in_default.is, here.invariant.grammar) at c.in_ok-line.ensures.line in
-    rw (p.1, p.2)
-    (ends_at_end Emits emits c.args.core.now (g.T.Source.left c.args.script.now) (octets_to_come here.lines (g.T.Source.left here.script)) (octets_to_come next.self (g.T.Source.left next.source)) (g.G.Ground.told c.args.device.now) (g.G.Ground.told here.device) (g.G.Ground.told c.end.new.device) here.lines.number next.self.number here.lines.ended here.core here.tally (end_piece c.count.result here.core) c.in_err-end.field-0.0 here.invariant.progress read (ap (λ n. end_piece n here.core) c.count.ensures.number)
-    (emits_up_to piece_text c.in_err-end.field-0.0 (end_piece c.count.result here.core ∷ []) (g.G.Ground.told here.device) (g.G.Ground.told c.end.new.device) c.in_err-end.ensures.sends))
+    let text = g.T.Source.left c.args.script.now in
+    let come = octets_to_come here.lines (g.T.Source.left here.script) in
+    let come' = octets_to_come next.self (g.T.Source.left next.source) in
+    let old = g.G.Ground.told c.args.press.device in
+    let mid = g.G.Ground.told here.press.device in
+    let read = rw (c.in-Ok-None.field-0-is, here.invariant.grammar) at c.in-Ok-None.ensures.line in
+    let new = g.G.Ground.told c.end.new.press.device in
+    rw c.into_ground-in-Ok-end.ensures.same
+    (ends Emits emits c.args.core.now text come come' old mid new here.lines.number next.self.number here.lines.ended here.core here.tally (end_piece c.count.result here.core) here.invariant.plays.progress read (ap (λ n. end_piece n here.core) c.count.ensures.number)
+    (emits_sent piece_text (end_piece c.count.result here.core ∷ []) mid new c.in-Ok-end.ensures.sends))
 
-pub returns-in_err-end-clause-alone : goal.returns-in_err-end-clause-alone
-returns-in_err-end-clause-alone g c =
-    let here = c.loop-lines in
-    leaves_then (g.G.Ground.told c.args.device.now) (g.G.Ground.told here.device) (g.G.Ground.told c.end.new.device) here.invariant.alone
-    (leaves_up_to piece_text c.in_err-end.field-0.0 (end_piece c.count.result here.core ∷ []) (g.G.Ground.told here.device) (g.G.Ground.told c.end.new.device) c.in_err-end.ensures.sends)
+pub returns-in-Ok-end-clause-tally : goal.returns-in-Ok-end-clause-tally
+returns-in-Ok-end-clause-tally g c =
+    let here = c.loop-line in
+    let next = c.next_line.new in
+    let text = g.T.Source.left c.args.script.now in
+    let come = octets_to_come here.lines (g.T.Source.left here.script) in
+    let come' = octets_to_come next.self (g.T.Source.left next.source) in
+    let old = g.G.Ground.told c.args.press.device in
+    let mid = g.G.Ground.told here.press.device in
+    let read = rw (c.in-Ok-None.field-0-is, here.invariant.grammar) at c.in-Ok-None.ensures.line in
+    let new = g.G.Ground.told c.end.new.press.device in
+    tallies Emits emits c.args.core.now text come come' old mid here.lines.number next.self.number here.lines.ended here.core here.tally here.invariant.plays.progress read
 
-pub returns-in_err-end-clause-refused : goal.returns-in_err-end-clause-refused
-returns-in_err-end-clause-refused g c = λ line e.
-    let p = err_from_is_err_and c.from_residual-in_err-end.result c.from_residual-in_err-end.ensures.1 in
-    let same : of_unsent c.in_err-end.field-0.0 ≡ ScriptRefused line = cc in
-    refuses_no_line c.in_err-end.field-0.0 line same
+pub returns-in-Ok-end-clause-state : goal.returns-in-Ok-end-clause-state
+returns-in-Ok-end-clause-state g c =
+    let here = c.loop-line in
+    let next = c.next_line.new in
+    let text = g.T.Source.left c.args.script.now in
+    let come = octets_to_come here.lines (g.T.Source.left here.script) in
+    let come' = octets_to_come next.self (g.T.Source.left next.source) in
+    let old = g.G.Ground.told c.args.press.device in
+    let mid = g.G.Ground.told here.press.device in
+    let read = rw (c.in-Ok-None.field-0-is, here.invariant.grammar) at c.in-Ok-None.ensures.line in
+    let new = g.G.Ground.told c.end.new.press.device in
+    reaches Emits emits c.args.core.now text come come' old mid here.lines.number next.self.number here.lines.ended here.core here.tally here.invariant.plays.progress read
+
+pub returns-in-Ok-end-clause-accepted : goal.returns-in-Ok-end-clause-accepted
+returns-in-Ok-end-clause-accepted g c =
+    let here = c.loop-line in
+    let next = c.next_line.new in
+    let text = g.T.Source.left c.args.script.now in
+    let come = octets_to_come here.lines (g.T.Source.left here.script) in
+    let come' = octets_to_come next.self (g.T.Source.left next.source) in
+    let old = g.G.Ground.told c.args.press.device in
+    let mid = g.G.Ground.told here.press.device in
+    let read = rw (c.in-Ok-None.field-0-is, here.invariant.grammar) at c.in-Ok-None.ensures.line in
+    let new = g.G.Ground.told c.end.new.press.device in
+    accepts Emits emits c.args.core.now text come come' old mid here.lines.number next.self.number here.lines.ended here.core here.tally here.invariant.plays.progress read
+
+pub returns-in-Ok-end-clause-keeps : goal.returns-in-Ok-end-clause-keeps
+returns-in-Ok-end-clause-keeps g c = λ journal history stands holds.
+    let here = c.loop-line in
+    let next = c.next_line.new in
+    let text = g.T.Source.left c.args.script.now in
+    let come = octets_to_come here.lines (g.T.Source.left here.script) in
+    let come' = octets_to_come next.self (g.T.Source.left next.source) in
+    let old = g.G.Ground.told c.args.press.device in
+    let mid = g.G.Ground.told here.press.device in
+    let read = rw (c.in-Ok-None.field-0-is, here.invariant.grammar) at c.in-Ok-None.ensures.line in
+    let new = g.G.Ground.told c.end.new.press.device in
+    rw c.into_ground-in-Ok-end.ensures.same
+    (kept_at_end c.args.core.now text come c.args.press.layout here.press.layout old mid here.lines.number here.lines.ended here.core here.tally here.invariant.plays journal history stands holds come' new next.self.number read (c.end.ensures.any_moment journal))
 
 pub returns-clause-ends : goal.returns-clause-ends
 returns-clause-ends g c =
-    let here = c.loop-lines in
+    let here = c.loop-line in
     let next = c.next_line.new in
-    let read = rw (c.in_default.is, here.invariant.grammar) at c.in_ok-line.ensures.line in
-    ends Emits emits c.args.core.now (g.T.Source.left c.args.script.now) (octets_to_come here.lines (g.T.Source.left here.script)) (octets_to_come next.self (g.T.Source.left next.source)) (g.G.Ground.told c.args.device.now) (g.G.Ground.told here.device) (g.G.Ground.told c.end.new.device) here.lines.number next.self.number here.lines.ended here.core here.tally (end_piece c.count.result here.core) here.invariant.progress read (ap (λ n. end_piece n here.core) c.count.ensures.number)
-    (emits_sent piece_text (end_piece c.count.result here.core ∷ []) (g.G.Ground.told here.device) (g.G.Ground.told c.end.new.device) c.in_ok-end.ensures.sends)
+    let text = g.T.Source.left c.args.script.now in
+    let come = octets_to_come here.lines (g.T.Source.left here.script) in
+    let come' = octets_to_come next.self (g.T.Source.left next.source) in
+    let old = g.G.Ground.told c.args.press.device in
+    let mid = g.G.Ground.told here.press.device in
+    let read = rw (c.in-Ok-None.field-0-is, here.invariant.grammar) at c.in-Ok-None.ensures.line in
+    let new = g.G.Ground.told c.end.new.press.device in
+    let fault = c.in-Err-end.unsent in
+    rw (c.into_ground-in-Err-end.ensures.same, c.from-in-Err-end.ensures)
+    (ends_at_end Emits emits c.args.core.now text come come' old mid new here.lines.number next.self.number here.lines.ended here.core here.tally (end_piece c.count.result here.core) fault here.invariant.plays.progress read (ap (λ n. end_piece n here.core) c.count.ensures.number)
+    (emits_up_to piece_text fault (end_piece c.count.result here.core ∷ []) mid new c.in-Err-end.ensures.sends))
 
-pub returns-clause-alone : goal.returns-clause-alone
-returns-clause-alone g c =
-    let here = c.loop-lines in
-    leaves_then (g.G.Ground.told c.args.device.now) (g.G.Ground.told here.device) (g.G.Ground.told c.end.new.device) here.invariant.alone
-    (leaves_sent piece_text (end_piece c.count.result here.core ∷ []) (g.G.Ground.told here.device) (g.G.Ground.told c.end.new.device) c.in_ok-end.ensures.sends)
-
-pub returns-clause-tally : goal.returns-clause-tally
-returns-clause-tally g c =
-    let here = c.loop-lines in
+pub returns-clause-keeps : goal.returns-clause-keeps
+returns-clause-keeps g c = λ journal history stands holds.
+    let here = c.loop-line in
     let next = c.next_line.new in
-    let read = rw (c.in_default.is, here.invariant.grammar) at c.in_ok-line.ensures.line in
-    tallies Emits emits c.args.core.now (g.T.Source.left c.args.script.now) (octets_to_come here.lines (g.T.Source.left here.script)) (octets_to_come next.self (g.T.Source.left next.source)) (g.G.Ground.told c.args.device.now) (g.G.Ground.told here.device) here.lines.number next.self.number here.lines.ended here.core here.tally here.invariant.progress read
-
-pub returns-clause-state : goal.returns-clause-state
-returns-clause-state g c =
-    let here = c.loop-lines in
-    let next = c.next_line.new in
-    let read = rw (c.in_default.is, here.invariant.grammar) at c.in_ok-line.ensures.line in
-    reaches Emits emits c.args.core.now (g.T.Source.left c.args.script.now) (octets_to_come here.lines (g.T.Source.left here.script)) (octets_to_come next.self (g.T.Source.left next.source)) (g.G.Ground.told c.args.device.now) (g.G.Ground.told here.device) here.lines.number next.self.number here.lines.ended here.core here.tally here.invariant.progress read
-
-pub returns-clause-accepted : goal.returns-clause-accepted
-returns-clause-accepted g c =
-    let here = c.loop-lines in
-    let next = c.next_line.new in
-    let read = rw (c.in_default.is, here.invariant.grammar) at c.in_ok-line.ensures.line in
-    accepts Emits emits c.args.core.now (g.T.Source.left c.args.script.now) (octets_to_come here.lines (g.T.Source.left here.script)) (octets_to_come next.self (g.T.Source.left next.source)) (g.G.Ground.told c.args.device.now) (g.G.Ground.told here.device) here.lines.number next.self.number here.lines.ended here.core here.tally here.invariant.progress read
+    let text = g.T.Source.left c.args.script.now in
+    let come = octets_to_come here.lines (g.T.Source.left here.script) in
+    let come' = octets_to_come next.self (g.T.Source.left next.source) in
+    let old = g.G.Ground.told c.args.press.device in
+    let mid = g.G.Ground.told here.press.device in
+    let read = rw (c.in-Ok-None.field-0-is, here.invariant.grammar) at c.in-Ok-None.ensures.line in
+    let new = g.G.Ground.told c.end.new.press.device in
+    rw c.into_ground-in-Err-end.ensures.same
+    (kept_at_end c.args.core.now text come c.args.press.layout here.press.layout old mid here.lines.number here.lines.ended here.core here.tally here.invariant.plays journal history stands holds come' new next.self.number read (c.end.ensures.any_moment journal))

@@ -1,4 +1,4 @@
-use Rattle.alarm_server.proofs.session.counted.Goals as goal
+use Rattle.alarm_server.proofs.taken.counted.Goals as goal
 
 pub returns-clause-state : goal.returns-clause-state
 returns-clause-state g c = c.step.ensures.state

@@ -5,7 +5,7 @@ use Rattle.alarm_core.specs.CoreSteps.{next_sends, next_transitions}
 use Rattle.alarm_core.specs.Verdicts.{step_verdict}
 use Rattle.alarm_server.specs.Pieces.{reply_lines, send_line}
 use Rattle.alarm_server.proofs.PieceLines.{fits_is}
-use Rattle.alarm_server.proofs.session.enter.Goals as goal
+use Rattle.alarm_server.proofs.taken.enter.Goals as goal
 
 pub returns-clause-piece : goal.returns-clause-piece
 returns-clause-piece c =

@@ -1,0 +1,113 @@
+-- A session behind the opening of its journal, at which nothing goes out.
+use Rattle.std.proofs.Common.{◌≡◌, ℕ, Option, Some, None, List, [], ◌++◌, IfSome, refl, sym, subst}
+use Rattle.ground_io.specs.declared.entry.Entry.{Entry}
+use Rattle.ground_io.specs.Trace.{Told, WhereTold}
+use Rattle.script_lines.specs.declared.line.Grammar.TheVariants.{Session}
+use Rattle.script_lines.specs.declared.line.Line.{Line}
+use Rattle.script_lines.specs.Script.{lines_of}
+use Rattle.alarm_journal.specs.Journal.{Site as Journal}
+use Rattle.alarm_journal.specs.Press.{ReopensSynced}
+use Rattle.alarm_journal.specs.declared.layout.Layout.{Layout}
+use Rattle.alarm_core.specs.declared.event.Event.{Event}
+use Rattle.alarm_core.specs.declared.site.Site.{Site}
+use Rattle.alarm_core.specs.Allowed.{Represents}
+use Rattle.alarm_core.specs.Sites.{IsSite}
+use Rattle.alarm_core.specs.State.{CoreState}
+use Rattle.alarm_server.specs.declared.status.Status.{Status}
+use Rattle.alarm_server.specs.declared.status.Status.TheVariants.{Done, Usage, SiteRefused, ScriptRefused, ReadFault, EmitFault, DiskFault, JournalRefused, NoMemory}
+use Rattle.alarm_server.specs.Emission.{Emits, Ends, lost, sent}
+use Rattle.alarm_server.specs.Keeping.{HoldsHistory, KeepsOpened, KeepsReport, StoodFor}
+use Rattle.alarm_server.specs.Pieces.{piece_text}
+use Rattle.alarm_server.specs.Report.{front_pieces, report_of}
+use Rattle.alarm_server.specs.Script.{spelled_in}
+use Rattle.alarm_server.specs.SessionSteps.{session_over, state_front}
+use Rattle.alarm_server.specs.Status.{IsOpenFault}
+use Rattle.alarm_server.specs.Stopping.{StopsReading}
+use Rattle.alarm_server.proofs.ByHistory.{reports, stops_by_history}
+use Rattle.alarm_server.proofs.Emitting.{emits}
+use Rattle.alarm_server.proofs.KeptOpenings.{session_kept}
+
+-- what tells behind some emissions told before them
+tells_before : (journal : Journal) (site : Site) (history : List Event) (old mid new : Option Told) (entries : List Entry) → Emits mid new entries → StoodFor journal site history old new → StoodFor journal site history old mid
+tells_before journal site history None mid new entries goes stood = stood
+tells_before journal site history (Some old) mid None entries goes stood = absurd stood
+tells_before journal site history (Some old) None (Some new) entries (more, adds, are) stood = absurd adds
+tells_before journal site history (Some old) (Some mid) (Some new) entries goes stood = stood
+
+module _ {X : Type 0} (text : X → List ℕ) where
+  pub tells_ended : (journal : Journal) (site : Site) (history : List Event) (ended : Status) (pieces : List X) (old mid new : Option Told) → Ends Emits text ended pieces mid new → StoodFor journal site history old new → StoodFor journal site history old mid
+  tells_ended journal site history Done pieces old mid new goes = tells_before journal site history old mid new (sent text pieces) goes
+  tells_ended journal site history Usage pieces old mid new goes = tells_before journal site history old mid new [] goes
+  tells_ended journal site history (SiteRefused fault) pieces old mid new goes = tells_before journal site history old mid new [] goes
+  tells_ended journal site history (ScriptRefused line) pieces old mid new goes = tells_before journal site history old mid new (sent text pieces) goes
+  tells_ended journal site history ReadFault pieces old mid new (front, back, whole, goes) = tells_before journal site history old mid new (sent text front) goes
+  tells_ended journal site history EmitFault pieces old mid new (front, next, back, whole, goes) = tells_before journal site history old mid new (sent text front ++ lost text next) goes
+  tells_ended journal site history DiskFault pieces old mid new (front, back, whole, goes) = tells_before journal site history old mid new (sent text front) goes
+  tells_ended journal site history (JournalRefused fault) pieces old mid new goes = tells_before journal site history old mid new [] goes
+  tells_ended journal site history NoMemory pieces old mid new (front, back, whole, goes) = tells_before journal site history old mid new (sent text front) goes
+
+  -- what goes out behind the opening is all that goes out
+  ends_behind : (ended : Status) (pieces : List X) (old mid new : Option Told) → Emits old mid [] → Ends Emits text ended pieces mid new → Ends Emits text ended pieces old new
+  ends_behind Done pieces old mid new quiet goes = emits.followed old mid new [] (sent text pieces) quiet goes
+  ends_behind Usage pieces old mid new quiet goes = emits.followed old mid new [] [] quiet goes
+  ends_behind (SiteRefused fault) pieces old mid new quiet goes = emits.followed old mid new [] [] quiet goes
+  ends_behind (ScriptRefused line) pieces old mid new quiet goes = emits.followed old mid new [] (sent text pieces) quiet goes
+  ends_behind ReadFault pieces old mid new quiet (front, back, whole, goes) = (front, back, whole, emits.followed old mid new [] (sent text front) quiet goes)
+  ends_behind EmitFault pieces old mid new quiet (front, next, back, whole, goes) = (front, next, back, whole, emits.followed old mid new [] (sent text front ++ lost text next) quiet goes)
+  ends_behind DiskFault pieces old mid new quiet (front, back, whole, goes) = (front, back, whole, emits.followed old mid new [] (sent text front) quiet goes)
+  ends_behind (JournalRefused fault) pieces old mid new quiet goes = emits.followed old mid new [] [] quiet goes
+  ends_behind NoMemory pieces old mid new quiet (front, back, whole, goes) = (front, back, whole, emits.followed old mid new [] (sent text front) quiet goes)
+
+  -- a journal that isn't opened
+  pub ends_refused : (ended : Status) (pieces : List X) (old new : Option Told) → IsOpenFault ended → Emits old new [] → Ends Emits text ended pieces old new
+  ends_refused Done pieces old new fault quiet = absurd fault
+  ends_refused Usage pieces old new fault quiet = absurd fault
+  ends_refused (SiteRefused why) pieces old new fault quiet = absurd fault
+  ends_refused (ScriptRefused line) pieces old new fault quiet = absurd fault
+  ends_refused ReadFault pieces old new fault quiet = absurd fault
+  ends_refused EmitFault pieces old new fault quiet = absurd fault
+  ends_refused DiskFault pieces old new fault quiet = ([], pieces, refl, quiet)
+  ends_refused (JournalRefused why) pieces old new fault quiet = quiet
+  ends_refused NoMemory pieces old new fault quiet = ([], pieces, refl, quiet)
+
+-- ---- a session behind it
+
+module _ (journal : Journal) (site : Site) (is : IsSite site) (core : CoreState) (own : core.site ≡ site) (layout : Layout) (history : List Event) (ended : Status) (old mid new : Option Told) (stood : StoodFor journal site history old new) (quiet : Emits old mid []) (represents : StoodFor journal site history old mid → Represents core history) where
+  -- its report goes on from the history
+  pub ends_session : (text : Option (List ℕ)) → IfSome text (λ t. Ends Emits piece_text ended (session_over core (lines_of t)) mid new) → IfSome text (λ t. Ends Emits piece_text ended (report_of site history t) old new)
+  ends_session None ends = tt
+  ends_session (Some t) ends =
+      let stands = represents (tells_ended piece_text journal site history ended (session_over core (lines_of t)) old mid new ends stood) in
+      ends_behind piece_text ended (report_of site history t) old mid new quiet (subst (λ ps. Ends Emits piece_text ended ps mid new) (reports site is history core stands own t) ends)
+
+  pub stops_session : (text left : Option (List ℕ)) → WhereTold text left (λ t rest. StopsReading Emits piece_text (state_front core) Session t rest mid new) → WhereTold text left (λ t rest. StopsReading Emits piece_text (front_pieces site history) Session t rest old new)
+  stops_session None left stops = tt
+  stops_session (Some t) None stops = absurd stops
+  stops_session (Some t) (Some rest) stops =
+      let stands = represents (tells_before journal site history old mid new (sent piece_text (state_front core stops.whole)) stops.emitted stood) in
+      let by = stops_by_history site is history core stands own Emits t rest mid new stops in
+      record {
+        whole = by.whole;
+        begun = by.begun;
+        read = by.read;
+        whole_lines = by.whole_lines;
+        accepted = by.accepted;
+        no_line_feed = by.no_line_feed;
+        emitted = emits.followed old mid new [] (sent piece_text (front_pieces site history by.whole)) quiet by.emitted;
+      }
+
+  -- and it keeps the history and the events of some lines
+  pub keeps_session : (text : Option (List ℕ)) → ReopensSynced journal old mid → (StoodFor journal site history old mid → HoldsHistory journal site history layout mid) → IfSome text (λ t. Ends Emits piece_text ended (session_over core (lines_of t)) mid new)
+      → (Represents core history → HoldsHistory journal core.site history layout mid → IfSome text (λ t. KeepsReport journal core.site history (spelled_in Session 0 (lines_of t)) 1 mid new))
+      → IfSome text (λ t. KeepsOpened journal site history (spelled_in Session 0 (lines_of t)) 1 old new)
+  keeps_session None synced holds ends keeps = tt
+  keeps_session (Some t) synced holds ends keeps =
+      let stood_mid = tells_ended piece_text journal site history ended (session_over core (lines_of t)) old mid new ends stood in
+      let held = subst (λ (s : Site). HoldsHistory journal s history layout mid) (sym own) (holds stood_mid) in
+      let kept = subst (λ (s : Site). KeepsReport journal s history (spelled_in Session 0 (lines_of t)) 1 mid new) own (keeps (represents stood_mid) held) in
+      behind old mid new synced stood_mid kept
+    where
+      behind : (old mid new : Option Told) → ReopensSynced journal old mid → StoodFor journal site history old mid → KeepsReport journal site history (spelled_in Session 0 (lines_of t)) 1 mid new → KeepsOpened journal site history (spelled_in Session 0 (lines_of t)) 1 old new
+      behind None mid new synced stood kept = absurd stood
+      behind (Some old) None new synced stood kept = absurd stood
+      behind (Some old) (Some mid) new synced stood kept = session_kept journal site history (spelled_in Session 0 (lines_of t)) 1 old mid new stood synced kept

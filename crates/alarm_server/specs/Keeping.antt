@@ -1,0 +1,73 @@
+-- What a crash leaves of a session that keeps a journal: at each moment, the history that it began with and the events of some of its lines.
+use Rattle.std.specs.Prelude.{◌≡◌, ◌⊎◌, ◌≤◌, ℕ, ◌+◌, ◌-◌, min, ⊤, Option, Some, None, List, [], ◌∷◌, length, take}
+use Rattle.ground_io.specs.Disk.{Disk}
+use Rattle.ground_io.specs.Sent.{Along}
+use Rattle.ground_io.specs.Trace.{Told, Adds, disk_of}
+use Rattle.ground_io.specs.declared.entry.Entry.{Entry}
+use Rattle.ground_io.specs.declared.entry.Entry.TheVariants.{Synced}
+use Rattle.alarm_journal.specs.Journal.{Site as Journal}
+use Rattle.script_lines.specs.declared.line.Line.{Line}
+use Rattle.alarm_core.specs.declared.event.Event.{Event}
+use Rattle.alarm_core.specs.declared.site.Site.{Site}
+use Rattle.alarm_journal.specs.Journal.{Content}
+use Rattle.alarm_journal.specs.Press.{Lasts, Settled}
+use Rattle.alarm_journal.specs.Protocol.{Leads}
+use Rattle.alarm_journal.specs.declared.layout.Layout.{Layout}
+use Rattle.state_codec.specs.Sizes.{need}
+use Rattle.state_codec.specs.Contents.{ImageStands, StandsForHistory}
+use Rattle.alarm_server.specs.Report.{history_over}
+
+-- the journal of a site whose text is given
+abbrev pub journal_of : Site → List ℕ → Journal
+journal_of site text = record { text = text; need = need site (length text) }
+
+-- A press holds this content, and so does each image that a crash may leave now, where its ground tells.
+abbrev pub Rests : Journal → Layout → Option Told → Content → Type 0
+Rests journal layout told content = Settled journal layout told content × Lasts journal told content
+
+-- what a press holds stands for a history
+abbrev pub HoldsHistory : Journal → Site → List Event → Layout → Option Told → Type 0
+HoldsHistory journal site history layout told = (content : Content) × Rests journal layout told content × StandsForHistory site content history
+
+-- On the way from one to the other nothing is sent, and each image that a crash may leave stands for the one history or for the other; where it tells.
+abbrev pub Commits : Journal → Site → List Event → List Event → Option Told → Option Told → Type 0
+Commits journal site before after old new = Leads (λ image. ImageStands journal site image before ⊎ ImageStands journal site image after) old new
+
+-- The octets of a device stood for a history, where its ground told them and still tells.
+abbrev pub StoodFor : Journal → Site → List Event → Option Told → Option Told → Type 0
+StoodFor journal site history (Some old) (Some new) = ImageStands journal site (disk_of old).contents history
+StoodFor journal site history None new = ⊥
+StoodFor journal site history old None = ⊥
+
+-- The image stands for the history and the events of the first lines: of as many, at least, as have had their piece sent. So many pieces of the report come before those of the lines, and none behind them.
+abbrev pub LeavesLines : Journal → Site → List Event → List Line → ℕ → List Entry → List ℕ → Type 0
+LeavesLines journal site history lines before sent image =
+    (count : ℕ) × (count ≤ length lines) × (length sent ≤ before + count) × ImageStands journal site image (history_over site history (take count lines))
+
+-- The same where pieces of the report may come behind those of the lines.
+abbrev pub LeavesReport : Journal → Site → List Event → List Line → ℕ → List Entry → List ℕ → Type 0
+LeavesReport journal site history lines before sent image =
+    (count : ℕ) × (count ≤ length lines) × (min (length sent - before) (length lines) ≤ count) × ImageStands journal site image (history_over site history (take count lines))
+
+-- from one to the other, at each moment, each image that a crash may leave does so, where it tells
+abbrev pub KeepsLines : Journal → Site → List Event → List Line → ℕ → Option Told → Option Told → Type 0
+KeepsLines journal site history lines before old None = ⊤
+KeepsLines journal site history lines before None (Some new) = ⊥
+KeepsLines journal site history lines before (Some old) (Some new) =
+    (entries : List Entry) × Adds (Some old) (Some new) entries × Along (LeavesLines journal site history lines before) [] (disk_of old) entries
+
+-- the same of a report
+abbrev pub KeepsReport : Journal → Site → List Event → List Line → ℕ → Option Told → Option Told → Type 0
+KeepsReport journal site history lines before old None = ⊤
+KeepsReport journal site history lines before None (Some new) = ⊥
+KeepsReport journal site history lines before (Some old) (Some new) =
+    (entries : List Entry) × Adds (Some old) (Some new) entries × Along (LeavesReport journal site history lines before) [] (disk_of old) entries
+
+-- the same from the first sync on; before it nothing was done but that it failed
+abbrev pub KeepsOpened : Journal → Site → List Event → List Line → ℕ → Option Told → Option Told → Type 0
+KeepsOpened journal site history lines before old None = ⊤
+KeepsOpened journal site history lines before None (Some new) = ⊥
+KeepsOpened journal site history lines before (Some old) (Some new) =
+    Adds (Some old) (Some new) []
+    ⊎ ((entries : List Entry) × Adds (Some old) (Some new) (Synced ∷ entries)
+    × Along (LeavesReport journal site history lines before) [] (record { contents = (disk_of old).contents; loose = [] }) entries)

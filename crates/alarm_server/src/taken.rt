@@ -1,0 +1,196 @@
+ghost use Rattle.std.specs.Prelude.{◌≡◌, ◌<◌, ◌^◌, ◌∷◌, ◌++◌, [], List, None, max, IfOk, IfSome, OnErr, OnOk, map};
+ghost use Rattle.bac_values.specs.Moments.{IsMoment};
+ghost use Rattle.state_codec.specs.Records.{HasRecord};
+ghost use Rattle.alarm_core.specs.State.{CoreState};
+ghost use Rattle.alarm_core.specs.declared.event.Event.{Event as Happening};
+ghost use Rattle.alarm_core.specs.Allowed.{IsAllowed, Represents};
+ghost use Rattle.alarm_core.specs.History.{moved_by, raised};
+ghost use Rattle.alarm_core.specs.CoreSteps.{next_sends, next_state, next_transitions};
+ghost use Rattle.alarm_core.specs.Verdicts.{Answers, step_verdict};
+ghost use Rattle.alarm_server.specs.Report.{history_by, history_with};
+ghost use Rattle.alarm_server.specs.SessionSteps.{state_by, state_with};
+ghost use Rattle.alarm_server.specs.Pieces.{decision_for, event_in, piece_by, piece_of, reply_lines, send_line};
+
+use alarm_core::{Core, Event, Outcome, StepFault};
+use bac_values::{Moved, NoMemory, ReportLine, Send, push, single};
+use event_machine::Steps;
+use script_lines::Line;
+use service_desk::{Decision, decide};
+use state_codec::allowed_event_has_record;
+use std::alloc::Global;
+use std::marker::Brand;
+use std::sync::ledger::{Blank, Ledger};
+
+/// A line that was taken.
+#[derive(Drop)]
+pub struct Taken {
+    /// The piece that the report has of it.
+    pub piece: Vec<ReportLine>,
+    /// The event that it entered, if it did.
+    pub event: Option<Event>,
+}
+
+// How many events a history may have. One more is as good as no memory for it.
+const MOST_EVENTS: u64 = 1 << 63;
+
+// The lines of a piece that tell of changes of event states.
+fn add_changes(piece: &mut Vec<ReportLine>, number: u64, moves: &[Moved]) -> Result<(), NoMemory>
+    ensures changes { OnOk result (piece.new.items ≡ piece.old.items ++ map (λ moved. ReportLine.Change number moved) moves.now) }
+{
+    for moved in moves {
+        let line = ReportLine::Change {
+            line: number,
+            moved: *moved,
+        };
+        push(piece, line)?;
+    }
+    Ok(())
+}
+
+// The lines of a piece that tell of what is sent.
+fn add_sends(piece: &mut Vec<ReportLine>, number: u64, sends: Vec<Send>) -> Result<(), NoMemory>
+    ensures sends { OnOk result (piece.new.items ≡ piece.old.items ++ map (send_line number) sends.items) }
+{
+    for send in sends {
+        push(piece, ReportLine::Sent { line: number, send })?;
+    }
+    Ok(())
+}
+
+fn add_reply(piece: &mut Vec<ReportLine>, number: u64, reply: Option<Send>) -> Result<(), NoMemory>
+    ensures reply { OnOk result (piece.new.items ≡ piece.old.items ++ reply_lines number reply) }
+{
+    match reply {
+        Some(send) => push(piece, ReportLine::Sent { line: number, send }),
+        None => Ok(()),
+    }
+}
+
+// The piece of a line whose event's notifications don't fit the outbox.
+fn full_piece(
+    alloc: Global,
+    number: u64,
+    would: u32,
+    limit: u32,
+    full: Option<Send>,
+) -> Result<Vec<ReportLine>, NoMemory>
+    ensures piece { IfOk result (λ piece. piece.items ≡ ReportLine.Full number would limit ∷ reply_lines number full) }
+{
+    let line = ReportLine::Full {
+        line: number,
+        would,
+        limit,
+    };
+    let mut piece = single(alloc, line)?;
+    add_reply(&mut piece, number, full)?;
+    Ok(piece)
+}
+
+// The core takes an event. Its steps are counted in a ledger of their own, that nobody reads.
+fn counted<L: Ledger>(core: &mut Core, event: &Event, blank: Blank) -> Result<Outcome, StepFault>
+    requires name { blank.name ≡ L.name }
+    requires parts { blank.parts ≡ L.parts }
+    requires some { 0 < blank.parts }
+    requires moment { IsMoment event.now.moment }
+    requires allowed { IsAllowed core.old event.now.act }
+    requires few { core.old.events < 2 ^ 63 }
+    ensures state { OnOk result (core.new ≡ next_state (raised core.old.last_moment event.now) core.old) }
+    ensures moment { IfOk result (λ outcome. outcome.moment ≡ max event.now.moment core.old.last_moment) }
+    ensures moves { IfOk result (λ outcome. outcome.moves ≡ map moved_by (next_transitions (raised core.old.last_moment event.now) core.old)) }
+    ensures sends { IfOk result (λ outcome. outcome.sends ≡ next_sends (raised core.old.last_moment event.now) core.old) }
+    ensures same { OnErr result (core.new ≡ core.old) }
+    ensures represents { (history : List Happening) → Represents core.old history → OnOk result (Represents core.new (raised core.old.last_moment event.now ∷ history)) }
+    ensures verdict { Answers result (step_verdict (raised core.old.last_moment event.now) core.old) }
+{
+    let mut steps = Steps::<L>::new(blank);
+    core.step(event, &mut steps)
+}
+
+// The event with another moment. It has a record.
+fn moved_to(moment: u64, event: Event) -> Event
+    requires range { IsMoment moment }
+    requires allowed { (state : CoreState) × IsAllowed state event.act }
+    ensures moved { result ≡ record event { moment = moment } }
+    ensures record { HasRecord result }
+{
+    let moved = Event {
+        moment,
+        act: event.act,
+    };
+    allowed_event_has_record(&moved);
+    moved
+}
+
+// Enters an event, and gives the piece of its line.
+fn enter(
+    alloc: Global,
+    core: &mut Core,
+    number: u64,
+    event: Event,
+    reply: Option<Send>,
+    full: Option<Send>,
+) -> Result<Taken, NoMemory>
+    requires moment { IsMoment event.moment }
+    requires allowed { IsAllowed core.old event.act }
+    ensures state { OnOk result (core.new ≡ state_by core.old (event_in core.old (Decision.Enter event reply full))) }
+    ensures represents { (history : List Happening) → Represents core.old history → OnOk result (Represents core.new (history_by history (event_in core.old (Decision.Enter event reply full)))) }
+    ensures piece { IfOk result (λ taken. taken.piece.items ≡ piece_by number core.old (Decision.Enter event reply full)) }
+    ensures event { IfOk result (λ taken. taken.event ≡ event_in core.old (Decision.Enter event reply full)) }
+    ensures record { IfOk result (λ taken. IfSome taken.event HasRecord) }
+{
+    if core.events() >= MOST_EVENTS {
+        return Err(NoMemory);
+    }
+    let outcome = match counted::<Brand>(core, &event, Blank::new(1)) {
+        Ok(outcome) => outcome,
+        Err(StepFault::Full { would, limit }) => {
+            let piece = full_piece(alloc, number, would, limit, full)?;
+            let event = None;
+            return Ok(Taken { piece, event });
+        }
+        Err(StepFault::NoMemory) => return Err(NoMemory),
+    };
+    let entered = ReportLine::Entered {
+        line: number,
+        event: core.events(),
+        moment: outcome.moment,
+    };
+    let mut piece = single(alloc, entered)?;
+    add_changes(&mut piece, number, outcome.moves.as_slice())?;
+    add_sends(&mut piece, number, outcome.sends.into_vec())?;
+    add_reply(&mut piece, number, reply)?;
+    let event = Some(moved_to(core.last_moment(), event));
+    Ok(Taken { piece, event })
+}
+
+// The piece of a line that is answered without an event.
+fn replied(alloc: Global, number: u64, send: Send) -> Result<Vec<ReportLine>, NoMemory>
+    ensures piece { IfOk result (λ piece. piece.items ≡ ReportLine.Reply number ∷ (ReportLine.Sent number send ∷ [])) }
+{
+    let mut piece = single(alloc, ReportLine::Reply { line: number })?;
+    push(&mut piece, ReportLine::Sent { line: number, send })?;
+    Ok(piece)
+}
+
+/// Takes a line, and gives its piece, with the event that it is, if it is one.
+pub fn take(alloc: Global, core: &mut Core, line: &Line) -> Result<Taken, NoMemory>
+    requires moment { IsMoment line.now.moment }
+    ensures state { OnOk result (core.new ≡ state_with core.old line.now) }
+    ensures represents { (history : List Happening) → Represents core.old history → OnOk result (Represents core.new (history_with core.old.site history line.now)) }
+    ensures piece { IfOk result (λ taken. taken.piece.items ≡ piece_of core.old line.now) }
+    ensures event { IfOk result (λ taken. taken.event ≡ event_in core.old (decision_for core.old line.now)) }
+    ensures record { IfOk result (λ taken. IfSome taken.event HasRecord) }
+{
+    let number = line.number;
+    let piece = match decide(alloc, core, &line.input, line.moment)? {
+        Decision::Ignore => single(alloc, ReportLine::Ignored { line: number })?,
+        Decision::Idle => single(alloc, ReportLine::Idle { line: number })?,
+        Decision::Refuse { why } => single(alloc, ReportLine::Refused { line: number, why })?,
+        Decision::Reply { send } => replied(alloc, number, send)?,
+        Decision::Enter { event, reply, full } => {
+            return enter(alloc, core, number, event, reply, full);
+        }
+    };
+    let event = None;
+    Ok(Taken { piece, event })
+}
