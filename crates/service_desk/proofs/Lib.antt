@@ -8,3 +8,4 @@ pub mod RequestedRange
 pub mod Fitted
 pub mod Sends
 pub mod Fitting
+pub mod Answered

@@ -1,12 +1,15 @@
--- No reply is longer than its requester takes.
-use Rattle.std.specs.Prelude.{◌≡◌, ◌≤◌, ℕ, Option, Some, None, List, length}
+-- Each confirmed request gets one reply, which is no longer than its requester takes.
+use Rattle.std.specs.Prelude.{◌≡◌, ◌≤◌, ℕ, ⊤, IsSome, Option, Some, None, List, length}
 use Rattle.bac_values.specs.declared.note.Send.{Send}
+use Rattle.bac_values.specs.Address.{PeerData}
 use Rattle.apdu_frame.specs.Headers.{max_apdu_of}
+use Rattle.apdu_frame.specs.declared.apdu.Apdu.{Apdu}
+use Rattle.apdu_frame.specs.declared.apdu.Apdu.TheVariants.{Request, Segmented}
 use Rattle.alarm_core.specs.State.{CoreState}
 use Rattle.service_desk.specs.declared.decision.Decision.{Decision}
 use Rattle.service_desk.specs.declared.decision.Decision.TheVariants.{Enter, Reply}
 use Rattle.service_desk.specs.declared.replies.Requester.{Requester}
-use Rattle.service_desk.specs.Decisions.{request_decision}
+use Rattle.service_desk.specs.Decisions.{apdu_decision, request_decision}
 use Rattle.service_desk.specs.Replies.{reply_to}
 
 -- an APDU that an requester takes, on its way to it
@@ -29,3 +32,19 @@ RepliesFit requester decision = Unit {0}
 abbrev pub EachReplyFits : Type 0
 EachReplyFits =
     (state : CoreState) (moment : ℕ) (requester : Requester) (parameters : List ℕ) (second : ℕ) → requester.max_apdu ≡ max_apdu_of second → RepliesFit requester (request_decision state moment requester parameters)
+
+-- one reply goes out: at once, or, where a decision is an event, one if that is entered and one if its notifications don't fit the outbox
+abbrev pub HasOneReply : Decision → Type 0
+HasOneReply (Reply send) = ⊤
+HasOneReply (Enter event reply full) = IsSome reply × IsSome full
+HasOneReply decision = ⊥
+
+-- a confirmed request, whole or a segment of one (20.1.2)
+abbrev pub IsRequest : Apdu → Type 0
+IsRequest (Request max_apdu invoke service start) = ⊤
+IsRequest (Segmented invoke) = ⊤
+IsRequest header = ⊥
+
+-- what is decided on an APDU with the header of a confirmed request, whatever follows it (5.4.5)
+abbrev pub EachRequestIsAnswered : Type 0
+EachRequestIsAnswered = (state : CoreState) (moment : ℕ) (peer : PeerData) (octets : List ℕ) (header : Apdu) → IsRequest header → HasOneReply (apdu_decision state moment peer octets header)

@@ -18,4 +18,4 @@ mod write_property;
 
 pub use decision::Decision;
 pub use inputs::decide;
-pub use laws::each_reply_fits;
+pub use laws::{each_reply_fits, each_request_is_answered};
