@@ -1,8 +1,11 @@
 -- The value objects and the enrollments of a site keep to what it says of them, whatever writes they take.
-use Rattle.std.proofs.Common.{◌≡◌, ℕ, ◌<◌, inl, inr, ◌&&◌, Bool, true, false, true≢false, if◌then◌else◌, Option, Some, None, IsTrue, IsSomeAnd, is_some, List, [], ◌∷◌, length, map, get_or, refl, sym, ap, ◌∙◌, subst}
+use Rattle.std.proofs.Common.{◌≡◌, ℕ, ◌<◌, inl, inr, ◌&&◌, ◌==◌, Bool, true, false, true≢false, if◌then◌else◌, Option, Some, None, IsTrue, IsSomeAnd, is_some, List, [], ◌∷◌, length, map, get_or, refl, sym, ap, ◌∙◌, subst}
 use Rattle.std.specs.List.{All, AllZip}
+use Rattle.std.proofs.lemmas.Bool.{eqb-true}
 use Rattle.std.proofs.lemmas.List.Elements.{All-nil, All-cons, All-head, All-tail}
 use Rattle.bac_values.specs.Identifier.{ObjectIdData, kind_of}
+use Rattle.bac_values.specs.declared.object_kind.ObjectKind.{ObjectKind}
+use Rattle.bac_values.specs.declared.object_kind.ObjectKind.TheVariants.{BinaryValue, MultiStateValue, BitStringValue, CharacterStringValue, IntegerValue, PositiveIntegerValue}
 use Rattle.bac_values.specs.declared.value.Value.{Value}
 use Rattle.bac_values.specs.declared.value.Value.TheVariants.{Bool as Truth, Unsigned, Signed, Bits}
 use Rattle.bac_values.specs.BitString.{two_flags, three_flags}
@@ -16,7 +19,7 @@ use Rattle.object_table.specs.declared.row.Row.{Row}
 use Rattle.object_table.specs.Objects.{IsObject, IsObjectOf}
 use Rattle.object_table.specs.Properties.{kind_in, property_of}
 use Rattle.object_table.specs.Rows.{Ascends, is_object, object_in, row_of, rows_of}
-use Rattle.object_table.specs.Values.{takes_known}
+use Rattle.object_table.specs.Values.{has_length_of, is_present_value, is_state, takes_known}
 use Rattle.object_table.specs.Writes as rows
 use Rattle.enrollment.specs.declared.enrollment_property.EnrollmentProperty.{EnrollmentProperty}
 use Rattle.enrollment.specs.declared.enrollment_property.EnrollmentProperty.TheVariants as of_enrollments
@@ -81,18 +84,53 @@ delay_there EventEnable (Bits flags) row taken = refl
 delay_there EventAlgorithmInhibit (Truth truth) row taken = refl
 delay_there _ _ row taken = refl
 
+-- a present value that replaces one of the site's kind is of that kind, and as long
+length_kept : (old now value : Value) → has_length_of old now ≡ true → has_length_of now value ≡ true → has_length_of old value ≡ true
+length_kept (Bits old) (Bits now) (Bits value) one two = ap (λ (n : ℕ). value.size == n) (sym (eqb-true now.size old.size one)) ∙ two
+length_kept (Bits old) (Bits now) _ one two = absurd (true≢false (sym two))
+length_kept _ _ _ one two = absurd (true≢false (sym one))
+
+present_kept : (kind : Option ObjectKind) (site row : ObjectSite) (value : Value) → row.states ≡ site.states → is_present_value kind site row.value ≡ true → is_present_value kind row value ≡ true → is_present_value kind site value ≡ true
+present_kept (Some IntegerValue) site row value states old new = new
+present_kept (Some PositiveIntegerValue) site row value states old new = new
+present_kept (Some BinaryValue) site row value states old new = new
+present_kept (Some MultiStateValue) site row value states old new = subst (λ (n : ℕ). is_state n value ≡ true) states new
+present_kept (Some BitStringValue) site row value states old new = length_kept site.value row.value value old new
+present_kept (Some CharacterStringValue) site row value states old new = new
+present_kept _ site row value states old new = absurd (true≢false (sym new))
+
+value_kept : (property : ObjectProperty) (value : Value) (site row : ObjectSite) → IsRewritten site row → IsTrue (takes_known (kind_in row) row (Some property) value) → IsTrue (is_present_value (kind_in site) site row.value) →
+    IsTrue (is_present_value (kind_in site) site (rows.set_known property value row).value)
+value_kept PresentValue value site row e taken is =
+    present_kept (kind_in site) site row value (ap (λ (s : ObjectSite). s.states) e) is (subst (λ kind. is_present_value kind row value ≡ true) (ap kind_in e) taken)
+value_kept OutOfService (Truth truth) site row e taken is = is
+value_kept ReliabilityEvaluationInhibit (Truth truth) site row e taken is = is
+value_kept TimeDelay (Unsigned seconds) site row e taken is = is
+value_kept TimeDelayNormal (Unsigned seconds) site row e taken is = is
+value_kept HighLimit (Signed limit) site row e taken is = is
+value_kept HighLimit (Unsigned limit) site row e taken is = is
+value_kept LowLimit (Signed limit) site row e taken is = is
+value_kept LowLimit (Unsigned limit) site row e taken is = is
+value_kept Deadband (Unsigned deadband) site row e taken is = is
+value_kept LimitEnable (Bits flags) site row e taken is = is
+value_kept AlarmValue value site row e taken is = is
+value_kept EventEnable (Bits flags) site row e taken is = is
+value_kept EventAlgorithmInhibit (Truth truth) site row e taken is = is
+value_kept _ _ site row e taken is = is
+
 row_set : (site : ObjectSite) (property : Option ObjectProperty) (value : Value) (row : Row) → FitsWhat (Property (record { 0 = 0 }) value) → IsTrue (takes_known (kind_in row.site) row.site property value) → IsRowOf site row →
     IsRowOf site (record row { site = rows.set_by property value row.site })
 row_set site None value row fits taken is = absurd (true≢false (sym taken))
 row_set site (Some property) value row fits taken is = record {
   same = rewritten property value site row.site is.same;
+  value = value_kept property value site row.site is.same taken is.value;
   delay = delay_there property value row.site taken ∙ is.delay;
   takes = record { site = known_kept row.site is.takes.site property value fits taken; field_fault = is.takes.field_fault };
 }
 
 row_changed : (site : ObjectSite) (what : What) (row : Row) → FitsWhat what → IsTrue (rows.takes what row.site) → IsRowOf site row → IsRowOf site (rows.changed what row)
 row_changed site (Property property value) row fits taken is = row_set site (property_of property.0) value row fits taken is
-row_changed site (FieldFault reliability) row fits taken is = record { same = is.same; delay = is.delay; takes = record { site = is.takes.site; field_fault = taken } }
+row_changed site (FieldFault reliability) row fits taken is = record { same = is.same; value = is.value; delay = is.delay; takes = record { site = is.takes.site; field_fault = taken } }
 
 -- a change that a row takes where it has the row's identifier
 abbrev TakesOwn : Change → Row → Type 0
@@ -164,7 +202,7 @@ module _ (site : Site) (is : IsSite site) (history : List Event) (change : Chang
 first_zip : (sites : List ObjectSite) → All IsObject sites → AllZip IsRowOf sites (rows_of sites)
 first_zip [] all = tt
 first_zip (site ∷ sites) all = (
-  record { same = refl; delay = refl; takes = record { site = All-head IsObject site sites all; field_fault = refl } },
+  record { same = refl; value = (All-head IsObject site sites all).value; delay = refl; takes = record { site = All-head IsObject site sites all; field_fault = refl } },
   first_zip sites (All-tail IsObject site sites all),
 )
 

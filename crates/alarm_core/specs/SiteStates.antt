@@ -23,7 +23,9 @@ use Rattle.notify_class.specs.Edits.{most_destinations, most_peers}
 use Rattle.notify_class.specs.declared.class.Class.{Class}
 use Rattle.notify_class.specs.declared.class_site.ClassSite.{ClassSite}
 use Rattle.object_table.specs.Objects.{IsRow}
+use Rattle.object_table.specs.Properties.{kind_in}
 use Rattle.object_table.specs.Rows.{row_of}
+use Rattle.object_table.specs.Values.{is_present_value}
 use Rattle.object_table.specs.declared.object_site.ObjectSite.{ObjectSite}
 use Rattle.object_table.specs.declared.row.Row.{Row}
 use Rattle.outbox.specs.Outboxes.{IsOutbox, peers_of}
@@ -57,9 +59,10 @@ with_settings_of written site = record site {
   alarm_value = written.alarm_value;
 }
 
--- the row of an object of a site, as writes may have left it: what no write changes is the site's, and Time_Delay_Normal is there where the site has it
+-- the row of an object of a site, as writes may have left it: what no write changes is the site's, the present value is one that a write takes, and Time_Delay_Normal is there where the site has it
 pub record IsRowOf (site : ObjectSite) (row : Row) : Type 0 where
   pub same : row.site ≡ with_settings_of row.site site
+  pub value : IsTrue (is_present_value (kind_in site) site row.site.value)
   pub delay : is_some row.site.time_delay_normal ≡ is_some site.time_delay_normal
   pub takes : IsRow row
 

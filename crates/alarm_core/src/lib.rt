@@ -46,4 +46,4 @@ pub use notify_class::ClassSite;
 pub use parts::Parts;
 pub use property_values::{DeviceSite, ReadFault};
 pub use site::Site;
-pub use state::Core;
+pub use state::{Core, site_zone};

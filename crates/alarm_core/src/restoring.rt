@@ -12,7 +12,7 @@ use crate::detections::Detections;
 use crate::logs::SiteLog;
 use crate::site::copy_of_site;
 use crate::starting::ack_required_of;
-use crate::state::zone_of;
+use crate::state::site_zone;
 use crate::{Core, LogSite, Parts, Site};
 use bac_values::{NoMemory, Peer, PeerList, push};
 use civil_stamp::LocalMoment;
@@ -187,7 +187,7 @@ impl Core {
             logs,
             outbox,
         } = parts;
-        let zone = zone_of(site);
+        let zone = site_zone(site);
         let at = LocalMoment::new(last_moment, &zone);
         let objects = Objects::new(table, enrollments);
         let alarms = restored_alarms(alloc, site, alarms.as_slice())?;

@@ -79,8 +79,8 @@ impl Model for Core {
     } };
 }
 
-/// The zone of a site.
-pub(crate) fn zone_of(site: &Site) -> Zone
+/// The zone of a site's local time.
+pub fn site_zone(site: &Site) -> Zone
     requires site { IsSite site.now }
     ensures zone { result ≡ site_zone site.now }
 {
@@ -114,7 +114,7 @@ impl Core {
         ensures starts { IfOk result (λ core. core ≡ first_state site.now) }
         ensures represents { IfOk result (λ core. Represents core []) }
     {
-        let zone = zone_of(site);
+        let zone = site_zone(site);
         let start = site.device.start;
         let at = LocalMoment::new(start, &zone);
         let objects = first_objects(alloc, site)?;

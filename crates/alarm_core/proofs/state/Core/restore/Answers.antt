@@ -24,7 +24,7 @@ invariant_of-result c =
     let peers : c.in_ok-peers.peers ≡ peers_of parts.outbox.posts = search rules in
     record {
       site = subst IsSite (sym same) c.requires.site;
-      zone = c.zone_of-zone.ensures.zone ∙ sym (ap site_zone same);
+      zone = c.site_zone-zone.ensures.zone ∙ sym (ap site_zone same);
       moment = state.moment;
       limit = state.limit ∙ sym (ap (λ (s : Site). s.device.outbox) same);
       peers = peers;

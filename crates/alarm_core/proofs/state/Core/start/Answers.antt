@@ -29,7 +29,7 @@ invariant_of-result c =
     let outbox : c.in_ok-outbox.outbox ≡ new_outbox c.in_ok-peers.peers site.device.outbox site.device.apdu_timeout site.device.retries = search rules in
     record {
       site = subst IsSite (sym same) c.requires.site;
-      zone = c.zone_of-zone.ensures.zone ∙ sym (ap site_zone same);
+      zone = c.site_zone-zone.ensures.zone ∙ sym (ap site_zone same);
       moment = c.requires.site.start;
       limit = ap (λ o. o.limit) outbox ∙ sym (ap (λ s. s.device.outbox) same);
       peers = sym (ap (λ o. peers_of o.posts) outbox ∙ peers_empty c.in_ok-peers.peers);
