@@ -14,7 +14,7 @@ use Rattle.alarm_journal.proofs.Batches.{length-framed}
 use Rattle.alarm_journal.proofs.Fronts.{take_front, put_front, put_from, put_past}
 use Rattle.alarm_journal.proofs.Standings.{reads_closed, reads_staged, stands_open}
 
-end_low : (layout : Layout) → end_of layout ≤ layout.areas + layout.half + layout.half
+pub end_low : (layout : Layout) → end_of layout ≤ layout.areas + layout.half + layout.half
 end_low layout = low layout.second layout.areas layout.half
   where
     low : (b : Bool) (a h : ℕ) → (if b then a + h else a) + h ≤ a + h + h

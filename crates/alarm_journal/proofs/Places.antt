@@ -1,8 +1,9 @@
 -- One body more.
-use Rattle.std.proofs.Common.{◌≡◌, ℕ, ◌+◌, List, [], ◌∷◌, ◌++◌, length, map, take, drop, refl, sym, ◌∙◌, ap, arith, length-drop, take-append-drop, flat_map}
+use Rattle.std.proofs.Common.{◌≡◌, ℕ, ◌+◌, ◌<◌, ◌≤◌, ◌^◌, All, List, [], ◌∷◌, ◌++◌, length, map, take, drop, refl, sym, ◌∙◌, ap, arith, length-drop, take-append-drop, flat_map}
 use Rattle.std.proofs.lemmas.List.{take_all, take-append-le, drop-append-le, length-take-le}
+use Rattle.std.proofs.lemmas.List.Elements.{All-cons, All-nil}
 use Rattle.ground_io.specs.Disk.{octets_at}
-use Rattle.alarm_journal.specs.Opened.{pieces, sum_of, LieBetween, found_at}
+use Rattle.alarm_journal.specs.Opened.{pieces, sum_of, EndsOnDevice, LieBetween, found_at}
 use Rattle.alarm_journal.specs.declared.body.Body.{Body}
 
 pub sum_more : (bodies : List Body) (body : Body) → sum_of (bodies ++ body ∷ []) ≡ sum_of bodies + body.length
@@ -35,3 +36,13 @@ pub pieces_long : (bodies : List Body) (octets : List ℕ) → sum_of bodies ≡
 pieces_long [] octets whole = refl
 pieces_long (b ∷ bodies) octets whole =
     (λ i. length-take-le b.length octets (omega (arith, whole)) i ∷ pieces_long bodies (drop b.length octets) (omega (arith, whole, length-drop b.length octets)) i)
+
+-- bodies that lie before a place end at places before it
+lie_before : (gate : ℕ) (bodies : List Body) (next : ℕ) → LieBetween gate bodies next → gate ≤ next
+lie_before gate [] next lie = omega (arith, lie)
+lie_before gate (b ∷ bodies) next lie = omega (arith, lie_before (gate + 5 + b.length) bodies next lie.1)
+
+pub ends_before : (gate : ℕ) (bodies : List Body) (next : ℕ) → next < 2 ^ 64 → LieBetween gate bodies next → All EndsOnDevice bodies
+ends_before gate [] next word lie = All-nil EndsOnDevice
+ends_before gate (b ∷ bodies) next word lie =
+    All-cons EndsOnDevice b bodies (omega (arith, word, lie.0, lie_before (gate + 5 + b.length) bodies next lie.1)) (ends_before (gate + 5 + b.length) bodies next word lie.1)

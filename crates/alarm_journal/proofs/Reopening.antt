@@ -7,7 +7,7 @@ use Rattle.ground_io.specs.declared.entry.Entry.TheVariants.{Synced}
 use Rattle.ground_io.proofs.Crashes.{only_read, adds_both, disk_adds, always_weaker}
 use Rattle.alarm_journal.specs.Journal.{Site, Content, nothing, OpensTo, opened_from, heading}
 use Rattle.alarm_journal.specs.Opened.{Shows}
-use Rattle.alarm_journal.specs.Press.{Settled, IsSound, Begun, IsBlank, Blank, Reopens, Answers, WasBlank, IsOpening}
+use Rattle.alarm_journal.specs.Press.{Settled, IsSound, Begun, IsBlank, Blank, Reopens, ReopensSynced, Answers, WasBlank, IsOpening}
 use Rattle.alarm_journal.specs.Protocol.{AddsSome, Leads, two_writes, IsTwoCutShort}
 use Rattle.alarm_journal.specs.declared.layout.Layout.{Layout}
 use Rattle.alarm_journal.specs.declared.open_fault.OpenFault.{OpenFault}
@@ -15,16 +15,22 @@ use Rattle.alarm_journal.specs.declared.open_fault.OpenFault.TheVariants.{SmallD
 use Rattle.alarm_journal.proofs.Headers.{opens_blank, opens_small}
 use Rattle.alarm_journal.proofs.Rest.{opens_now}
 
+-- once the sync was done, it was done or failed
+pub reopens : (site : Site) (a x : Option Told) → ReopensSynced site a x → Reopens site a x
+reopens site a None so = tt
+reopens site None (Some x) so = so
+reopens site (Some a) (Some x) so = inr so
+
 -- nothing was written
-pub stays : (site : Site) (a x : Option Told) → Adds a x (Synced ∷ []) → Reopens site a x
+pub stays : (site : Site) (a x : Option Told) → Adds a x (Synced ∷ []) → ReopensSynced site a x
 stays site a None adds = tt
 stays site None (Some x) adds = absurd adds
-stays site (Some a) (Some x) adds = inr (record {
+stays site (Some a) (Some x) adds = record {
   entries = [];
   adds = adds;
   quiet = tt;
   always = λ image may. ap (opened_from site) (only_read (disk_of a).contents image may);
-})
+}
 
 -- once the disk was synced
 synced : (a x : Told) → Adds (Some a) (Some x) (Synced ∷ []) → disk_of x ≡ record { contents = (disk_of a).contents; loose = [] }
@@ -54,19 +60,19 @@ blank_then : (site : Site) (size : ℕ) (a r : Told) → Adds (Some a) (Some r) 
 blank_then site size a r adds blank whole enough =
     opens_blank site (disk_of a).contents (omega (arith, whole, enough)) (λ is. blank.gate (ap (λ (l : List ℕ). get_or l 0 0) (contents_then a r adds) ∙ is))
 
-pub formatting : (site : Site) (size : ℕ) (a r f : Option Told) → HasSize size a → site.need ≤ size → Adds a r (Synced ∷ []) → Blank r → Leads (λ image. OpensTo site image nothing) r f → Reopens site a f
+pub formatting : (site : Site) (size : ℕ) (a r f : Option Told) → HasSize size a → site.need ≤ size → Adds a r (Synced ∷ []) → Blank r → Leads (λ image. OpensTo site image nothing) r f → ReopensSynced site a f
 formatting site size a r None whole enough ar blank formats = tt
 formatting site size a None (Some f) whole enough ar blank formats = absurd formats
 formatting site size None (Some r) (Some f) whole enough ar blank formats = absurd ar
 formatting site size (Some a) (Some r) (Some f) whole enough ar blank formats =
     let before = blank_then site size a r ar blank whole enough in
-    inr (record {
+    record {
       entries = formats.entries;
       adds = adds_both (Some a) (Some r) (Some f) (Synced ∷ []) formats.entries ar formats.adds;
       quiet = formats.quiet;
       always = subst (λ (k : Disk). Always (λ image. opened_from site image ≡ opened_from site (disk_of a).contents) k formats.entries) (synced a r ar)
           (always_weaker (λ image. OpensTo site image nothing) (λ image. opened_from site image ≡ opened_from site (disk_of a).contents) (λ image opens. opens ∙ sym before) (disk_of r) formats.entries formats.always);
-    })
+    }
 
 pub small_answer : (site : Site) (size : ℕ) (a z : Option Told) → HasSize size a → size < site.need → Adds a z (Synced ∷ []) → Answers site a z (Err (SmallDevice size site.need))
 small_answer site size a None whole small adds = tt

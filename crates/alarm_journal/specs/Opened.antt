@@ -1,5 +1,5 @@
 -- What an opening hands up, and where it lies on the device.
-use Rattle.std.specs.Prelude.{◌≡◌, ℕ, ◌+◌, List, [], ◌∷◌, length, map, take, drop, Option, Some, None, ⊤}
+use Rattle.std.specs.Prelude.{◌≡◌, ◌<◌, ℕ, ◌+◌, ◌^◌, List, [], ◌∷◌, length, map, take, drop, Option, Some, None, ⊤}
 use Rattle.ground_io.specs.Disk.{octets_at}
 use Rattle.ground_io.specs.Trace.{Told, disk_of}
 use Rattle.alarm_journal.specs.Journal.{Content}
@@ -24,6 +24,10 @@ sum_of (body ∷ more) = body.length + sum_of more
 abbrev pub LieBetween : ℕ → List Body → ℕ → Type 0
 LieBetween gate [] next = gate ≡ next
 LieBetween gate (body ∷ more) next = (body.place ≡ gate + 5) × LieBetween (gate + 5 + body.length) more next
+
+-- a body ends at a place of a device, which is a number of 64 bits
+abbrev pub EndsOnDevice : Body → Type 0
+EndsOnDevice body = body.place + body.length < 2 ^ 64
 
 -- the octets of a device at the places of these bodies
 abbrev pub found_at : List ℕ → List Body → List (List ℕ)

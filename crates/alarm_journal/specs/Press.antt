@@ -97,8 +97,7 @@ Throughout site content (Some old) (Some new) =
 abbrev pub Between : Site → Content → Content → Option Told → Option Told → Type 0
 Between site before after old new = Leads (λ image. OpensTo site image before ⊎ OpensTo site image after) old new
 
--- the first sync failed, and nothing else was done; or each image that a crash may leave from it on opens to what the device opened to
--- before, or is refused as it was
+-- The sync was done first. Each image that a crash may leave from it on opens to what the device opened to before, or is refused as it was.
 pub record OpensSame (site : Site) (old new : Told) : Type 0 where
   pub entries : List Entry
   pub adds : Adds (Some old) (Some new) (Synced ∷ entries)
@@ -106,6 +105,12 @@ pub record OpensSame (site : Site) (old new : Told) : Type 0 where
   pub always : Always (λ image. opened_from site image ≡ opened_from site (disk_of old).contents) (record { contents = (disk_of old).contents; loose = [] }) entries
 
 -- where it tells
+abbrev pub ReopensSynced : Site → Option Told → Option Told → Type 0
+ReopensSynced site old None = ⊤
+ReopensSynced site None (Some new) = ⊥
+ReopensSynced site (Some old) (Some new) = OpensSame site old new
+
+-- the first sync failed, and nothing else was done; or it was done, and so on
 abbrev pub Reopens : Site → Option Told → Option Told → Type 0
 Reopens site old None = ⊤
 Reopens site None (Some new) = ⊥

@@ -4,7 +4,7 @@ ghost use Rattle.ground_io.specs.Trace.{Adds};
 ghost use Rattle.alarm_journal.specs.Areas.{IsLaid};
 ghost use Rattle.alarm_journal.specs.Journal.{OpensTo, heading, nothing};
 ghost use Rattle.alarm_journal.specs.Opened.{Shows, StandsAt, content_in};
-ghost use Rattle.alarm_journal.specs.Press.{Answers, Begun, Blank, IsBelow, IsOpening, IsSmall, IsSound, Reopens, Settled, WasBlank, start_of};
+ghost use Rattle.alarm_journal.specs.Press.{Answers, Begun, Blank, IsBelow, IsOpening, IsSmall, IsSound, Reopens, ReopensSynced, Settled, WasBlank, start_of};
 ghost use Rattle.alarm_journal.specs.Protocol.{AddsSome, IsTwoCutShort, Leads, two_writes};
 ghost use Rattle.alarm_journal.specs.declared.open_fault.OpenFault.TheVariants.{DiskFault, NoMemory};
 
@@ -130,7 +130,9 @@ pub(crate) fn open_device<G: Ground>(
     ensures laid { IfOk result (λ read. IsLaid (start_of read.0) read.0.next read.1) }
     ensures stand { IfOk result (λ read. Shows (G.told device.new) (StandsAt read.1)) }
     ensures empty { IfOk result (λ read. IsTrue read.1.fresh → content_in read.1 ≡ nothing) }
-    ensures any_moment { Reopens (record { text = text.now; need = need }) (G.told device.old) (G.told device.new) }
+    ensures any_moment { MatchResult result
+        (λ _. ReopensSynced (record { text = text.now; need = need }) (G.told device.old) (G.told device.new))
+        (λ _. Reopens (record { text = text.now; need = need }) (G.told device.old) (G.told device.new)) }
     ensures writes { AddsSome (IsOpening text.now (G.size device.old)) (G.told device.old) (G.told device.new) }
 {
     device.sync()?;

@@ -1,10 +1,10 @@
-ghost use Rattle.std.specs.Prelude.{◌≡◌, ◌<◌, ◌≤◌, ◌+◌, ◌-◌, ◌/◌, List, [], ◌∷◌, ℕ, length, IfOk, IfErr, IsTrue, MatchResult, Ok, Err, map, ⊤};
+ghost use Rattle.std.specs.Prelude.{◌≡◌, ◌<◌, ◌≤◌, ◌+◌, ◌-◌, ◌/◌, All, List, [], ◌∷◌, ℕ, length, IfOk, IfErr, IsTrue, MatchResult, Ok, Err, map, ⊤};
 ghost use Rattle.ground_io.specs.Counts.{HasCause};
 ghost use Rattle.ground_io.specs.Trace.{Adds};
 ghost use Rattle.alarm_journal.specs.Emissions.{EmitsAll};
 ghost use Rattle.alarm_journal.specs.Journal.{Content, Site, batches_of, framed, nothing, only_snapshot, with_batch};
-ghost use Rattle.alarm_journal.specs.Opened.{LieBetween, Shows, StandsAt, content_in};
-ghost use Rattle.alarm_journal.specs.Press.{Answers, Between, IsBelow, IsOpening, IsSmall, Lasts, Reopens, Settled, Throughout, WasBlank, behind_batch, behind_snapshot, other_of, room_of, selector_of, start_of};
+ghost use Rattle.alarm_journal.specs.Opened.{EndsOnDevice, LieBetween, Shows, StandsAt, content_in, sum_of};
+ghost use Rattle.alarm_journal.specs.Press.{Answers, Between, IsBelow, IsOpening, IsSmall, Lasts, Reopens, ReopensSynced, Settled, Throughout, WasBlank, behind_batch, behind_snapshot, other_of, room_of, selector_of, start_of};
 ghost use Rattle.alarm_journal.specs.Protocol.{AddsSome, IsTwoCutShort, two_writes};
 ghost use Rattle.alarm_journal.specs.declared.open_fault.OpenFault.TheVariants.{DiskFault};
 
@@ -92,12 +92,14 @@ impl<G: Ground> Press<G> {
         // The bodies make up the batches, and each is as long as it says.
         ensures batches { IfOk result (λ read. batches_of (content_in read.1) ≡ read.1.batches) }
         ensures lengths { IfOk result (λ read. map length (content_in read.1).bodies ≡ map (λ body. body.length) read.1.bodies) }
+        ensures whole { IfOk result (λ read. sum_of read.1.bodies ≡ length read.1.batches) }
 
         // The snapshot lies behind its length, and each body behind a gate and a length: from the snapshot up to the
         // next gate there is nothing else. There they stand on the device.
         ensures snapshot { IfOk result (λ read. read.1.snapshot_place ≡ start_of read.0.layout + 4) }
         ensures places { IfOk result (λ read. LieBetween (start_of read.0.layout + 4 + length read.1.snapshot) read.1.bodies read.0.layout.next) }
         ensures stand { IfOk result (λ read. Shows (G.told read.0.device) (StandsAt read.1)) }
+        ensures ends { IfOk result (λ read. All EndsOnDevice read.1.bodies) }
 
         // A device that is smaller than it must be is refused for that, unless it fails before it tells its size.
         ensures small { IfErr result (λ refused. IsSmall (G.size device) refused.1) }
@@ -108,9 +110,9 @@ impl<G: Ground> Press<G> {
             (λ read. G.disk_faults device ≤ G.disk_faults read.0.device)
             (λ refused. HasCause (G.disk_faults device) (G.disk_faults refused.0) (refused.1 ≡ DiskFault)) }
 
-        // A crash at any moment from the first sync on.
+        // A crash at any moment from the first sync on, which an `Ok` has done.
         ensures any_moment { MatchResult result
-            (λ read. Reopens (record { text = site_text.now; need = need }) (G.told device) (G.told read.0.device))
+            (λ read. ReopensSynced (record { text = site_text.now; need = need }) (G.told device) (G.told read.0.device))
             (λ refused. Reopens (record { text = site_text.now; need = need }) (G.told device) (G.told refused.0)) }
         ensures writes { MatchResult result
             (λ read. AddsSome (IsOpening site_text.now (G.size device)) (G.told device) (G.told read.0.device))

@@ -31,8 +31,3 @@ shown_known (first ∷ posts) (suc place) post told = or_right (is_same first.pe
 pub one_known : (posts : List MailboxState) (note : Note) (notes : List Note) → IsTrue (is_known note.peer posts) → notes ≡ note ∷ [] → AreKnown notes posts
 one_known posts note notes known same =
     subst (λ ns. AreKnown ns posts) (sym same) (All-cons (λ (n : Note). IsTrue (is_known n.peer posts)) note [] known (All-nil (λ (n : Note). IsTrue (is_known n.peer posts))))
-
-pub two_known : (posts : List MailboxState) (first second : Note) (notes : List Note) → IsTrue (is_known first.peer posts) → IsTrue (is_known second.peer posts) → notes ≡ first ∷ second ∷ [] → AreKnown notes posts
-two_known posts first second notes one two same =
-    let known : Note → Type 0 = λ (n : Note). IsTrue (is_known n.peer posts) in
-    subst (λ ns. AreKnown ns posts) (sym same) (All-cons known first (second ∷ []) one (All-cons known second [] two (All-nil known)))

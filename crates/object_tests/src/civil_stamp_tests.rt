@@ -4,6 +4,7 @@ use bac_values::{FIRST_MOMENT, LAST_MOMENT, Stamp};
 use civil_stamp::{
     LocalMoment, Zone, ZoneFault, ZoneRange, hundredths_of, stamp_of, weekday_and_time,
 };
+use std::process::Abort;
 use std::test::Fail;
 
 fn octets_at(moment: u64, minutes: i16) -> Option<[u8; 8]> {
@@ -14,84 +15,59 @@ fn octets_at(moment: u64, minutes: i16) -> Option<[u8; 8]> {
     Some(stamp_of(moment, &zone).octets)
 }
 
-#[test]
-fn shows_the_first_moment(rt: HostRuntime) -> Result<(), Fail> {
-    same(
-        &rt,
-        &octets_at(FIRST_MOMENT, 0),
-        &Some([100, 1, 1, 6, 0, 0, 0, 0]),
-    );
-    same(
-        &rt,
-        &octets_at(FIRST_MOMENT, -840),
-        &Some([99, 12, 31, 5, 10, 0, 0, 0]),
-    );
-    same(
-        &rt,
-        &octets_at(FIRST_MOMENT, 840),
-        &Some([100, 1, 1, 6, 14, 0, 0, 0]),
-    );
-    Ok(())
+/// At each moment the clock shows these octets, so many minutes ahead of UTC.
+fn expect_octets(rt: &impl Abort, rows: &[(u64, i16, [u8; 8])]) {
+    for (moment, minutes, octets) in rows {
+        same(rt, &octets_at(*moment, *minutes), &Some(*octets));
+    }
 }
 
 #[test]
-fn shows_the_last_moment(rt: HostRuntime) -> Result<(), Fail> {
-    same(
+fn shows_the_first_moment(rt: HostRuntime) {
+    expect_octets(
         &rt,
-        &octets_at(LAST_MOMENT, 0),
-        &Some([199, 12, 31, 4, 23, 59, 59, 99]),
+        &[
+            (FIRST_MOMENT, 0, [100, 1, 1, 6, 0, 0, 0, 0]),
+            (FIRST_MOMENT, -840, [99, 12, 31, 5, 10, 0, 0, 0]),
+            (FIRST_MOMENT, 840, [100, 1, 1, 6, 14, 0, 0, 0]),
+        ],
     );
-    same(
-        &rt,
-        &octets_at(LAST_MOMENT, -840),
-        &Some([199, 12, 31, 4, 9, 59, 59, 99]),
-    );
-    same(
-        &rt,
-        &octets_at(LAST_MOMENT, 840),
-        &Some([200, 1, 1, 5, 13, 59, 59, 99]),
-    );
-    Ok(())
 }
 
 #[test]
-fn shows_a_leap_day(rt: HostRuntime) -> Result<(), Fail> {
-    same(
+fn shows_the_last_moment(rt: HostRuntime) {
+    expect_octets(
         &rt,
-        &octets_at(1_709_210_096_789, 0),
-        &Some([124, 2, 29, 4, 12, 34, 56, 78]),
+        &[
+            (LAST_MOMENT, 0, [199, 12, 31, 4, 23, 59, 59, 99]),
+            (LAST_MOMENT, -840, [199, 12, 31, 4, 9, 59, 59, 99]),
+            (LAST_MOMENT, 840, [200, 1, 1, 5, 13, 59, 59, 99]),
+        ],
     );
-    same(
-        &rt,
-        &octets_at(1_709_210_096_789, 840),
-        &Some([124, 3, 1, 5, 2, 34, 56, 78]),
-    );
-    same(
-        &rt,
-        &octets_at(951_782_400_000, -60),
-        &Some([100, 2, 28, 1, 23, 0, 0, 0]),
-    );
-    Ok(())
 }
 
 #[test]
-fn shows_the_end_of_a_year(rt: HostRuntime) -> Result<(), Fail> {
-    same(
+fn shows_a_leap_day(rt: HostRuntime) {
+    expect_octets(
         &rt,
-        &octets_at(1_735_689_599_999, 0),
-        &Some([124, 12, 31, 2, 23, 59, 59, 99]),
+        &[
+            (1_709_210_096_789, 0, [124, 2, 29, 4, 12, 34, 56, 78]),
+            (1_709_210_096_789, 840, [124, 3, 1, 5, 2, 34, 56, 78]),
+            (951_782_400_000, -60, [100, 2, 28, 1, 23, 0, 0, 0]),
+        ],
     );
-    same(
+}
+
+#[test]
+fn shows_the_end_of_a_year(rt: HostRuntime) {
+    expect_octets(
         &rt,
-        &octets_at(1_735_689_599_999, 60),
-        &Some([125, 1, 1, 3, 0, 59, 59, 99]),
+        &[
+            (1_735_689_599_999, 0, [124, 12, 31, 2, 23, 59, 59, 99]),
+            (1_735_689_599_999, 60, [125, 1, 1, 3, 0, 59, 59, 99]),
+            (1_704_067_199_990, 0, [123, 12, 31, 7, 23, 59, 59, 99]),
+        ],
     );
-    same(
-        &rt,
-        &octets_at(1_704_067_199_990, 0),
-        &Some([123, 12, 31, 7, 23, 59, 59, 99]),
-    );
-    Ok(())
 }
 
 #[test]
@@ -156,139 +132,125 @@ fn hundredths_by_rule(octets: [u8; 8], rule: &str) -> Option<i64> {
     hundredths_of(&Stamp { octets }, &zone)
 }
 
-#[test]
-fn puts_the_clock_forward_and_back(rt: HostRuntime) -> Result<(), Fail> {
-    same(
-        &rt,
-        &octets_by_rule(1_711_846_799_990, BERLIN),
-        &Some([0x7c, 0x03, 0x1f, 0x07, 0x01, 0x3b, 0x3b, 0x63]),
-    );
-    same(
-        &rt,
-        &octets_by_rule(1_711_846_800_000, BERLIN),
-        &Some([0x7c, 0x03, 0x1f, 0x07, 0x03, 0x00, 0x00, 0x00]),
-    );
-    same(
-        &rt,
-        &octets_by_rule(1_729_989_000_000, BERLIN),
-        &Some([0x7c, 0x0a, 0x1b, 0x07, 0x02, 0x1e, 0x00, 0x00]),
-    );
-    same(
-        &rt,
-        &octets_by_rule(1_729_992_600_000, BERLIN),
-        &Some([0x7c, 0x0a, 0x1b, 0x07, 0x02, 0x1e, 0x00, 0x00]),
-    );
-    Ok(())
+/// At each moment the clock shows these octets, by the rule.
+fn expect_by_rule(rt: &impl Abort, rule: &str, rows: &[(u64, [u8; 8])]) {
+    for (moment, octets) in rows {
+        same(rt, &octets_by_rule(*moment, rule), &Some(*octets));
+    }
+}
+
+/// The clock shows each stamp first at so many hundredths, by the rule.
+fn expect_hundredths(rt: &impl Abort, rule: &str, rows: &[([u8; 8], i64)]) {
+    for (octets, hundredths) in rows {
+        same(rt, &hundredths_by_rule(*octets, rule), &Some(*hundredths));
+    }
 }
 
 #[test]
-fn tells_when_the_clock_showed_a_stamp(rt: HostRuntime) -> Result<(), Fail> {
+fn puts_the_clock_forward_and_back(rt: HostRuntime) {
+    expect_by_rule(
+        &rt,
+        BERLIN,
+        &[
+            (
+                1_711_846_799_990,
+                [0x7c, 0x03, 0x1f, 0x07, 0x01, 0x3b, 0x3b, 0x63],
+            ),
+            (
+                1_711_846_800_000,
+                [0x7c, 0x03, 0x1f, 0x07, 0x03, 0x00, 0x00, 0x00],
+            ),
+            (
+                1_729_989_000_000,
+                [0x7c, 0x0a, 0x1b, 0x07, 0x02, 0x1e, 0x00, 0x00],
+            ),
+            (
+                1_729_992_600_000,
+                [0x7c, 0x0a, 0x1b, 0x07, 0x02, 0x1e, 0x00, 0x00],
+            ),
+        ],
+    );
+}
+
+#[test]
+fn tells_when_the_clock_showed_a_stamp(rt: HostRuntime) {
     let in_a_fold = [0x7c, 0x0a, 0x1b, 0x07, 0x02, 0x1e, 0x00, 0x00];
     let in_a_gap = [0x7c, 0x03, 0x1f, 0x07, 0x02, 0x1e, 0x00, 0x00];
-    same(
-        &rt,
-        &hundredths_by_rule(in_a_fold, BERLIN),
-        &Some(172_998_900_000),
-    );
-    same(
-        &rt,
-        &hundredths_by_rule(in_a_gap, BERLIN),
-        &Some(171_184_860_000),
-    );
+    let rows = [(in_a_fold, 172_998_900_000), (in_a_gap, 171_184_860_000)];
+    expect_hundredths(&rt, BERLIN, &rows);
     let before_1970 = [69, 12, 31, 3, 23, 59, 59, 99];
-    same(&rt, &hundredths_by_rule(before_1970, "UTC0"), &Some(-1));
-    Ok(())
+    expect_hundredths(&rt, "UTC0", &[(before_1970, -1)]);
 }
 
 #[test]
-fn has_summer_at_the_turn_of_the_year_in_the_south(rt: HostRuntime) -> Result<(), Fail> {
-    same(
+fn has_summer_at_the_turn_of_the_year_in_the_south(rt: HostRuntime) {
+    expect_by_rule(
         &rt,
-        &octets_by_rule(1_704_027_600_000, SYDNEY),
-        &Some([124, 1, 1, 1, 0, 0, 0, 0]),
+        SYDNEY,
+        &[
+            (1_704_027_600_000, [124, 1, 1, 1, 0, 0, 0, 0]),
+            (1_712_419_199_990, [124, 4, 7, 7, 2, 59, 59, 99]),
+            (1_712_419_200_000, [124, 4, 7, 7, 2, 0, 0, 0]),
+            (1_728_144_000_000, [124, 10, 6, 7, 3, 0, 0, 0]),
+        ],
     );
-    same(
-        &rt,
-        &octets_by_rule(1_712_419_199_990, SYDNEY),
-        &Some([124, 4, 7, 7, 2, 59, 59, 99]),
-    );
-    same(
-        &rt,
-        &octets_by_rule(1_712_419_200_000, SYDNEY),
-        &Some([124, 4, 7, 7, 2, 0, 0, 0]),
-    );
-    same(
-        &rt,
-        &octets_by_rule(1_728_144_000_000, SYDNEY),
-        &Some([124, 10, 6, 7, 3, 0, 0, 0]),
-    );
-    let fold = hundredths_by_rule([124, 4, 7, 7, 2, 30, 0, 0], SYDNEY);
-    same(&rt, &fold, &Some(171_241_740_000));
-    let gap = hundredths_by_rule([124, 10, 6, 7, 2, 30, 0, 0], SYDNEY);
-    same(&rt, &gap, &Some(172_814_580_000));
-    Ok(())
+    let fold_and_gap = [
+        ([124, 4, 7, 7, 2, 30, 0, 0], 171_241_740_000),
+        ([124, 10, 6, 7, 2, 30, 0, 0], 172_814_580_000),
+    ];
+    expect_hundredths(&rt, SYDNEY, &fold_and_gap);
 }
 
 #[test]
-fn has_a_fold_and_a_gap_at_midnight(rt: HostRuntime) -> Result<(), Fail> {
-    same(
+fn has_a_fold_and_a_gap_at_midnight(rt: HostRuntime) {
+    expect_by_rule(
         &rt,
-        &octets_by_rule(1_730_609_999_990, HAVANA),
-        &Some([124, 11, 3, 7, 0, 59, 59, 99]),
+        HAVANA,
+        &[
+            (1_730_609_999_990, [124, 11, 3, 7, 0, 59, 59, 99]),
+            (1_730_610_000_000, [124, 11, 3, 7, 0, 0, 0, 0]),
+            (1_710_046_800_000, [124, 3, 10, 7, 1, 0, 0, 0]),
+        ],
     );
-    same(
-        &rt,
-        &octets_by_rule(1_730_610_000_000, HAVANA),
-        &Some([124, 11, 3, 7, 0, 0, 0, 0]),
-    );
-    same(
-        &rt,
-        &octets_by_rule(1_710_046_800_000, HAVANA),
-        &Some([124, 3, 10, 7, 1, 0, 0, 0]),
-    );
-    let fold = hundredths_by_rule([124, 11, 3, 7, 0, 30, 0, 0], HAVANA);
-    same(&rt, &fold, &Some(173_060_820_000));
-    let gap = hundredths_by_rule([124, 3, 10, 7, 0, 30, 0, 0], HAVANA);
-    same(&rt, &gap, &Some(171_004_860_000));
-    Ok(())
+    let fold_and_gap = [
+        ([124, 11, 3, 7, 0, 30, 0, 0], 173_060_820_000),
+        ([124, 3, 10, 7, 0, 30, 0, 0], 171_004_860_000),
+    ];
+    expect_hundredths(&rt, HAVANA, &fold_and_gap);
 }
 
 #[test]
-fn has_a_day_that_ends_twice(rt: HostRuntime) -> Result<(), Fail> {
-    same(
+fn has_a_day_that_ends_twice(rt: HostRuntime) {
+    expect_by_rule(
         &rt,
-        &octets_by_rule(1_712_458_799_990, SANTIAGO),
-        &Some([124, 4, 6, 6, 23, 59, 59, 99]),
+        SANTIAGO,
+        &[
+            (1_712_458_799_990, [124, 4, 6, 6, 23, 59, 59, 99]),
+            (1_712_458_800_000, [124, 4, 6, 6, 23, 0, 0, 0]),
+        ],
     );
-    same(
-        &rt,
-        &octets_by_rule(1_712_458_800_000, SANTIAGO),
-        &Some([124, 4, 6, 6, 23, 0, 0, 0]),
-    );
-    let fold = hundredths_by_rule([124, 4, 6, 6, 23, 30, 0, 0], SANTIAGO);
-    same(&rt, &fold, &Some(171_245_700_000));
-    let gap = hundredths_by_rule([124, 9, 8, 7, 0, 30, 0, 0], SANTIAGO);
-    same(&rt, &gap, &Some(172_576_980_000));
-    Ok(())
+    let fold_and_gap = [
+        ([124, 4, 6, 6, 23, 30, 0, 0], 171_245_700_000),
+        ([124, 9, 8, 7, 0, 30, 0, 0], 172_576_980_000),
+    ];
+    expect_hundredths(&rt, SANTIAGO, &fold_and_gap);
 }
 
 #[test]
-fn has_a_winter_time_that_is_behind(rt: HostRuntime) -> Result<(), Fail> {
-    same(
+fn has_a_winter_time_that_is_behind(rt: HostRuntime) {
+    expect_by_rule(
         &rt,
-        &octets_by_rule(1_729_990_800_000, DUBLIN),
-        &Some([124, 10, 27, 7, 1, 0, 0, 0]),
+        DUBLIN,
+        &[
+            (1_729_990_800_000, [124, 10, 27, 7, 1, 0, 0, 0]),
+            (1_711_846_800_000, [124, 3, 31, 7, 2, 0, 0, 0]),
+        ],
     );
-    same(
-        &rt,
-        &octets_by_rule(1_711_846_800_000, DUBLIN),
-        &Some([124, 3, 31, 7, 2, 0, 0, 0]),
-    );
-    let fold = hundredths_by_rule([124, 10, 27, 7, 1, 30, 0, 0], DUBLIN);
-    same(&rt, &fold, &Some(172_998_900_000));
-    let gap = hundredths_by_rule([124, 3, 31, 7, 1, 30, 0, 0], DUBLIN);
-    same(&rt, &gap, &Some(171_184_860_000));
-    Ok(())
+    let fold_and_gap = [
+        ([124, 10, 27, 7, 1, 30, 0, 0], 172_998_900_000),
+        ([124, 3, 31, 7, 1, 30, 0, 0], 171_184_860_000),
+    ];
+    expect_hundredths(&rt, DUBLIN, &fold_and_gap);
 }
 
 #[test]
@@ -304,14 +266,17 @@ fn tells_nothing_of_what_is_no_civil_time(rt: HostRuntime) -> Result<(), Fail> {
     ] {
         same(&rt, &hundredths_of(&Stamp { octets }, &utc), &None);
     }
-    // No Monday: the weekday isn't looked at.
-    let octets = [124, 1, 1, 255, 0, 0, 0, 0];
-    same(
-        &rt,
-        &hundredths_of(&Stamp { octets }, &utc),
-        &Some(170_406_720_000),
-    );
     Ok(())
+}
+
+#[test]
+fn does_not_look_at_the_weekday(rt: HostRuntime) {
+    // No Monday.
+    expect_hundredths(
+        &rt,
+        "UTC0",
+        &[([124, 1, 1, 255, 0, 0, 0, 0], 170_406_720_000)],
+    );
 }
 
 #[test]

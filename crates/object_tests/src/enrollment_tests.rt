@@ -5,7 +5,7 @@ ghost use Rattle.object_table.specs.Objects.{IsObject};
 ghost use Rattle.enrollment.specs.Enrollments.{IsEnrollment};
 
 use crate::comparing::{holds, same};
-use algorithm_rules::{Algorithm, Snapshot};
+use algorithm_rules::{Algorithm, Snapshot, number_of as number_in};
 use bac_values::{Items, ObjectId, ObjectKind, PropertyId, Text, Transition, Value};
 use enrollment::*;
 use object_table::{Change, ObjectSite, Table, What};
@@ -196,12 +196,12 @@ fn an_enrollment_that_is_there_takes_what_its_properties_can_be(
     expect_taken(&rt, &list)
 }
 
-fn is_signed(value: &Value, wanted: i32) -> bool {
-    matches!(value, Value::Signed(number) if *number == wanted)
-}
-
-fn is_unsigned(value: &Value, wanted: u32) -> bool {
-    matches!(value, Value::Unsigned(number) if *number == wanted)
+/// The number that a feedback is.
+fn feedback_of(seen: &Snapshot<'_>) -> Option<i128> {
+    match seen.feedback {
+        Some(value) => number_in(value),
+        None => None,
+    }
 }
 
 /// Enrollments 1 and 2.
@@ -216,8 +216,8 @@ fn levels(alloc: Global, first: i32, second: i32) -> Result<Table, Fail> {
 
 /// The command is 12, and its feedback is -5.
 fn expect_command(rt: &impl Abort, seen: &Snapshot<'_>) {
-    holds(rt, is_signed(seen.value, 12));
-    holds(rt, seen.feedback.is_some_and(|value| is_signed(value, -5)));
+    same(rt, &number_in(seen.value), &Some(12));
+    same(rt, &feedback_of(seen), &Some(-5));
     same(rt, &seen.algorithm, &Algorithm::CommandFailure);
     same(
         rt,
@@ -252,8 +252,8 @@ fn expect_mirror_of(rt: &impl Abort, list: &Enrollments, table: &Table) -> Resul
     let Some(seen) = list.snapshot_of(table, object) else {
         return Err("no snapshot".into());
     };
-    holds(rt, is_signed(seen.value, -5));
-    holds(rt, seen.feedback.is_some_and(|value| is_signed(value, -5)));
+    same(rt, &number_in(seen.value), &Some(-5));
+    same(rt, &feedback_of(&seen), &Some(-5));
     Ok(())
 }
 
@@ -276,7 +276,7 @@ fn level_and_flow(alloc: Global) -> Result<Table, Fail> {
 
 /// A number of 90, with the limits of enrollment 3.
 fn expect_range(rt: &impl Abort, seen: &Snapshot<'_>) {
-    holds(rt, is_unsigned(seen.value, 90));
+    same(rt, &number_in(seen.value), &Some(90));
     holds(rt, seen.feedback.is_none());
     same(rt, &seen.algorithm, &Algorithm::UnsignedRange);
     same(rt, &[seen.low, seen.high], &[20, 80]);
@@ -303,7 +303,7 @@ fn a_range_has_limits_of_its_own(rt: HostRuntime) -> Result<(), Fail> {
 
 /// A number of 90, with the limits of positive integer value 1.
 fn expect_flow(rt: &impl Abort, seen: &Snapshot<'_>) {
-    holds(rt, is_unsigned(seen.value, 90));
+    same(rt, &number_in(seen.value), &Some(90));
     holds(rt, seen.feedback.is_none());
     same(rt, &seen.algorithm, &Algorithm::UnsignedOutOfRange);
     same(rt, &[seen.low, seen.high], &[40, 60]);
@@ -581,32 +581,6 @@ fn expect_detection(rt: &impl Abort, objects: &Objects) -> Result<(), Fail> {
 #[test]
 fn an_object_without_a_class_is_not_detected(rt: HostRuntime) -> Result<(), Fail> {
     expect_detection(&rt, &all_objects(rt.alloc())?)
-}
-
-/// What the algorithm of an object is, whether its value is a number, and whether it has a fault, if it is there.
-fn looks(objects: &Objects, object: ObjectId, number: u32) -> Option<(Algorithm, bool, u8)> {
-    match objects.snapshot(object) {
-        Some(seen) => Some((
-            seen.algorithm,
-            is_unsigned(seen.value, number),
-            objects.reliability(object).number(),
-        )),
-        None => None,
-    }
-}
-
-#[test]
-fn both_kinds_of_objects_are_looked_at(rt: HostRuntime) -> Result<(), Fail> {
-    let objects = all_objects(rt.alloc())?;
-    let range = looks(&objects, identifier(ObjectKind::EventEnrollment, 3)?, 90);
-    let flow = looks(
-        &objects,
-        identifier(ObjectKind::PositiveIntegerValue, 1)?,
-        90,
-    );
-    same(&rt, &range, &Some((Algorithm::UnsignedRange, true, 0)));
-    same(&rt, &flow, &Some((Algorithm::UnsignedOutOfRange, true, 0)));
-    Ok(())
 }
 
 /// Whether enrollment 2 is inhibited: before a write, after it, and after it was taken back.

@@ -1,16 +1,8 @@
-//! Tests of values, objects, their detection, notes, logs and timers, and of the core that holds them.
+//! Tests of values, objects, their detection, notes, logs and timers.
 //!
 //! They ask only what anybody may ask of those crates, and nothing stands on them; so those crates are proved once.
 #![tactic(auto)]
 
-#[cfg(test)]
-mod alarm_core_admitting_tests;
-#[cfg(test)]
-mod alarm_core_edit_tests;
-#[cfg(test)]
-mod alarm_core_plant;
-#[cfg(test)]
-mod alarm_core_restore_tests;
 #[cfg(test)]
 mod algorithm_rules_tests;
 #[cfg(test)]
@@ -37,7 +29,3 @@ mod object_table_tests;
 mod outbox_tests;
 #[cfg(test)]
 mod reliability_eval_tests;
-#[cfg(test)]
-mod state_codec_tests;
-#[cfg(test)]
-mod state_snapshot_tests;

@@ -96,25 +96,7 @@ fn queue_at(
     Ok(())
 }
 
-// A note for the recipient at a place, twice; gives what comes back.
-fn queue_two(alloc: Global, outbox: &mut Outbox, place: u32) -> Result<Option<QueueFault>, Fail> {
-    let Some(post) = outbox.post(place) else {
-        return Err(Fail::from("no recipient"));
-    };
-    let mut notes = Vec::new(alloc);
-    notes.push(Note {
-        peer: post.peer,
-        confirmed: true,
-        body: Items::of(Vec::from_slice(alloc, &ALARM)?),
-    })?;
-    notes.push(Note {
-        peer: post.peer,
-        confirmed: false,
-        body: Items::of(Vec::from_slice(alloc, &FAULT)?),
-    })?;
-    Ok(outbox.queue(alloc, notes).err())
-}
-
+/// What is sent at so many milliseconds.
 fn pump_at(alloc: Global, outbox: &mut Outbox, after: u32) -> Result<Vec<Send>, Fail> {
     Ok(outbox.pump(alloc, T + u64::from(after))?)
 }
@@ -125,134 +107,124 @@ fn sent(rt: &impl Abort, sends: &[Send], to: &Peer, octets: &[u8]) {
     same(rt, &sends[0].bytes.as_slice(), &octets);
 }
 
+/// One datagram goes to the recipient, with these octets, at so many milliseconds.
+fn expect_sent(
+    rt: &impl Abort,
+    alloc: Global,
+    outbox: &mut Outbox,
+    after: u32,
+    to: u8,
+    octets: &[u8],
+) -> Result<(), Fail> {
+    sent(rt, &pump_at(alloc, outbox, after)?, &peer(to), octets);
+    Ok(())
+}
+
+/// So many datagrams go at so many milliseconds.
+fn expect_count(
+    rt: &impl Abort,
+    alloc: Global,
+    outbox: &mut Outbox,
+    after: u32,
+    count: usize,
+) -> Result<(), Fail> {
+    same(rt, &pump_at(alloc, outbox, after)?.len(), &count);
+    Ok(())
+}
+
+/// An answer with this invoke ID is one to what is in flight.
+fn expect_answered(rt: &impl Abort, outbox: &mut Outbox, from: u8, invoke: u8) {
+    same(rt, &outbox.answer(&peer(from), invoke), &Answered::Answered);
+}
+
+/// An answer with this invoke ID is a stray one.
+fn expect_stray(rt: &impl Abort, outbox: &mut Outbox, from: u8, invoke: u8) {
+    same(rt, &outbox.answer(&peer(from), invoke), &Answered::Stray);
+}
+
+fn answers_in_turn(rt: &impl Abort, alloc: Global, outbox: &mut Outbox) -> Result<(), Fail> {
+    queue_at(alloc, outbox, 0, true, &ALARM)?;
+    queue_at(alloc, outbox, 0, true, &ACKNOWLEDGED)?;
+    expect_sent(rt, alloc, outbox, 20_000, 5, &ALARM_SENT)?;
+    holds(rt, outbox.has_in_flight(&peer(5), 0));
+    expect_stray(rt, outbox, 5, 1);
+    expect_stray(rt, outbox, 6, 0);
+    expect_stray(rt, outbox, 8, 0);
+    expect_answered(rt, outbox, 5, 0);
+    expect_stray(rt, outbox, 5, 0);
+    expect_sent(rt, alloc, outbox, 20_100, 5, &ACKNOWLEDGED_SENT)?;
+    same(rt, &outbox.room(), &63);
+    Ok(())
+}
+
 #[test]
 fn an_answer_lets_the_next_note_go(rt: HostRuntime) -> Result<(), Fail> {
-    let alloc = rt.alloc();
-    let mut outbox = outbox(alloc)?;
-    let five = peer(5);
-    queue_at(alloc, &mut outbox, 0, true, &ALARM)?;
-    queue_at(alloc, &mut outbox, 0, true, &ACKNOWLEDGED)?;
-    let sends = pump_at(alloc, &mut outbox, 20_000)?;
-    sent(&rt, &sends, &five, &ALARM_SENT);
-    holds(&rt, outbox.has_in_flight(&five, 0));
-    same(&rt, &outbox.answer(&five, 1), &Answered::Stray);
-    same(&rt, &outbox.answer(&peer(6), 0), &Answered::Stray);
-    same(&rt, &outbox.answer(&peer(8), 0), &Answered::Stray);
-    same(&rt, &outbox.answer(&five, 0), &Answered::Answered);
-    same(&rt, &outbox.answer(&five, 0), &Answered::Stray);
-    let sends = pump_at(alloc, &mut outbox, 20_100)?;
-    sent(&rt, &sends, &five, &ACKNOWLEDGED_SENT);
-    same(&rt, &outbox.room(), &63);
-    Ok(())
+    let mut outbox = outbox(rt.alloc())?;
+    answers_in_turn(&rt, rt.alloc(), &mut outbox)
 }
 
-#[test]
-fn a_note_without_an_answer_is_repeated_until_its_last_deadline(
-    rt: HostRuntime,
+/// Two datagrams go at once, of which the first one is this.
+fn expect_two(
+    rt: &impl Abort,
+    alloc: Global,
+    outbox: &mut Outbox,
+    first: &[u8],
 ) -> Result<(), Fail> {
-    let alloc = rt.alloc();
-    let mut outbox = outbox(alloc)?;
-    let five = peer(5);
-    queue_at(alloc, &mut outbox, 0, true, &ALARM)?;
-    for (after, sends_it) in [
-        (10_000u32, true),
-        (12_999, false),
-        (13_000, true),
-        (15_999, false),
-        (16_000, true),
-        (19_000, true),
-        (21_999, false),
-    ] {
-        same(&rt, &outbox.idle(T + u64::from(after)), &!sends_it);
-        let sends = pump_at(alloc, &mut outbox, after)?;
-        if sends_it {
-            sent(&rt, &sends, &five, &ALARM_SENT);
-        } else {
-            counts(&rt, sends.len(), 0);
-        }
-    }
-    same(&rt, &outbox.post(0).map(|post| post.attempts), &Some(4));
-    same(
-        &rt,
-        &outbox.post(0).map(|post| post.deadline),
-        &Some(T + 22_000),
-    );
-    queue_at(alloc, &mut outbox, 0, true, &FAULT)?;
-    let sends = pump_at(alloc, &mut outbox, 22_000)?;
-    sent(&rt, &sends, &five, &FAULT_SENT);
-    same(&rt, &outbox.answer(&five, 0), &Answered::Stray);
+    let sends = pump_at(alloc, outbox, 0)?;
+    counts(rt, sends.len(), 2);
+    same(rt, &sends[0].bytes.as_slice(), &first);
     Ok(())
 }
 
-#[test]
-fn notes_above_the_limit_come_back(rt: HostRuntime) -> Result<(), Fail> {
-    let alloc = rt.alloc();
-    let mut outbox = outbox(alloc)?;
-    for _ in 0..63 {
-        queue_at(alloc, &mut outbox, 1, true, &ALARM)?;
+fn goes_in_order(rt: &impl Abort, alloc: Global, outbox: &mut Outbox) -> Result<(), Fail> {
+    for confirmed in [false, true, false, true] {
+        queue_at(alloc, outbox, 0, confirmed, &[0x09, 0x01])?;
     }
-    let refused = queue_two(alloc, &mut outbox, 0)?;
-    let Some(
-        QueueFault::Full {
-            would,
-            limit,
-            notes,
-        },
-    ) = refused
-    else {
-        return Err(Fail::from("not full"));
-    };
-    same(&rt, &(would, limit), &(65, 64));
-    counts(&rt, notes.as_slice().len(), 2);
-    same(&rt, &outbox.room(), &1);
-    let sends = pump_at(alloc, &mut outbox, 64)?;
-    sent(&rt, &sends, &peer(6), &ALARM_SENT);
-    same(&rt, &outbox.answer(&peer(6), 0), &Answered::Answered);
-    holds(&rt, queue_two(alloc, &mut outbox, 0)?.is_none());
-    same(&rt, &outbox.room(), &0);
-    Ok(())
+    let first = [0x81, 0x0a, 0x00, 0x0a, 0x01, 0x00, 0x10, 0x03, 0x09, 0x01];
+    expect_two(rt, alloc, outbox, &first)?;
+    same(
+        rt,
+        &outbox.note(0, 0).map(|note| note.confirmed),
+        &Some(true),
+    );
+    holds(rt, outbox.note(0, 3).is_none());
+    expect_answered(rt, outbox, 5, 0);
+    expect_count(rt, alloc, outbox, 0, 2)
 }
 
 #[test]
 fn unconfirmed_notes_go_before_a_confirmed_one_and_wait_behind_it(
     rt: HostRuntime,
 ) -> Result<(), Fail> {
-    let alloc = rt.alloc();
-    let mut outbox = outbox(alloc)?;
-    for confirmed in [false, true, false, true] {
-        queue_at(alloc, &mut outbox, 0, confirmed, &[0x09, 0x01])?;
-    }
-    let sends = pump_at(alloc, &mut outbox, 0)?;
-    counts(&rt, sends.len(), 2);
-    same(
-        &rt,
-        &sends[0].bytes.as_slice(),
-        &[0x81, 0x0a, 0x00, 0x0a, 0x01, 0x00, 0x10, 0x03, 0x09, 0x01].as_slice(),
-    );
-    same(
-        &rt,
-        &outbox.note(0, 0).map(|note| note.confirmed),
-        &Some(true),
-    );
-    holds(&rt, outbox.note(0, 3).is_none());
-    same(&rt, &outbox.answer(&peer(5), 0), &Answered::Answered);
-    counts(&rt, pump_at(alloc, &mut outbox, 0)?.len(), 2);
+    let mut outbox = outbox(rt.alloc())?;
+    goes_in_order(&rt, rt.alloc(), &mut outbox)
+}
+
+/// The recipients at these places.
+fn peers_at(outbox: &Outbox, places: [u32; 4]) -> [Option<Peer>; 4] {
+    let [first, second, third, fourth] = places;
+    [
+        peer_at(outbox, first),
+        peer_at(outbox, second),
+        peer_at(outbox, third),
+        peer_at(outbox, fourth),
+    ]
+}
+
+fn learns(rt: &impl Abort, alloc: Global, outbox: &mut Outbox) -> Result<(), Fail> {
+    queue_at(alloc, outbox, 1, true, &ALARM)?;
+    outbox.learn(alloc, &[peer(9), peer(6), peer(1), peer(9)])?;
+    let wanted = [Some(peer(1)), Some(peer(6)), Some(peer(9)), None];
+    same(rt, &peers_at(outbox, [0, 2, 4, 5]), &wanted);
+    same(rt, &outbox.post(2).map(|post| post.notes), &Some(1));
+    same(rt, &outbox.room(), &63);
     Ok(())
 }
 
 #[test]
 fn peers_are_learned_at_their_places(rt: HostRuntime) -> Result<(), Fail> {
-    let alloc = rt.alloc();
-    let mut outbox = outbox(alloc)?;
-    queue_at(alloc, &mut outbox, 1, true, &ALARM)?;
-    outbox.learn(alloc, &[peer(9), peer(6), peer(1), peer(9)])?;
-    same(&rt, &peer_at(&outbox, 0), &Some(peer(1)));
-    same(&rt, &peer_at(&outbox, 2), &Some(peer(6)));
-    same(&rt, &peer_at(&outbox, 4), &Some(peer(9)));
-    same(&rt, &peer_at(&outbox, 5), &None);
-    same(&rt, &outbox.post(2).map(|post| post.notes), &Some(1));
-    same(&rt, &outbox.room(), &63);
-    Ok(())
+    let mut outbox = outbox(rt.alloc())?;
+    learns(&rt, rt.alloc(), &mut outbox)
 }
 
 // The posts of an outbox, as they are told.
@@ -292,33 +264,36 @@ fn restored(alloc: Global, posts: Vec<Post>, notes: Vec<Note>) -> Result<Outbox,
 // An outbox with an alarm for 10.0.0.5 that was sent twice, at 10 seconds and at 13, and a fault behind it.
 fn sent_twice(rt: &impl Abort, alloc: Global) -> Result<Outbox, Fail> {
     let mut outbox = outbox(alloc)?;
-    queue_at(alloc, &mut outbox, 0, true, &ALARM)?;
-    queue_at(alloc, &mut outbox, 0, true, &FAULT)?;
-    sent(
-        rt,
-        &pump_at(alloc, &mut outbox, 10_000)?,
-        &peer(5),
-        &ALARM_SENT,
-    );
-    sent(
-        rt,
-        &pump_at(alloc, &mut outbox, 13_000)?,
-        &peer(5),
-        &ALARM_SENT,
-    );
+    send_twice(rt, alloc, &mut outbox)?;
     Ok(outbox)
+}
+
+fn send_twice(rt: &impl Abort, alloc: Global, outbox: &mut Outbox) -> Result<(), Fail> {
+    queue_at(alloc, outbox, 0, true, &ALARM)?;
+    queue_at(alloc, outbox, 0, true, &FAULT)?;
+    expect_sent(rt, alloc, outbox, 10_000, 5, &ALARM_SENT)?;
+    expect_sent(rt, alloc, outbox, 13_000, 5, &ALARM_SENT)
 }
 
 // What was read out of it, made an outbox again.
 fn sent_twice_and_restored(rt: &impl Abort, alloc: Global) -> Result<Outbox, Fail> {
     let told = sent_twice(rt, alloc)?;
-    let posts = posts_of(alloc, &told)?;
-    let notes = notes_at(alloc, &told, 0, 2)?;
+    read_and_restored(rt, alloc, &told)
+}
+
+fn read_and_restored(rt: &impl Abort, alloc: Global, told: &Outbox) -> Result<Outbox, Fail> {
+    let posts = posts_of(alloc, told)?;
+    let notes = notes_at(alloc, told, 0, 2)?;
+    expect_read(rt, &posts, &notes);
+    restored(alloc, posts, notes)
+}
+
+// There are three recipients and two notes of the first one, which is to be sent again at 16 seconds.
+fn expect_read(rt: &impl Abort, posts: &[Post], notes: &[Note]) {
     counts(rt, posts.len(), 3);
     same(rt, &posts[0], &first_post(2, T + 16_000));
     counts(rt, notes.len(), 2);
     same(rt, &notes[0].body.as_slice(), &ALARM.as_slice());
-    restored(alloc, posts, notes)
 }
 
 fn first_post(attempts: u8, deadline: u64) -> Post {
@@ -331,65 +306,50 @@ fn first_post(attempts: u8, deadline: u64) -> Post {
     }
 }
 
+fn goes_on(rt: &impl Abort, alloc: Global, outbox: &mut Outbox) -> Result<(), Fail> {
+    same(rt, &outbox.room(), &62);
+    holds(rt, outbox.has_in_flight(&peer(5), 0));
+    holds(rt, outbox.idle(T + 15_999));
+    expect_sent(rt, alloc, outbox, 16_000, 5, &ALARM_SENT)?;
+    expect_sent(rt, alloc, outbox, 19_000, 5, &ALARM_SENT)?;
+    expect_sent(rt, alloc, outbox, 22_000, 5, &FAULT_SENT)
+}
+
 #[test]
 fn a_restored_outbox_goes_on(rt: HostRuntime) -> Result<(), Fail> {
-    let alloc = rt.alloc();
-    let mut outbox = sent_twice_and_restored(&rt, alloc)?;
-    same(&rt, &outbox.room(), &62);
-    holds(&rt, outbox.has_in_flight(&peer(5), 0));
-    holds(&rt, outbox.idle(T + 15_999));
-    sent(
-        &rt,
-        &pump_at(alloc, &mut outbox, 16_000)?,
-        &peer(5),
-        &ALARM_SENT,
-    );
-    sent(
-        &rt,
-        &pump_at(alloc, &mut outbox, 19_000)?,
-        &peer(5),
-        &ALARM_SENT,
-    );
-    sent(
-        &rt,
-        &pump_at(alloc, &mut outbox, 22_000)?,
-        &peer(5),
-        &FAULT_SENT,
-    );
-    Ok(())
+    let mut outbox = sent_twice_and_restored(&rt, rt.alloc())?;
+    goes_on(&rt, rt.alloc(), &mut outbox)
+}
+
+fn goes_on_by_an_answer(rt: &impl Abort, alloc: Global, outbox: &mut Outbox) -> Result<(), Fail> {
+    expect_stray(rt, outbox, 5, 1);
+    expect_answered(rt, outbox, 5, 0);
+    expect_sent(rt, alloc, outbox, 14_000, 5, &FAULT_SENT)
 }
 
 #[test]
 fn an_answer_after_a_restoring_lets_the_next_note_go(rt: HostRuntime) -> Result<(), Fail> {
-    let alloc = rt.alloc();
-    let mut outbox = sent_twice_and_restored(&rt, alloc)?;
-    same(&rt, &outbox.answer(&peer(5), 1), &Answered::Stray);
-    same(&rt, &outbox.answer(&peer(5), 0), &Answered::Answered);
-    sent(
-        &rt,
-        &pump_at(alloc, &mut outbox, 14_000)?,
-        &peer(5),
-        &FAULT_SENT,
-    );
-    Ok(())
+    let mut outbox = sent_twice_and_restored(&rt, rt.alloc())?;
+    goes_on_by_an_answer(&rt, rt.alloc(), &mut outbox)
 }
 
-// Whether an outbox may be made of this post, for 10.0.0.5, and these notes of an outbox, or of none.
-fn may_be(rt: &impl Abort, alloc: Global, post: Post, count: u32) -> Result<bool, Fail> {
-    let told = sent_twice(rt, alloc)?;
-    let notes = notes_at(alloc, &told, 0, count)?;
-    Ok(Outbox::can_restore(&[post], &notes, 64, 3_000, 3))
+// Whether an outbox may be made of a post for 10.0.0.5 and so many notes.
+fn may_be(told: &[Note], attempts: u8, deadline: u64, count: usize) -> bool {
+    let Some(notes) = told.get(..count) else {
+        return false;
+    };
+    Outbox::can_restore(&[first_post(attempts, deadline)], notes, 64, 3_000, 3)
 }
 
 #[test]
 fn an_outbox_is_told_from_what_is_none(rt: HostRuntime) -> Result<(), Fail> {
-    let alloc = rt.alloc();
-    holds(&rt, may_be(&rt, alloc, first_post(2, T), 2)?);
-    holds(&rt, may_be(&rt, alloc, first_post(4, 0), 2)?);
-    holds(&rt, may_be(&rt, alloc, first_post(0, 0), 2)?);
-    holds(&rt, !may_be(&rt, alloc, first_post(5, T), 2)?);
-    holds(&rt, !may_be(&rt, alloc, first_post(0, T), 2)?);
-    holds(&rt, !may_be(&rt, alloc, first_post(2, T), 1)?);
+    let notes = notes_at(rt.alloc(), &sent_twice(&rt, rt.alloc())?, 0, 2)?;
+    holds(&rt, may_be(&notes, 2, T, 2));
+    holds(&rt, may_be(&notes, 4, 0, 2));
+    holds(&rt, may_be(&notes, 0, 0, 2));
+    holds(&rt, !may_be(&notes, 5, T, 2));
+    holds(&rt, !may_be(&notes, 0, T, 2));
+    holds(&rt, !may_be(&notes, 2, T, 1));
     Ok(())
 }
 

@@ -106,7 +106,7 @@ module _ (number : ℕ) where
 
 -- ---- the notifications
 
-recipients : (number : ℕ) (destinations : List DestinationSite) → length (destinations_of number destinations) ≡ count_of number destinations
+pub recipients : (number : ℕ) (destinations : List DestinationSite) → length (destinations_of number destinations) ≡ count_of number destinations
 recipients number destinations = length-map (filter (names_class number) destinations) recipient_of ∙ length-filter (names_class number) destinations
 
 module _ (draft : Draft) where

@@ -15,6 +15,7 @@ use Rattle.object_table.specs.Rows.{rows_of}
 use Rattle.outbox.specs.Outboxes.{AreSettings}
 use Rattle.property_values.specs.declared.device_site.DeviceSite.{DeviceSite}
 use Rattle.alarm_core.specs.declared.site.Site.{Site}
+use Rattle.alarm_core.specs.Limits.{KeepsLimits}
 use Rattle.alarm_core.specs.Room.{HasRoom}
 use Rattle.alarm_core.specs.Sites.{HasInstance, IsLogSite, IsSite, IsSiteRule, is_zone_rule}
 use Rattle.enrollment.specs.Enrollments.{IsEnrollment}
@@ -46,6 +47,7 @@ use Rattle.toml_items.specs.Values.{moment_in, text_in, unsigned_in, whole_in}
 use Rattle.toml_items.specs.Lists.{three_in}
 use Rattle.site_config.proofs.Ascending.{fold_ascends, fold_keeps}
 use Rattle.site_config.proofs.KeptEnrollments.{KeepsKeys, enrollment_kept, log_kept}
+use Rattle.site_config.proofs.KeptLimits.{IsSmall, limits_kept, small_draft}
 use Rattle.site_config.proofs.KeptObjects.{object_kept}
 use Rattle.site_config.proofs.KeptReferences.{same_ids, none_dangles, are_enrollments, have_objects}
 use Rattle.site_config.proofs.KeptRoom.{HasClassId, fit_within, room_kept}
@@ -221,8 +223,9 @@ nothing_dangles : (found : Option ObjectIdData) (verdict : Unit {0}) → danglin
 nothing_dangles None verdict h = refl
 nothing_dangles (Some object) verdict h = absurd cc
 
--- nothing dangles, and the notifications fit
+-- it isn't too large, nothing dangles, and the notifications fit
 record Passes (draft : Draft) : Type 0 where
+  small : IsSmall draft
   refers : least_dangling draft ≡ None
   fits : notes_of draft.destinations (members_of draft) ≤ draft.device.outbox
 
@@ -232,7 +235,7 @@ verdict_kept draft verdict h =
     let limits = after (limits_of draft) _ verdict h in
     let identifiers = after (duplicate_of (least_twice (identifiers draft))) _ verdict limits.next_is in
     let references = after (dangling_of (least_dangling draft)) (λ _. notes_fit draft) verdict identifiers.next_is in
-    record { refers = nothing_dangles (least_dangling draft) references.value references.first_is; fits = fit_within draft verdict references.next_is }
+    record { small = small_draft draft limits.value limits.first_is; refers = nothing_dangles (least_dangling draft) references.value references.first_is; fits = fit_within draft verdict references.next_is }
 
 -- ---- the site
 
@@ -267,6 +270,7 @@ of_draft_room draft kept passes =
 record IsGiven (site : Site) : Type 0 where
   keeps : IsSite site
   room : HasRoom site
+  limits : KeepsLimits site
 
 document_kept : (document : Members) (site : Site) → site_of_document document ≡ Ok site → IsGiven site
 unfolding site_of_document
@@ -279,6 +283,7 @@ document_kept document site h =
     rw (← is) (record {
       keeps = of_draft_kept draft.value kept (none_dangles draft.value passes.refers);
       room = of_draft_room draft.value kept passes;
+      limits = limits_kept draft.value passes.small;
     })
 
 found_kept : (found : Option Members) (site : Site) → site_or_no_toml found ≡ Ok site → IsGiven site
@@ -301,3 +306,7 @@ gives_kept (Err fault) text h = tt
 pub gives_room : (answer : Result Site SiteFault) (text : List ℕ) → Gives NoMemory answer (site_of text) → IfOk answer HasRoom
 gives_room (Ok site) text h = (site_kept text site h).room
 gives_room (Err fault) text h = tt
+
+pub gives_limits : (answer : Result Site SiteFault) (text : List ℕ) → Gives NoMemory answer (site_of text) → IfOk answer KeepsLimits
+gives_limits (Ok site) text h = (site_kept text site h).limits
+gives_limits (Err fault) text h = tt

@@ -5,6 +5,7 @@ pub mod Ascending
 pub mod InOrder
 pub mod ClassByClass
 pub mod KeptRoom
+pub mod KeptLimits
 pub mod Present
 pub mod KeptFaults
 pub mod KeptAlarms

@@ -1,5 +1,6 @@
 ghost use Rattle.std.specs.Prelude.{◌≡◌, ◌⊎◌, Some, None, map, IfOk, IfErr};
 ghost use Rattle.toml.specs.View.{table_view};
+ghost use Rattle.alarm_core.specs.Limits.{KeepsLimits};
 ghost use Rattle.alarm_core.specs.Room.{HasRoom};
 ghost use Rattle.alarm_core.specs.Sites.{IsSite};
 ghost use Rattle.toml_items.specs.Answers.{Gives};
@@ -195,12 +196,13 @@ fn site_of_text(alloc: Global, text: &[u8]) -> Result<Site, SiteFault>
 }
 
 /// Reads the text of a site: TOML of at most 1,048,576 octets. The answer is the site that the text is, or the first fault
-/// in the order of `docs/SITE.md`, unless memory is refused. The core can start from that site, and the notifications of one
-/// tick always fit its empty outbox.
+/// in the order of `docs/SITE.md`, unless memory is refused. The core can start from that site, the notifications of one tick
+/// always fit its empty outbox, and it keeps to the limits on which the size of a snapshot rests.
 pub fn read_site(alloc: Global, text: &[u8]) -> Result<Site, SiteFault>
     ensures answer { Gives SiteFault.NoMemory result (site_of text.now) }
     ensures keeps { IfOk result IsSite }
     ensures room { IfOk result HasRoom }
+    ensures limits { IfOk result KeepsLimits }
 {
     site_of_text(alloc, text)
 }

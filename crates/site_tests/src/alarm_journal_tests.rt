@@ -1,8 +1,9 @@
-use crate::comparing::{counts, holds, same};
+use crate::comparing::{holds, same};
 use alarm_journal::*;
 use bac_values::{Items, Peer, Send};
 use ground_io::{Filling, Ground, MemoryGround};
 use std::alloc::{AllocError, Global};
+use std::process::Abort;
 use std::test::Fail;
 
 const SITE: &[u8; 4] = b"site";
@@ -131,69 +132,84 @@ fn opens_to_either(
     }
 }
 
-#[test]
-fn every_crash_image_opens_to_a_state_between_two_commits(rt: HostRuntime) -> Result<(), Fail> {
-    let alloc = rt.alloc();
-    let (device, done) = run(alloc, device_of(alloc, 91, &[])?);
-    same(&rt, &done, &Some(6));
-    same(&rt, &device.trace().map(|trace| trace.len()), &Some(29));
+// Whether what a crash leaves behind so many entries opens to a state between two commits.
+fn is_between(
+    alloc: Global,
+    device: &MemoryGround,
+    upto: u64,
+    filling: Filling,
+) -> Result<bool, Fail> {
+    let count = (upto.saturating_sub(5) / 4) as usize;
+    let image = device.image(alloc, upto, filling)?;
+    let after = (count + 1).min(6);
+    Ok(opens_to_either(alloc, image, held_behind(count), held_behind(after)))
+}
+
+fn expect_between(rt: &impl Abort, alloc: Global, device: &MemoryGround) -> Result<(), Fail> {
     for upto in 1..30u64 {
-        let count = (upto.saturating_sub(5) / 4) as usize;
         for filling in [
             Filling::Old,
             Filling::New,
             Filling::Octet(1),
             Filling::Octet(255),
         ] {
-            let image = device.image(alloc, upto, filling)?;
-            let after = (count + 1).min(6);
-            let between = opens_to_either(alloc, image, held_behind(count), held_behind(after));
-            assert!(rt; between, "after {upto} entries with {filling:?}");
+            let between = is_between(alloc, device, upto, filling)?;
+            same(rt, &(upto, between), &(upto, true));
         }
     }
     Ok(())
 }
 
 #[test]
-fn each_failing_call_leaves_what_stood_or_what_was_to_stand(rt: HostRuntime) -> Result<(), Fail> {
+fn every_crash_image_opens_to_a_state_between_two_commits(rt: HostRuntime) -> Result<(), Fail> {
     let alloc = rt.alloc();
-    for call in 1..32u64 {
-        let (device, done) = run(alloc, device_of(alloc, 91, &[call])?);
-        let count = done.unwrap_or(0);
-        assert!(rt; count < 6, "call {call}");
-        let octets = device.contents().to_vec(alloc)?;
-        let between = opens_to_either(alloc, octets, held_behind(count), held_behind(count + 1));
-        assert!(rt; between, "call {call}");
-    }
-    let (_, done) = run(alloc, device_of(alloc, 91, &[32])?);
+    let (device, done) = run(alloc, device_of(alloc, 91, &[])?);
     same(&rt, &done, &Some(6));
+    same(&rt, &device.trace().map(|trace| trace.len()), &Some(29));
+    expect_between(&rt, alloc, &device)
+}
+
+// A run of which this call fails leaves a state between two commits.
+fn expect_between_at(rt: &impl Abort, alloc: Global, call: u64) -> Result<(), Fail> {
+    let (device, done) = run(alloc, device_of(alloc, 91, &[call])?);
+    let count = done.unwrap_or(0);
+    holds(rt, count < 6);
+    let octets = device.contents().to_vec(alloc)?;
+    let between = opens_to_either(alloc, octets, held_behind(count), held_behind(count + 1));
+    same(rt, &(call, between), &(call, true));
     Ok(())
 }
 
 #[test]
+fn each_failing_call_leaves_what_stood_or_what_was_to_stand(rt: HostRuntime) -> Result<(), Fail> {
+    for call in 1..32u64 {
+        expect_between_at(&rt, rt.alloc(), call)?;
+    }
+    let (_, done) = run(rt.alloc(), device_of(rt.alloc(), 91, &[32])?);
+    same(&rt, &done, &Some(6));
+    Ok(())
+}
+
+// Whether these octets stand at the place.
+fn stands_at(octets: &[u8], place: usize, part: &[u8]) -> bool {
+    place <= octets.len() && octets[place..].starts_with(part)
+}
+
+#[test]
 fn octets_lie_as_the_layout_says(rt: HostRuntime) -> Result<(), Fail> {
-    let alloc = rt.alloc();
-    let (device, _) = run(alloc, device_of(alloc, 91, &[])?);
-    let contents = device.contents();
-    counts(&rt, contents.len(), 91);
-    same(&rt, &&contents[..9], &b"\x01BACALRM1".as_slice());
-    same(
-        &rt,
-        &&contents[9..25],
-        &b"\0\0\0\0\0\0\0\x5b\0\0\0\x04site".as_slice(),
-    );
-    same(&rt, &&contents[25..32], &b"\0\0\0\0\x02\x01\x01".as_slice());
-    same(
-        &rt,
-        &&contents[32..58],
-        &b"\x01\0\0\0\x140123456789abcdefghij\0".as_slice(),
-    );
-    same(&rt, &&contents[58..67], &b"\0\0\0\x05state".as_slice());
-    same(
-        &rt,
-        &&contents[67..79],
-        &b"\x01\0\0\0\x06\x01\0\0\0\x01\x01\0".as_slice(),
-    );
+    let (device, _) = run(rt.alloc(), device_of(rt.alloc(), 91, &[])?);
+    same(&rt, &device.contents().len(), &91);
+    for (place, part) in [
+        (0, b"\x01BACALRM1".as_slice()),
+        (9, b"\0\0\0\0\0\0\0\x5b\0\0\0\x04site"),
+        (25, b"\0\0\0\0\x02\x01\x01"),
+        (32, b"\x01\0\0\0\x140123456789abcdefghij\0"),
+        (58, b"\0\0\0\x05state"),
+        (67, b"\x01\0\0\0\x06\x01\0\0\0\x01\x01\0"),
+    ] {
+        let stands = stands_at(device.contents(), place, part);
+        same(&rt, &(place, stands), &(place, true));
+    }
     Ok(())
 }
 
@@ -209,57 +225,55 @@ fn refused(alloc: Global, octets: Vec<u8>, site: &[u8]) -> Option<OpenFault> {
     }
 }
 
+// Why so many of the octets aren't opened.
+fn refused_front(
+    alloc: Global,
+    octets: &[u8],
+    length: usize,
+    site: &[u8],
+) -> Result<Option<OpenFault>, Fail> {
+    let mut front = octets.to_vec(alloc)?;
+    front.truncate(length);
+    Ok(refused(alloc, front, site))
+}
+
+// Why the octets aren't opened, of which one is another.
+fn refused_with(
+    alloc: Global,
+    octets: &[u8],
+    place: usize,
+    octet: u8,
+) -> Result<Option<OpenFault>, Fail> {
+    let mut changed = octets.to_vec(alloc)?;
+    if let Some(one) = changed.get_mut(place) {
+        *one = octet;
+    }
+    Ok(refused(alloc, changed, SITE))
+}
+
+fn expect_refusals(rt: &impl Abort, alloc: Global, octets: &[u8]) -> Result<(), Fail> {
+    let small = Some(OpenFault::SmallDevice { size: 59, need: 60 });
+    same(rt, &refused_front(alloc, octets, 59, SITE)?, &small);
+    let shortened = Some(OpenFault::SmallDevice { size: 90, need: 91 });
+    same(rt, &refused_front(alloc, octets, 90, b"sits")?, &shortened);
+    let foreign = Some(OpenFault::Foreign { at: 24 });
+    same(rt, &refused_front(alloc, octets, 91, b"sits")?, &foreign);
+    let foreign = Some(OpenFault::Foreign { at: 20 });
+    same(rt, &refused_front(alloc, octets, 91, b"sit")?, &foreign);
+    let formatted = Some(OpenFault::Damaged { at: 9 });
+    same(rt, &refused_with(alloc, octets, 16, 59)?, &formatted);
+    let snapshot = Some(OpenFault::Damaged { at: 26 });
+    same(rt, &refused_with(alloc, octets, 29, 29)?, &snapshot);
+    let batch = Some(OpenFault::Damaged { at: 33 });
+    same(rt, &refused_with(alloc, octets, 36, 22)?, &batch);
+    Ok(())
+}
+
 #[test]
 fn refusals_come_in_their_order(rt: HostRuntime) -> Result<(), Fail> {
-    let alloc = rt.alloc();
-    let (device, _) = run(alloc, device_of(alloc, 91, &[])?);
-    let octets = device.contents();
-    counts(&rt, octets.len(), 91);
-    let mut small = octets.to_vec(alloc)?;
-    small.truncate(59);
-    let fault = OpenFault::SmallDevice { size: 59, need: 60 };
-    same(&rt, &refused(alloc, small, SITE), &Some(fault));
-    let mut shortened = octets.to_vec(alloc)?;
-    shortened.truncate(90);
-    let fault = OpenFault::SmallDevice { size: 90, need: 91 };
-    same(&rt, &refused(alloc, shortened, b"sits"), &Some(fault));
-    let foreign = octets.to_vec(alloc)?;
-    same(
-        &rt,
-        &refused(alloc, foreign, b"sits"),
-        &Some(OpenFault::Foreign { at: 24 }),
-    );
-    let foreign = octets.to_vec(alloc)?;
-    same(
-        &rt,
-        &refused(alloc, foreign, b"sit"),
-        &Some(OpenFault::Foreign { at: 20 }),
-    );
-    let mut formatted = octets.to_vec(alloc)?;
-    counts(&rt, formatted.len(), 91);
-    formatted[16] = 59;
-    same(
-        &rt,
-        &refused(alloc, formatted, SITE),
-        &Some(OpenFault::Damaged { at: 9 }),
-    );
-    let mut snapshot = octets.to_vec(alloc)?;
-    counts(&rt, snapshot.len(), 91);
-    snapshot[29] = 29;
-    same(
-        &rt,
-        &refused(alloc, snapshot, SITE),
-        &Some(OpenFault::Damaged { at: 26 }),
-    );
-    let mut batch = octets.to_vec(alloc)?;
-    counts(&rt, batch.len(), 91);
-    batch[36] = 22;
-    same(
-        &rt,
-        &refused(alloc, batch, SITE),
-        &Some(OpenFault::Damaged { at: 33 }),
-    );
-    Ok(())
+    let (device, _) = run(rt.alloc(), device_of(rt.alloc(), 91, &[])?);
+    same(&rt, &device.contents().len(), &91);
+    expect_refusals(&rt, rt.alloc(), device.contents())
 }
 
 // A device of 91 octets, of which each area has 32, and the first one is selected and begins with these.
@@ -308,71 +322,68 @@ fn lies(opened: &Option<Opened>, place: u64, snapshot: &[u8], bodies: &[(u64, &[
     rest.is_empty() && opened.snapshot_place == place && opened.snapshot.as_slice() == snapshot
 }
 
+// What a device of this size opens to behind so many steps.
+fn opened_behind(alloc: Global, size: usize, count: usize) -> Result<Option<Opened>, Fail> {
+    let all = steps();
+    let Some(front) = all.get(..count) else {
+        return Ok(None);
+    };
+    let (device, _) = run_steps(alloc, device_of(alloc, size, &[])?, front);
+    Ok(opened(alloc, device.contents().to_vec(alloc)?))
+}
+
 #[test]
 fn bodies_stand_apart_at_their_places(rt: HostRuntime) -> Result<(), Fail> {
     let alloc = rt.alloc();
-    let (device, _) = run_steps(alloc, device_of(alloc, 91, &[])?, &steps()[..2]);
-    let two = opened(alloc, device.contents().to_vec(alloc)?);
-    holds(&rt, lies(&two, 30, b"", &[(35, b"one"), (43, b"two")]));
-    let (device, _) = run_steps(alloc, device_of(alloc, 91, &[])?, &steps()[..4]);
-    let other = opened(alloc, device.contents().to_vec(alloc)?);
+    let bodies = [(35, b"one".as_slice()), (43, b"two")];
+    holds(&rt, lies(&opened_behind(alloc, 91, 2)?, 30, b"", &bodies));
+    let body = [(72, [1, 0, 0, 0, 1, 1].as_slice())];
     holds(
         &rt,
-        lies(&other, 62, b"state", &[(72, &[1, 0, 0, 0, 1, 1])]),
+        lies(&opened_behind(alloc, 91, 4)?, 62, b"state", &body),
     );
     let blank = opened(alloc, vec![in alloc; 0u8; 91]?);
     holds(&rt, lies(&blank, 30, b"", &[]));
     Ok(())
 }
 
+// A batch with a body of so many octets, and an open gate behind it, is damaged at the place.
+fn expect_damaged(rt: &impl Abort, alloc: Global, length: u8, at: u64) -> Result<(), Fail> {
+    let image = image_with(alloc, &area_with(alloc, length, 1)?)?;
+    same(
+        rt,
+        &refused(alloc, image, SITE),
+        &Some(OpenFault::Damaged { at }),
+    );
+    Ok(())
+}
+
+// A batch with a body of so many octets, and a gate behind it, is read.
+fn expect_body(rt: &impl Abort, alloc: Global, body: &[u8], gate: u8) -> Result<(), Fail> {
+    let image = image_with(alloc, &area_with(alloc, body.len().min(255) as u8, gate)?)?;
+    holds(rt, lies(&opened(alloc, image), 30, b"", &[(35, body)]));
+    Ok(())
+}
+
 #[test]
 fn an_open_gate_without_room_for_its_length_is_damage(rt: HostRuntime) -> Result<(), Fail> {
-    let alloc = rt.alloc();
-    let four_left = image_with(alloc, &area_with(alloc, 19, 1)?)?;
-    let damaged = Some(OpenFault::Damaged { at: 55 });
-    same(&rt, &refused(alloc, four_left, SITE), &damaged);
-    let one_left = image_with(alloc, &area_with(alloc, 22, 1)?)?;
-    let damaged = Some(OpenFault::Damaged { at: 58 });
-    same(&rt, &refused(alloc, one_left, SITE), &damaged);
-    let closed = image_with(alloc, &area_with(alloc, 22, 0)?)?;
-    holds(
-        &rt,
-        lies(&opened(alloc, closed), 30, b"", &[(35, &[1; 22])]),
-    );
-    let full = image_with(alloc, &area_with(alloc, 23, 1)?)?;
-    holds(&rt, lies(&opened(alloc, full), 30, b"", &[(35, &[1; 23])]));
-    let over = image_with(alloc, &area_with(alloc, 24, 1)?)?;
-    let damaged = Some(OpenFault::Damaged { at: 31 });
-    same(&rt, &refused(alloc, over, SITE), &damaged);
-    Ok(())
+    expect_damaged(&rt, rt.alloc(), 19, 55)?;
+    expect_damaged(&rt, rt.alloc(), 22, 58)?;
+    expect_body(&rt, rt.alloc(), &[1; 22], 0)?;
+    expect_body(&rt, rt.alloc(), &[1; 23], 1)?;
+    expect_damaged(&rt, rt.alloc(), 24, 31)
 }
 
 #[test]
 fn a_large_area_is_read_as_far_as_it_is_used(rt: HostRuntime) -> Result<(), Fail> {
-    let alloc = rt.alloc();
-    let (device, done) = run_steps(alloc, device_of(alloc, 4_194_304, &[])?, &steps()[..4]);
-    same(&rt, &done, &Some(4));
-    let large = opened(alloc, device.contents().to_vec(alloc)?);
-    holds(
-        &rt,
-        lies(
-            &large,
-            2_097_169,
-            b"state",
-            &[(2_097_179, &[1, 0, 0, 0, 1, 1])],
-        ),
-    );
+    let large = opened_behind(rt.alloc(), 4_194_304, 4)?;
+    let body = [(2_097_179, [1, 0, 0, 0, 1, 1].as_slice())];
+    holds(&rt, lies(&large, 2_097_169, b"state", &body));
     Ok(())
 }
 
-#[test]
-fn emissions_are_tried_in_order(rt: HostRuntime) -> Result<(), Fail> {
-    let alloc = rt.alloc();
-    let device = device_of(alloc, 91, &[9])?;
-    let Ok((mut press, opened)) = Press::open(alloc, device, SITE, NEED) else {
-        return Err("not opened".into());
-    };
-    holds(&rt, opened.fresh);
+// Three lines for the console.
+fn three_lines(alloc: Global) -> Result<Vec<Send>, Fail> {
     let mut sends = Vec::new(alloc);
     for line in [b"a".as_slice(), b"b", b"c"] {
         sends.push(Send {
@@ -380,6 +391,17 @@ fn emissions_are_tried_in_order(rt: HostRuntime) -> Result<(), Fail> {
             bytes: Items::of(line.to_vec(alloc)?),
         })?;
     }
+    Ok(sends)
+}
+
+#[test]
+fn emissions_are_tried_in_order(rt: HostRuntime) -> Result<(), Fail> {
+    let alloc = rt.alloc();
+    let sends = three_lines(alloc)?;
+    let Ok((mut press, opened)) = Press::open(alloc, device_of(alloc, 91, &[9])?, SITE, NEED) else {
+        return Err("not opened".into());
+    };
+    holds(&rt, opened.fresh);
     same(&rt, &press.emit_all(&sends), &Emits { sent: 2, lost: 1 });
     let device = press.into_ground();
     same(&rt, &device.trace().map(|trace| trace.len()), &Some(8));

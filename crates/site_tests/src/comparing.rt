@@ -1,4 +1,4 @@
-ghost use Rattle.std.specs.Prelude.{◌≡◌, IsTrue};
+ghost use Rattle.std.specs.Prelude.{IsTrue};
 
 use std::fmt::Debug;
 use std::process::Abort;
@@ -14,11 +14,4 @@ pub(crate) fn holds(rt: &impl Abort, it: bool)
     ensures so { IsTrue it }
 {
     assert!(rt; it);
-}
-
-/// That there are so many; what comes behind may rest on that.
-pub(crate) fn counts(rt: &impl Abort, found: usize, wanted: usize)
-    ensures so_many { found ≡ wanted }
-{
-    assert_eq!(rt; found, wanted);
 }

@@ -1,8 +1,10 @@
 use crate::comparing::{holds, same};
 use bac_values::Peer;
 use ground_io::*;
+use std::alloc::Global;
 use std::fs::{self, File, OpenOptions};
 use std::net::UdpSocket;
+use std::process::Abort;
 use std::test::Fail;
 use std::time::Duration;
 
@@ -37,50 +39,83 @@ fn std_source_reads_a_reader(rt: HostRuntime) {
     same(&rt, &source.read(&mut into), &Ok(0));
 }
 
-#[test]
-fn memory_ground_tells_all_and_fails_at_the_listed_calls(rt: HostRuntime) -> Result<(), Fail> {
-    let alloc = rt.alloc();
-    let mut device = MemoryGround::new(alloc, vec![in alloc; 7u8; 6]?, vec![in alloc; 5u64, 7, 9]?);
-    same(&rt, &device.size(), &Ok(6));
-    same(&rt, &write_within(&mut device, 1, b"ab"), &Ok(()));
-    same(&rt, &write_within(&mut device, 3, b"cd"), &Err(Failed));
-    same(&rt, &device.sync(), &Ok(()));
-    same(&rt, &device.sync(), &Err(Failed));
-    same(&rt, &device.emit(Peer::console(), b"line"), &Ok(()));
-    same(&rt, &device.emit(Peer::local(1, 2), b"lost"), &Err(Failed));
-    same(&rt, &device.contents(), &[7, 97, 98, 7, 7, 7].as_slice());
-    let trace = device.trace().ok_or("told")?;
-    let [first, second, third, fourth, fifth] = trace else {
-        return Err("five entries".into());
-    };
-    holds(
-        &rt,
-        matches!(first, Entry::Wrote { place: 1, octets } if octets.as_slice() == b"ab".as_slice()),
-    );
-    holds(
-        &rt,
-        matches!(second, Entry::Broke { place: 3, tried, left } if tried.as_slice() == b"cd".as_slice() && left.as_slice() == [7, 7].as_slice()),
-    );
-    holds(&rt, matches!(third, Entry::Synced));
-    holds(
-        &rt,
-        matches!(fourth, Entry::Emitted { octets, .. } if octets.as_slice() == b"line".as_slice()),
-    );
-    holds(
-        &rt,
-        matches!(fifth, Entry::Lost { peer, .. } if *peer == Peer::local(1, 2)),
-    );
-    Ok(())
+/// A device of six octets is written, synced and sent from, and the fifth, the seventh and the ninth call fail.
+fn expect_calls<G: Ground>(rt: &impl Abort, device: &mut G) {
+    same(rt, &device.size(), &Ok(6));
+    same(rt, &write_within(device, 1, b"ab"), &Ok(()));
+    same(rt, &write_within(device, 3, b"cd"), &Err(Failed));
+    same(rt, &device.sync(), &Ok(()));
+    same(rt, &device.sync(), &Err(Failed));
+    same(rt, &device.emit(Peer::console(), b"line"), &Ok(()));
+    same(rt, &device.emit(Peer::local(1, 2), b"lost"), &Err(Failed));
+}
+
+fn is_written(entry: &Entry, at: u64, written: &[u8]) -> bool {
+    matches!(entry, Entry::Wrote { place, octets } if *place == at && octets.as_slice() == written)
+}
+
+fn is_broken(entry: &Entry, at: u64, wanted: &[u8], stood: &[u8]) -> bool {
+    matches!(entry, Entry::Broke { place, tried, left } if *place == at && tried.as_slice() == wanted && left.as_slice() == stood)
+}
+
+fn is_emitted(entry: &Entry, emitted: &[u8]) -> bool {
+    matches!(entry, Entry::Emitted { octets, .. } if octets.as_slice() == emitted)
+}
+
+fn is_lost(entry: &Entry, to: Peer) -> bool {
+    matches!(entry, Entry::Lost { peer, .. } if *peer == to)
+}
+
+fn are_entries(trace: &[Entry]) -> bool {
+    match trace {
+        [first, second, third, fourth, fifth] => {
+            is_written(first, 1, b"ab")
+                && is_broken(second, 3, b"cd", &[7, 7])
+                && matches!(third, Entry::Synced)
+                && is_emitted(fourth, b"line")
+                && is_lost(fifth, Peer::local(1, 2))
+        }
+        _ => false,
+    }
 }
 
 #[test]
-fn images_show_what_a_crash_may_leave(rt: HostRuntime) -> Result<(), Fail> {
+fn memory_ground_tells_all_and_fails_at_the_listed_calls(rt: HostRuntime) -> Result<(), Fail> {
     let alloc = rt.alloc();
-    let mut device = MemoryGround::new(alloc, vec![in alloc; 7u8; 5]?, vec![in alloc; 7u64]?);
+    let failing = vec![in alloc; 5u64, 7, 9]?;
+    let mut device = MemoryGround::new(alloc, vec![in alloc; 7u8; 6]?, failing);
+    expect_calls(&rt, &mut device);
+    same(&rt, &device.contents(), &[7, 97, 98, 7, 7, 7].as_slice());
+    holds(&rt, device.trace().is_some_and(are_entries));
+    Ok(())
+}
+
+/// A device of which two octets were written and synced, then two of two writes, the second of which failed.
+fn written_twice(alloc: Global) -> Result<MemoryGround, Fail> {
+    let failing = vec![in alloc; 7u64]?;
+    let mut device = MemoryGround::new(alloc, vec![in alloc; 7u8; 5]?, failing);
     let _ = write_within(&mut device, 0, b"ab");
     let _ = device.sync();
     let _ = write_within(&mut device, 1, b"cd");
     let _ = write_within(&mut device, 3, b"ef");
+    Ok(device)
+}
+
+/// Whether a crash behind so many entries may leave these octets.
+fn expect_image(
+    rt: &impl Abort,
+    alloc: Global,
+    device: &MemoryGround,
+    crash: (u64, Filling),
+    wanted: &[u8],
+) -> Result<(), Fail> {
+    let (upto, filling) = crash;
+    let image = device.image(alloc, upto, filling)?;
+    same(rt, &(upto, image.as_slice()), &(upto, wanted));
+    Ok(())
+}
+
+fn expect_images(rt: &impl Abort, alloc: Global, device: &MemoryGround) -> Result<(), Fail> {
     for (upto, filling, wanted) in [
         (0, Filling::New, [7, 7, 7, 7, 7]),
         (1, Filling::Old, [7, 7, 7, 7, 7]),
@@ -91,45 +126,62 @@ fn images_show_what_a_crash_may_leave(rt: HostRuntime) -> Result<(), Fail> {
         (9, Filling::New, [97, 99, 100, 101, 102]),
         (4, Filling::Octet(1), [97, 1, 1, 1, 1]),
     ] {
-        let image = device.image(alloc, upto, filling)?;
-        same(&rt, &(upto, image.as_slice()), &(upto, wanted.as_slice()));
+        expect_image(rt, alloc, device, (upto, filling), &wanted)?;
     }
+    Ok(())
+}
+
+#[test]
+fn images_show_what_a_crash_may_leave(rt: HostRuntime) -> Result<(), Fail> {
+    let device = written_twice(rt.alloc())?;
+    expect_images(&rt, rt.alloc(), &device)
+}
+
+/// A file of eight octets.
+fn file_at(rt: &HostRuntime, path: &str) -> Result<File, Fail> {
+    let file = OpenOptions::new()
+        .read(true)
+        .write(true)
+        .create(true)
+        .truncate(true)
+        .open(rt, path)?;
+    file.set_len(8)?;
+    Ok(file)
+}
+
+/// A device of eight octets is written, synced and read, and a line and a note go out.
+fn expect_kept<G: Ground>(rt: &impl Abort, device: &mut G, port: u16) {
+    same(rt, &device.size(), &Ok(8));
+    same(rt, &write_within(device, 5, b"abc"), &Ok(()));
+    same(rt, &device.sync(), &Ok(()));
+    same(rt, &read_within(device, 4), &Ok([0, 97, 98, 99]));
+    same(rt, &device.emit(Peer::console(), b"line\n"), &Ok(()));
+    let peer = Peer::local(0x7f00_0001, port);
+    same(rt, &device.emit(peer, b"note"), &Ok(()));
+}
+
+/// What the socket hears next is the note.
+fn expect_heard(rt: &impl Abort, peer: &UdpSocket) -> Result<(), Fail> {
+    peer.set_read_timeout(Some(Duration::from_secs(5)))?;
+    let mut into = [0u8; 8];
+    let (length, _) = peer.recv_from(&mut into)?;
+    same(rt, &(length, &into[..4]), &(4, b"note".as_slice()));
     Ok(())
 }
 
 #[test]
 fn file_ground_keeps_a_file_and_sends_to_peers(rt: HostRuntime) -> Result<(), Fail> {
     let path = "ground_io_test_device";
-    let file = OpenOptions::new()
-        .read(true)
-        .write(true)
-        .create(true)
-        .truncate(true)
-        .open(&rt, path)?;
-    file.set_len(8)?;
     let peer = UdpSocket::bind(&rt, "127.0.0.1:0")?;
-    peer.set_read_timeout(Some(Duration::from_secs(5)))?;
-    let socket = UdpSocket::bind(&rt, "127.0.0.1:0")?;
     let port = peer.local_addr()?.port();
+    let socket = UdpSocket::bind(&rt, "127.0.0.1:0")?;
     let mut console = Vec::new(rt.alloc());
+    let file = file_at(&rt, path)?;
     let mut device = FileGround::new(Some(file), &mut console, Some(socket))?;
-    same(&rt, &device.size(), &Ok(8));
-    same(&rt, &write_within(&mut device, 5, b"abc"), &Ok(()));
-    same(&rt, &device.sync(), &Ok(()));
-    same(&rt, &read_within(&mut device, 4), &Ok([0, 97, 98, 99]));
-    same(&rt, &device.emit(Peer::console(), b"line\n"), &Ok(()));
-    same(
-        &rt,
-        &device.emit(Peer::local(0x7f00_0001, port), b"note"),
-        &Ok(()),
-    );
-    let mut into = [0u8; 8];
-    let (length, _) = peer.recv_from(&mut into)?;
-    same(&rt, &length, &4);
-    let heard = &into[..4];
-    same(&rt, &heard, &b"note".as_slice());
+    expect_kept(&rt, &mut device, port);
     drop(device);
     same(&rt, &console.as_slice(), &b"line\n".as_slice());
+    expect_heard(&rt, &peer)?;
     fs::remove_file(&rt, path)?;
     Ok(())
 }
@@ -145,15 +197,21 @@ fn read_only(rt: &HostRuntime, path: &str) -> Result<(File, File), Fail> {
     Ok((OpenOptions::new().read(true).open(rt, path)?, whole))
 }
 
+/// A device that can't be written is read, until its file is cut.
+fn expect_cut<G: Ground>(rt: &impl Abort, device: &mut G, whole: &File) -> Result<(), Fail> {
+    same(rt, &write_within(device, 5, b"abc"), &Err(Failed));
+    same(rt, &read_within(device, 4), &Ok([0; 4]));
+    whole.set_len(6)?;
+    same(rt, &read_within(device, 4), &Err(Failed));
+    Ok(())
+}
+
 #[test]
 fn a_file_fails_where_it_can_not_be_written_or_is_cut(rt: HostRuntime) -> Result<(), Fail> {
     let path = "ground_io_test_read_only";
     let (file, whole) = read_only(&rt, path)?;
     let mut device = FileGround::new(Some(file), Vec::new(rt.alloc()), None)?;
-    same(&rt, &write_within(&mut device, 5, b"abc"), &Err(Failed));
-    same(&rt, &read_within(&mut device, 4), &Ok([0; 4]));
-    whole.set_len(6)?;
-    same(&rt, &read_within(&mut device, 4), &Err(Failed));
+    expect_cut(&rt, &mut device, &whole)?;
     fs::remove_file(&rt, path)?;
     Ok(())
 }

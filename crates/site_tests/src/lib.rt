@@ -10,6 +10,8 @@ mod comparing;
 #[cfg(test)]
 mod ground_io_tests;
 #[cfg(test)]
+mod recover_tests;
+#[cfg(test)]
 mod script_lines_tests;
 #[cfg(test)]
 mod state_snapshot_tests;

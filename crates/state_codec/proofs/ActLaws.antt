@@ -63,14 +63,14 @@ transition_reads : Reads transition_at written_transition IsAny
 unfolding transition_at
 transition_reads = reads_last octet_at transition_of written_octet IsOctet written_transition IsAny octet_reads transition_forth transition_back
 
-abbrev written_state : EventState → List ℕ
+abbrev pub written_state : EventState → List ℕ
 written_state state = number_of_state state ∷ []
 
 passes_or_later : {X : Type 0} (test : X → Bool) (y x : X) (first : Bool) (others : Option X) → test y ≡ first → (others ≡ Some x → test x ≡ true) → cond first (Some y) others ≡ Some x → test x ≡ true
 passes_or_later test y x true others is later e = ap test (sym (some_is y x e)) ∙ is
 passes_or_later test y x false others is later e = later e
 
-found_passes : {X : Type 0} (test : X → Bool) (xs : List X) (x : X) → find test xs ≡ Some x → test x ≡ true
+pub found_passes : {X : Type 0} (test : X → Bool) (xs : List X) (x : X) → find test xs ≡ Some x → test x ≡ true
 found_passes test [] x e = absurd cc
 found_passes test (y ∷ ys) x e = passes_or_later test y x (test y) (find test ys) refl (λ later. found_passes test ys x later) e
 
@@ -84,7 +84,7 @@ state_back Offnormal f = (2, omega arith, refl, refl)
 state_back HighLimit f = (3, omega arith, refl, refl)
 state_back LowLimit f = (4, omega arith, refl, refl)
 
-state_reads : Reads state_at written_state IsAny
+pub state_reads : Reads state_at written_state IsAny
 unfolding state_at
 state_reads = reads_last octet_at state_of_number written_octet IsOctet written_state IsAny octet_reads state_forth state_back
 

@@ -86,7 +86,7 @@ list_again (first ∷ others) rest is =
     ∙ ap (λ (o : Option (List DestinationData × List ℕ)). o >>= λ y. Some (first ∷ y.0, y.1)) two
 
 -- where a test holds
-reads_if : {C : Type 0} (test : Bool) (read : List ℕ → Option (C × List ℕ)) (w : C → List ℕ) (F G : C → Type 0) → (test ≡ true → Reads read w F) → ((c : C) → G c → (test ≡ true) × F c) → ((c : C) → test ≡ true → F c → G c)
+pub reads_if : {C : Type 0} (test : Bool) (read : List ℕ → Option (C × List ℕ)) (w : C → List ℕ) (F G : C → Type 0) → (test ≡ true → Reads read w F) → ((c : C) → G c → (test ≡ true) × F c) → ((c : C) → test ≡ true → F c → G c)
     → Reads (either_at test read nothing_at) w G
 reads_if true read w F G reads split join = record {
   takes = λ octets c rest are e. let t = (reads refl).takes octets c rest are e in (t.0, join c refl t.1);

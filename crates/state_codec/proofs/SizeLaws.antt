@@ -3,7 +3,7 @@ use Rattle.std.proofs.Common.{◌≡◌, ℕ, suc, ◌+◌, ◌*◌, ◌≤◌, 
 use Rattle.std.specs.List.{flat_map, AllZip}
 use Rattle.std.proofs.lemmas.List.{length-append}
 use Rattle.std.proofs.lemmas.List.Concat.{flat_map-cons, length-flat_map}
-use Rattle.std.proofs.lemmas.List.Elements.{All-cons, All-head, All-tail, filter-append}
+use Rattle.std.proofs.lemmas.List.Elements.{All-cons, All-head, All-replicate, All-tail, filter-append}
 use Rattle.std.proofs.lemmas.List.Filters.{length-filter_more}
 use Rattle.std.proofs.lemmas.List.Sums.{count_by-le-length, length-filter, sum_by-cons, sum_by-le}
 use Rattle.std.proofs.lemmas.Slice.Zip.{AllZip-long}
@@ -16,7 +16,6 @@ use Rattle.bac_values.specs.declared.object_kind.ObjectKind.TheVariants.{BinaryV
 use Rattle.event_log.specs.declared.log_record.LogRecord.{LogRecord}
 use Rattle.event_log.specs.declared.log_site.LogSite.{LogSite}
 use Rattle.algorithm_rules.specs.Rules.{rules_of}
-use Rattle.event_machine.specs.AlarmRecord.{never}
 use Rattle.event_machine.specs.Runs.{places}
 use Rattle.event_machine.specs.Summary.{AlarmState, new_alarm, transitions}
 use Rattle.event_machine.specs.declared.run.Run.{Run}
@@ -42,7 +41,9 @@ use Rattle.alarm_core.specs.Sites.{IsSite}
 use Rattle.alarm_core.specs.Subjects.{alarm_subjects, detecting_subjects, has_class}
 use Rattle.alarm_core.specs.declared.site.Site.{Site}
 use Rattle.state_codec.specs.Records.{written_destination, written_peer, written_value}
-use Rattle.state_codec.specs.Sizes.{alarm_objects, has_alarm, log_records, most_text, need, record_octets, snapshot_bound, HasPeer, HasRecipients, HasStamp, HasStampedRecords, HasStamps, HasValue, IsStamp, KeepsTypes}
+use Rattle.state_codec.specs.Sizes.{alarm_objects, has_alarm, log_records, most_text, need, record_octets, snapshot_bound}
+use Rattle.state_codec.specs.SnapshotLaws.{FitsRow, IsStamp}
+use Rattle.state_codec.specs.Spelled.{FitsClass, FitsDetected, FitsEntry, FitsLog, FitsPost, FitsState}
 use Rattle.state_codec.specs.Snapshots.{has_rule, written_alarm, written_cause, written_class, written_delay, written_enrollment, written_entry, written_keys, written_last, written_log, written_note, written_outbox, written_post, written_row, written_run, written_stamp, written_state, written_subject}
 use Rattle.state_codec.proofs.AllowedLaws.{present_type, value_has}
 use Rattle.state_codec.proofs.LengthLaws.{list_length, peer_length, value_length}
@@ -93,10 +94,10 @@ keys_length (Some PositiveIntegerValue) site = omega arith
 keys_length (Some BinaryValue) site = omega arith
 keys_length _ site = omega arith
 
-row_length : (row : Row) → IsRow row × HasValue row → length (written_row row) ≤ 320
+row_length : (row : Row) → IsRow row × FitsRow row → length (written_row row) ≤ 320
 row_length row is =
     let site = row.site in
-    let value : length (written_value site.value) ≤ 259 = value_length site.value (value_has site.value is.1 (present_type (kind_in site) site site.value is.0.site.value)) in
+    let value : length (written_value site.value) ≤ 259 = value_length site.value (value_has site.value is.1.value (present_type (kind_in site) site site.value is.0.site.value)) in
     let delay : length (written_delay site.time_delay_normal) ≡ 5 = delay_length site.time_delay_normal in
     let keys : length (written_keys (kind_of site.object.number) site) ≤ 13 = keys_length (kind_of site.object.number) site in
     let last : length (written_delay site.time_delay_normal ++ written_keys (kind_of site.object.number) site) ≡ length (written_delay site.time_delay_normal) + length (written_keys (kind_of site.object.number) site) = length-append (written_delay site.time_delay_normal) (written_keys (kind_of site.object.number) site) in
@@ -138,12 +139,16 @@ enrollment_length : (site : Option EnrollmentSite) → length (written_enrollmen
 enrollment_length (Some site) = omega arith
 enrollment_length None = omega arith
 
-new_is_plain : IsPlain new_alarm
-new_is_plain = record { stamps = refl; last_states = refl; runs = refl }
+-- and stamps of eight octets each
+abbrev IsShort : AlarmState → Type 0
+IsShort alarm = IsPlain alarm × All IsStamp alarm.stamps
 
-alarm_of_is_plain : (detected : Option DetectedObjectState) → IfSome detected (λ it. IsPlain it.alarm) → IsPlain (alarm_or_new detected)
-alarm_of_is_plain (Some detected) is = is
-alarm_of_is_plain None is = new_is_plain
+new_is_short : IsShort new_alarm
+new_is_short = (record { stamps = refl; last_states = refl; runs = refl }, All-replicate IsStamp 3 _ refl)
+
+alarm_of_is_short : (detected : Option DetectedObjectState) → IfSome detected (λ it. IsShort it.alarm) → IsShort (alarm_or_new detected)
+alarm_of_is_short (Some detected) is = is
+alarm_of_is_short None is = new_is_short
 
 detected_is_plain : (site : Site) (state : CoreState) (subject : Subject) (detected : DetectedObjectState) → IsDetectedOf site state subject detected → IsPlain detected.alarm
 detected_is_plain site state subject detected is = record {
@@ -157,18 +162,23 @@ alarms_are_plain : (site : Site) (state : CoreState) → IsStateOf site state �
 alarms_are_plain site state is =
     seconds (IsDetectedOf site state) (λ it. IsPlain it.alarm) (λ subject it e. detected_is_plain site state subject it e) (detecting_subjects site) state.alarms is.alarms
 
-subject_length : (state : CoreState) → All (λ (it : DetectedObjectState). IsPlain it.alarm) state.alarms → (subject : Subject) → HasStamps state subject → length (written_subject state subject) ≤ 128
-subject_length state plain subject stamped =
+-- and short, where its parts fit their types
+alarms_are_short : (site : Site) (state : CoreState) → IsStateOf site state → All FitsDetected state.alarms → All (λ (it : DetectedObjectState). IsShort it.alarm) state.alarms
+alarms_are_short site state is fit = λ k d lt. (alarms_are_plain site state is k d lt, (fit k d lt).stamps)
+
+subject_length : (state : CoreState) → All (λ (it : DetectedObjectState). IsShort it.alarm) state.alarms → (subject : Subject) → Unit {0} → length (written_subject state subject) ≤ 128
+subject_length state short subject t =
     let alarm = alarm_in state subject.object in
     let rest = written_enrollment (site_of subject.object state.values.enrollments) in
-    let one : length (written_alarm alarm) ≤ 73 = alarm_length alarm (alarm_of_is_plain (detected_object_in subject.object state.alarms) (found (λ (it : DetectedObjectState). IsPlain it.alarm) (λ detected. is_object subject.object detected.object) state.alarms plain)) stamped in
+    let is : IsShort alarm = alarm_of_is_short (detected_object_in subject.object state.alarms) (found (λ (it : DetectedObjectState). IsShort it.alarm) (λ detected. is_object subject.object detected.object) state.alarms short) in
+    let one : length (written_alarm alarm) ≤ 73 = alarm_length alarm is.0 is.1 in
     let other : length rest ≤ 2 = enrollment_length (site_of subject.object state.values.enrollments) in
     let whole : length (written_alarm alarm ++ rest) ≡ length (written_alarm alarm) + length rest = length-append (written_alarm alarm) rest in
     omega (arith, one, other, whole)
 
 -- ---- classes
 
-class_length : (class : Class) → (length class.destinations ≤ 32) × HasRecipients class → length (written_class class) ≤ 993
+class_length : (class : Class) → (length class.destinations ≤ 32) × FitsClass class → length (written_class class) ≤ 993
 class_length class is =
     let all : length (flat_map written_destination class.destinations) ≡ 31 * length class.destinations = list_length class.destinations is.1 in
     omega (arith, all, is.0)
@@ -179,26 +189,26 @@ abbrev entry_octets : Bool → ℕ
 entry_octets true = 1_042
 entry_octets false = 1_034
 
-entry_length : (rule : Bool) (entry : LogRecord) → (length entry.body ≤ most_octets) × HasStamp entry → length (written_entry rule entry) ≤ entry_octets rule
-entry_length true entry is = omega (arith, is.0, is.1, length-append entry.stamp.octets)
-entry_length false entry is = omega (arith, is.0, is.1, length-append entry.stamp.octets)
+entry_length : (rule : Bool) (entry : LogRecord) → (length entry.body ≤ most_octets) × FitsEntry rule entry → length (written_entry rule entry) ≤ entry_octets rule
+entry_length true entry is = omega (arith, is.0, is.1.stamp, length-append entry.stamp.octets)
+entry_length false entry is = omega (arith, is.0, is.1.stamp, length-append entry.stamp.octets)
 
-log_length : (rule : Bool) (site : Site) (listed : LogSite) (kept : SiteLogState) → IsLogOf site listed kept → HasStampedRecords kept → length (written_log rule kept) ≤ 9 + entry_octets rule * listed.size
-log_length rule site listed kept is stamped =
+log_length : (rule : Bool) (site : Site) (listed : LogSite) (kept : SiteLogState) → IsLogOf site listed kept → FitsLog rule kept → length (written_log rule kept) ≤ 9 + entry_octets rule * listed.size
+log_length rule site listed kept is fits =
     let records = kept.log.records in
-    let each : All (λ (entry : LogRecord). (length entry.body ≤ most_octets) × HasStamp entry) records = λ k d lt. ((is.records k d lt).short, stamped k d lt) in
-    let all : length (flat_map (written_entry rule) records) ≤ length records * entry_octets rule = at_most (written_entry rule) (λ (entry : LogRecord). (length entry.body ≤ most_octets) × HasStamp entry) (entry_octets rule) (entry_length rule) records each in
+    let each : All (λ (entry : LogRecord). (length entry.body ≤ most_octets) × FitsEntry rule entry) records = λ k d lt. ((is.records k d lt).short, fits k d lt) in
+    let all : length (flat_map (written_entry rule) records) ≤ length records * entry_octets rule = at_most (written_entry rule) (λ (entry : LogRecord). (length entry.body ≤ most_octets) × FitsEntry rule entry) (entry_octets rule) (entry_length rule) records each in
     let few : length records ≤ listed.size = subst (λ size. length records ≤ size) is.size is.log.short in
     let more : length records * entry_octets rule ≤ listed.size * entry_octets rule = mul-le-mul_right (entry_octets rule) few in
     omega (arith, all, more)
 
-logs_length : (rule : Bool) (site : Site) (listed : List LogSite) (kept : List SiteLogState) → AllZip (IsLogOf site) listed kept → All HasStampedRecords kept → length (flat_map (written_log rule) kept) ≤ 9 * length listed + entry_octets rule * sum_by size_of listed
-logs_length rule site [] [] zipped stamped = omega arith
-logs_length rule site [] (it ∷ kept) zipped stamped = absurd zipped
-logs_length rule site (one ∷ listed) [] zipped stamped = absurd zipped
-logs_length rule site (one ∷ listed) (it ∷ kept) zipped stamped =
-    let first : length (written_log rule it) ≤ 9 + entry_octets rule * one.size = log_length rule site one it zipped.0 (All-head HasStampedRecords it kept stamped) in
-    let rest : length (flat_map (written_log rule) kept) ≤ 9 * length listed + entry_octets rule * sum_by size_of listed = logs_length rule site listed kept zipped.1 (All-tail HasStampedRecords it kept stamped) in
+logs_length : (rule : Bool) (site : Site) (listed : List LogSite) (kept : List SiteLogState) → AllZip (IsLogOf site) listed kept → All (FitsLog rule) kept → length (flat_map (written_log rule) kept) ≤ 9 * length listed + entry_octets rule * sum_by size_of listed
+logs_length rule site [] [] zipped fit = omega arith
+logs_length rule site [] (it ∷ kept) zipped fit = absurd zipped
+logs_length rule site (one ∷ listed) [] zipped fit = absurd zipped
+logs_length rule site (one ∷ listed) (it ∷ kept) zipped fit =
+    let first : length (written_log rule it) ≤ 9 + entry_octets rule * one.size = log_length rule site one it zipped.0 (All-head (FitsLog rule) it kept fit) in
+    let rest : length (flat_map (written_log rule) kept) ≤ 9 * length listed + entry_octets rule * sum_by size_of listed = logs_length rule site listed kept zipped.1 (All-tail (FitsLog rule) it kept fit) in
     let whole : length (flat_map (written_log rule) (it ∷ kept)) ≡ length (written_log rule it) + length (flat_map (written_log rule) kept) = behind (written_log rule) it kept in
     let sizes : sum_by size_of (one ∷ listed) ≡ one.size + sum_by size_of listed = sum_by-cons size_of one listed in
     let product : entry_octets rule * sum_by size_of (one ∷ listed) ≡ entry_octets rule * one.size + entry_octets rule * sum_by size_of listed = ap (λ n. entry_octets rule * n) sizes ∙ mul-add (entry_octets rule) one.size (sum_by size_of listed) in
@@ -209,20 +219,20 @@ logs_length rule site (one ∷ listed) (it ∷ kept) zipped stamped =
 note_length : (note : Note) → length note.body ≤ most_octets → length (written_note note) ≤ 1_027
 note_length note short = omega (arith, short)
 
-post_length : (retries : ℕ) (post : MailboxState) → IsPost retries post × HasPeer post → length (written_post post) ≤ 28 + 1_027 * length post.notes
+post_length : (retries : ℕ) (post : MailboxState) → IsPost retries post × FitsPost post → length (written_post post) ≤ 28 + 1_027 * length post.notes
 post_length retries post is =
     let notes : length (flat_map written_note post.notes) ≤ length post.notes * 1_027 = at_most written_note (λ (note : Note). length note.body ≤ most_octets) 1_027 note_length post.notes is.0.short in
-    let peer : length (written_peer post.peer) ≡ 16 = peer_length post.peer is.1 in
+    let peer : length (written_peer post.peer) ≡ 16 = peer_length post.peer is.1.peer in
     omega (arith, notes, peer, length-append (written_peer post.peer))
 
 abbrev notes_in : MailboxState → ℕ
 notes_in post = length post.notes
 
-posts_length : (retries : ℕ) (posts : List MailboxState) → All (IsPost retries) posts → All HasPeer posts → length (flat_map written_post posts) ≤ 28 * length posts + 1_027 * sum_by notes_in posts
+posts_length : (retries : ℕ) (posts : List MailboxState) → All (IsPost retries) posts → All FitsPost posts → length (flat_map written_post posts) ≤ 28 * length posts + 1_027 * sum_by notes_in posts
 posts_length retries [] are have = omega arith
 posts_length retries (post ∷ posts) are have =
-    let first : length (written_post post) ≤ 28 + 1_027 * length post.notes = post_length retries post (All-head (IsPost retries) post posts are, All-head HasPeer post posts have) in
-    let rest : length (flat_map written_post posts) ≤ 28 * length posts + 1_027 * sum_by notes_in posts = posts_length retries posts (All-tail (IsPost retries) post posts are) (All-tail HasPeer post posts have) in
+    let first : length (written_post post) ≤ 28 + 1_027 * length post.notes = post_length retries post (All-head (IsPost retries) post posts are, All-head FitsPost post posts have) in
+    let rest : length (flat_map written_post posts) ≤ 28 * length posts + 1_027 * sum_by notes_in posts = posts_length retries posts (All-tail (IsPost retries) post posts are) (All-tail FitsPost post posts have) in
     let whole : length (flat_map written_post (post ∷ posts)) ≡ length (written_post post) + length (flat_map written_post posts) = behind written_post post posts in
     let sizes : sum_by notes_in (post ∷ posts) ≡ length post.notes + sum_by notes_in posts = sum_by-cons notes_in post posts in
     omega (arith, first, rest, whole, sizes)
@@ -289,23 +299,23 @@ entry_octets_by false = refl
 entry_octets_are : (site : Site) → entry_octets (has_rule site) ≡ record_octets site
 entry_octets_are site = entry_octets_by (has_rule site)
 
-pub snapshot_length : (site : Site) (state : CoreState) → IsStateOf site state → KeepsTypes state → length (written_state state) ≤ snapshot_bound site
-snapshot_length site state is types =
+pub snapshot_length : (site : Site) (state : CoreState) → IsStateOf site state → FitsState state → length (written_state state) ≤ snapshot_bound site
+snapshot_length site state is fits =
     let rule = has_rule state.site in
-    let plain = alarms_are_plain site state is in
+    let short = alarms_are_short site state is fits.alarms in
     let rows : length (flat_map written_row state.values.rows) ≤ length state.values.rows * 320 =
-    at_most written_row (λ row. IsRow row × HasValue row) 320 row_length state.values.rows (all_both IsRow HasValue state.values.rows (seconds IsRowOf IsRow (λ described row e. e.takes) site.objects state.values.rows is.rows) types.values) in
+    at_most written_row (λ row. IsRow row × FitsRow row) 320 row_length state.values.rows (all_both IsRow FitsRow state.values.rows (seconds IsRowOf IsRow (λ described row e. e.takes) site.objects state.values.rows is.rows) fits.rows) in
     let row_count : length state.values.rows ≡ length site.objects = AllZip-long IsRowOf site.objects state.values.rows is.rows in
     let subjects : length (flat_map (written_subject state) (alarm_subjects state.site)) ≤ length (alarm_subjects state.site) * 128 =
-    at_most (written_subject state) (HasStamps state) 128 (subject_length state plain) (alarm_subjects state.site) types.alarms in
+    at_most (written_subject state) (λ subject. Unit {0}) 128 (subject_length state short) (alarm_subjects state.site) (λ k d lt. tt) in
     let subject_count : length (alarm_subjects state.site) ≡ alarm_objects site = ap (λ (s : Site). length (alarm_subjects s)) is.site_is ∙ alarm_count site in
     let classes : length (flat_map written_class state.classes) ≤ length state.classes * 993 =
-    at_most written_class (λ (class : Class). (length class.destinations ≤ 32) × HasRecipients class) 993 class_length state.classes
-    (all_both (λ (class : Class). length class.destinations ≤ 32) HasRecipients state.classes (seconds IsClassOf (λ (class : Class). length class.destinations ≤ 32) class_is_few site.classes state.classes is.classes) types.classes) in
+    at_most written_class (λ (class : Class). (length class.destinations ≤ 32) × FitsClass class) 993 class_length state.classes
+    (all_both (λ (class : Class). length class.destinations ≤ 32) FitsClass state.classes (seconds IsClassOf (λ (class : Class). length class.destinations ≤ 32) class_is_few site.classes state.classes is.classes) fits.classes) in
     let class_count : length state.classes ≡ length site.classes = AllZip-long IsClassOf site.classes state.classes is.classes in
     let logs : length (flat_map (written_log rule) state.logs) ≤ 9 * length site.logs + record_octets site * log_records site =
-    subst (λ n. length (flat_map (written_log rule) state.logs) ≤ 9 * length site.logs + n * log_records site) (ap (λ (s : Site). entry_octets (has_rule s)) is.site_is ∙ entry_octets_are site) (logs_length rule site site.logs state.logs is.logs types.logs) in
-    let posts : length (flat_map written_post state.outbox.posts) ≤ 28 * length state.outbox.posts + 1_027 * unfinished_in state.outbox.posts = posts_length state.outbox.retries state.outbox.posts is.outbox.posts types.posts in
+    subst (λ n. length (flat_map (written_log rule) state.logs) ≤ 9 * length site.logs + n * log_records site) (ap (λ (s : Site). entry_octets (has_rule s)) is.site_is ∙ entry_octets_are site) (logs_length rule site site.logs state.logs is.logs fits.logs) in
+    let posts : length (flat_map written_post state.outbox.posts) ≤ 28 * length state.outbox.posts + 1_027 * unfinished_in state.outbox.posts = posts_length state.outbox.retries state.outbox.posts is.outbox.posts fits.posts in
     let room : unfinished_in state.outbox.posts ≤ site.device.outbox = subst (λ limit. unfinished_in state.outbox.posts ≤ limit) is.limit is.outbox.room in
     let a = flat_map written_row state.values.rows in
     let b = flat_map (written_subject state) (alarm_subjects state.site) in

@@ -9,8 +9,9 @@ use Rattle.alarm_core.specs.SiteStates.{IsStateOf}
 use Rattle.alarm_core.specs.Sites.{IsSite}
 use Rattle.alarm_core.specs.declared.site.Site.{Site}
 use Rattle.state_codec.specs.Records.{HasRecord, SpellsEvent, written_event}
-use Rattle.state_codec.specs.Sizes.{KeepsTypes, most_text, need, snapshot_bound}
+use Rattle.state_codec.specs.Sizes.{most_text, need, snapshot_bound}
 use Rattle.state_codec.specs.Snapshots.{written_state}
+use Rattle.state_codec.specs.Spelled.{FitsState, SpellsState}
 
 -- no record begins another: whatever follows two of them, where the octets are the same, the records are, and so are their events
 abbrev pub OneSpelling : Type 0
@@ -30,10 +31,15 @@ HasRecordWhereAllowed event = (state : CoreState) → IsMoment event.moment → 
 
 -- the snapshot of a state that a site may have is at most as long as the site's bound, and not empty
 pub record SnapshotsAreShort : Type 0 where
-  pub most : (site : Site) (state : CoreState) → IsStateOf site state → KeepsTypes state → length (written_state state) ≤ snapshot_bound site
+  pub most : (site : Site) (state : CoreState) → IsStateOf site state → FitsState state → length (written_state state) ≤ snapshot_bound site
   pub some : (state : CoreState) → 1 ≤ length (written_state state)
 
 -- a site that keeps its limits needs fewer than 36,000,000 octets for a snapshot, and fewer than 72,000,000 for its device
 pub record BoundsAreLow : Type 0 where
   pub snapshot : (site : Site) → IsSite site → KeepsLimits site → snapshot_bound site < 36_000_000
   pub device : (site : Site) (text : ℕ) → IsSite site → KeepsLimits site → text ≤ most_text → need site text < 72_000_000
+
+-- octets are the snapshot of one state of a site at most; and a state has one snapshot
+pub record OneSnapshot : Type 0 where
+  pub state : (site : Site) (octets : List ℕ) (x y : CoreState) → IsSite site → SpellsState site octets x → SpellsState site octets y → x ≡ y
+  pub octets : (site : Site) (first second : List ℕ) (x : CoreState) → SpellsState site first x → SpellsState site second x → first ≡ second

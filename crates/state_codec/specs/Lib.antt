@@ -2,6 +2,11 @@ pub mod Records
 pub mod ReadingSteps
 pub mod Types
 pub mod Snapshots
+pub mod SnapshotSteps
+pub mod SnapshotLaws
+pub mod Spelled
 pub mod WritingSteps
 pub mod Sizes
 pub mod Laws
+pub mod Contents
+pub mod DamageSteps

@@ -1,21 +1,9 @@
 -- How long the snapshot of a site may become, and how large its journal's device has to be.
-use Rattle.std.specs.Prelude.{◌≡◌, ℕ, ◌+◌, ◌*◌, Bool, if◌then◌else◌, length, is_some, count_by, sum_by, All}
-use Rattle.bac_values.specs.declared.stamp.Stamp.{Stamp}
-use Rattle.event_log.specs.declared.log_record.LogRecord.{LogRecord}
-use Rattle.notify_class.specs.declared.class.Class.{Class}
+use Rattle.std.specs.Prelude.{ℕ, ◌+◌, ◌*◌, Bool, if◌then◌else◌, length, is_some, count_by, sum_by}
 use Rattle.object_table.specs.declared.object_site.ObjectSite.{ObjectSite}
-use Rattle.object_table.specs.declared.row.Row.{Row}
-use Rattle.outbox.specs.Posts.{MailboxState}
-use Rattle.enrollment.specs.declared.subject.Subject.{Subject}
-use Rattle.alarm_core.specs.Found.{alarm_in}
 use Rattle.alarm_core.specs.Limits.{size_of}
-use Rattle.alarm_core.specs.Logs.{SiteLogState}
-use Rattle.alarm_core.specs.State.{CoreState}
-use Rattle.alarm_core.specs.Subjects.{alarm_subjects}
 use Rattle.alarm_core.specs.declared.site.Site.{Site}
-use Rattle.state_codec.specs.Records.{IsDestination, IsPeer}
 use Rattle.state_codec.specs.Snapshots.{has_rule}
-use Rattle.state_codec.specs.Types.{FitsValue}
 
 -- ---- how many octets there may be
 
@@ -87,35 +75,3 @@ most_text = 1_048_576
 -- how many octets the device of a site has to have whose text has so many
 abbrev pub need : Site → ℕ → ℕ
 need site text = header_octets + text + 2 * (batch_octets + snapshot_bound site)
-
--- ---- which states are meant
-
-abbrev pub IsStamp : Stamp → Type 0
-IsStamp stamp = length stamp.octets ≡ 8
-
--- the stamps of the alarm of an object
-abbrev pub HasStamps : CoreState → Subject → Type 0
-HasStamps state subject = All IsStamp (alarm_in state subject.object).stamps
-
-abbrev pub HasValue : Row → Type 0
-HasValue row = FitsValue row.site.value
-
-abbrev pub HasRecipients : Class → Type 0
-HasRecipients class = All IsDestination class.destinations
-
-abbrev pub HasStamp : LogRecord → Type 0
-HasStamp entry = IsStamp entry.stamp
-
-abbrev pub HasStampedRecords : SiteLogState → Type 0
-HasStampedRecords kept = All HasStamp kept.log.records
-
-abbrev pub HasPeer : MailboxState → Type 0
-HasPeer post = IsPeer post.peer
-
--- values, stamps, recipients and peers keep the rules of their types, as every core's do
-pub record KeepsTypes (state : CoreState) : Type 0 where
-  pub values : All HasValue state.values.rows
-  pub alarms : All (HasStamps state) (alarm_subjects state.site)
-  pub classes : All HasRecipients state.classes
-  pub logs : All HasStampedRecords state.logs
-  pub posts : All HasPeer state.outbox.posts

@@ -1,5 +1,5 @@
 -- What the types of an event's parts say of it: numbers are in their ranges, and texts, strings, peers and recipients keep the rules of their types. Every event that the program holds fits.
-use Rattle.std.specs.Prelude.{◌^◌, ◌<◌, ◌≤◌, All, length, IsUtf8, FitsSigned}
+use Rattle.std.specs.Prelude.{ℕ, ◌^◌, ◌<◌, ◌≤◌, All, List, length, slice_index, IsUtf8, FitsSigned}
 use Rattle.std.specs.Int.{w32}
 use Rattle.bac_values.specs.BitString.{IsBitString}
 use Rattle.bac_values.specs.Identifier.{IsIdentifier}
@@ -10,6 +10,10 @@ use Rattle.object_table.specs.declared.change.What.TheVariants.{Property, FieldF
 use Rattle.alarm_core.specs.declared.event.Act.{Act}
 use Rattle.alarm_core.specs.declared.event.Act.TheVariants.{Tick, Write, Ack, Pump, Answer, Edit}
 use Rattle.state_codec.specs.Records.{IsPeer, IsDestination}
+
+-- octets are below 2^8
+abbrev pub AreOctets : List ℕ → Type 0
+AreOctets octets = (place : ℕ) → slice_index octets place < 2 ^ 8
 
 abbrev pub FitsValue : Value → Type 0
 FitsValue (values.Bool flag) = Unit {0}

@@ -1,5 +1,5 @@
 -- How snapshots are written: some parts together, as calls append them.
-use Rattle.std.specs.Prelude.{◌⊎◌, ℕ, ℤ, ◌+◌, ◌*◌, if◌then◌else◌, FitsSigned, List, [], ◌∷◌, ◌++◌, length, slice_get}
+use Rattle.std.specs.Prelude.{◌⊎◌, ℕ, ℤ, ◌+◌, ◌*◌, ◌^◌, ◌<◌, if◌then◌else◌, FitsSigned, List, [], ◌∷◌, ◌++◌, length, slice_get}
 use Rattle.std.specs.Int.{FitsUnsigned, w16, w32, w64, to_be_bytes}
 use Rattle.std.specs.Option.{option_map_or}
 use Rattle.bac_values.specs.declared.note.Note.{Note}
@@ -9,11 +9,13 @@ use Rattle.object_table.specs.declared.row.Row.{Row}
 use Rattle.outbox.specs.declared.post.Post.{Post}
 use Rattle.outbox.specs.Outboxes.{OutboxState}
 use Rattle.outbox.specs.Posts.{MailboxState}
+use Rattle.alarm_core.specs.Found.{alarm_in}
 use Rattle.alarm_core.specs.State.{CoreState}
 use Rattle.alarm_core.specs.Subjects.{has_class}
-use Rattle.state_codec.specs.Records.{written_flag, written_flags, written_peer}
+use Rattle.state_codec.specs.Records.{IsPeer, written_flag, written_flags, written_peer}
 use Rattle.alarm_core.specs.declared.site.Site.{Site}
 use Rattle.state_codec.specs.Sizes.{alarm_objects, alarm_octets, class_octets, log_octets, log_records, note_octets, object_octets, post_octets, record_octets}
+use Rattle.state_codec.specs.SnapshotLaws.{FitsAlarm}
 use Rattle.state_codec.specs.Snapshots.{version_of, written_subject}
 
 -- the version, how many events there were, and the moment of the last
@@ -54,6 +56,19 @@ written_delivery post = post.next_invoke ∷ post.attempts ∷ (to_be_bytes w64 
 -- what is told of a post
 abbrev pub written_told : Post → List ℕ
 written_told post = written_peer post.peer ++ written_delivery post
+
+-- ---- what types say
+
+-- what the types say of the alarm that is found of an object
+abbrev pub FitsFound : CoreState → Subject → Type 0
+FitsFound state subject = FitsAlarm (alarm_in state subject.object)
+
+-- what they say of what is told of a post
+pub record FitsTold (post : Post) : Type 0 where
+  pub peer : IsPeer post.peer
+  pub invoke : post.next_invoke < 2 ^ 8
+  pub attempts : post.attempts < 2 ^ 8
+  pub deadline : post.deadline < 2 ^ 64
 
 -- ---- the parts of a site's bound
 

@@ -43,7 +43,7 @@ fn take_transition(bytes: &mut &[u8]) -> Result<Transition, ReadFault>
 
 /// Takes the event state at the front, by its number.
 #[tactic(auto, unfolding(crate::specs::ReadingSteps::state_at))]
-fn take_state(bytes: &mut &[u8]) -> Result<EventState, ReadFault>
+pub(crate) fn take_state(bytes: &mut &[u8]) -> Result<EventState, ReadFault>
     ensures exact { Gives (λ x. (x, bytes.new.now)) result (state_at bytes.old.now) }
 {
     let number = take_octet(bytes)?;

@@ -1,11 +1,18 @@
 ghost use Rattle.std.specs.Prelude.{◌≡◌, ◌<◌, ◌^◌, All, length};
 ghost use Rattle.state_codec.specs.Records.{IsDestination, IsPeer};
-ghost use Rattle.state_codec.specs.Types.{FitsAct, FitsValue, FitsWhat};
+ghost use Rattle.state_codec.specs.Types.{AreOctets, FitsAct, FitsValue, FitsWhat};
 
 use alarm_core::{Act, Event};
 use bac_values::{Peer, Value};
 use notify_class::Destination;
 use object_table::What;
+
+/// Octets are below 2^8. The call does nothing.
+pub(crate) fn octets_fit(octets: &[u8])
+    ensures below { AreOctets octets.now }
+{
+    let _octets = octets;
+}
 
 /// A number of 16 bits is below 2^16.
 fn half_fits(number: u16)
@@ -29,7 +36,7 @@ fn flags_fit(flags: [bool; 3])
 }
 
 /// A peer keeps the rules of its type.
-fn peer_fits(peer: &Peer)
+pub(crate) fn peer_fits(peer: &Peer)
     ensures fits { IsPeer peer.now }
 {
     word_fits(peer.ip);
@@ -39,7 +46,7 @@ fn peer_fits(peer: &Peer)
 }
 
 /// A value keeps the rules of its type.
-fn value_fits(value: &Value)
+pub(crate) fn value_fits(value: &Value)
     ensures fits { FitsValue value.now }
 {
     match value {
@@ -87,7 +94,7 @@ fn destination_fits(recipient: &Destination)
 }
 
 /// Recipients keep the rules of their type.
-fn destinations_fit(recipients: &[Destination])
+pub(crate) fn destinations_fit(recipients: &[Destination])
     ensures fit { All IsDestination recipients.now }
 {
     for recipient in recipients {

@@ -113,7 +113,7 @@ fn put_enrollment(out: &mut Vec<u8>, enrollment: Option<&EnrollmentSite>) -> Res
 }
 
 /// The alarm of an object; one whose event detection isn't enabled has that of an object that never moved.
-fn alarm_of(core: &Core, object: ObjectId) -> Alarm
+pub(crate) fn alarm_of(core: &Core, object: ObjectId) -> Alarm
     ensures alarm { result ≡ alarm_in core.now object }
 {
     match core.found(object) {

@@ -19,7 +19,7 @@ pub(crate) fn has_rule(site: &Site) -> bool
 }
 
 /// The version of a site's snapshots: 2 where it has a zone rule, else 1.
-fn version_of(site: &Site) -> u8
+pub(crate) fn version_of(site: &Site) -> u8
     ensures version { result ≡ version_of site.now }
 {
     if has_rule(site) { 2 } else { 1 }

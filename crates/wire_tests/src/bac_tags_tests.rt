@@ -130,53 +130,59 @@ fn the_elements_of_a_notification_are_read_in_turn(rt: HostRuntime) -> Result<()
     Ok(())
 }
 
+/// What is read of each of these octets as an unsigned number.
+fn expect_unsigned(rt: &impl Abort, rows: &[(&[u8], Option<u8>, Result<(u32, usize), TagFault>)]) {
+    for (octets, context, wanted) in rows {
+        same(rt, &read_unsigned(octets, 0, *context), wanted);
+    }
+}
+
 #[test]
 fn numbers_have_one_to_four_octets(rt: HostRuntime) {
-    let most = [0x24, 0xff, 0xff, 0xff, 0xff];
-    same(&rt, &read_unsigned(&most, 0, None), &Ok((u32::MAX, 5)));
-    same(
-        &rt,
-        &read_unsigned(&[0x22, 0x00, 0x05], 0, None),
-        &Ok((5, 3)),
-    );
-    same(
-        &rt,
-        &read_unsigned(&[0x25, 0x01, 0x07], 0, None),
-        &Ok((7, 3)),
-    );
     let none = Err(TagFault::BadLength { at: 0 });
-    same(&rt, &read_unsigned(&[0x20], 0, None), &none);
-    same(
-        &rt,
-        &read_unsigned(&[0x25, 0x05, 0, 0, 0, 0, 1], 0, None),
-        &none,
-    );
-    same(&rt, &read_unsigned(&[0x25, 0x05], 0, None), &none);
-    same(
-        &rt,
-        &read_unsigned(&[0x22, 0x05], 0, None),
-        &Err(TagFault::Truncated { at: 2 }),
-    );
     let other = Err(TagFault::WrongTag { at: 0 });
-    same(&rt, &read_unsigned(&[0x09, 0x01], 0, None), &other);
-    same(&rt, &read_unsigned(&[0x21, 0x01], 0, Some(2)), &other);
-    same(&rt, &read_unsigned(&[0x26, 0x01], 0, None), &other);
-    same(&rt, &read_unsigned(&[0x2e, 0x01], 0, Some(2)), &other);
-    same(&rt, &read_unsigned(&[0x31], 0, None), &other);
-    same(&rt, &read_signed(&[0x31, 0xff], 0, None), &Ok((-1, 2)));
-    same(&rt, &read_signed(&[0x31, 0x80], 0, None), &Ok((-128, 2)));
-    same(
+    expect_unsigned(
         &rt,
-        &read_signed(&[0x32, 0xff, 0x7f], 0, None),
-        &Ok((-129, 3)),
+        &[
+            (&[0x24, 0xff, 0xff, 0xff, 0xff], None, Ok((u32::MAX, 5))),
+            (&[0x22, 0x00, 0x05], None, Ok((5, 3))),
+            (&[0x25, 0x01, 0x07], None, Ok((7, 3))),
+            (&[0x20], None, none),
+            (&[0x25, 0x05, 0, 0, 0, 0, 1], None, none),
+            (&[0x25, 0x05], None, none),
+            (&[0x22, 0x05], None, Err(TagFault::Truncated { at: 2 })),
+            (&[0x09, 0x01], None, other),
+            (&[0x21, 0x01], Some(2), other),
+            (&[0x26, 0x01], None, other),
+            (&[0x2e, 0x01], Some(2), other),
+            (&[0x31], None, other),
+        ],
     );
-    same(
+}
+
+/// Each of these octets is the signed number and nothing else.
+fn expect_signed(rt: &impl Abort, rows: &[(&[u8], i32)]) {
+    for (octets, wanted) in rows {
+        same(
+            rt,
+            &read_signed(octets, 0, None),
+            &Ok((*wanted, octets.len())),
+        );
+    }
+}
+
+#[test]
+fn signed_numbers_have_one_to_four_octets(rt: HostRuntime) {
+    expect_signed(
         &rt,
-        &read_signed(&[0x33, 0x00, 0xff, 0xff], 0, None),
-        &Ok((65_535, 4)),
+        &[
+            (&[0x31, 0xff], -1),
+            (&[0x31, 0x80], -128),
+            (&[0x32, 0xff, 0x7f], -129),
+            (&[0x33, 0x00, 0xff, 0xff], 65_535),
+            (&[0x34, 0x80, 0x00, 0x00, 0x00], i32::MIN),
+        ],
     );
-    let least = [0x34, 0x80, 0x00, 0x00, 0x00];
-    same(&rt, &read_signed(&least, 0, None), &Ok((i32::MIN, 5)));
 }
 
 #[test]
@@ -196,40 +202,45 @@ fn booleans_are_in_the_tag_or_behind_it(rt: HostRuntime) {
     );
 }
 
+/// The octets are so many bits, which make this number, and nothing else.
+fn expect_bits(
+    rt: &impl Abort,
+    octets: &[u8],
+    context: Option<u8>,
+    bits: (u8, u64),
+) -> Result<(), Fail> {
+    let bits = Bits::new(bits.0, bits.1)?;
+    same(
+        rt,
+        &read_bits(octets, 0, context),
+        &Ok((bits, octets.len())),
+    );
+    Ok(())
+}
+
+/// The octets are no bits.
+fn expect_no_bits(rt: &impl Abort, octets: &[u8]) {
+    let none = Err(TagFault::BadLength { at: 0 });
+    same(rt, &read_bits(octets, 0, None), &none);
+}
+
 #[test]
 fn bit_strings_begin_with_their_first_bit(rt: HostRuntime) -> Result<(), Fail> {
-    same(
-        &rt,
-        &read_bits(&[0x2a, 0x05, 0x60], 0, Some(2)),
-        &Ok((Bits::new(3, 6)?, 3)),
-    );
+    expect_bits(&rt, &[0x2a, 0x05, 0x60], Some(2), (3, 6))?;
     // Bits that aren't used are read over.
-    same(
-        &rt,
-        &read_bits(&[0x82, 0x05, 0x7f], 0, None),
-        &Ok((Bits::new(3, 6)?, 3)),
-    );
-    let two = [0x83, 0x04, 0x80, 0x50];
-    same(
-        &rt,
-        &read_bits(&two, 0, None),
-        &Ok((Bits::new(12, 0x0a01)?, 4)),
-    );
-    same(
-        &rt,
-        &read_bits(&[0x81, 0x00], 0, None),
-        &Ok((Bits::new(0, 0)?, 2)),
-    );
+    expect_bits(&rt, &[0x82, 0x05, 0x7f], None, (3, 6))?;
+    expect_bits(&rt, &[0x83, 0x04, 0x80, 0x50], None, (12, 0x0a01))?;
+    expect_bits(&rt, &[0x81, 0x00], None, (0, 0))?;
     let all = [0x85, 0x09, 0, 255, 255, 255, 255, 255, 255, 255, 254];
-    let most = Bits::new(64, u64::MAX >> 1)?;
-    same(&rt, &read_bits(&all, 0, None), &Ok((most, 11)));
-    let none = Err(TagFault::BadLength { at: 0 });
-    let more = [0x85, 0x0a, 7, 0, 0, 0, 0, 0, 0, 0, 0, 0];
-    same(&rt, &read_bits(&more, 0, None), &none);
-    same(&rt, &read_bits(&[0x80], 0, None), &none);
-    same(&rt, &read_bits(&[0x81, 0x01], 0, None), &none);
-    same(&rt, &read_bits(&[0x82, 0x08, 0x00], 0, None), &none);
-    Ok(())
+    expect_bits(&rt, &all, None, (64, u64::MAX >> 1))
+}
+
+#[test]
+fn what_is_no_bit_string_is_refused(rt: HostRuntime) {
+    expect_no_bits(&rt, &[0x85, 0x0a, 7, 0, 0, 0, 0, 0, 0, 0, 0, 0]);
+    expect_no_bits(&rt, &[0x80]);
+    expect_no_bits(&rt, &[0x81, 0x01]);
+    expect_no_bits(&rt, &[0x82, 0x08, 0x00]);
 }
 
 /// The octets are the value and nothing else.
@@ -304,20 +315,22 @@ fn what_is_not_taken_is_opaque_by_its_reason(rt: HostRuntime) {
     );
 }
 
+/// The octets are no value, for this reason.
+fn expect_no_value(rt: &impl Abort, alloc: Global, octets: &[u8], fault: TagFault) {
+    same(rt, &read_value(alloc, octets, 0), &Err(fault));
+}
+
 #[test]
 fn what_is_no_value_is_refused(rt: HostRuntime) {
-    let other = Err(TagFault::WrongTag { at: 0 });
-    same(&rt, &read_value(rt.alloc(), &[0x09, 0x01], 0), &other);
-    let other = Err(TagFault::WrongTag { at: 0 });
-    same(&rt, &read_value(rt.alloc(), &[0x26], 0), &other);
-    let none = Err(TagFault::BadLength { at: 0 });
-    same(&rt, &read_value(rt.alloc(), &[0x12, 0, 0], 0), &none);
-    let none = Err(TagFault::BadLength { at: 0 });
-    same(&rt, &read_value(rt.alloc(), &[0x43, 0, 0, 0], 0), &none);
-    let none = Err(TagFault::BadLength { at: 0 });
-    same(&rt, &read_value(rt.alloc(), &[0x82, 0x08, 0x00], 0), &none);
-    let cut = Err(TagFault::Truncated { at: 2 });
-    same(&rt, &read_value(rt.alloc(), &[0x25, 0x05], 0), &cut);
+    let other = TagFault::WrongTag { at: 0 };
+    expect_no_value(&rt, rt.alloc(), &[0x09, 0x01], other);
+    expect_no_value(&rt, rt.alloc(), &[0x26], other);
+    let none = TagFault::BadLength { at: 0 };
+    expect_no_value(&rt, rt.alloc(), &[0x12, 0, 0], none);
+    expect_no_value(&rt, rt.alloc(), &[0x43, 0, 0, 0], none);
+    expect_no_value(&rt, rt.alloc(), &[0x82, 0x08, 0x00], none);
+    let cut = TagFault::Truncated { at: 2 };
+    expect_no_value(&rt, rt.alloc(), &[0x25, 0x05], cut);
 }
 
 #[test]

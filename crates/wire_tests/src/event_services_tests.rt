@@ -229,14 +229,23 @@ pub(crate) fn expect_written(
     Ok(())
 }
 
+/// The same of a notification that is given away.
+fn expect_note(
+    rt: &impl Abort,
+    alloc: Global,
+    note: Notification,
+    octets: &[u8],
+) -> Result<(), Fail>
+    requires told { IsTold note.event_type note.values }
+{
+    expect_written(rt, alloc, &note, octets)
+}
+
 #[test]
 fn notifications_are_written(rt: HostRuntime) -> Result<(), Fail> {
-    let note = high()?;
-    expect_written(&rt, rt.alloc(), &note, &HIGH)?;
-    let note = acknowledged()?;
-    expect_written(&rt, rt.alloc(), &note, &ACKNOWLEDGED)?;
-    let note = faulty()?;
-    expect_written(&rt, rt.alloc(), &note, &FAULTY)
+    expect_note(&rt, rt.alloc(), high()?, &HIGH)?;
+    expect_note(&rt, rt.alloc(), acknowledged()?, &ACKNOWLEDGED)?;
+    expect_note(&rt, rt.alloc(), faulty()?, &FAULTY)
 }
 
 #[test]
@@ -268,6 +277,21 @@ fn information_is_asked_for(rt: HostRuntime) -> Result<(), Fail> {
     Ok(())
 }
 
+/// The summaries are written as these octets.
+fn expect_information(
+    rt: &impl Abort,
+    alloc: Global,
+    summaries: &[EventSummary],
+    more: bool,
+    octets: &[u8],
+) -> Result<(), Fail> {
+    let written = write_information(alloc, summaries, more)
+        .ok()
+        .ok_or("no memory")?;
+    same(rt, &written.as_slice(), &octets);
+    Ok(())
+}
+
 #[test]
 fn information_is_written(rt: HostRuntime) -> Result<(), Fail> {
     let summary = EventSummary {
@@ -279,26 +303,20 @@ fn information_is_written(rt: HostRuntime) -> Result<(), Fail> {
         enable: [true, true, true],
         priority: [100, 90, 200],
     };
-    let octets = write_information(rt.alloc(), &[summary], true)
-        .ok()
-        .ok_or("no memory")?;
-    same(&rt, &octets.as_slice(), &INFORMATION.as_slice());
-    let none = write_information(rt.alloc(), &[], false)
-        .ok()
-        .ok_or("no memory")?;
-    same(&rt, &none.as_slice(), &[0x0e, 0x0f, 0x19, 0x00].as_slice());
-    Ok(())
+    expect_information(&rt, rt.alloc(), &[summary], true, &INFORMATION)?;
+    expect_information(&rt, rt.alloc(), &[], false, &[0x0e, 0x0f, 0x19, 0x00])
+}
+
+/// The octets are the notification.
+fn expect_read(rt: &impl Abort, alloc: Global, octets: &[u8], note: Notification) {
+    same(rt, &read_notification(alloc, octets), &Ok(note));
 }
 
 #[test]
 fn notifications_are_read(rt: HostRuntime) -> Result<(), Fail> {
-    same(&rt, &read_notification(rt.alloc(), &HIGH), &Ok(high()?));
-    same(
-        &rt,
-        &read_notification(rt.alloc(), &ACKNOWLEDGED),
-        &Ok(acknowledged()?),
-    );
-    same(&rt, &read_notification(rt.alloc(), &FAULTY), &Ok(faulty()?));
+    expect_read(&rt, rt.alloc(), &HIGH, high()?);
+    expect_read(&rt, rt.alloc(), &ACKNOWLEDGED, acknowledged()?);
+    expect_read(&rt, rt.alloc(), &FAULTY, faulty()?);
     Ok(())
 }
 

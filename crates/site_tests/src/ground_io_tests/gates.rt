@@ -1,12 +1,14 @@
-use super::{read_within, write_within};
+use super::{expect_image, read_within, write_within};
 use crate::comparing::{holds, same};
 use bac_values::Peer;
 use ground_io::{
     Failed, Filling, FreeGate, Gate, Ground, HeldGround, MemoryGround, MemoryLink, RestingGate,
     StillClock, SystemClock, UdpLink, Worker,
 };
+use std::alloc::Global;
 use std::io;
 use std::net::UdpSocket;
+use std::process::Abort;
 use std::sync::atomic::{AtomicU64, Ordering};
 use std::test::Fail;
 use std::time::{Clock, Duration, Instant};
@@ -43,6 +45,20 @@ impl Gate for Counting {
     }
 }
 
+/// A device of four octets, whose first sync fails, goes through the gate at each sync alone.
+fn expect_turns<G: Ground>(rt: &impl Abort, device: &mut G, gate: &Counting) {
+    same(rt, &device.size(), &Ok(4));
+    same(rt, &write_within(device, 1, b"ab"), &Ok(()));
+    same(rt, &read_within(device, 0), &Ok([7, 97, 98, 7]));
+    same(rt, &device.emit(Peer::console(), b"line"), &Ok(()));
+    same(rt, &gate.counted(), &(0, 0));
+    same(rt, &device.sync(), &Err(Failed));
+    same(rt, &gate.counted(), &(1, 0));
+    same(rt, &device.sync(), &Ok(()));
+    same(rt, &device.sync(), &Ok(()));
+    same(rt, &gate.counted(), &(3, 0));
+}
+
 #[test]
 fn held_ground_goes_through_its_gate_before_each_sync_and_else_never(
     rt: HostRuntime,
@@ -50,30 +66,24 @@ fn held_ground_goes_through_its_gate_before_each_sync_and_else_never(
     let alloc = rt.alloc();
     let gate = Counting::new();
     let inner = MemoryGround::new(alloc, vec![in alloc; 7u8; 4]?, vec![in alloc; 7u64]?);
-    let mut device = HeldGround::new(inner, &gate);
-    same(&rt, &device.size(), &Ok(4));
-    same(&rt, &write_within(&mut device, 1, b"ab"), &Ok(()));
-    same(&rt, &read_within(&mut device, 0), &Ok([7, 97, 98, 7]));
-    same(&rt, &device.emit(Peer::console(), b"line"), &Ok(()));
-    same(&rt, &gate.counted(), &(0, 0));
-    same(&rt, &device.sync(), &Err(Failed));
-    same(&rt, &gate.counted(), &(1, 0));
-    same(&rt, &device.sync(), &Ok(()));
-    same(&rt, &device.sync(), &Ok(()));
-    same(&rt, &gate.counted(), &(3, 0));
+    expect_turns(&rt, &mut HeldGround::new(inner, &gate), &gate);
     Ok(())
+}
+
+/// A device of four octets, of which two were written through a gate that holds nobody.
+fn held_and_written(alloc: Global) -> Result<HeldGround<FreeGate>, Fail> {
+    let inner = MemoryGround::new(alloc, vec![in alloc; 7u8; 4]?, Vec::new(alloc));
+    let mut device = HeldGround::new(inner, FreeGate);
+    let _ = write_within(&mut device, 1, b"ab");
+    Ok(device)
 }
 
 #[test]
 fn held_ground_shows_its_inner_ground(rt: HostRuntime) -> Result<(), Fail> {
-    let alloc = rt.alloc();
-    let inner = MemoryGround::new(alloc, vec![in alloc; 7u8; 4]?, Vec::new(alloc));
-    let mut device = HeldGround::new(inner, FreeGate);
-    same(&rt, &write_within(&mut device, 1, b"ab"), &Ok(()));
-    let image = device.inner().image(alloc, 1, Filling::Octet(0))?;
-    same(&rt, &image.as_slice(), &[7, 0, 0, 7].as_slice());
+    let device = held_and_written(rt.alloc())?;
     same(&rt, &device.inner().contents(), &[7, 97, 98, 7].as_slice());
-    Ok(())
+    let crash = (1, Filling::Octet(0));
+    expect_image(&rt, rt.alloc(), device.inner(), crash, &[7, 0, 0, 7])
 }
 
 /// A system that counts the milliseconds for which it slept.

@@ -4,21 +4,22 @@ use ground_io::{Failed, Link, MemoryLink, Received, UdpLink};
 use std::alloc::{AllocError, Global};
 use std::io;
 use std::net::{Ipv4Addr, SocketAddrV4, UdpSocket};
+use std::process::Abort;
 use std::test::Fail;
 use std::time::Duration;
 
 const LOOPBACK: u32 = 0x7f00_0001;
 
+fn datagram(alloc: Global, port: u16, octets: &[u8]) -> Result<Send, AllocError> {
+    Ok(Send {
+        peer: Peer::local(LOOPBACK, port),
+        bytes: Items::of(octets.to_vec(alloc)?),
+    })
+}
+
 /// Two datagrams, of five octets and of one.
 fn two_datagrams(alloc: Global) -> Result<Vec<Send>, AllocError> {
-    let mut datagrams = Vec::new(alloc);
-    for (port, octets) in [(1, b"alarm".as_slice()), (2, b"x".as_slice())] {
-        datagrams.push(Send {
-            peer: Peer::local(LOOPBACK, port),
-            bytes: Items::of(octets.to_vec(alloc)?),
-        })?;
-    }
-    Ok(datagrams)
+    Ok(vec![in alloc; datagram(alloc, 1, b"alarm")?, datagram(alloc, 2, b"x")?]?)
 }
 
 fn from_port(port: u16, length: usize) -> Result<Received, Failed> {
@@ -55,6 +56,17 @@ fn at_port(port: u16) -> SocketAddrV4 {
     SocketAddrV4::new(Ipv4Addr::LOCALHOST, port)
 }
 
+fn expect_nothing<L: Link>(rt: &impl Abort, link: &mut L) {
+    same(rt, &link.receive(&mut [0u8; 4]), &Ok(Received::Nothing));
+}
+
+/// The link hears the first octets of a request from a port.
+fn expect_heard<L: Link>(rt: &impl Abort, link: &mut L, port: u16) {
+    let mut into = *b"....";
+    same(rt, &link.receive(&mut into), &from_port(port, 4));
+    same(rt, &into, &*b"who-");
+}
+
 #[test]
 fn udp_link_hears_a_socket_and_finds_nothing_when_its_time_is_up(
     rt: HostRuntime,
@@ -62,12 +74,10 @@ fn udp_link_hears_a_socket_and_finds_nothing_when_its_time_is_up(
     let (socket, port) = local_socket(&rt)?;
     let (asker, asker_port) = local_socket(&rt)?;
     let mut link = UdpLink::new(&socket, Duration::from_millis(20))?;
-    let mut into = *b"....";
-    same(&rt, &link.receive(&mut into), &Ok(Received::Nothing));
+    expect_nothing(&rt, &mut link);
     asker.send_to(b"who-is", at_port(port))?;
-    same(&rt, &link.receive(&mut into), &from_port(asker_port, 4));
-    same(&rt, &into, &*b"who-");
-    same(&rt, &link.receive(&mut into), &Ok(Received::Nothing));
+    expect_heard(&rt, &mut link, asker_port);
+    expect_nothing(&rt, &mut link);
     Ok(())
 }
 

@@ -12,7 +12,7 @@ use Rattle.alarm_journal.proofs.Showing.{always_so}
 use Rattle.alarm_journal.specs.Press.{Answers, Settled, Blank, Begun, IsOpening, start_of, WasBlank}
 use Rattle.alarm_journal.specs.Protocol.{AddsSome}
 use Rattle.alarm_journal.specs.declared.open_fault.OpenFault.{OpenFault}
-use Rattle.alarm_journal.proofs.Reopening.{stays, blank_now, begun_now, formatting, small_answer, answers_then, answers_read, answers_blank, was_begun, was_blank, opening_cut}
+use Rattle.alarm_journal.proofs.Reopening.{reopens, stays, blank_now, begun_now, formatting, small_answer, answers_then, answers_read, answers_blank, was_begun, was_blank, opening_cut}
 use Rattle.alarm_journal.proofs.open.open_device.Goals as goal
 
 not_true : IsTrue false → ⊥
@@ -22,7 +22,8 @@ pub returns-in_err-size-clause-any_moment : goal.returns-in_err-size-clause-any_
 returns-in_err-size-clause-any_moment g c =
     let site : Site = record { text = c.args.text.now; need = c.args.need } in
     let az = adds_both (g.G.Ground.told c.args.device.now) (g.G.Ground.told c.sync.new.self) (g.G.Ground.told c.size.new.self) (Synced ∷ []) [] c.in_ok-sync.ensures.synced c.in_err-size.ensures.told in
-    stays site (g.G.Ground.told c.args.device.now) (g.G.Ground.told c.size.new.self) az
+    let p = err_from_is_err_and c.from_residual-in_err-size.result c.from_residual-in_err-size.ensures.1 in
+    rw p.1 (reopens site (g.G.Ground.told c.args.device.now) (g.G.Ground.told c.size.new.self) (stays site (g.G.Ground.told c.args.device.now) (g.G.Ground.told c.size.new.self) az))
 
 pub returns-then-size-need-clause-answer : goal.returns-then-size-need-clause-answer
 returns-then-size-need-clause-answer g c =
@@ -36,14 +37,15 @@ pub returns-then-size-need-clause-any_moment : goal.returns-then-size-need-claus
 returns-then-size-need-clause-any_moment g c =
     let site : Site = record { text = c.args.text.now; need = c.args.need } in
     let az = adds_both (g.G.Ground.told c.args.device.now) (g.G.Ground.told c.sync.new.self) (g.G.Ground.told c.size.new.self) (Synced ∷ []) [] c.in_ok-sync.ensures.synced c.in_ok-size.ensures.told in
-    stays site (g.G.Ground.told c.args.device.now) (g.G.Ground.told c.size.new.self) az
+    reopens site (g.G.Ground.told c.args.device.now) (g.G.Ground.told c.size.new.self) (stays site (g.G.Ground.told c.args.device.now) (g.G.Ground.told c.size.new.self) az)
 
 pub returns-in_err-begun-clause-any_moment : goal.returns-in_err-begun-clause-any_moment
 returns-in_err-begun-clause-any_moment g c =
     let site : Site = record { text = c.args.text.now; need = c.args.need } in
     let az = adds_both (g.G.Ground.told c.args.device.now) (g.G.Ground.told c.sync.new.self) (g.G.Ground.told c.size.new.self) (Synced ∷ []) [] c.in_ok-sync.ensures.synced c.in_ok-size.ensures.told in
     let ar = adds_both (g.G.Ground.told c.args.device.now) (g.G.Ground.told c.size.new.self) (g.G.Ground.told c.read_gate.new.device) (Synced ∷ []) [] az c.in_err-begun.ensures.told in
-    stays site (g.G.Ground.told c.args.device.now) (g.G.Ground.told c.read_gate.new.device) ar
+    let p = err_from_is_err_and c.from_residual-in_err-begun.result c.from_residual-in_err-begun.ensures.1 in
+    rw p.1 (reopens site (g.G.Ground.told c.args.device.now) (g.G.Ground.told c.read_gate.new.device) (stays site (g.G.Ground.told c.args.device.now) (g.G.Ground.told c.read_gate.new.device) ar))
 
 pub returns-in_err-layout-clause-any_moment : goal.returns-in_err-layout-clause-any_moment
 returns-in_err-layout-clause-any_moment g c =
@@ -51,7 +53,8 @@ returns-in_err-layout-clause-any_moment g c =
     let az = adds_both (g.G.Ground.told c.args.device.now) (g.G.Ground.told c.sync.new.self) (g.G.Ground.told c.size.new.self) (Synced ∷ []) [] c.in_ok-sync.ensures.synced c.in_ok-size.ensures.told in
     let ar = adds_both (g.G.Ground.told c.args.device.now) (g.G.Ground.told c.size.new.self) (g.G.Ground.told c.read_gate.new.device) (Synced ∷ []) [] az c.in_ok-begun.ensures.told in
     let ad = adds_both (g.G.Ground.told c.args.device.now) (g.G.Ground.told c.read_gate.new.device) (g.G.Ground.told c.read_journal.new.device) (Synced ∷ []) [] ar c.in_err-layout.ensures.told in
-    stays site (g.G.Ground.told c.args.device.now) (g.G.Ground.told c.read_journal.new.device) ad
+    let p = err_from_is_err_and c.from_residual-in_err-layout.result c.from_residual-in_err-layout.ensures.1 in
+    rw p.1 (reopens site (g.G.Ground.told c.args.device.now) (g.G.Ground.told c.read_journal.new.device) (stays site (g.G.Ground.told c.args.device.now) (g.G.Ground.told c.read_journal.new.device) ad))
 
 pub returns-in_err-layout-clause-answer : goal.returns-in_err-layout-clause-answer
 returns-in_err-layout-clause-answer g c =
@@ -101,7 +104,8 @@ returns-in_err-layout-2-clause-any_moment g c =
     let blank : Blank (g.G.Ground.told c.read_gate.new.device) = blank_now (g.G.Ground.told c.args.device.now) (g.G.Ground.told c.size.new.self) (g.G.Ground.told c.read_gate.new.device) _ az c.in_ok-begun.ensures.told c.in_ok-begun.ensures.open (λ is. not_true (sym c.if-begun.false ∙ is)) in
     let size_is : c.in_ok-size.size ≡ g.G.Ground.size c.args.device.now = c.in_ok-size.ensures.answer ∙ c.in_ok-sync.ensures.same in
     let whole : HasSize c.in_ok-size.size (g.G.Ground.told c.args.device.now) = subst (λ (n : ℕ). HasSize n (g.G.Ground.told c.args.device.now)) (sym size_is) (g.G.Ground.sized c.args.device.now) in
-    formatting site c.in_ok-size.size (g.G.Ground.told c.args.device.now) (g.G.Ground.told c.read_gate.new.device) (g.G.Ground.told c.format.new.device) whole c.if-size-need.false ar blank (c.in_err-layout-2.ensures.any_moment blank)
+    let p = err_from_is_err_and c.from_residual-in_err-layout-2.result c.from_residual-in_err-layout-2.ensures.1 in
+    rw p.1 (reopens site (g.G.Ground.told c.args.device.now) (g.G.Ground.told c.format.new.device) (formatting site c.in_ok-size.size (g.G.Ground.told c.args.device.now) (g.G.Ground.told c.read_gate.new.device) (g.G.Ground.told c.format.new.device) whole c.if-size-need.false ar blank (c.in_err-layout-2.ensures.any_moment blank)))
 
 pub returns-in_err-layout-2-clause-writes : goal.returns-in_err-layout-2-clause-writes
 returns-in_err-layout-2-clause-writes g c =

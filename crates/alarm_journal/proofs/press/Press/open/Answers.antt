@@ -1,6 +1,9 @@
+use Rattle.std.proofs.Common.{◌+◌, length, arith}
 use Rattle.alarm_journal.specs.Journal.{Site}
 use Rattle.alarm_journal.specs.Opened.{content_in}
-use Rattle.alarm_journal.proofs.Places.{pieces_whole, pieces_long}
+use Rattle.alarm_journal.specs.Press.{start_of}
+use Rattle.alarm_journal.proofs.Committing.{end_low}
+use Rattle.alarm_journal.proofs.Places.{ends_before, pieces_whole, pieces_long}
 use Rattle.alarm_journal.proofs.Rest.{lasts}
 use Rattle.alarm_journal.proofs.press.Press.open.Goals as goal
 
@@ -14,3 +17,9 @@ returns-in-Ok-clause-batches g c = pieces_whole c.in-Ok.opened.bodies c.in-Ok.op
 
 pub returns-in-Ok-clause-lengths : goal.returns-in-Ok-clause-lengths
 returns-in-Ok-clause-lengths g c = pieces_long c.in-Ok.opened.bodies c.in-Ok.opened.batches c.in-Ok.ensures.laid.whole
+
+pub returns-in-Ok-clause-ends : goal.returns-in-Ok-clause-ends
+returns-in-Ok-clause-ends g c =
+    let layout = c.in-Ok.layout in
+    let sound = c.in-Ok.ensures.sound in
+    ends_before (start_of layout + 4 + length c.in-Ok.opened.snapshot) c.in-Ok.opened.bodies layout.next (omega (arith, sound.within, sound.fits, sound.word, end_low layout)) c.in-Ok.ensures.laid.bodies

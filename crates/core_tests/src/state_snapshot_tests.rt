@@ -1,0 +1,216 @@
+ghost use Rattle.std.specs.Prelude.{◌≡◌, IfOk};
+ghost use Rattle.object_table.specs.Objects.{IsObject};
+
+use crate::alarm_core_plant::{Play, operator, plant, play_on, set, take};
+use crate::comparing::holds;
+use alarm_core::*;
+use bac_values::{Items, ObjectId, ObjectKind, Text, Value};
+use object_table::ObjectSite;
+use state_codec::{CodecFault, need, read_state, snapshot_bound, write_state};
+use std::alloc::Global;
+use std::process::Abort;
+use std::test::Fail;
+
+/// An integer value of 50 with limits 20 and 80.
+fn tank(alloc: Global, time_delay: u32) -> Result<ObjectSite, Fail>
+    ensures object { IfOk result (λ site. IsObject site) }
+{
+    Ok(ObjectSite {
+        object: ObjectId::of_kind(ObjectKind::IntegerValue, 1)?,
+        name: Text::new(alloc, "Tank")?,
+        value: Value::Signed(50),
+        out_of_service: false,
+        reliability_inhibit: false,
+        states: 0,
+        fault_low: None,
+        fault_high: None,
+        fault_values: Items::of(Vec::new(alloc)),
+        class: Some(7),
+        notify: 0,
+        enable: [true; 3],
+        time_delay,
+        time_delay_normal: None,
+        detection: true,
+        inhibit: false,
+        low: 20,
+        high: 80,
+        deadband: 5,
+        limit_enable: [true; 2],
+        alarm_value: None,
+        alarm_values: Items::of(Vec::new(alloc)),
+        mask: None,
+    })
+}
+
+/// Version 1, no event yet, and the site's start: 1700000000000.
+const HEAD: [u8; 17] = [
+    1, 0, 0, 0, 0, 0, 0, 0, 0, 0, 0, 0x01, 0x8B, 0xCF, 0xE5, 0x68, 0,
+];
+
+/// The value 50; in service, nothing inhibited, no fault; all transitions are told, after 10 seconds, with no other delay
+/// to normal; the limits 80 and 20, the deadband 5, both limits enabled.
+const ROW: [u8; 32] = [
+    3, 0, 0, 0, 50, 0, 0, 0, 0, 7, 0, 0, 0, 10, 0, 0, 0, 0, 0, 0, 0, 0, 80, 0, 0, 0, 20, 0, 0, 0,
+    5, 3,
+];
+
+/// Normal, all transitions acknowledged, which never came; no cause, no fault, and no runs.
+const ALARM: [u8; 73] = [
+    0, 7, //
+    255, 255, 255, 255, 255, 255, 255, 255, 255, 255, 255, 255, 255, 255, 255, 255, 255, 255, 255,
+    255, 255, 255, 255, 255, //
+    255, 255, 255, //
+    0, 0, 0, 0, 0, //
+    0, 0, 0, 0, 0, 0, 0, 0, 0, 0, 0, 0, 0, //
+    0, 0, 0, 0, 0, 0, 0, 0, 0, 0, 0, 0, 0, //
+    0, 0, 0, 0, 0, 0, 0, 0, 0, 0, 0, 0, 0,
+];
+
+/// One recipient, at all times and of all transitions, to be confirmed with process identifier 1.
+const CLASS: [u8; 32] = [
+    1, 127, 0, 0, 0, 0, 0, 0x83, 0xD5, 0xFF, 10, 0, 0, 5, 0xBA, 0xC0, 0, 0, 0, 0, 0, 0, 0, 0, 0, 0,
+    0, 0, 0, 1, 1, 7,
+];
+
+/// One known peer, whose next invoke ID is 0, and for whom nothing waits.
+const OUTBOX: [u8; 30] = [
+    0, 1, 10, 0, 0, 5, 0xBA, 0xC0, 0, 0, 0, 0, 0, 0, 0, 0, 0, 0, //
+    0, 0, 0, 0, 0, 0, 0, 0, 0, 0, 0, 0,
+];
+
+/// Whether octets are these parts, one behind the other.
+fn are_parts(octets: &[u8], parts: &[&[u8]]) -> bool {
+    let mut rest = octets;
+    for part in parts {
+        match rest.strip_prefix(*part) {
+            Some(behind) => rest = behind,
+            None => return false,
+        }
+    }
+    rest.is_empty()
+}
+
+/// The core at the start.
+struct Begun;
+
+impl Play for Begun {
+    fn play(&self, rt: &impl Abort, alloc: Global, core: &mut Core) -> Result<(), Fail> {
+        let octets = write_state(alloc, core)?;
+        holds(rt, octets.len() == 184);
+        holds(
+            rt,
+            are_parts(&octets, &[&HEAD, &ROW, &ALARM, &CLASS, &OUTBOX]),
+        );
+        Ok(())
+    }
+}
+
+#[test]
+fn the_start_has_184_octets(rt: HostRuntime) -> Result<(), Fail> {
+    let site = plant(rt.alloc(), tank(rt.alloc(), 10)?, 256)?;
+    play_on(&rt, rt.alloc(), &site, &Begun)
+}
+
+#[test]
+fn a_site_of_one_object_needs_493748_octets(rt: HostRuntime) -> Result<(), Fail> {
+    let site = plant(rt.alloc(), tank(rt.alloc(), 10)?, 256)?;
+    holds(&rt, snapshot_bound(&site) == 493_748);
+    holds(&rt, need(&site, 100) == 22 + 100 + 2 * (60_010 + 493_748));
+    Ok(())
+}
+
+/// The snapshot of the start.
+fn first_octets(alloc: Global) -> Result<Vec<u8>, Fail> {
+    let mut octets = Vec::new(alloc);
+    octets.extend_from_slice(&HEAD)?;
+    octets.extend_from_slice(&ROW)?;
+    octets.extend_from_slice(&ALARM)?;
+    octets.extend_from_slice(&CLASS)?;
+    octets.extend_from_slice(&OUTBOX)?;
+    Ok(octets)
+}
+
+#[test]
+fn a_snapshot_is_read_and_written_again(rt: HostRuntime) -> Result<(), Fail> {
+    let alloc = rt.alloc();
+    let site = plant(alloc, tank(alloc, 10)?, 256)?;
+    let octets = first_octets(alloc)?;
+    let core = read_state(alloc, &site, &octets)?;
+    holds(
+        &rt,
+        write_state(alloc, &core)?.as_slice() == octets.as_slice(),
+    );
+    Ok(())
+}
+
+/// A place, and an octet with which no state of the site has the snapshot.
+const DAMAGED: [(usize, u8); 30] = [
+    // Version 2 at a site without a zone rule; 2^63 events; a moment before the start, and one after 2^48.
+    (0, 2),
+    (1, 0x80),
+    (11, 0),
+    (9, 1),
+    // An unsigned value of an integer value; a flag of 2; a fault that the field doesn't have; a fourth transition.
+    (17, 2),
+    (22, 2),
+    (25, 1),
+    (26, 8),
+    // Time_Delay_Normal where the site has none, with its flag and without it; a third limit.
+    (31, 1),
+    (35, 1),
+    (48, 4),
+    // A state to which the limits don't lead; a fourth acknowledged transition; to-offnormal and to-fault entered others.
+    (49, 2),
+    (50, 8),
+    (75, 0),
+    (76, 2),
+    // A cause where there are no alarm values; no reliability; a run that starts in 1970; a start and a key without a run.
+    (81, 1),
+    (82, 99),
+    (83, 1),
+    (91, 1),
+    (95, 1),
+    // 33 recipients; an eighth day; a first time behind the day's end; a recipient that is not known.
+    (122, 33),
+    (123, 128),
+    (124, 1),
+    (135, 6),
+    // A station on the local network, and behind it; a flag of 2.
+    (140, 1),
+    (147, 1),
+    (152, 2),
+    // Two posts where there is one; an attempt, and a deadline, where nothing is in flight.
+    (155, 2),
+    (173, 1),
+    (181, 1),
+];
+
+#[test]
+fn each_damaged_snapshot_is_refused(rt: HostRuntime) -> Result<(), Fail> {
+    let alloc = rt.alloc();
+    let site = plant(alloc, tank(alloc, 10)?, 256)?;
+    let octets = first_octets(alloc)?;
+    for (place, octet) in DAMAGED {
+        let mut damaged = octets.clone()?;
+        if let Some(slot) = damaged.get_mut(place) {
+            *slot = octet;
+        }
+        match read_state(alloc, &site, &damaged) {
+            Err(CodecFault::Malformed { at }) => holds(&rt, at == 0),
+            _ => return Err("it is read".into()),
+        }
+    }
+    Ok(())
+}
+
+#[test]
+fn a_snapshot_ends_where_it_ends(rt: HostRuntime) -> Result<(), Fail> {
+    let alloc = rt.alloc();
+    let site = plant(alloc, tank(alloc, 10)?, 256)?;
+    let mut octets = first_octets(alloc)?;
+    let front = octets.len() - 1;
+    holds(&rt, read_state(alloc, &site, &octets[..front]).is_err());
+    octets.push(0)?;
+    holds(&rt, read_state(alloc, &site, &octets).is_err());
+    Ok(())
+}
