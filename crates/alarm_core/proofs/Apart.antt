@@ -59,8 +59,8 @@ not_true false never = refl
 module _ (object : ObjectIdData) (log : object.number ≡ 25) where
   other_row : (site : ObjectSite) (row : Row) → IsRowOf site row → is_object object row.site.object ≡ false
   other_row site row is = not_true (is_object object row.site.object) (λ same.
-    let number : row.site.object.number ≡ 25 = ap (λ (i : ObjectIdData). i.number) (same_object object row.site.object same) ∙ log in
-    subst HasNoValue (sym number) no_log_value row.site is.takes.site.value)
+      let number : row.site.object.number ≡ 25 = ap (λ (i : ObjectIdData). i.number) (same_object object row.site.object same) ∙ log in
+      subst HasNoValue (sym number) no_log_value row.site is.takes.site.value)
 
   rows_apart : (sites : List ObjectSite) (table : List Row) → AllZip IsRowOf sites table → All (λ (row : Row). is_object object row.site.object ≡ false) table
   rows_apart [] [] all = All-nil (λ (row : Row). is_object object row.site.object ≡ false)
@@ -70,8 +70,8 @@ module _ (object : ObjectIdData) (log : object.number ≡ 25) where
 
   other_enrollment : (site now : EnrollmentSite) → IsEnrollment site → IsEnrollmentOf site now → is_object object now.object ≡ false
   other_enrollment site now allowed is = not_true (is_object object now.object) (λ same.
-    let here : now.object ≡ site.object = ap (λ (s : EnrollmentSite). s.object) is.same in
-    not_nine object.number log (ap (λ (i : ObjectIdData). i.number) (sym (same_object object now.object same) ∙ here) ∙ allowed.number))
+      let here : now.object ≡ site.object = ap (λ (s : EnrollmentSite). s.object) is.same in
+      not_nine object.number log (ap (λ (i : ObjectIdData). i.number) (sym (same_object object now.object same) ∙ here) ∙ allowed.number))
 
   enrollments_apart : (sites now : List EnrollmentSite) → All IsEnrollment sites → AllZip IsEnrollmentOf sites now → All (λ (site : EnrollmentSite). is_object object site.object ≡ false) now
   enrollments_apart [] [] allowed all = All-nil (λ (site : EnrollmentSite). is_object object site.object ≡ false)

@@ -24,12 +24,12 @@ ghost use Rattle.alarm_core.specs.ViewSteps.{seen_in};
 
 use crate::classes::edited_classes;
 use crate::due_looks::Round;
-use crate::recipients::peers_of;
 use crate::logs::{change_all, enter_all, kept_log};
-use crate::transition_report::{Told, add_moves, tell};
-use crate::notifications::{add_notes, notes_of_acknowledgement};
 use crate::note_queue::queue_all;
+use crate::notifications::{add_notes, notes_of_acknowledgement};
+use crate::recipients::peers_of;
 use crate::transition::ObjectTransition;
+use crate::transition_report::{Told, add_moves, tell};
 use crate::view::SiteView;
 use crate::{Act, Core, Event, Outcome, StepFault};
 use bac_values::{EventState, Items, Moved, NoMemory, ObjectId, Peer, Send, Transition};
