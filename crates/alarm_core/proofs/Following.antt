@@ -43,11 +43,16 @@ fits_after state event history is r may =
     subst (λ (s : CoreState). unfinished_in s.outbox.posts ≤ s.site.device.outbox) (sym longer)
     (not_more (step_verdict event (state_of site history)) would site.device.outbox verdict (λ more. full.1 (refl, refl, more)))
 
+-- so the state after an event that may follow represents the longer history
+pub represents_next : (state : CoreState) (event : Event) (history : List Event) → IsSite state.site → Represents state history → MayFollow event state → Represents (next_state event state) (event ∷ history)
+represents_next state event history is r may =
+    represents_after history state (next_state event state) event is r refl may.not_before may.moment may.allowed (fits_after state event history is r may)
+
 pub stands_over_events : StandsOverEvents
 stands_over_events state history [] is r allowed = r
 stands_over_events state history (event ∷ later) is r (may, others) =
     let new = next_state event state in
-    let now : Represents new (event ∷ history) = represents_after history state new event is r refl may.not_before may.moment may.allowed (fits_after state event history is r may) in
+    let now : Represents new (event ∷ history) = represents_next state event history is r may in
     let order : reverse later ++ (event ∷ history) ≡ reverse (event ∷ later) ++ history =
     sym (ap (λ (l : List Event). l ++ history) (reverse-append (event ∷ []) later) ∙ append_assoc (reverse later) (event ∷ []) history) in
     subst (λ (h : List Event). Represents (state_over new later) h) order (stands_over_events new (event ∷ history) later is now others)

@@ -13,7 +13,7 @@ use Rattle.outbox.proofs.Learning.{known_addresses}
 use Rattle.enrollment.specs.Objects.{ObjectsState}
 use Rattle.alarm_core.specs.declared.event.Act.{Act}
 use Rattle.alarm_core.specs.declared.event.Act.TheVariants.{Tick}
-use Rattle.alarm_core.specs.declared.look.Told.{Told}
+use Rattle.alarm_core.specs.declared.transition_report.Told.{Told}
 use Rattle.alarm_core.specs.declared.site.Site.{Site}
 use Rattle.alarm_core.specs.Classes.{first_classes, known_peers_of}
 use Rattle.alarm_core.specs.Known.{KnowsClass}

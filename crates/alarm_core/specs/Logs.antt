@@ -1,9 +1,10 @@
 -- The event logs of a site after a history (ANSI/ASHRAE 135-2020, 12.27).
-use Rattle.std.specs.Prelude.{ℕ, zero, ◌/◌, ◌==◌, Bool, IsTrue, IsSomeAnd, if◌then◌else◌, Option, List, [], ◌∷◌, ◌++◌, map, find}
+use Rattle.std.specs.Prelude.{◌≡◌, ℕ, zero, ◌/◌, ◌==◌, Bool, IsTrue, IsSomeAnd, if◌then◌else◌, Option, None, List, [], ◌∷◌, ◌++◌, map, find}
 use Rattle.std.specs.List.{flat_map, list_any}
 use Rattle.std.specs.Option.{option_map, option_to_list}
-use Rattle.bac_values.specs.Identifier.{ObjectIdData}
+use Rattle.bac_values.specs.Identifier.{ObjectIdData, number_of_kind}
 use Rattle.bac_values.specs.Properties.{enable_property, record_count_property}
+use Rattle.bac_values.specs.declared.object_kind.ObjectKind.TheVariants.{EventLog}
 use Rattle.bac_values.specs.declared.value.Value.{Value}
 use Rattle.bac_values.specs.declared.value.Value.TheVariants.{Bool as Truth, Unsigned}
 use Rattle.event_log.specs.History.{Call, Cleared, Recorded, Switched, log_after}
@@ -13,9 +14,11 @@ use Rattle.notify_class.specs.declared.class.Class.{Class}
 use Rattle.object_table.specs.declared.change.Change.{Change}
 use Rattle.object_table.specs.declared.change.What.{What}
 use Rattle.object_table.specs.declared.change.What.TheVariants.{Property, FieldFault}
-use Rattle.object_table.specs.Rows.{is_object}
+use Rattle.object_table.specs.Rows.{is_object, row_of}
 pub use Rattle.property_values.specs.LogProperties.{takes, takes_value}
 use Rattle.enrollment.specs.declared.subject.Subject.{Subject}
+use Rattle.enrollment.specs.Enrollments.{site_of}
+use Rattle.enrollment.specs.Objects.{ObjectsState}
 use Rattle.alarm_core.specs.declared.event.Act.{Act}
 use Rattle.alarm_core.specs.declared.event.Act.TheVariants.{Write}
 use Rattle.alarm_core.specs.declared.event.Event.{Event}
@@ -30,6 +33,10 @@ use Rattle.alarm_core.specs.Evaluations.{site_stamp}
 pub record SiteLogState : Type 0 where
   pub site : LogSite
   pub log : EventLogState
+
+-- no value object and no enrollment has the identifier of an event log
+abbrev pub HasNoLog : ObjectsState → Type 0
+HasNoLog values = (object : ObjectIdData) → object.number ≡ number_of_kind EventLog → (row_of object values.rows ≡ None) × (site_of object values.enrollments ≡ None)
 
 -- a log at the start
 abbrev pub first_log : LogSite → EventLogState

@@ -1,4 +1,4 @@
-ghost use Rattle.std.specs.Prelude.{◌≡◌, ◌==◌, ◌∷◌, ◌++◌, All, List, IfOk, OnOk, map, Vec as Records};
+ghost use Rattle.std.specs.Prelude.{◌≡◌, ◌==◌, ◌∷◌, ◌++◌, All, List, IfOk, IsSome, IsTrue, OnOk, map, Vec as Records};
 ghost use Rattle.std.specs.declared.alloc.Global.{Global};
 ghost use Rattle.std.specs.List.{flat_map, list_any};
 ghost use Rattle.std.specs.Option.{option_map, option_to_list};
@@ -6,7 +6,6 @@ ghost use Rattle.bac_values.specs.Identifier.{number_of_kind};
 ghost use Rattle.bac_values.specs.declared.object_kind.ObjectKind.TheVariants.{EventLog as Logging};
 ghost use Rattle.event_log.specs.History.{Call};
 ghost use Rattle.object_table.specs.Rows.{is_object};
-ghost use Rattle.enrollment.specs.Objects.{written};
 ghost use Rattle.alarm_core.specs.Logs.{call_of_change, call_of_value, call_of_what, kept_log, records_class, SiteLogState};
 ghost use Rattle.alarm_core.specs.CoreSteps.{after_calls, first_kept};
 ghost use Rattle.alarm_core.specs.Sites.{IsLogSite};
@@ -16,7 +15,6 @@ use crate::view::Addressed;
 use crate::{LogSite, Site};
 use bac_values::{NoMemory, ObjectId, PropertyId, Stamp, Value, push};
 use civil_stamp::LocalMoment;
-use enrollment::Objects;
 use event_log::{EventLog, copy_of_log};
 use event_services::write_notification;
 use notify_class::Class;
@@ -208,6 +206,7 @@ pub(crate) fn first_logs(alloc: Global, site: &Site) -> Result<Vec<SiteLog>, NoM
 
 fn is_log(kept: &SiteLog, object: ObjectId) -> bool
     ensures same { result ≡ is_object object kept.now.site.object }
+    ensures logging { IsTrue result → object.number ≡ number_of_kind Logging }
 {
     kept.site().object == object
 }
@@ -215,6 +214,7 @@ fn is_log(kept: &SiteLog, object: ObjectId) -> bool
 /// The log with this identifier.
 pub(crate) fn kept_log(logs: &[SiteLog], object: ObjectId) -> Option<&SiteLog>
     ensures found { option_map (λ kept. kept.now) result ≡ kept_log object logs.now }
+    ensures logging { IsSome result → object.number ≡ number_of_kind Logging }
 {
     logs.iter().find(|kept| is_log(kept, object))
 }
@@ -273,13 +273,4 @@ pub(crate) fn change_all(logs: &mut Vec<SiteLog>, change: &Change)
     for kept in logs.iter_mut() {
         kept.change(change);
     }
-}
-
-/// A change of an event log changes no value object and no enrollment. It does nothing.
-pub(crate) fn passes_by(objects: &Objects, change: &Change)
-    requires log { change.now.object.number ≡ number_of_kind Logging }
-    ensures same { written change.now objects.now ≡ objects.now }
-{
-    let _rows = objects.table().rows();
-    let _enrollments = objects.enrollments().rows();
 }

@@ -9,9 +9,9 @@ ghost use Rattle.alarm_core.specs.Subjects.{alarm_subjects, has_class};
 
 use crate::detection::DetectedObject;
 use crate::detections::Detections;
+use crate::initial_state::ack_required_of;
 use crate::logs::SiteLog;
 use crate::site::copy_of_site;
-use crate::starting::ack_required_of;
 use crate::state::site_zone;
 use crate::{Core, LogSite, Parts, Site};
 use bac_values::{NoMemory, Peer, PeerList, push};

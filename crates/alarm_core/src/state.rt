@@ -16,10 +16,10 @@ use crate::classes::classes_of;
 use crate::detection::detected_object;
 use crate::detections::Detections;
 use crate::identifiers::device_object;
-use crate::knowing::peers_in;
+use crate::initial_state::{first_alarms, first_objects};
 use crate::logs::{SiteLog, first_logs, kept_log};
+use crate::recipients::peers_in;
 use crate::site::{copy_of_site, is_other_object};
-use crate::starting::{first_alarms, first_objects};
 use bac_values::{NoMemory, ObjectId, Peer, PeerList};
 use civil_stamp::{LocalMoment, Zone};
 use enrollment::Enrollments;
@@ -53,6 +53,7 @@ impl Model for Core {
     ghost use Rattle.outbox.specs.Outboxes.{peers_of};
     ghost use Rattle.alarm_core.specs.Known.{KnowsClass};
     ghost use Rattle.alarm_core.specs.Evaluations.{site_zone};
+    ghost use Rattle.alarm_core.specs.Logs.{HasNoLog};
     ghost use Rattle.alarm_core.specs.Sites.{IsSite};
     ghost use Rattle.alarm_core.specs.State.{CoreState};
 
@@ -76,6 +77,7 @@ impl Model for Core {
       limit : core.outbox.limit ≡ core.site.device.outbox;
       peers : core.peers ≡ peers_of core.outbox.posts;
       known : All (KnowsClass core.peers) core.classes.items;
+      apart : HasNoLog core.detections.values;
     } };
 }
 

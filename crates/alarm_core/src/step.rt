@@ -24,12 +24,12 @@ ghost use Rattle.alarm_core.specs.ViewSteps.{seen_in};
 
 use crate::classes::edited_classes;
 use crate::due_looks::Round;
-use crate::knowing::peers_of;
-use crate::logs::{change_all, enter_all, kept_log, passes_by};
-use crate::look::{Told, add_moves, tell};
+use crate::logs::{change_all, enter_all, kept_log};
+use crate::note_queue::queue_all;
 use crate::notifications::{add_notes, notes_of_acknowledgement};
-use crate::queueing::queue_all;
+use crate::recipients::peers_of;
 use crate::transition::ObjectTransition;
+use crate::transition_report::{Told, add_moves, tell};
 use crate::view::SiteView;
 use crate::{Act, Core, Event, Outcome, StepFault};
 use bac_values::{EventState, Items, Moved, NoMemory, ObjectId, Peer, Send, Transition};
@@ -138,14 +138,7 @@ impl Core {
         ensures log { IsTrue result → written change.now self.now.values ≡ self.now.values }
         ensures none { IsFalse result → kept_log change.now.object self.now.logs ≡ None }
     {
-        match kept_log(&self.logs, change.object) {
-            Some(kept) => {
-                let _log = kept.site();
-                passes_by(self.detections.objects(), change);
-                true
-            }
-            None => false,
-        }
+        kept_log(&self.logs, change.object).is_some()
     }
 
     // The second look of a write, after the change of an object or before that of a log. It gives the change that takes the
@@ -419,8 +412,6 @@ impl Core {
         let moment = event.moment.max(self.last_moment);
         let at = self.at(moment);
         let done = self.act(&at, &event.act, steps)?;
-        // The outbox is within its limit, as ever.
-        let _room = self.outbox.room();
         self.events += 1;
         self.last_moment = moment;
         Ok(Outcome {

@@ -4,10 +4,25 @@ use Rattle.enrollment.specs.Objects.{ObjectsState, written}
 use Rattle.object_table.specs.declared.change.Change.{Change}
 use Rattle.alarm_core.specs.CoreSteps.{evaluated_all, transitions_by}
 use Rattle.alarm_core.specs.DueSteps.{DetectionsState, LeadsBack, all_once, detections_of, due_count, dues_of, start_of, touched_by}
+use Rattle.alarm_core.specs.Logs.{HasNoLog}
 use Rattle.alarm_core.specs.State.{CoreState}
+use Rattle.alarm_core.proofs.Apart.{written_apart}
 use Rattle.alarm_core.proofs.DueCounts.{touching_raises}
 use Rattle.alarm_core.proofs.Moved.{at_site}
 use Rattle.alarm_core.proofs.state.Core.change.Goals as goal
+
+pub invariant_of-self-2 : goal.invariant_of-self-2
+invariant_of-self-2 g c =
+    let old = c.self.inside.detections.values in
+    record {
+      site = c.self.invariant.site;
+      zone = c.self.invariant.zone;
+      moment = c.self.invariant.moment;
+      limit = c.self.invariant.limit;
+      peers = c.self.invariant.peers;
+      known = c.self.invariant.known;
+      apart = subst HasNoLog (sym c.in_ok-undo.ensures.values) (written_apart c.in_ok-copy_of_change.field-0 old c.self.invariant.apart);
+    }
 
 pub returns-in_err-evaluate-clause-undoes : goal.returns-in_err-evaluate-clause-undoes
 returns-in_err-evaluate-clause-undoes g c =

@@ -20,6 +20,7 @@ invariant_of-self-2 c =
     let known = known_by (Edit c.args.class c.args.destinations.now) core.peers core.classes.items c.self.invariant.known in
     record {
       site = c.self.invariant.site;
+      apart = c.self.invariant.apart;
       zone = c.self.invariant.zone;
       moment = c.self.invariant.moment;
       limit = search rules;

@@ -4,9 +4,12 @@ use Rattle.bac_values.specs.Address.{PeerData}
 use Rattle.outbox.specs.Outboxes.{peers_of}
 use Rattle.alarm_core.specs.Evaluations.{site_zone}
 use Rattle.alarm_core.specs.Known.{KnowsClass}
+use Rattle.alarm_core.specs.Logs.{HasNoLog}
+use Rattle.alarm_core.specs.Parts.{state_of_parts}
 use Rattle.alarm_core.specs.Sites.{IsSite}
 use Rattle.alarm_core.specs.declared.site.Site.{Site}
 use Rattle.alarm_core.specs.DueSteps.{AscendByObject, DetectionsState}
+use Rattle.alarm_core.proofs.Apart.{state_apart}
 use Rattle.alarm_core.proofs.RestoredCore.{restored_ascend, restored_shows}
 use Rattle.alarm_core.proofs.state.Core.restore.Goals as goal
 
@@ -22,6 +25,7 @@ invariant_of-result c =
     let same : c.in_ok-site.site ≡ site = search rules in
     let classes : c.into_vec-classes.result.items ≡ parts.classes = c.into_vec-classes.ensures.same in
     let peers : c.in_ok-peers.peers ≡ peers_of parts.outbox.posts = search rules in
+    let values = ap (λ (d : DetectionsState). d.values) c.in_ok-detections.ensures.detections ∙ c.new-objects.ensures.objects in
     record {
       site = subst IsSite (sym same) c.requires.site;
       zone = c.site_zone-zone.ensures.zone ∙ sym (ap site_zone same);
@@ -29,6 +33,7 @@ invariant_of-result c =
       limit = state.limit ∙ sym (ap (λ (s : Site). s.device.outbox) same);
       peers = peers;
       known = subst (All (KnowsClass c.in_ok-peers.peers)) (sym classes) (subst (λ (ps : List PeerData). All (KnowsClass ps) parts.classes) (sym peers) state.known);
+      apart = subst HasNoLog (sym values) (state_apart site (state_of_parts site parts) c.requires.site state);
     }
 
 pub returns : goal.returns

@@ -13,6 +13,7 @@ use Rattle.alarm_core.specs.Sites.{IsSite}
 use Rattle.alarm_core.specs.Subjects.{ack_required_of, detecting_subjects}
 use Rattle.alarm_core.specs.Values.{first_values}
 use Rattle.alarm_core.proofs.Acted.{started}
+use Rattle.alarm_core.proofs.Apart.{first_apart}
 use Rattle.alarm_core.proofs.Standing.{represents_first}
 use Rattle.alarm_core.proofs.ToldKnown.{first_known}
 use Rattle.alarm_core.proofs.state.Core.start.Goals as goal
@@ -27,6 +28,7 @@ invariant_of-result c =
     let peers : c.in_ok-peers.peers ≡ peers_with c.in_ok-listed.listed.items [] = search rules in
     let known : c.in_ok-peers.peers ≡ known_peers_of site [] = peers ∙ ap (λ ps. peers_with ps []) (listed ∙ ap peers_in classes) in
     let outbox : c.in_ok-outbox.outbox ≡ new_outbox c.in_ok-peers.peers site.device.outbox site.device.apdu_timeout site.device.retries = search rules in
+    let values : c.in_ok-objects.objects ≡ first_values site = search rules in
     record {
       site = subst IsSite (sym same) c.requires.site;
       zone = c.site_zone-zone.ensures.zone ∙ sym (ap site_zone same);
@@ -34,6 +36,7 @@ invariant_of-result c =
       limit = ap (λ o. o.limit) outbox ∙ sym (ap (λ s. s.device.outbox) same);
       peers = sym (ap (λ o. peers_of o.posts) outbox ∙ peers_empty c.in_ok-peers.peers);
       known = first_known site c.in_ok-peers.peers c.in_ok-classes.classes.items known classes;
+      apart = first_apart site c.requires.site c.in_ok-detections.detections.values (ap (λ (d : DetectionsState). d.values) c.in_ok-detections.ensures.detections ∙ values);
     }
 
 pub returns-clause-starts : goal.returns-clause-starts

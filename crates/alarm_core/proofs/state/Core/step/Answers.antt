@@ -1,18 +1,21 @@
-use Rattle.std.proofs.Common.{◌≡◌, ◌+◌, ◌≤◌, ℕ, ap, rules, arith}
+use Rattle.std.proofs.Common.{◌≡◌, ◌+◌, ◌≤◌, ℕ, ◌∷◌, ap, sym, subst, rules, arith}
 use Rattle.alarm_core.specs.History.{raised}
 use Rattle.alarm_core.specs.CoreSteps.{acted}
 use Rattle.civil_stamp.specs.LocalTime.{LocalMomentData}
 use Rattle.alarm_core.specs.DueSteps.{detections_of, due_steps}
+use Rattle.alarm_core.specs.Allowed.{Represents}
 use Rattle.alarm_core.specs.Evaluations.{site_moment}
+use Rattle.alarm_core.specs.FollowingSteps.{MayFollow}
 use Rattle.alarm_core.specs.Moving.{moving_of, touched_of}
 use Rattle.alarm_core.specs.Sites.{IsSite}
 use Rattle.alarm_core.specs.State.{CoreState}
 use Rattle.alarm_core.proofs.Acted.{stepped}
+use Rattle.alarm_core.proofs.Following.{represents_next}
 use Rattle.alarm_core.proofs.Moved.{at_site}
 use Rattle.alarm_core.proofs.Moving.{counted}
 use Rattle.alarm_core.proofs.NeverFull.{tick_never_full}
 use Rattle.alarm_core.proofs.Notified.{notifications_after}
-use Rattle.alarm_core.proofs.Standing.{comes_after, represents_after, transitions_after}
+use Rattle.alarm_core.proofs.Standing.{comes_after, transitions_after}
 use Rattle.alarm_core.proofs.state.Core.step.Goals as goal
 
 pub returns-in_err-done-clause-transitions : goal.returns-in_err-done-clause-transitions
@@ -45,8 +48,16 @@ returns-clause-state g c =
 
 pub returns-clause-represents : goal.returns-clause-represents
 returns-clause-represents g c =
-    let is : IsSite c.args.self.now.site = search rules in
-    λ history r. represents_after history c.args.self.now _ (raised c.args.self.now.last_moment c.args.event.now) is r (returns-clause-state g c) (omega arith) (search rules) c.requires.allowed (omega arith)
+    let state = c.args.self.now in
+    let event = raised state.last_moment c.args.event.now in
+    let is : IsSite state.site = search rules in
+    let may : MayFollow event state = record {
+      not_before = omega arith;
+      moment = search rules;
+      allowed = c.requires.allowed;
+      fits = search rules;
+    } in
+    λ history r. subst (λ (s : CoreState). Represents s (event ∷ history)) (sym (returns-clause-state g c)) (represents_next state event history is r may)
 
 pub returns-clause-transitions : goal.returns-clause-transitions
 returns-clause-transitions g c =

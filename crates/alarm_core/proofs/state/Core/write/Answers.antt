@@ -7,16 +7,31 @@ use Rattle.alarm_core.specs.CoreSteps.{after_calls, evaluated_all, transitions_a
 use Rattle.alarm_core.specs.DueSteps.{DetectionsState, LeadsBack, detections_of, start_of}
 use Rattle.alarm_core.specs.Evaluations.{site_moment}
 use Rattle.alarm_core.specs.History.{StateTransition, moved_by}
-use Rattle.alarm_core.specs.Logs.{call_of_change, records_of, SiteLogState}
+use Rattle.alarm_core.specs.Logs.{HasNoLog, call_of_change, records_of, SiteLogState}
 use Rattle.alarm_core.specs.Notes.{notes_of_transitions}
 use Rattle.alarm_core.specs.State.{CoreState}
 use Rattle.alarm_core.specs.Verdicts.{Answers, queue_verdict}
 use Rattle.alarm_core.specs.declared.step.Done.{Done}
+use Rattle.alarm_core.proofs.Apart.{written_apart}
 use Rattle.alarm_core.proofs.Moved.{at_site}
 use Rattle.alarm_core.proofs.Undoing.{leads_nowhere, starts_from}
 use Rattle.alarm_core.proofs.Written.{second_look, second_steps, written_moves, written_state, written_verdict}
 use Rattle.alarm_core.proofs.state.Core.write.Goals as goal
 use Rattle.alarm_core.proofs.state.Core.write.Goals.{in-Some, in_default}
+
+pub invariant_of-self : goal.invariant_of-self
+invariant_of-self g c =
+    let undo = c.in-Some.undo in
+    let undone : c.undo_write.new.self.values ≡ written undo c.self.inside.detections.values = ap (λ (d : DetectionsState). d.values) c.undo_write.ensures.undone in
+    record {
+      site = c.self.invariant.site;
+      zone = c.self.invariant.zone;
+      moment = c.self.invariant.moment;
+      limit = c.self.invariant.limit;
+      peers = c.self.invariant.peers;
+      known = c.self.invariant.known;
+      apart = subst HasNoLog (sym undone) (written_apart undo c.self.inside.detections.values c.self.invariant.apart);
+    }
 
 pub returns-in_err-undo-clause-steps : goal.returns-in_err-undo-clause-steps
 returns-in_err-undo-clause-steps g c =

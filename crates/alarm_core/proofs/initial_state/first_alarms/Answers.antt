@@ -2,7 +2,7 @@ use Rattle.std.proofs.Common.{map, rules}
 use Rattle.object_table.specs.Rows.{Ascends}
 use Rattle.enrollment.specs.Subjects.{object_of}
 use Rattle.alarm_core.proofs.FirstAlarms.{first_ascend}
-use Rattle.alarm_core.proofs.starting.first_alarms.Goals as goal
+use Rattle.alarm_core.proofs.initial_state.first_alarms.Goals as goal
 
 pub returns-clause-ascending : goal.returns-clause-ascending
 returns-clause-ascending c =

@@ -3,7 +3,7 @@ use Rattle.enrollment.specs.Subjects.{is_detecting}
 use Rattle.alarm_core.specs.CoreSteps.{first_with}
 use Rattle.alarm_core.specs.Subjects.{ack_required_of}
 use Rattle.alarm_core.proofs.Kept.{kept_map_more}
-use Rattle.alarm_core.proofs.starting.alarms_of.Goals as goal
+use Rattle.alarm_core.proofs.initial_state.alarms_of.Goals as goal
 
 pub loop-subject-preserved : goal.loop-subject-preserved
 loop-subject-preserved c =

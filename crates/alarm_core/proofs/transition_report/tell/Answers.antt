@@ -6,7 +6,7 @@ use Rattle.alarm_core.specs.Logs.{SiteLogState}
 use Rattle.alarm_core.specs.ViewSteps.{notes_to, record_to, SiteViewData}
 use Rattle.alarm_core.proofs.Moved.{at_site, moved_all}
 use Rattle.alarm_core.proofs.ToldBy.{all_notes, all_records}
-use Rattle.alarm_core.proofs.look.tell.Goals as goal
+use Rattle.alarm_core.proofs.transition_report.tell.Goals as goal
 
 pub returns-clause-moves : goal.returns-clause-moves
 returns-clause-moves c = c.in_ok-moves.ensures.moves ∙ moved_all c.args.view.now c.args.transitions.now
