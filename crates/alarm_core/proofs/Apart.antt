@@ -1,5 +1,5 @@
 -- A write of an event log changes no value object and no enrollment.
-use Rattle.std.proofs.Common.{◌≡◌, ℕ, Bool, true, false, true≢false, Option, Some, None, List, [], ◌∷◌, refl, sym, ap, ◌∙◌, subst, arith, get_or}
+use Rattle.std.proofs.Common.{◌≡◌, ℕ, Bool, true, false, true≢false, List, [], ◌∷◌, refl, sym, ap, ◌∙◌, subst, arith}
 use Rattle.std.specs.List.{All, AllZip}
 use Rattle.std.specs.Option.{option_map}
 use Rattle.std.proofs.lemmas.List.Elements.{All-nil, All-cons, All-head, All-tail}
@@ -7,11 +7,10 @@ use Rattle.bac_values.specs.Identifier.{ObjectIdData}
 use Rattle.object_table.specs.declared.change.Change.{Change}
 use Rattle.object_table.specs.declared.object_site.ObjectSite.{ObjectSite}
 use Rattle.object_table.specs.declared.row.Row.{Row}
-use Rattle.object_table.specs.Objects.{IsRow}
-use Rattle.object_table.specs.Rows.{is_object, row_of}
+use Rattle.object_table.specs.Rows.{is_object}
 use Rattle.object_table.proofs.Places.{find_none}
 use Rattle.enrollment.specs.declared.enrollment_site.EnrollmentSite.{EnrollmentSite}
-use Rattle.enrollment.specs.Enrollments.{IsEnrollment, site_of}
+use Rattle.enrollment.specs.Enrollments.{IsEnrollment}
 use Rattle.enrollment.specs.Objects.{ObjectsState, written}
 use Rattle.enrollment.proofs.Parted.{enrollments_stay, rows_stay, same_object}
 use Rattle.alarm_core.specs.declared.site.Site.{Site}

@@ -1,23 +1,21 @@
 -- The due moments of objects: what isn't due stays as it is, and what sees the same is due at the same moment.
-use Rattle.std.proofs.Common.{◌≡◌, ℕ, Bool, true, false, true≢false, if◌then◌else◌, Option, Some, None, List, [], ◌∷◌, map, refl, ap, ◌∙◌, sym, arith}
+use Rattle.std.proofs.Common.{◌≡◌, ℕ, Bool, true, false, true≢false, if◌then◌else◌, Option, Some, None, [], map, refl, ap, ◌∙◌, sym, arith}
 use Rattle.std.specs.Option.{option_map}
 use Rattle.algorithm_rules.specs.Facts.{Facts}
 use Rattle.algorithm_rules.specs.declared.table.Algorithm.{Algorithm}
-use Rattle.bac_values.specs.declared.transition.Transition.{Transition}
 use Rattle.civil_stamp.specs.LocalTime.{LocalMomentData}
-use Rattle.event_machine.specs.AlarmSteps.{acknowledged, next_look, stays}
+use Rattle.event_machine.specs.AlarmSteps.{next_look, stays}
 use Rattle.event_machine.specs.Due.{has_come, next_due_of}
 use Rattle.event_machine.specs.Points.{Point}
 use Rattle.event_machine.specs.SettledSteps.{due_with, is_settled}
 use Rattle.event_machine.specs.Summary.{AlarmState}
 use Rattle.event_machine.proofs.Settling.{looks_are_skipped}
 use Rattle.held_timers.specs.Dues.{is_due}
-use Rattle.object_table.specs.Rows.{is_object}
 use Rattle.enrollment.specs.Objects.{ObjectsState, facts_at}
 use Rattle.alarm_core.specs.Evaluations.{point_in, point_with}
 use Rattle.alarm_core.specs.State.{DetectedObjectState}
 use Rattle.alarm_core.specs.History.{object_transition}
-use Rattle.alarm_core.specs.CoreSteps.{acked, change_at, change_by, evaluated, transitions_by}
+use Rattle.alarm_core.specs.CoreSteps.{change_at, change_by, evaluated, transitions_by}
 use Rattle.alarm_core.specs.DueSteps.{due_by, due_of, sight_with}
 
 -- two points at which the same is seen

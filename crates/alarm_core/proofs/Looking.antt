@@ -1,5 +1,5 @@
 -- The transitions of a look, as they are told with what is seen after it.
-use Rattle.std.proofs.Common.{◌≡◌, ℕ, List, map, ap, ◌∙◌}
+use Rattle.std.proofs.Common.{◌≡◌, List, map, ap, ◌∙◌}
 use Rattle.std.specs.List.{flat_map}
 use Rattle.civil_stamp.specs.LocalTime.{LocalMomentData}
 use Rattle.enrollment.specs.Objects.{ObjectsState}

@@ -1,4 +1,4 @@
-use Rattle.std.proofs.Common.{◌≡◌, ◌∙◌, Some, sym, ap}
+use Rattle.std.proofs.Common.{◌∙◌, Some, sym, ap}
 use Rattle.alarm_core.proofs.Places.{alarm_at}
 use Rattle.alarm_core.proofs.detection.detected_object.Goals as goal
 

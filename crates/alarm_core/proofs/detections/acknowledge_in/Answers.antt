@@ -1,4 +1,4 @@
-use Rattle.std.proofs.Common.{◌≡◌, ◌∙◌, List, None, get_or, set, sym, ap, subst, rules}
+use Rattle.std.proofs.Common.{◌≡◌, ◌∙◌, List, None, set, sym, ap, subst, rules}
 use Rattle.alarm_core.specs.CoreSteps.{acked}
 use Rattle.alarm_core.specs.DueSteps.{StandsAt}
 use Rattle.alarm_core.specs.Found.{detected_object_in}

@@ -1,4 +1,4 @@
-use Rattle.std.proofs.Common.{◌≡◌, ◌<◌, ◌+◌, ◌-◌, ◌++◌, None, length, map, set, take, refl, sym, ap, ◌∙◌, append-nil, arith}
+use Rattle.std.proofs.Common.{◌<◌, ◌+◌, ◌-◌, ◌++◌, None, length, map, set, take, refl, sym, ap, ◌∙◌, append-nil, arith}
 use Rattle.std.proofs.Math.Seq.{map-set_same}
 use Rattle.alarm_core.specs.CoreSteps.{evaluated, transitions_by}
 use Rattle.alarm_core.specs.DueSteps.{due_of, object_of}

@@ -1,6 +1,6 @@
 use Rattle.std.proofs.Common.{◌≡◌, ◌∙◌, rules}
 use Rattle.alarm_core.specs.Evaluations.{point_in}
-use Rattle.alarm_core.specs.DueSteps.{due_by, due_of}
+use Rattle.alarm_core.specs.DueSteps.{due_by}
 use Rattle.alarm_core.proofs.Dues.{due_at}
 use Rattle.alarm_core.proofs.detection.DetectedObject.due.Goals as goal
 

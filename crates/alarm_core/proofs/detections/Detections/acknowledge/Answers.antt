@@ -1,4 +1,4 @@
-use Rattle.std.proofs.Common.{◌≡◌, ◌<◌, ◌^◌, ◌∙◌, map, length, ap, sym, subst, arith}
+use Rattle.std.proofs.Common.{◌∙◌, map, length, ap, sym, arith}
 use Rattle.std.proofs.lemmas.List.{length-map}
 use Rattle.alarm_core.specs.CoreSteps.{acked}
 use Rattle.alarm_core.specs.DueSteps.{due_of, object_of}

@@ -1,5 +1,5 @@
-use Rattle.std.proofs.Common.{◌≡◌, ◌∙◌, List, Option, ℕ, sym, subst, ap, arith, rules}
-use Rattle.alarm_core.specs.DueSteps.{AreEarly, object_of}
+use Rattle.std.proofs.Common.{List, Option, ℕ, sym, subst, arith}
+use Rattle.alarm_core.specs.DueSteps.{AreEarly}
 use Rattle.alarm_core.proofs.Places.{as_many_objects, ascend_still}
 use Rattle.alarm_core.proofs.Rounds.{exact_early}
 use Rattle.alarm_core.proofs.detections.Detections.evaluate.Goals as goal

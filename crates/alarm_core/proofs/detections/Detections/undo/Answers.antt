@@ -1,4 +1,4 @@
-use Rattle.std.proofs.Common.{◌≡◌, ◌∙◌, List, Option, ℕ, length, map, sym, subst, ap, arith}
+use Rattle.std.proofs.Common.{◌∙◌, List, Option, ℕ, length, map, sym, subst, ap, arith}
 use Rattle.alarm_core.specs.DueSteps.{DetectionsState, LeadsBack, Undoes, object_of, restored, start_of}
 use Rattle.alarm_core.proofs.Places.{ascend_still}
 use Rattle.alarm_core.proofs.Rounds.{as_long}

@@ -1,4 +1,4 @@
-use Rattle.std.proofs.Common.{◌≡◌, ◌∙◌, ◌∷◌, List, Option, ℕ, length, map, refl, sym, subst, ap, arith, rules}
+use Rattle.std.proofs.Common.{◌≡◌, ◌∙◌, ◌∷◌, List, Option, ℕ, map, refl, sym, subst, ap, arith}
 use Rattle.bac_values.specs.Identifier.{ObjectIdData}
 use Rattle.enrollment.specs.Objects.{ObjectsState, written}
 use Rattle.enrollment.specs.Watchers.{watchers}

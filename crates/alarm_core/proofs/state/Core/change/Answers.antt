@@ -1,9 +1,9 @@
 use Rattle.std.proofs.Common.{◌≡◌, ◌∙◌, ◌≤◌, ◌+◌, refl, ap, sym, subst, arith, rules}
 use Rattle.std.specs.List.{flat_map}
-use Rattle.enrollment.specs.Objects.{ObjectsState, written}
+use Rattle.enrollment.specs.Objects.{written}
 use Rattle.object_table.specs.declared.change.Change.{Change}
 use Rattle.alarm_core.specs.CoreSteps.{evaluated_all, transitions_by}
-use Rattle.alarm_core.specs.DueSteps.{DetectionsState, LeadsBack, all_once, detections_of, due_count, dues_of, start_of, touched_by}
+use Rattle.alarm_core.specs.DueSteps.{DetectionsState, LeadsBack, detections_of, due_count, dues_of, start_of, touched_by}
 use Rattle.alarm_core.specs.Logs.{HasNoLog}
 use Rattle.alarm_core.specs.State.{CoreState}
 use Rattle.alarm_core.proofs.Apart.{written_apart}

@@ -1,4 +1,4 @@
-use Rattle.std.proofs.Common.{◌≡◌, ◌∙◌, Vec, Global, map, ap, sym, subst, rules}
+use Rattle.std.proofs.Common.{◌≡◌, ◌∙◌, Vec, Global, map, ap, sym, subst}
 use Rattle.event_log.specs.History.{Call}
 use Rattle.outbox.specs.Outboxes.{AreKnown, queued}
 use Rattle.alarm_core.specs.Evaluations.{site_moment}

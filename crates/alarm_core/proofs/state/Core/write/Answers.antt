@@ -1,4 +1,4 @@
-use Rattle.std.proofs.Common.{◌≡◌, ◌∙◌, ◌++◌, ◌≤◌, ◌+◌, Err, List, [], Vec, Global, map, refl, sym, ap, subst, arith, rules}
+use Rattle.std.proofs.Common.{◌≡◌, ◌∙◌, ◌++◌, Err, List, [], Vec, Global, map, refl, sym, ap, subst, arith, rules}
 use Rattle.event_log.specs.History.{Call}
 use Rattle.event_log.specs.declared.log_site.LogSite.{LogSite}
 use Rattle.outbox.specs.Outboxes.{queued}
