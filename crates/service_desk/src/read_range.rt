@@ -51,15 +51,16 @@ fn leading_with_room(
     ensures octets { IfOk result (λ leading. leading.octets.items ≡ flat_map written_item (items_from range.first leading.count log.now)) }
     ensures few { IfOk result (λ leading. leading.count ≤ range.count) }
 {
-    // So each place in the log is below 2^32.
-    let _length = log.len();
     let mut octets = Vec::new(alloc);
     let mut count = 0;
-    while count < range.count {
-        let before = octets.len();
-        let Some(entry) = log.item(range.first + count) else {
+    for place in range.first..log.len() {
+        if count == range.count {
+            break;
+        }
+        let Some(entry) = log.item(place) else {
             unreachable!()
         };
+        let before = octets.len();
         write_item(&mut octets, entry)?;
         if unsigned_size(count + 1) + octets.len() > room {
             octets.truncate(before);
