@@ -1,12 +1,8 @@
-use Rattle.std.proofs.Common.{◌≡◌, ℕ, List, ap, ◌∙◌}
-use Rattle.alarm_core.specs.State.{CoreState}
+use Rattle.std.proofs.Common.{ap, ◌∙◌}
 use Rattle.alarm_server.proofs.OfWorkload.{summarised}
 use Rattle.alarm_server.proofs.workload.tally_of.Goals as goal
 
-pub returns-in-Ok-clause-tally : goal.returns-in-Ok-clause-tally
-returns-in-Ok-clause-tally c =
-    let source = c.new-script.result in
-    let drawn = ap (λ s. s.left) c.new-script.ensures.made ∙ c.in_ok-make_script.ensures.script in
-    let own = ap (λ (s : CoreState). s.site) c.in_ok-core.ensures.starts in
-    summarised c.args.seed c.args.count c.in_ok-site.site c.in_ok-core.core source.left c.in-Ok.tally c.in_ok-site.ensures.keeps c.in_ok-site.ensures.site c.in_ok-core.ensures.represents own drawn
-    (rw c.in-Ok.is at c.play_session-device.ensures.accepted) (rw c.in-Ok.is at c.play_session-device.ensures.tally)
+pub returns-clause-tally : goal.returns-clause-tally
+returns-clause-tally c =
+    let drawn = ap (λ s. s.left) c.new-script.ensures.made ∙ c.in_ok-script.ensures.script in
+    summarised c.args.seed c.args.count c.in_ok-site.site c.new-script.result.left c.tally_by.result c.in_ok-site.ensures.site drawn c.tally_by.ensures.accepted c.tally_by.ensures.tally
