@@ -1,6 +1,6 @@
 -- A moment at which nothing happens to a press.
-use Rattle.std.proofs.Common.{◌≡◌, Option, Some, None, List, [], inl}
-use Rattle.ground_io.specs.Trace.{Told, Adds}
+use Rattle.std.proofs.Common.{Option, Some, None, [], inl}
+use Rattle.ground_io.specs.Trace.{Told}
 use Rattle.ground_io.proofs.Crashes.{adds_none}
 use Rattle.alarm_journal.specs.Journal.{Content}
 use Rattle.alarm_journal.specs.Journal.{Site as Journal}

@@ -1,6 +1,6 @@
 -- A session from a history on, by the history of its events in the place of its state.
-use Rattle.std.proofs.Common.{◌≡◌, ℕ, Option, Some, None, List, ◌∷◌, [], IfSome, ap, ◌∙◌, subst}
-use Rattle.ground_io.specs.Trace.{Told, WhereTold}
+use Rattle.std.proofs.Common.{◌≡◌, ℕ, Option, List, ap, ◌∙◌, subst}
+use Rattle.ground_io.specs.Trace.{Told}
 use Rattle.script_lines.specs.declared.line.Grammar.TheVariants.{Session}
 use Rattle.script_lines.specs.Script.{lines_of}
 use Rattle.alarm_core.specs.declared.event.Event.{Event}

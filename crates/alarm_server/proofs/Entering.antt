@@ -1,15 +1,12 @@
 -- The history that an event leaves which is to be entered.
 use Rattle.std.proofs.Common.{◌≡◌, ℕ, Option, None, Result, Ok, Err, OnOk, List, ◌∷◌, ap, ◌∙◌, sym, subst}
-use Rattle.bac_values.specs.declared.note.Send.{Send}
 use Rattle.script_lines.specs.declared.line.Line.{Line}
 use Rattle.service_desk.specs.declared.decision.Decision.{Decision}
 use Rattle.alarm_core.specs.declared.event.Event.{Event}
 use Rattle.alarm_core.specs.declared.event.StepFault.{StepFault}
 use Rattle.alarm_core.specs.declared.event.StepFault.TheVariants.{Full}
 use Rattle.alarm_core.specs.Allowed.{Represents}
-use Rattle.alarm_core.specs.History.{raised}
 use Rattle.alarm_core.specs.State.{CoreState}
-use Rattle.alarm_core.specs.Verdicts.{step_verdict}
 use Rattle.alarm_server.specs.Pieces.{decision_for, entered_by, event_in}
 use Rattle.alarm_server.specs.Report.{history_by, history_with}
 

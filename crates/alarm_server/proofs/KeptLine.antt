@@ -1,5 +1,5 @@
 -- One line of a session that keeps its journal: its event is committed, and then its piece goes out.
-use Rattle.std.proofs.Common.{◌≡◌, ℕ, ◌≤◌, Option, Some, None, List, [], ◌∷◌, length, refl, ap, ◌∙◌, sym, subst}
+use Rattle.std.proofs.Common.{◌≡◌, ◌≤◌, Option, Some, None, List, [], ◌∷◌, length, refl, ap, ◌∙◌, sym, subst}
 use Rattle.bac_values.specs.declared.report.ReportLine.{ReportLine}
 use Rattle.ground_io.specs.declared.entry.Entry.{Entry}
 use Rattle.ground_io.specs.Trace.{Told, Adds}
@@ -21,7 +21,6 @@ use Rattle.alarm_server.specs.SessionSteps.{state_by}
 use Rattle.alarm_server.specs.Status.{of_unsent}
 use Rattle.alarm_server.proofs.Emitting.{emits, emits_sent, emits_up_to}
 use Rattle.alarm_server.proofs.KeptLines.{committed, told_line, untouched}
-use Rattle.alarm_server.proofs.KeptProgress.{few_sent}
 use Rattle.alarm_server.proofs.Sending.{front_then}
 use Rattle.alarm_server.proofs.SessionProgress.{ends_front}
 

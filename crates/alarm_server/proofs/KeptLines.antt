@@ -1,8 +1,8 @@
 -- What a crash leaves, stretch by stretch: of the first piece, of each line, of the lines so far, and of the end.
-use Rattle.std.proofs.Common.{◌≡◌, ◌⊎◌, ℕ, ◌+◌, ◌-◌, ◌≤◌, Option, Some, None, List, [], ◌∷◌, ◌++◌, length, take, refl, ap, ◌∙◌, sym, subst, inl, inr, arith, append_assoc}
+use Rattle.std.proofs.Common.{◌≡◌, ◌⊎◌, ℕ, ◌+◌, ◌≤◌, Option, Some, None, List, [], ◌∷◌, ◌++◌, length, take, refl, ap, ◌∙◌, sym, subst, inl, inr, arith, append_assoc}
 use Rattle.std.proofs.lemmas.List.{append-nil, append_cancel_left, length-append, take-append-le, take_all}
 use Rattle.std.proofs.Math.Seq.{take-append-add}
-use Rattle.ground_io.specs.Disk.{Disk, Each, Always, after_entry, disk_after}
+use Rattle.ground_io.specs.Disk.{Disk, Always, after_entry, disk_after}
 use Rattle.ground_io.specs.Sent.{Along, AreQuiet, emissions, sent_after, sent_with}
 use Rattle.ground_io.specs.Trace.{Told, Adds, disk_of}
 use Rattle.ground_io.specs.declared.entry.Entry.{Entry}

@@ -1,14 +1,13 @@
 -- What a crash leaves of an opening, and of a session behind it.
-use Rattle.std.proofs.Common.{◌≡◌, ◌⊎◌, ℕ, ◌+◌, ◌≤◌, Option, Some, None, Ok, List, [], ◌∷◌, ◌++◌, length, refl, ap, ◌∙◌, sym, subst, inl, inr, arith}
-use Rattle.std.proofs.lemmas.List.{append_cancel_left}
-use Rattle.ground_io.specs.Disk.{Disk, Always, disk_after}
-use Rattle.ground_io.specs.Sent.{Along, AreQuiet, emissions, sent_after}
-use Rattle.ground_io.specs.Trace.{Told, Adds, disk_of}
+use Rattle.std.proofs.Common.{◌≡◌, ℕ, ◌≤◌, Option, Some, None, List, [], ◌∷◌, ◌++◌, length, ap, ◌∙◌, sym, subst, inl, inr, arith}
+use Rattle.ground_io.specs.Disk.{Disk, disk_after}
+use Rattle.ground_io.specs.Sent.{Along, sent_after}
+use Rattle.ground_io.specs.Trace.{Told, disk_of}
 use Rattle.ground_io.specs.declared.entry.Entry.{Entry}
 use Rattle.ground_io.specs.declared.entry.Entry.TheVariants.{Synced}
 use Rattle.ground_io.proofs.Crashes.{adds_both, adds_none, disk_adds}
 use Rattle.ground_io.proofs.Sendings.{along-append, quiet_sends_nothing}
-use Rattle.alarm_journal.specs.Journal.{Content, OpensTo, opened_from}
+use Rattle.alarm_journal.specs.Journal.{opened_from}
 use Rattle.alarm_journal.specs.Journal.{Site as Journal}
 use Rattle.alarm_journal.specs.Press.{OpensSame, Reopens}
 use Rattle.script_lines.specs.declared.line.Line.{Line}
@@ -16,7 +15,6 @@ use Rattle.alarm_core.specs.declared.event.Event.{Event}
 use Rattle.alarm_core.specs.declared.site.Site.{Site}
 use Rattle.state_codec.specs.Contents.{ImageStands, StandsForHistory}
 use Rattle.alarm_server.specs.Keeping.{KeepsOpened, KeepsReport, LeavesReport, StoodFor}
-use Rattle.alarm_server.specs.Report.{history_over}
 use Rattle.alarm_server.proofs.KeptLines.{along_few, history-none}
 
 module _ (journal : Journal) (site : Site) where

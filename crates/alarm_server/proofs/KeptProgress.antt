@@ -1,6 +1,6 @@
 -- How far a session has come that keeps its journal.
 use Rattle.std.proofs.Common.{◌≡◌, ℕ, ◌+◌, ◌≤◌, Option, Some, None, Ok, Bool, false, List, [], ◌∷◌, ◌++◌, IfSome, length, refl, ap, ◌∙◌, sym, subst, arith}
-use Rattle.std.proofs.lemmas.List.{append-nil, length-append, length-map}
+use Rattle.std.proofs.lemmas.List.{append-nil, length-append}
 use Rattle.std.specs.Io.KnownBytes.{prepend_known}
 use Rattle.bac_values.specs.declared.report.ReportLine.{ReportLine}
 use Rattle.ground_io.specs.declared.entry.Entry.{Entry}
@@ -16,7 +16,6 @@ use Rattle.alarm_core.specs.declared.event.Event.{Event}
 use Rattle.alarm_core.specs.declared.site.Site.{Site}
 use Rattle.alarm_core.specs.Allowed.{Represents}
 use Rattle.alarm_core.specs.State.{CoreState}
-use Rattle.state_codec.specs.Contents.{StandsForHistory}
 use Rattle.alarm_server.specs.declared.emission.Unsent.{Unsent}
 use Rattle.alarm_server.specs.declared.emission.Unsent.TheVariants.{Lost, NoMemory}
 use Rattle.alarm_server.specs.declared.tally.Tally.{Tally}

@@ -1,5 +1,5 @@
 -- What an opening of a journal does, and why it is refused.
-use Rattle.std.proofs.Common.{◌≡◌, ◌≢◌, ℕ, Option, Some, None, Ok, Err, List, [], ◌∷◌, refl, ap, ◌∙◌, sym, subst, inl, inr}
+use Rattle.std.proofs.Common.{◌≡◌, ◌≢◌, ℕ, Option, Some, None, Ok, List, [], ◌∷◌, refl, ◌∙◌, sym, subst, inl, inr}
 use Rattle.ground_io.specs.declared.entry.Entry.TheVariants.{Synced}
 use Rattle.ground_io.specs.Trace.{Told}
 use Rattle.ground_io.proofs.Sendings.{quiet_sends_nothing}

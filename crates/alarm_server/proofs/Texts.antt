@@ -1,5 +1,5 @@
 -- The front of a site's text that is read is as good as the whole of it.
-use Rattle.std.proofs.Common.{◌≡◌, ◌≤◌, ◌<◌, ℕ, Bool, true, false, nat_lt, if◌then◌else◌, Option, Some, None, Ok, Err, List, [], ◌++◌, IfSome, length, take, refl, ap, ◌∙◌, sym, arith, append-nil, inl, inr}
+use Rattle.std.proofs.Common.{◌≡◌, ◌≤◌, ◌<◌, ℕ, true, nat_lt, if◌then◌else◌, Option, Some, None, Ok, Err, List, [], ◌++◌, IfSome, length, take, ap, ◌∙◌, sym, arith, append-nil, inl, inr}
 use Rattle.std.specs.Io.KnownBytes.{IsAtEnd, Keeps, prepend_known}
 use Rattle.std.proofs.lemmas.Bool.{cases_Bool, ltb-false, ltb-true}
 use Rattle.std.proofs.lemmas.List.{length-take, take-append-le, take_all}

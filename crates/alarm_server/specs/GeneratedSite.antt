@@ -1,7 +1,5 @@
 -- The site of a workload: what its generated text says, item by item.
-use Rattle.std.specs.Prelude.{ℕ, ◌+◌, ◌*◌, ◌%◌, pos, true, false, Bool, Option, Some, None, List, [], ◌∷◌, ◌++◌, map, codes}
-use Rattle.std.specs.List.{flat_map}
-use Rattle.bac_values.specs.Address.{PeerData}
+use Rattle.std.specs.Prelude.{ℕ, ◌+◌, ◌*◌, ◌%◌, pos, true, false, Bool, Some, None, List, [], ◌∷◌, ◌++◌, map, codes}
 use Rattle.bac_values.specs.BitString.{string_of_flags}
 use Rattle.bac_values.specs.Identifier.{ObjectIdData, number_of_kind}
 use Rattle.bac_values.specs.declared.object_kind.ObjectKind.{ObjectKind}

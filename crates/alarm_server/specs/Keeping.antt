@@ -1,6 +1,5 @@
 -- What a crash leaves of a session that keeps a journal: at each moment, the history that it began with and the events of some of its lines.
-use Rattle.std.specs.Prelude.{◌≡◌, ◌⊎◌, ◌≤◌, ℕ, ◌+◌, ◌-◌, min, ⊤, Option, Some, None, List, [], ◌∷◌, length, take}
-use Rattle.ground_io.specs.Disk.{Disk}
+use Rattle.std.specs.Prelude.{◌⊎◌, ◌≤◌, ℕ, ◌+◌, ◌-◌, min, ⊤, Option, Some, None, List, [], ◌∷◌, length, take}
 use Rattle.ground_io.specs.Sent.{Along}
 use Rattle.ground_io.specs.Trace.{Told, Adds, disk_of}
 use Rattle.ground_io.specs.declared.entry.Entry.{Entry}

@@ -1,5 +1,5 @@
 -- How many lines of each kind the report of a session has.
-use Rattle.std.specs.Prelude.{ℕ, ◌+◌, Bool, true, false, List, [], ◌∷◌, count_by}
+use Rattle.std.specs.Prelude.{◌+◌, Bool, true, false, List, count_by}
 use Rattle.std.specs.List.{flat_map}
 use Rattle.bac_values.specs.declared.report.ReportLine.{ReportLine}
 use Rattle.bac_values.specs.declared.report.ReportLine.TheVariants.{Entered, Change, Sent, Full}

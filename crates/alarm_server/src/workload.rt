@@ -2,6 +2,7 @@ ghost use Rattle.std.specs.Prelude.{◌≡◌, ◌≢◌, ◌≤◌, ◌∷◌, 
 ghost use Rattle.ground_io.specs.Counts.{HasCause};
 ghost use Rattle.ground_io.specs.Trace.{Adds};
 ghost use Rattle.script_lines.specs.Report.{report_text};
+ghost use Rattle.script_lines.specs.declared.line.Grammar.TheVariants.{Session};
 ghost use Rattle.alarm_core.specs.Limits.{KeepsLimits};
 ghost use Rattle.alarm_core.specs.Sites.{IsSite};
 ghost use Rattle.state_codec.specs.Sizes.{most_text};
@@ -10,6 +11,9 @@ ghost use Rattle.site_config.specs.Sites.{site_of};
 ghost use Rattle.work_load.specs.Site.{workload_site};
 ghost use Rattle.alarm_server.specs.Emission.{Ends};
 ghost use Rattle.alarm_server.specs.Faults.{IsWorkloadFault};
+ghost use Rattle.alarm_server.specs.Script.{refused_line};
+ghost use Rattle.alarm_server.specs.Report.{report_of};
+ghost use Rattle.alarm_server.specs.Tallies.{tally_of as tally_over};
 ghost use Rattle.alarm_server.specs.Status.{IsInnerFault, IsSiteFault, of_memory, status_of};
 ghost use Rattle.alarm_server.specs.GeneratedSite.{generated_site};
 ghost use Rattle.alarm_server.specs.Workloads.{AcceptsGenerated, ReadsGenerated, RefusesGenerated, summary_line, summary_of};
@@ -49,6 +53,7 @@ fn blank_press(alloc: Global, site: &Site, text: &[u8]) -> Result<Press<MemoryGr
     requires limits { KeepsLimits site.now }
     requires short { length text.now ≤ most_text }
     ensures memory { IfErr result (λ status. status ≡ Status.NoMemory) }
+    ensures fault { IfErr result IsInnerFault }
 {
     let size = need(site, text.len() as u64);
     let octets = vec![in alloc; 0u8; size as usize]?;
@@ -71,6 +76,31 @@ fn of_memory(status: Status) -> Status
     }
 }
 
+// How many lines of each kind the report of a site has, by a script in memory. Nothing comes before it.
+fn tally_by(
+    alloc: Global,
+    site: &Site,
+    text: &[u8],
+    script: &mut MemorySource,
+) -> Result<Tally, Status>
+    requires site { IsSite site.now }
+    requires limits { KeepsLimits site.now }
+    requires short { length text.now ≤ most_text }
+    ensures tally { IfOk result (λ tally. tally ≡ tally_over (report_of site.now [] script.old.left)) }
+    ensures accepted { OnOk result (refused_line Session script.old.left ≡ None) }
+    ensures refused { (line : ℕ) → result ≡ Err (Status.ScriptRefused line) → refused_line Session script.old.left ≡ Some line }
+    ensures takes_site { (fault : SiteFault) → result ≢ Err (Status.SiteRefused fault) }
+    ensures fault { IfErr result IsInnerFault }
+{
+    let mut core = Core::start(alloc, site)?;
+    let press = blank_press(alloc, site, text)?;
+    let (_device, played) = play_session(alloc, press, &mut core, script);
+    match played {
+        Ok(tally) => Ok(tally),
+        Err(status) => Err(of_memory(status)),
+    }
+}
+
 // How many lines of each kind the report of the generated site has, by the script that is drawn from a seed.
 fn tally_of(alloc: Global, seed: u64, count: u32) -> Result<Tally, Status>
     ensures tally { IfOk result (λ tally. summary_of seed count ≡ summary_line seed count tally ∷ []) }
@@ -79,15 +109,10 @@ fn tally_of(alloc: Global, seed: u64, count: u32) -> Result<Tally, Status>
     ensures takes_site { (fault : SiteFault) → result ≢ Err (Status.SiteRefused fault) }
     ensures fault { IfErr result IsInnerFault }
 {
+    let script = make_script(alloc, seed, count)?;
     let (site, text) = generated_site(alloc)?;
-    let mut script = MemorySource::new(make_script(alloc, seed, count)?, Vec::new(alloc));
-    let mut core = Core::start(alloc, &site)?;
-    let press = blank_press(alloc, &site, text.as_slice())?;
-    let (_device, played) = play_session(alloc, press, &mut core, &mut script);
-    match played {
-        Ok(tally) => Ok(tally),
-        Err(status) => Err(of_memory(status)),
-    }
+    let mut script = MemorySource::new(script, Vec::new(alloc));
+    tally_by(alloc, &site, text.as_slice(), &mut script)
 }
 
 /// A session of the generated site by the script that is drawn from a seed: what goes out is one line, which tells how many

@@ -1,7 +1,5 @@
-use Rattle.std.proofs.Common.{◌≡◌, ◌∷◌, ◌∙◌, List, ℕ, subst, sym}
-use Rattle.alarm_core.specs.declared.event.Event.{Event}
-use Rattle.alarm_core.specs.Allowed.{Represents}
-use Rattle.alarm_journal.specs.Journal.{Content, with_batch}
+use Rattle.std.proofs.Common.{◌∷◌, ◌∙◌, List, ℕ, subst, sym}
+use Rattle.alarm_journal.specs.Journal.{with_batch}
 use Rattle.alarm_journal.specs.Press.{Between}
 use Rattle.state_codec.specs.Contents.{StandsForHistory}
 use Rattle.state_codec.proofs.Committed.{batch_stands}

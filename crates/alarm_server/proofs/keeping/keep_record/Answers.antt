@@ -1,4 +1,3 @@
-use Rattle.std.proofs.Common.{◌≡◌}
 use Rattle.alarm_journal.specs.Journal.{with_batch}
 use Rattle.alarm_server.proofs.AtRest.{between_now}
 use Rattle.alarm_server.proofs.keeping.keep_record.Goals as goal

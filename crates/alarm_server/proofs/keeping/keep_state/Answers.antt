@@ -1,5 +1,5 @@
-use Rattle.std.proofs.Common.{◌≡◌, ◌<◌, ◌^◌, ◌∙◌, arith, rules}
-use Rattle.alarm_journal.specs.Journal.{Content, only_snapshot}
+use Rattle.std.proofs.Common.{◌<◌, ◌^◌, ◌∙◌, arith, rules}
+use Rattle.alarm_journal.specs.Journal.{only_snapshot}
 use Rattle.alarm_journal.specs.Press.{Between}
 use Rattle.state_codec.specs.Contents.{StandsForHistory}
 use Rattle.alarm_server.specs.Keeping.{Commits, HoldsHistory, Rests}

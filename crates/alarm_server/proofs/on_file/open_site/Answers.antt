@@ -1,4 +1,4 @@
-use Rattle.std.proofs.Common.{◌≡◌, ◌⊎◌, Ok, Err, rules}
+use Rattle.std.proofs.Common.{◌≡◌, ◌⊎◌, Ok, Err}
 use Rattle.std.proofs.lemmas.Result.{err_from_is_err_and}
 use Rattle.site_config.specs.declared.fault.SiteFault.TheVariants.{NoMemory}
 use Rattle.site_config.specs.Sites.{site_of}

@@ -8,7 +8,6 @@ use Rattle.alarm_server.specs.Pieces.{piece_text}
 use Rattle.alarm_server.specs.Report.{report_of}
 use Rattle.alarm_server.specs.Script.{spelled_in}
 use Rattle.alarm_server.specs.SessionSteps.{state_front}
-use Rattle.alarm_server.specs.Status.{status_of}
 use Rattle.alarm_server.specs.Stopping.{StopsReading}
 use Rattle.alarm_server.proofs.BehindOpening.{ends_refused, ends_session, keeps_session, stops_session}
 use Rattle.alarm_server.proofs.KeptOpenings.{opening_kept}

@@ -1,10 +1,7 @@
-use Rattle.std.proofs.Common.{◌≡◌, ◌∙◌, ℕ, List, Ok, Err, None, IfSome, IsOk, OnErr, Result, ap, refl, inr}
+use Rattle.std.proofs.Common.{◌≡◌, ◌∙◌, Err, None, IfSome, IsOk, OnErr, ap, refl, inr}
 use Rattle.ground_io.specs.Trace.{WhereTold}
 use Rattle.script_lines.specs.declared.line.Grammar.TheVariants.{Session}
 use Rattle.script_lines.specs.Script.{lines_of}
-use Rattle.alarm_core.specs.declared.event.Event.{Event}
-use Rattle.alarm_core.specs.declared.site.Site.{Site}
-use Rattle.site_config.specs.declared.fault.SiteFault.{SiteFault}
 use Rattle.site_config.specs.Sites.{site_of}
 use Rattle.alarm_server.specs.declared.status.Status.TheVariants.{SiteRefused}
 use Rattle.alarm_server.specs.Emission.{Emits, Ends}

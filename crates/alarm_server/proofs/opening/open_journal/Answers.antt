@@ -1,4 +1,4 @@
-use Rattle.std.proofs.Common.{◌≡◌, ◌∙◌, Err, ap, sym}
+use Rattle.std.proofs.Common.{◌∙◌, Err, ap, sym}
 use Rattle.alarm_journal.specs.Opened.{content_in}
 use Rattle.alarm_server.specs.Keeping.{journal_of}
 use Rattle.alarm_server.proofs.Openings.{never_refused, opened_stands, refused_within, synced_quietly, synced_reopens}

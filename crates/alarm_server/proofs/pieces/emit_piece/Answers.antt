@@ -1,5 +1,4 @@
-use Rattle.std.proofs.Common.{◌≡◌, ◌∙◌, arith}
-use Rattle.std.proofs.lemmas.Result.{err_from_is_err_and}
+use Rattle.std.proofs.Common.{◌∙◌, arith}
 use Rattle.alarm_server.specs.Pieces.{piece_text}
 use Rattle.alarm_server.proofs.AtRest.{throughout_now}
 use Rattle.alarm_server.proofs.OneEmission.{one_lost}

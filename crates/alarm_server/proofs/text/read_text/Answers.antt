@@ -1,5 +1,5 @@
-use Rattle.std.proofs.Common.{rules, ◌≡◌, ◌≤◌, ◌+◌, [], arith, length}
-use Rattle.std.specs.Io.KnownBytes.{IsAtEnd, Keeps, prepend_known}
+use Rattle.std.proofs.Common.{rules, ◌≤◌, [], arith, length}
+use Rattle.std.specs.Io.KnownBytes.{IsAtEnd, prepend_known}
 use Rattle.std.proofs.KnownBytes.{Keeps-trans}
 use Rattle.alarm_server.specs.Text.{most_octets}
 use Rattle.alarm_server.proofs.Texts.{reads_all, reads_front}
