@@ -3,3 +3,4 @@ pub mod Ranges
 pub mod Information
 pub mod Decisions
 pub mod Laws
+pub mod Answers

@@ -1,0 +1,53 @@
+//! Why a call of a floor isn't carried out. In each the causes are looked at in the order in which they stand.
+
+/// Why an input isn't taken. Nothing has changed then.
+#[derive(Clone, Copy, Debug, PartialEq, Eq, Drop)]
+pub enum EnterFault {
+    /// A commit failed, and the device has to be opened again.
+    Stopped {
+        /// The place of its entry in the history, from 1.
+        at: u64,
+    },
+    /// Too much is pending: a commit comes first.
+    Behind {
+        /// How many calls with a record or a datagram are pending.
+        pending: u64,
+        /// How many octets of records are.
+        octets: u64,
+    },
+    /// The event's notifications don't fit the outbox.
+    Full {
+        /// How many notifications would then wait.
+        would: u32,
+        /// How many may.
+        limit: u32,
+    },
+    /// Memory was refused.
+    NoMemory,
+}
+
+/// Why nothing is committed.
+#[derive(Clone, Copy, Debug, PartialEq, Eq, Drop)]
+pub enum CommitFault {
+    /// A commit failed, and the device has to be opened again.
+    Stopped {
+        /// The place of its entry in the history, from 1.
+        at: u64,
+    },
+    /// The press is out for another commit.
+    Busy {
+        /// The place of the entry with which it left, from 1.
+        at: u64,
+        /// It writes the events up to this number.
+        upto: u64,
+    },
+    /// Nothing is pending.
+    Nothing {
+        /// How many events there are.
+        upto: u64,
+    },
+    /// Memory was refused before the press left.
+    NoMemory,
+    /// The disk failed.
+    DiskFault,
+}
