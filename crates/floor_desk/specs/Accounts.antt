@@ -176,7 +176,7 @@ abbrev pub IsDenied : Account → CommitFault → Type 0
 IsDenied a (commits.Stopped at) = a.failed ≡ Some at
 IsDenied a (commits.Busy at upto) = (number : ℕ) × (a.loan ≡ Some record { number = number; place = at; upto = upto })
 IsDenied a (commits.Nothing upto) = (a.failed ≡ None) × (a.loan ≡ None) × (a.calls ≤ a.taken.calls) × (upto ≡ a.state.events)
-IsDenied a commits.NoMemory = ⊥
+IsDenied a commits.NoMemory = (a.failed ≡ None) × (a.loan ≡ None) × IsPending a
 IsDenied a commits.DiskFault = ⊥
 
 -- the press is out with a pass of this number, up to this event
@@ -201,3 +201,23 @@ module _ {G : Type 0} (disk_faults : G → ℕ) where
   -- each entry may follow those before it
   abbrev pub IsLegal : CoreState × PressState G → List (ℕ × Entry G) → Type 0
   IsLegal origin history = IsLegalFrom (start disk_faults origin) history
+
+-- ---- what a call of `enter` leaves, and which marks may be raised
+
+module _ {G : Type 0} where
+  -- the entry of an input that was tried: an event, where its ticket says so
+  abbrev pub entry_of : Memo Input → ℕ → Result Ticket EnterFault → Entry G
+  entry_of input moment (Ok record { number = number; kind = kind.Entered }) = Happened input moment record { number = number; kind = kind.Entered }
+  entry_of input moment answer = Looked (Tried input moment answer)
+
+  abbrev pub Gives : Entry G → ℕ → Type 0
+  Gives (Happened input moment ticket) to = ⊥
+  Gives (Looked look) to = ⊥
+  Gives (Taken upto) to = ⊥
+  Gives (Returned upto press) to = to ≤ upto
+  Gives (Failed upto) to = ⊥
+
+  -- the press came back with at least so many events written
+  abbrev pub Licenses : List (ℕ × Entry G) → ℕ → Type 0
+  Licenses [] to = ⊥
+  Licenses (e ∷ es) to = Gives e.1 to ⊎ Licenses es to

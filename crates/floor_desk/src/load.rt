@@ -1,0 +1,85 @@
+//! What leaves a floor with the press, and what comes back.
+
+ghost use Rattle.std.specs.Prelude.{ℕ};
+ghost use Rattle.alarm_core.specs.State.{CoreState};
+ghost use Rattle.alarm_journal.specs.Press.{PressState, room_of};
+ghost use Rattle.floor_desk.specs.Accounts.{Account, front_of};
+ghost use Rattle.floor_desk.specs.Carrying.{FitsPress, IsCarried, Lends};
+
+use alarm_journal::{Job, Press};
+use bac_values::{Items, Send};
+use ground_io::Ground;
+
+/// What is to be written.
+#[derive(Drop)]
+pub enum Work {
+    /// Nothing: no event is pending.
+    Nothing,
+    /// The records of the pending events, behind what the journal holds.
+    Batch(Job),
+    /// The state, in the place of all that the journal holds.
+    Snapshot(Job),
+}
+
+/// What a commit carries out without the floor.
+pub struct Load<G: Ground> {
+    /// The press.
+    pub press: Press<G>,
+    /// The number of the last event that is to be written.
+    pub upto: u64,
+    /// What is to be written.
+    pub work: Work,
+    /// The datagrams that are to be emitted behind it.
+    pub sends: Items<Send>,
+}
+
+/// What comes back.
+pub enum Carried<G: Ground> {
+    /// All is written, and each datagram was sent or lost.
+    Home {
+        /// The press.
+        press: Press<G>,
+        /// The number of the last event that is written.
+        upto: u64,
+        /// How many datagrams were lost.
+        lost: u64,
+    },
+    /// The disk failed, and nothing was sent.
+    Broken {
+        /// What is left of the press.
+        device: G,
+        /// The number of the last event that was to be written.
+        upto: u64,
+    },
+}
+
+impl<G: Ground> Load<G> {
+    /// Writes, and then emits, without the floor. It takes no memory.
+    pub fn carry_out(self) -> Carried<G>
+        requires fits { FitsPress (room_of self.press.layout) self.press.layout.half self.work }
+        ensures carried { (origin : CoreState × PressState G) (a : Account) (lost : ℕ) → Lends G.told G.disk_faults origin a lost self → IsCarried G.told G.disk_faults origin a self.upto (front_of a) lost result }
+    {
+        let Load {
+            press,
+            upto,
+            work,
+            sends,
+        } = self;
+        let written = match work {
+            Work::Nothing => Ok(press),
+            Work::Batch(job) => press.commit_batch(&job),
+            Work::Snapshot(job) => press.commit_snapshot(&job),
+        };
+        match written {
+            Ok(mut press) => {
+                let emits = press.emit_all(sends.as_slice());
+                Carried::Home {
+                    press,
+                    upto,
+                    lost: emits.lost,
+                }
+            }
+            Err(device) => Carried::Broken { device, upto },
+        }
+    }
+}
