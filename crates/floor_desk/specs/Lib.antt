@@ -1,6 +1,8 @@
 pub mod Accounts
 pub mod Carrying
+pub mod Courses
 pub mod Keeping
+pub mod Moves
 pub mod OpeningSteps
 pub mod Prefixes
 pub mod Standing

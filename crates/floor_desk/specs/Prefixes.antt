@@ -1,5 +1,5 @@
 -- What a crash leaves of a floor: at each moment a prefix of its order, with every event that a datagram sent until then rests on.
-use Rattle.std.specs.Prelude.{◌≡◌, ◌≤◌, ℕ, ◌+◌, ⊤, Option, Some, None, List, [], ◌∷◌, ◌++◌, All, length, map, reverse, take}
+use Rattle.std.specs.Prelude.{◌≡◌, ◌≤◌, ℕ, ◌+◌, ◌-◌, ◌^◌, min, ⊤, Option, Some, None, List, [], ◌∷◌, ◌++◌, All, length, map, reverse, take}
 use Rattle.ground_io.specs.Sent.{Along, emissions}
 use Rattle.ground_io.specs.Trace.{Told, Adds, disk_of}
 use Rattle.ground_io.specs.declared.entry.Entry.{Entry}
@@ -19,10 +19,11 @@ behind history count order = reverse (take count order) ++ history
 abbrev pub RestsOn : ℕ → List Due → Type 0
 RestsOn events dues = All (λ due. due.after ≤ events) dues
 
--- The image stands for the history and the first events of the order: of as many, at least, as the datagrams rest on that were sent until then.
+-- The image stands for the history and the first events of the order: of as many, at least, as the datagrams rest on that were sent until then. No more were sent than are owed.
 pub record LeavesPrefix (journal : Journal) (site : Site) (history order : List Event) (dues : List Due) (sent : List Entry) (image : List ℕ) : Type 0 where
   pub count : ℕ
   pub within : count ≤ length order
+  pub owed : length sent ≤ length dues
   pub covers : RestsOn (length history + count) (take (length sent) dues)
   pub stands : ImageStands journal site image (behind history count order)
 
@@ -59,8 +60,12 @@ KeepsOrder journal site history order dues sent (Some old) (Some new) =
     × Settle (map (λ due. due.send) (take sent dues)) (emissions entries)
     × Along (LeavesPrefix journal site history order dues) [] (disk_of old) entries
 
--- so many of the datagrams that went out between the two were lost, where it tells
+-- a number of 64 bits, where a greater one stands as the greatest
+abbrev pub capped : ℕ → ℕ
+capped number = min number (2 ^ 64 - 1)
+
+-- so many of the datagrams that went out between the two were lost, as far as 64 bits go, where it tells
 abbrev pub HasLost : ℕ → Option Told → Option Told → Type 0
 HasLost lost old None = ⊤
 HasLost lost None (Some new) = ⊥
-HasLost lost (Some old) (Some new) = (entries : List Entry) × Adds (Some old) (Some new) entries × (losses (emissions entries) ≡ lost)
+HasLost lost (Some old) (Some new) = (entries : List Entry) × Adds (Some old) (Some new) entries × (lost ≡ capped (losses (emissions entries)))

@@ -1,6 +1,8 @@
 //! Why a call of a floor isn't carried out. In each the causes are looked at in the order in which they stand.
 
-/// Why an input isn't taken. Nothing has changed then.
+use bac_values::NoMemory;
+
+/// Why an input isn't taken. Nothing has changed then, but that the requester of a `Full` one is told.
 #[derive(Clone, Copy, Debug, PartialEq, Eq, Drop)]
 pub enum EnterFault {
     /// A commit failed, and the device has to be opened again.
@@ -50,4 +52,26 @@ pub enum CommitFault {
     NoMemory,
     /// The disk failed.
     DiskFault,
+}
+
+impl From<NoMemory> for EnterFault {
+    ghost use Rattle.std.specs.Prelude.{◌≡◌};
+    ghost use Rattle.floor_desk.specs.declared.faults.EnterFault.TheVariants as faults;
+
+    ghost from_gives = { λ _ fault. fault ≡ faults.NoMemory };
+
+    fn from(_refused: NoMemory) -> EnterFault {
+        EnterFault::NoMemory
+    }
+}
+
+impl From<NoMemory> for CommitFault {
+    ghost use Rattle.std.specs.Prelude.{◌≡◌};
+    ghost use Rattle.floor_desk.specs.declared.faults.CommitFault.TheVariants as faults;
+
+    ghost from_gives = { λ _ fault. fault ≡ faults.NoMemory };
+
+    fn from(_refused: NoMemory) -> CommitFault {
+        CommitFault::NoMemory
+    }
 }

@@ -4,6 +4,11 @@
 
 mod entry;
 mod faults;
+mod floor;
+mod load;
+mod pending;
 
 pub use entry::{Entry, Kind, Look, Ticket};
 pub use faults::{CommitFault, EnterFault};
+pub use floor::{Floor, Spot};
+pub use load::{Carried, Load, Work};
