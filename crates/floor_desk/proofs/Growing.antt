@@ -26,6 +26,31 @@ use Rattle.floor_desk.specs.declared.floor.Spot.TheVariants.{Home, Out, Broken}
 use Rattle.floor_desk.proofs.Histories.{IsStill, still_accepted, still_looked}
 use Rattle.floor_desk.proofs.Prefixes.{behind_all, behind_first, behind_more, keeps_more}
 
+-- ---- what an answer makes of a state, and the dues that it gives
+
+events_behind : (state : CoreState) (answer : Answer) → (state_behind state answer).events ≡ state.events + length (if_event (event_of answer))
+events_behind state (Entered event reply) = refl
+events_behind state (Full would limit reply) = omega arith
+events_behind state (Refused why) = omega arith
+events_behind state (Replied send) = omega arith
+events_behind state Unchanged = omega arith
+events_behind state Ignored = omega arith
+
+site_behind : (state : CoreState) (answer : Answer) → (state_behind state answer).site ≡ state.site
+site_behind state (Entered event reply) = refl
+site_behind state (Full would limit reply) = refl
+site_behind state (Refused why) = refl
+site_behind state (Replied send) = refl
+site_behind state Unchanged = refl
+site_behind state Ignored = refl
+
+dues_rest : (events : ℕ) (sends : List Send) → RestsOn events (map (due_after events) sends)
+dues_rest events sends = All-map (λ (due : Due). due.after ≤ events) (due_after events) sends (λ k d few. omega arith)
+
+sends_of_dues : (events : ℕ) (sends : List Send) → map (λ (due : Due). due.send) (map (due_after events) sends) ≡ sends
+sends_of_dues events [] = refl
+sends_of_dues events (send ∷ sends) = ap (λ (l : List Send). send ∷ l) (sends_of_dues events sends)
+
 module _ {G : Type 0} (origin : CoreState × PressState G) where
   -- ---- what the press took
 
@@ -85,25 +110,6 @@ module _ {G : Type 0} (origin : CoreState × PressState G) where
 
   -- ---- an answer that is taken
 
-  events_behind : (state : CoreState) (answer : Answer) → (state_behind state answer).events ≡ state.events + length (if_event (event_of answer))
-  events_behind state (Entered event reply) = refl
-  events_behind state (Full would limit reply) = omega arith
-  events_behind state (Refused why) = omega arith
-  events_behind state (Replied send) = omega arith
-  events_behind state Unchanged = omega arith
-  events_behind state Ignored = omega arith
-
-  site_behind : (state : CoreState) (answer : Answer) → (state_behind state answer).site ≡ state.site
-  site_behind state (Entered event reply) = refl
-  site_behind state (Full would limit reply) = refl
-  site_behind state (Refused why) = refl
-  site_behind state (Replied send) = refl
-  site_behind state Unchanged = refl
-  site_behind state Ignored = refl
-
-  dues_rest : (events : ℕ) (sends : List Send) → RestsOn events (map (due_after events) sends)
-  dues_rest events sends = All-map (λ (due : Due). due.after ≤ events) (due_after events) sends (λ k d few. omega arith)
-
   pub course_accepted : (a : Account G) (answer : Answer) → MayEnter a.state answer → IsCourse origin a → IsCourse origin (accepted a answer)
   course_accepted a answer may c =
       let event : List Event = if_event (event_of answer) in
@@ -130,9 +136,6 @@ module _ {G : Type 0} (origin : CoreState × PressState G) where
     rests = subst (λ (s : CoreState). RestsOn s.events b.dues) (sym state) (subst (λ (l : List Due). RestsOn a.state.events l) (sym dues) c.rests);
   }
 
-  sends_of_dues : (events : ℕ) (sends : List Send) → map (λ (due : Due). due.send) (map (due_after events) sends) ≡ sends
-  sends_of_dues events [] = refl
-  sends_of_dues events (send ∷ sends) = ap (λ (l : List Send). send ∷ l) (sends_of_dues events sends)
 
 module _ {G : Type 0} (told : G → Option Told) (disk_faults : G → ℕ) where
   -- an answer is taken: the floor with it shows the account with it
@@ -148,7 +151,7 @@ module _ {G : Type 0} (told : G → Option Told) (disk_faults : G → ℕ) where
             ∙ (sym (flat_map-append written_event (drop a.taken.events a.order) event) ∙ ap records_of (sym (drop-append-le a.taken.events a.order event s.fronts.events)));
         sends =
             ap (λ (l : List Send). l ++ dues_of a.state answer) s.sends
-            ∙ (ap (λ (l : List Send). pending_sends a ++ l) (sym (sends_of_dues origin (state_behind a.state answer).events (dues_of a.state answer)))
+            ∙ (ap (λ (l : List Send). pending_sends a ++ l) (sym (sends_of_dues (state_behind a.state answer).events (dues_of a.state answer)))
             ∙ (sym (map-append (λ (due : Due). due.send) (drop a.taken.dues a.dues) dues) ∙ ap (λ (l : List Due). map (λ due. due.send) l) (sym (drop-append-le a.taken.dues a.dues dues s.fronts.dues))));
         calls = omega (arith, s.calls, s.fronts.calls);
         spot = stands_still origin told disk_faults a (accepted a answer) floor.lost floor.spot still s.fronts s.spot;
