@@ -1,6 +1,7 @@
 pub mod Accounts
 pub mod Carrying
 pub mod Courses
+pub mod Desks
 pub mod Keeping
 pub mod Moves
 pub mod OpeningSteps

@@ -49,6 +49,11 @@ module _ {G : Type 0} where
   IsNotBroken (Out place upto) = Unit {0}
   IsNotBroken (Broken device place) = ⊥
 
+  abbrev pub IsNotOut : Spot G → Type 0
+  IsNotOut (Home press) = Unit {0}
+  IsNotOut (Out place upto) = ⊥
+  IsNotOut (Broken device place) = Unit {0}
+
   -- a commit has to come first
   abbrev pub IsFull : FloorState G → Type 0
   IsFull floor = (most_calls ≤ floor.calls) ⊎ (most_record_octets < length floor.records)

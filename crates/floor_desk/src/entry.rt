@@ -1,5 +1,8 @@
 //! The entries of a floor's history: one for each turn.
 
+ghost use Rattle.std.specs.Prelude.{◌≡◌};
+ghost use Rattle.floor_desk.specs.Accounts.{entry_of};
+
 use crate::faults::{CommitFault, EnterFault};
 use alarm_journal::Press;
 use bac_values::{Input, SetFault};
@@ -82,4 +85,30 @@ pub enum Entry<G: Ground> {
         /// It was to write the events up to this number.
         upto: u64,
     },
+}
+
+impl<G: Ground> Entry<G> {
+    // The entry of an input that was tried: an event, where its ticket says so.
+    pub(crate) fn of(
+        input: Memo<Input>,
+        moment: u64,
+        answer: Result<Ticket, EnterFault>,
+    ) -> Entry<G>
+        ensures entry { result ≡ entry_of input moment answer }
+    {
+        if let Ok(ticket) = answer {
+            if matches!(ticket.kind, Kind::Entered) {
+                return Entry::Event {
+                    input,
+                    moment,
+                    ticket,
+                };
+            }
+        }
+        Entry::Looked(Look::Tried {
+            input,
+            moment,
+            answer,
+        })
+    }
 }

@@ -1,6 +1,6 @@
 //! The floor, and what it stands for.
 
-ghost use Rattle.std.specs.Prelude.{◌≡◌, ◌≢◌, ◌<◌, ◌≤◌, ◌+◌, ◌^◌, ℕ, List, [], ◌∷◌, ◌++◌, IfOk, IfErr, IfSome, IsNone, OnErr, OnOk, Some, None, Option, Ok, Err, length, max, min, Result};
+ghost use Rattle.std.specs.Prelude.{◌≡◌, ◌≢◌, ◌<◌, ◌≤◌, ◌+◌, ◌^◌, ℕ, List, [], ◌∷◌, ◌++◌, IfOk, IfErr, IfSome, IsNone, MatchBool, OnErr, OnOk, Some, None, Option, Ok, Err, length, max, min, Result};
 ghost use Rattle.bac_values.specs.Moments.{IsMoment};
 ghost use Rattle.bac_values.specs.declared.input.Input.{Input as Entered};
 ghost use Rattle.bac_values.specs.declared.note.Send.{Send as Datagram};
@@ -13,17 +13,17 @@ ghost use Rattle.alarm_core.specs.Limits.{KeepsLimits};
 ghost use Rattle.alarm_core.specs.State.{CoreState};
 ghost use Rattle.alarm_core.specs.Verdicts.{Answers, step_verdict};
 ghost use Rattle.alarm_core.specs.declared.event.Event.{Event as Happening};
-ghost use Rattle.alarm_journal.specs.Press.{room_of};
+ghost use Rattle.alarm_journal.specs.Press.{PressState, room_of};
 ghost use Rattle.service_desk.specs.Answers.{Replied, answer_to, entering, if_owed};
 ghost use Rattle.state_codec.specs.Records.{HasRecord};
 ghost use Rattle.floor_desk.specs.declared.entry.Entry.{Entry as Step};
 ghost use Rattle.floor_desk.specs.declared.entry.Entry.TheVariants.{Looked, Taken};
 ghost use Rattle.floor_desk.specs.declared.entry.Look.TheVariants.{Refused};
 ghost use Rattle.floor_desk.specs.declared.faults.EnterFault.TheVariants as enters;
-ghost use Rattle.floor_desk.specs.declared.floor.Spot.TheVariants.{Out};
+ghost use Rattle.floor_desk.specs.declared.floor.Spot.TheVariants.{Home, Out};
 ghost use Rattle.floor_desk.specs.Accounts.{Loan, account, entry_of};
 ghost use Rattle.floor_desk.specs.Carrying.{FitsPress, IsCarried, Lends, Tells};
-ghost use Rattle.floor_desk.specs.Moves.{Comes, IsReady, Refuses};
+ghost use Rattle.floor_desk.specs.Moves.{Comes, IsNotOut, IsReady, Refuses};
 ghost use Rattle.floor_desk.specs.Standing.{FloorStands};
 
 use crate::entry::{Entry, Kind, Ticket};
@@ -156,6 +156,7 @@ impl<G: Ground> Floor<G> {
         requires limits { KeepsLimits core.site }
         ensures stands { FloorStands G.told G.disk_faults result [] }
         ensures origin { result.origin ≡ (core, press) }
+        ensures home { (result.core ≡ core) × (result.spot ≡ Home press) }
     {
         let opened = (Memo::of(&core), Memo::of(&press));
         Floor {
@@ -164,6 +165,29 @@ impl<G: Ground> Floor<G> {
             lost: 0,
             spot: Spot::Home(press),
             opened,
+        }
+    }
+
+    // The core and the press of a floor with the press at home.
+    pub(crate) fn into_parts(self) -> (Core, Press<G>)
+        requires home { (press : PressState G) × (self.spot ≡ Home press) }
+        ensures core { result.0 ≡ self.core }
+        ensures press { self.spot ≡ Home result.1 }
+    {
+        let Floor { core, spot, .. } = self;
+        let Spot::Home(press) = spot else {
+            unreachable!()
+        };
+        (core, press)
+    }
+
+    // Whether the press is out.
+    pub(crate) fn is_out(&self) -> bool
+        ensures out { MatchBool result ((at : ℕ) × (upto : ℕ) × (self.now.spot ≡ Out at upto)) (IsNotOut self.now.spot) }
+    {
+        match &self.spot {
+            Spot::Out { .. } => true,
+            _ => false,
         }
     }
 

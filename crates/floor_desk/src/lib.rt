@@ -2,12 +2,14 @@
 //! other; a commit takes the press out, writes and emits without the floor, and brings it back.
 #![tactic(auto)]
 
+mod desk;
 mod entry;
 mod faults;
 mod floor;
 mod load;
 mod pending;
 
+pub use desk::{Desk, DeskPass, Standing};
 pub use entry::{Entry, Kind, Look, Ticket};
 pub use faults::{CommitFault, EnterFault};
 pub use floor::{Floor, Spot};

@@ -11,16 +11,18 @@ ghost use Rattle.alarm_journal.specs.Press.{Between, PressState, room_of};
 ghost use Rattle.state_codec.specs.Snapshots.{written_state};
 ghost use Rattle.state_codec.specs.Spelled.{FitsState};
 ghost use Rattle.floor_desk.specs.Accounts.{Account, front_of};
-ghost use Rattle.floor_desk.specs.Carrying.{FitsPress, IsCarried, IsSnapshotOf, IsWorkOf, Lends, content_with};
+ghost use Rattle.floor_desk.specs.Carrying.{FitsPress, IsCarried, IsSnapshotOf, IsWorkOf, Lends, Tells, content_with};
 ghost use Rattle.floor_desk.specs.Keeping.{Rests};
 ghost use Rattle.floor_desk.specs.Prefixes.{HasLost};
 
+use crate::entry::Entry;
 use alarm_core::{Core, site_fits};
 use alarm_journal::{Job, Press};
 use bac_values::{Items, NoMemory, Send};
 use ground_io::Ground;
 use state_codec::{snapshots_are_short, state_fits, write_state};
 use std::alloc::Global;
+use turnstile::Memo;
 
 /// How many octets a snapshot takes of its area beside its own.
 const FRAME: u64 = 5;
@@ -148,6 +150,21 @@ fn write<G: Ground>(press: Press<G>, work: Work) -> Result<Press<G>, G>
         Work::Nothing => Ok(press),
         Work::Batch(job) => press.commit_batch(&job),
         Work::Snapshot(job) => press.commit_snapshot(&job),
+    }
+}
+
+impl<G: Ground> Carried<G> {
+    // The entry that tells of it.
+    pub(crate) fn entry(&self) -> Entry<G>
+        ensures tells { Tells self.now result }
+    {
+        match self {
+            Carried::Home { press, upto, .. } => Entry::Returned {
+                upto: *upto,
+                press: Memo::of(press),
+            },
+            Carried::Broken { upto, .. } => Entry::Failed { upto: *upto },
+        }
     }
 }
 
