@@ -14,13 +14,17 @@ use Rattle.alarm_journal.specs.Press.{PressState}
 use Rattle.service_desk.specs.Answers.{Answer, Entered, Full, Refused, Replied, Unchanged, Ignored, dues_of, event_of, state_behind}
 use Rattle.state_codec.specs.Contents.{records_of}
 use Rattle.state_codec.specs.Records.{HasRecord, written_event}
-use Rattle.floor_desk.specs.Accounts.{Account, Due, Front, Loan, accepted, due_after, front_of, if_event, looked, start}
+use Rattle.floor_desk.specs.Accounts.{Account, Due, Front, Loan, accepted, due_after, front_of, if_event, looked, step}
+use Rattle.floor_desk.specs.Carrying.{IsCarried}
 use Rattle.floor_desk.specs.Courses.{IsCourse, KeepsFronts}
 use Rattle.floor_desk.specs.Keeping.{HoldsHistory}
 use Rattle.floor_desk.specs.Moves.{MayEnter, with_answer}
 use Rattle.floor_desk.specs.Prefixes.{HasLost, KeepsOrder, RestsOn, behind}
 use Rattle.floor_desk.specs.Standing.{Held, Holds, Shows, Stands, pending_events, pending_sends}
 use Rattle.floor_desk.specs.States.{FloorState}
+use Rattle.floor_desk.specs.declared.entry.Entry.TheVariants.{Taken}
+use Rattle.floor_desk.specs.declared.load.Carried.{Carried}
+use Rattle.floor_desk.specs.declared.load.Carried.TheVariants.{Home as HomeAgain, Broken as Gone}
 use Rattle.floor_desk.specs.declared.floor.Spot.{Spot}
 use Rattle.floor_desk.specs.declared.floor.Spot.TheVariants.{Home, Out, Broken}
 use Rattle.floor_desk.proofs.Histories.{IsStill, still_accepted, still_looked}
@@ -107,6 +111,27 @@ module _ {G : Type 0} (origin : CoreState × PressState G) where
       subst (λ (t : Front). Held told origin b t device) (sym s.back) (held_more a b a.back device s (omega (arith, f.back, f.dues)) here.3),
       here.4,
     )
+
+    -- ---- what comes back
+
+    pub carried_still : (disk_faults : G → ℕ) (a b : Account G) (upto : ℕ) (carried : Carried G) → IsStill a b → KeepsFronts origin a → upto ≡ origin.0.events + a.taken.events → IsCarried told disk_faults origin a upto a.taken carried → IsCarried told disk_faults origin b upto b.taken carried
+    carried_still disk_faults a b upto (HomeAgain press event more) s f is c = (
+      c.0,
+      subst (λ (p : PressState G). disk_faults p.device ≤ disk_faults press.device) (sym s.press) c.1,
+      subst (λ (t : Front). Holds told origin b upto t press) (sym s.taken) (holds_more a b upto a.taken press s (omega (arith, is, f.events)) f.dues c.2),
+      subst (λ (p : PressState G). HasLost more (told p.device) (told press.device)) (sym s.press) c.3,
+    )
+    carried_still disk_faults a b upto (Gone device event) s f is c = (
+      c.0,
+      subst (λ (p : PressState G). Rose (disk_faults p.device) (disk_faults device)) (sym s.press) c.1,
+      subst (λ (t : Front). Held told origin b t device) (sym s.back) (held_more a b a.back device s (omega (arith, f.back, f.dues)) c.2),
+      subst (λ (p : PressState G). HasLost 0 (told p.device) (told device)) (sym s.press) c.3,
+    )
+
+    -- behind the entry with which the press left
+    pub carried_at : (disk_faults : G → ℕ) (a : Account G) (n upto : ℕ) (carried : Carried G) → IsCarried told disk_faults origin a upto (front_of a) carried → IsCarried told disk_faults origin (step a n (Taken upto)) upto (step a n (Taken upto)).taken carried
+    carried_at disk_faults a n upto (HomeAgain press event more) c = c
+    carried_at disk_faults a n upto (Gone device event) c = c
 
   -- ---- an answer that is taken
 

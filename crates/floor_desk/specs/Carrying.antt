@@ -11,12 +11,12 @@ use Rattle.alarm_journal.specs.Journal.{Content, only_snapshot, with_batch}
 use Rattle.alarm_journal.specs.Press.{PressState, room_of}
 use Rattle.state_codec.specs.Contents.{StandsForHistory, records_of}
 use Rattle.state_codec.specs.Snapshots.{written_state}
-use Rattle.floor_desk.specs.Accounts.{Account, Front}
+use Rattle.floor_desk.specs.Accounts.{Account, Front, step}
 use Rattle.floor_desk.specs.Courses.{IsCourse, KeepsFronts}
 use Rattle.floor_desk.specs.Prefixes.{HasLost}
 use Rattle.floor_desk.specs.Standing.{Held, Holds, pending_events, pending_sends}
 use Rattle.floor_desk.specs.declared.entry.Entry.{Entry}
-use Rattle.floor_desk.specs.declared.entry.Entry.TheVariants.{Returned, Failed}
+use Rattle.floor_desk.specs.declared.entry.Entry.TheVariants.{Taken, Returned, Failed}
 use Rattle.floor_desk.specs.declared.load.Carried.{Carried}
 use Rattle.floor_desk.specs.declared.load.Carried.TheVariants.{Home, Broken}
 use Rattle.floor_desk.specs.declared.load.Load.{Load}
@@ -68,6 +68,10 @@ module _ {G : Type 0} (told : G → Option Told) where
     pub holds : Holds told origin a a.durable a.back a.press
     pub course : IsCourse origin a
     pub fronts : KeepsFronts origin a
+
+  -- the account is the one that a load left behind it
+  abbrev pub LeftWith : CoreState × PressState G → Account G → Load G → Type 0
+  LeftWith origin b load = (a : Account G) × (n : ℕ) × (b ≡ step a n (Taken load.upto)) × Lends origin a load
 
 module _ {G : Type 0} (told : G → Option Told) (disk_faults : G → ℕ) where
   -- What comes back belongs to a load that left with the press to write up to an event, when the history reached to a front of what it comes to now. Home, the order up to that event is written, and just the dues up to that front were sent, of which so many more were lost. Lost, none was sent behind those that were sent before the load.
