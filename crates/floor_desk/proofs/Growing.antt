@@ -161,7 +161,6 @@ module _ {G : Type 0} (origin : CoreState × PressState G) where
     rests = subst (λ (s : CoreState). RestsOn s.events b.dues) (sym state) (subst (λ (l : List Due). RestsOn a.state.events l) (sym dues) c.rests);
   }
 
-
 module _ {G : Type 0} (told : G → Option Told) (disk_faults : G → ℕ) where
   -- an answer is taken: the floor with it shows the account with it
   pub shows_accepted : (floor : FloorState G) (a : Account G) (answer : Answer) → MayEnter a.state answer → Shows told disk_faults floor a → Shows told disk_faults (with_answer a.state floor answer) (accepted a answer)

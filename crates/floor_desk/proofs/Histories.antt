@@ -14,9 +14,6 @@ use Rattle.floor_desk.specs.declared.faults.EnterFault.TheVariants as enters
 use Rattle.floor_desk.specs.Accounts.{Account, Due, Loan, Licenses, MayFollow, IsLegalFrom, accepted, account_from, if_event, looked, step, tried}
 
 module _ {G : Type 0} where
-  abbrev History : Type 0
-  History = List (ℕ × Entry G)
-
   -- one entry more
   pub account_snoc : (a : Account G) (h : List (ℕ × Entry G)) (c : ℕ × Entry G) → account_from a (h ++ c ∷ []) ≡ step (account_from a h) c.0 c.1
   account_snoc a [] c = refl
@@ -129,10 +126,9 @@ module _ {G : Type 0} (disk_faults : G → ℕ) where
   pub still_out : (a : Account G) (l : Loan) (h : List (ℕ × Entry G)) → a.loan ≡ Some l → IsLegalFrom disk_faults a h → entries_under l.number h ≡ [] → IsStill a (account_from a h)
   still_out a l [] x legal none_own = still_here a
   still_out a l (e ∷ es) x legal none_own =
-      elim (e.0 == l.number) as (λ b. (e.0 == l.number) ≡ b → (if b then (e.1 ∷ entries_under l.number es) else entries_under l.number es) ≡ [] → IsStill a (account_from (step a e.0 e.1) es))
-      [
-      | true ↦ λ is none. cc
-      | false ↦ λ is none.
-          let one : IsStill a (step a e.0 e.1) = kept a l e.0 e.1 x legal.0 is in
-          still_then a (step a e.0 e.1) (account_from (step a e.0 e.1) es) one (still_out (step a e.0 e.1) l es (one.loan ∙ x) legal.1 none)
+      elim (e.0 == l.number) as (λ b. (e.0 == l.number) ≡ b → (if b then (e.1 ∷ entries_under l.number es) else entries_under l.number es) ≡ [] → IsStill a (account_from (step a e.0 e.1) es)) [
+        | true ↦ λ is none. cc
+        | false ↦ λ is none.
+            let one : IsStill a (step a e.0 e.1) = kept a l e.0 e.1 x legal.0 is in
+            still_then a (step a e.0 e.1) (account_from (step a e.0 e.1) es) one (still_out (step a e.0 e.1) l es (one.loan ∙ x) legal.1 none)
       ] refl none_own

@@ -252,12 +252,7 @@ impl<G: Ground> Floor<G> {
     }
 
     // An input that is looked at.
-    fn look(
-        &mut self,
-        alloc: Global,
-        moment: u64,
-        input: &Input,
-    ) -> Result<Ticket, EnterFault>
+    fn look(&mut self, alloc: Global, moment: u64, input: &Input) -> Result<Ticket, EnterFault>
         requires moment { IsMoment moment }
         requires few { self.old.calls < 1024 }
         requires short { length self.old.records ≤ 57952 }

@@ -64,12 +64,7 @@ impl Pending {
     }
 
     /// A call with a record, with what its event sends, and with its reply.
-    pub(crate) fn add_event(
-        &mut self,
-        mut octets: Vec<u8>,
-        sends: Items<Send>,
-        reply: Items<Send>,
-    )
+    pub(crate) fn add_event(&mut self, mut octets: Vec<u8>, sends: Items<Send>, reply: Items<Send>)
         requires few { self.old.calls < 2 ^ 63 }
         requires records { vec_len self.old.records + length octets.items ≤ vec_capacity self.old.records }
         requires sends { deque_len self.old.sends + 2 ≤ deque_capacity self.old.sends }
