@@ -1,5 +1,5 @@
 -- What a load leaves when it was carried out.
-use Rattle.std.proofs.Common.{◌≡◌, ◌⊎◌, ℕ, ◌+◌, ◌-◌, ◌<◌, ◌≤◌, Option, Some, None, List, [], ◌∷◌, ◌++◌, All, length, get_or, map, take, drop, reverse, refl, ap, ◌∙◌, sym, subst, inl, inr, arith, append_assoc, length-append}
+use Rattle.std.proofs.Common.{◌≡◌, ◌⊎◌, ℕ, ◌+◌, ◌-◌, ◌^◌, ◌<◌, ◌≤◌, Option, Some, None, List, [], ◌∷◌, ◌++◌, All, length, get_or, map, take, drop, reverse, refl, ap, ◌∙◌, sym, subst, inl, inr, arith, append_assoc, length-append}
 use Rattle.std.specs.Int.{w64, to_be_bytes}
 use Rattle.std.proofs.lemmas.List.{get_or-reverse, length-reverse, reverse-append}
 use Rattle.std.proofs.lemmas.List.Elements.{All-append, All-drop}
@@ -23,15 +23,16 @@ use Rattle.state_codec.specs.Contents.{ImageStands, SpellsEvents, StandsForHisto
 use Rattle.state_codec.specs.Records.{HasRecord, written_act, written_event}
 use Rattle.state_codec.proofs.Following.{spell_more}
 use Rattle.floor_desk.specs.Accounts.{Account, Front, front_of}
-use Rattle.floor_desk.specs.Carrying.{IsSnapshotOf, IsWorkFor, Lends, content_with}
+use Rattle.floor_desk.specs.Carrying.{IsCarried, IsSnapshotOf, IsWorkFor, Lends, content_with}
 use Rattle.floor_desk.specs.Courses.{IsCourse, KeepsFronts}
 use Rattle.floor_desk.specs.Keeping.{Commits, HoldsHistory, Rests}
 use Rattle.floor_desk.specs.Prefixes.{HasLost, KeepsOrder, RestsOn, behind, losses}
 use Rattle.floor_desk.specs.Standing.{Held, Holds, pending_events}
+use Rattle.floor_desk.specs.declared.load.Carried.TheVariants.{Home as HomeAgain, Broken as Gone}
 use Rattle.floor_desk.specs.declared.load.Load.{Load}
 use Rattle.floor_desk.specs.declared.load.Work.{Work}
 use Rattle.floor_desk.specs.declared.load.Work.TheVariants.{Nothing, Batch, Snapshot}
-use Rattle.floor_desk.proofs.Prefixes.{behind_rest, keeps_commit, keeps_emitting, losses_sent}
+use Rattle.floor_desk.proofs.Prefixes.{behind_rest, keeps_commit, keeps_emitting, losses_sent, lost_both, lost_emitting}
 
 -- ---- a press at rest
 
@@ -180,3 +181,34 @@ module _ {G : Type 0} (told : G → Option Told) where
           keeps_emitting journal origin.0.site history a.order a.dues a.taken.dues (length a.order) (told origin.1.device) (told mid.device) (told press.device) after load.sends gone lost lent.fronts.dues (omega arith)
               (subst (λ (n : ℕ). RestsOn n a.dues) (lent.course.events ∙ ap (λ (n : ℕ). n + length a.order) (events_are history stands)) lent.course.rests) stood_after lent.sends kept emits (through journal after rests_mid.0),
         )
+
+    -- what comes back home
+    pub back_home : (disk_faults : G → ℕ) (mid press : PressState G) (gone lost : ℕ) → lost ≤ 2 ^ 64 - 1
+        → ((journal : Journal) (content : Content) → Rests journal load.press.layout (told load.press.device) content → Rests journal mid.layout (told mid.device) (content_with load.work content))
+        → ((journal : Journal) (content : Content) → Rests journal load.press.layout (told load.press.device) content → Between journal content (content_with load.work content) (told load.press.device) (told mid.device))
+        → HasLost 0 (told load.press.device) (told mid.device) → disk_faults load.press.device ≤ disk_faults mid.device
+        → EmitsAll load.sends gone lost (told mid.device) (told press.device)
+        → ((journal : Journal) (content : Content) → Settled journal mid.layout (told mid.device) content → Settled journal press.layout (told press.device) content)
+        → ((journal : Journal) (content : Content) → Settled journal mid.layout (told mid.device) content → Lasts journal (told press.device) content)
+        → ((journal : Journal) (content : Content) → Settled journal mid.layout (told mid.device) content → Throughout journal content (told mid.device) (told press.device))
+        → disk_faults press.device ≡ disk_faults mid.device → IsCarried told disk_faults origin a load.upto (front_of a) (HomeAgain press load.upto lost)
+    back_home disk_faults mid press gone lost few rest between quiet later emits settled lasts through same = (
+      refl,
+      omega (arith, later, same, ap (λ (p : PressState G). disk_faults p.device) lent.press),
+      holds_carried mid press gone lost rest between emits settled lasts through,
+      subst (λ (p : PressState G). HasLost lost (told p.device) (told press.device)) lent.press
+          (subst (λ (n : ℕ). HasLost n (told load.press.device) (told press.device)) (omega (arith, few))
+          (lost_both 0 lost (told load.press.device) (told mid.device) (told press.device) quiet (lost_emitting load.sends gone lost (told mid.device) (told press.device) few emits))),
+    )
+
+    -- what is left where the disk failed
+    pub back_broken : (disk_faults : G → ℕ) (device : G)
+        → ((journal : Journal) (content : Content) → Rests journal load.press.layout (told load.press.device) content → Between journal content (content_with load.work content) (told load.press.device) (told device))
+        → HasLost 0 (told load.press.device) (told device) → Rose (disk_faults load.press.device) (disk_faults device) → IsCarried told disk_faults origin a load.upto (front_of a) (Gone device load.upto)
+    back_broken disk_faults device between quiet rose = (
+      refl,
+      subst (λ (p : PressState G). Rose (disk_faults p.device) (disk_faults device)) lent.press rose,
+      λ journal history stands first.
+          subst (λ (t : Front). KeepsOrder journal origin.0.site history a.order a.dues t.dues (told origin.1.device) (told device)) (sym home.0) (keeps_written journal history (told device) stands first (between journal)),
+      subst (λ (p : PressState G). HasLost 0 (told p.device) (told device)) lent.press quiet,
+    )

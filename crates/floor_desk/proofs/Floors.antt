@@ -1,6 +1,6 @@
 -- A floor after one turn more.
 use Rattle.std.proofs.Common.{◌≡◌, ◌≢◌, ◌⊎◌, inl, inr, ℕ, ◌+◌, ◌-◌, ◌^◌, ◌≤◌, ◌<◌, min, List, [], ◌∷◌, ◌++◌, length, map, take, drop, refl, sym, ap, ◌∙◌, subst, arith}
-use Rattle.std.specs.Prelude.{Option, Some, None, Result, Ok, Err}
+use Rattle.std.specs.Prelude.{Option, Some, None, Result, Ok, Err, IfOk, IfErr}
 use Rattle.std.proofs.lemmas.List.{append-nil, drop_all, take_all}
 use Rattle.std.proofs.lemmas.List.Elements.{All-nil}
 use Rattle.ground_io.specs.Counts.{Rose}
@@ -34,7 +34,7 @@ use Rattle.floor_desk.specs.declared.floor.Spot.TheVariants.{Home, Out, Broken}
 use Rattle.floor_desk.specs.Accounts.{Account, Due, Front, IsAnswered, IsBehind, IsDenied, IsLegalFrom, IsOpen, IsTicketOf, Loan, MayFollow, accepted, account, counts, entry_by, entry_of, front_of, if_event, looked, most_calls, most_record_octets, start, step, ticket_for, tried}
 use Rattle.floor_desk.specs.Carrying.{IsCarried, IsWorkOf, Lends}
 use Rattle.floor_desk.specs.Courses.{IsCourse, KeepsFronts}
-use Rattle.floor_desk.specs.Moves.{Accepts, Comes, IsFull, IsNotBroken, IsReady, MayEnter, Refuses, with_answer}
+use Rattle.floor_desk.specs.Moves.{Accepts, Comes, Hinders, IsFull, IsLentBy, IsNotBroken, IsReady, MayEnter, Refuses, lent, with_answer}
 use Rattle.floor_desk.specs.Prefixes.{HasLost, RestsOn, capped}
 use Rattle.floor_desk.specs.Standing.{FloorStands, Held, Holds, Shows, Stands, pending_events}
 use Rattle.floor_desk.specs.States.{FloorState}
@@ -130,6 +130,14 @@ module _ {G : Type 0} (told : G → Option Told) (disk_faults : G → ℕ) where
   comes old new h n moment input (Err (enters.Stopped at)) same f ready came = absurd came
   comes old new h n moment input (Err (enters.Behind pending octets)) same f ready came = absurd came
 
+  -- it leaves the origin
+  pub comes_origin : (old new : FloorState G) (answer : Answer) (result : Result Ticket EnterFault) → Comes old new answer result → new.origin ≡ old.origin
+  comes_origin old new answer (Ok ticket) came = ap (λ (x : FloorState G). x.origin) came.0.with_it
+  comes_origin old new answer (Err (enters.Full would limit)) came = ap (λ (x : FloorState G). x.origin) came.0.with_it
+  comes_origin old new answer (Err enters.NoMemory) came = ap (λ (x : FloorState G). x.origin) came
+  comes_origin old new answer (Err (enters.Stopped at)) came = absurd came
+  comes_origin old new answer (Err (enters.Behind pending octets)) came = absurd came
+
   broken_at : (origin : CoreState × PressState G) (a : Account G) (lost : ℕ) (spot : Spot G) (device : G) (at : ℕ) → spot ≡ Broken device at → Stands told disk_faults origin a lost spot → a.failed ≡ Some at
   broken_at origin a lost spot device at is here = (subst (λ (s : Spot G). Stands told disk_faults origin a lost s) is here).1
 
@@ -174,10 +182,6 @@ module _ {G : Type 0} (told : G → Option Told) (disk_faults : G → ℕ) where
 
   -- ---- the press leaves
 
-  -- the floor without what is pending, and the press out
-  abbrev pub lent : FloorState G → ℕ → FloorState G
-  lent floor place = record floor { records = []; sends = []; calls = 0; spot = Out place floor.core.events }
-
   shows_taken : (floor : FloorState G) (a : Account G) (n place : ℕ) (press : PressState G) → floor.spot ≡ Home press → place ≡ a.long + 1 → Shows told disk_faults floor a → Shows told disk_faults (lent floor place) (step a n (Taken floor.core.events))
   shows_taken floor a n place press is at s =
       let b : Account G = step a n (Taken floor.core.events) in
@@ -205,30 +209,56 @@ module _ {G : Type 0} (told : G → Option Told) (disk_faults : G → ℕ) where
       }
 
   -- its load is what the account lends
-  pub lends : (old new : FloorState G) (h : List (ℕ × Entry G)) (n place : ℕ) (load : Load G) → new ≡ lent old place → old.spot ≡ Home load.press → old.calls ≢ 0 → load.upto ≡ old.core.events → load.sends ≡ old.sends
-      → IsWorkOf old.core old.records (room_of load.press.layout) load.work → place ≡ length h + 1 → FloorStands told disk_faults old h
+  pub lends : (old new : FloorState G) (h : List (ℕ × Entry G)) (n place : ℕ) (load : Load G) → IsLentBy old new place load → place ≡ length h + 1 → FloorStands told disk_faults old h
       → Lends told old.origin (account old.origin h) load × FloorStands told disk_faults new (h ++ (n, Taken load.upto) ∷ [])
-  lends old new h n place load is home some upto sends work at f =
+  lends old new h n place load is at f =
       let a : Account G = account old.origin h in
-      let here = at_spot old a (Home load.press) home f.shows in
+      let here = at_spot old a (Home load.press) is.home f.shows in
       let long = long_is (start old.origin) h in
-      let denied = waits old h load.press home some f in
+      let denied = waits old h load.press is.home is.some f in
       let next : FloorStands told disk_faults new (h ++ (n, Taken old.core.events) ∷ []) =
-      follows old new h n (Taken old.core.events) (ap (λ (x : FloorState G). x.origin) is) f (here.1, here.0, denied.2, ap (λ (c : CoreState). c.events) f.shows.core)
-      (subst (λ (x : FloorState G). Shows told disk_faults x (step a n (Taken old.core.events))) (sym is) (shows_taken old a n place load.press home (omega (arith, long, at)) f.shows)) in (
+      follows old new h n (Taken old.core.events) (ap (λ (x : FloorState G). x.origin) is.left) f (here.1, here.0, denied.2, ap (λ (c : CoreState). c.events) f.shows.core)
+      (subst (λ (x : FloorState G). Shows told disk_faults x (step a n (Taken old.core.events))) (sym is.left) (shows_taken old a n place load.press is.home (omega (arith, long, at)) f.shows)) in (
         record {
           none = here.0;
           works = here.1;
-          upto = upto ∙ ap (λ (c : CoreState). c.events) f.shows.core;
+          upto = is.upto ∙ ap (λ (c : CoreState). c.events) f.shows.core;
           press = here.2;
-          sends = sends ∙ f.shows.sends;
-          work = subst (λ (c : CoreState). IsWorkOf c (records_of (pending_events a)) (room_of load.press.layout) load.work) f.shows.core (subst (λ (l : List ℕ). IsWorkOf old.core l (room_of load.press.layout) load.work) f.shows.records work);
+          sends = is.sends ∙ f.shows.sends;
+          work = subst (λ (c : CoreState). IsWorkOf c (records_of (pending_events a)) (room_of load.press.layout) load.work) f.shows.core (subst (λ (l : List ℕ). IsWorkOf old.core l (room_of load.press.layout) load.work) f.shows.records is.work);
           holds = f.shows.holds;
           course = f.shows.course;
           fronts = f.shows.fronts;
         },
-        subst (λ (u : ℕ). FloorStands told disk_faults new (h ++ (n, Taken u) ∷ [])) (sym upto) next,
+        subst (λ (u : ℕ). FloorStands told disk_faults new (h ++ (n, Taken u) ∷ [])) (sym is.upto) next,
       )
+
+  -- a commit that is refused
+  pub hinders : (floor : FloorState G) (h : List (ℕ × Entry G)) (n : ℕ) (fault : CommitFault) → FloorStands told disk_faults floor h → Hinders floor fault → FloorStands told disk_faults floor (h ++ (n, Looked (Denied fault)) ∷ [])
+  hinders floor h n (commits.Stopped at) f why = looks floor h n (commits.Stopped at) f (stopped floor h why.0 at why.1 f)
+  hinders floor h n (commits.Busy at upto) f why = looks floor h n (commits.Busy at upto) f (busy floor h at upto why f)
+  hinders floor h n (commits.Nothing upto) f why = looks floor h n (commits.Nothing upto) f (let i = idle floor h why.0 why.1 why.2 f in (i.0, i.1, i.2, why.3 ∙ i.3))
+  hinders floor h n commits.NoMemory f why = looks floor h n commits.NoMemory f (waits floor h why.0 why.1 why.2 f)
+  hinders floor h n commits.DiskFault f why = absurd why
+
+  -- what became of a commit at its turn
+  pub lent_by : (old new : FloorState G) (place : ℕ) (result : Result (Load G) CommitFault) → IfOk result (λ load. IsLentBy old new place load)
+      → IfOk result (λ load. (h : List (ℕ × Entry G)) (n : ℕ) → place ≡ length h + 1 → FloorStands told disk_faults old h → Lends told old.origin (account old.origin h) load × FloorStands told disk_faults new (h ++ (n, Taken load.upto) ∷ []))
+  lent_by old new place (Ok load) is = λ h n at f. lends old new h n place load is at f
+  lent_by old new place (Err fault) is = tt
+
+  pub refused_by : (old new : FloorState G) (result : Result (Load G) CommitFault) → IfErr result (λ fault. (new ≡ old) × Hinders old fault)
+      → IfErr result (λ fault. (h : List (ℕ × Entry G)) (n : ℕ) → FloorStands told disk_faults old h → FloorStands told disk_faults new (h ++ (n, Looked (Denied fault)) ∷ []))
+  refused_by old new (Ok load) is = tt
+  refused_by old new (Err fault) is = λ h n f. subst (λ (x : FloorState G). FloorStands told disk_faults x (h ++ (n, Looked (Denied fault)) ∷ [])) (sym is.0) (hinders old h n fault f is.1)
+
+  pub same_by : (old new : FloorState G) (result : Result (Load G) CommitFault) → IfErr result (λ fault. (new ≡ old) × Hinders old fault) → IfErr result (λ fault. new ≡ old)
+  same_by old new (Ok load) is = tt
+  same_by old new (Err fault) is = is.0
+
+  pub origin_by : (old new : FloorState G) (place : ℕ) (result : Result (Load G) CommitFault) → IfOk result (λ load. IsLentBy old new place load) → IfErr result (λ fault. (new ≡ old) × Hinders old fault) → new.origin ≡ old.origin
+  origin_by old new place (Ok load) is why = ap (λ (x : FloorState G). x.origin) is.left
+  origin_by old new place (Err fault) is why = ap (λ (x : FloorState G). x.origin) why.0
 
   -- ---- the press comes back
 

@@ -1,18 +1,23 @@
 -- What one input makes of a floor.
-use Rattle.std.specs.Prelude.{◌≡◌, ◌⊎◌, ◌<◌, ◌≤◌, ℕ, ◌+◌, All, List, ◌++◌, length, reverse, Option, Result, Ok, Err}
+use Rattle.std.specs.Prelude.{◌≡◌, ◌≢◌, ◌⊎◌, ◌<◌, ◌≤◌, ℕ, ◌+◌, All, List, [], ◌++◌, length, reverse, Option, Result, Ok, Err}
 use Rattle.bac_values.specs.declared.note.Send.{Send}
 use Rattle.alarm_core.specs.Allowed.{Represents}
 use Rattle.alarm_core.specs.Fits.{FitsEvent}
 use Rattle.alarm_core.specs.State.{CoreState}
 use Rattle.alarm_core.specs.declared.event.Event.{Event}
+use Rattle.alarm_journal.specs.Press.{PressState, room_of}
 use Rattle.service_desk.specs.Answers.{Answer, Full, dues_of, event_of, state_behind}
 use Rattle.state_codec.specs.Contents.{records_of}
 use Rattle.state_codec.specs.Records.{HasRecord}
 use Rattle.floor_desk.specs.Accounts.{IsTicketOf, counts, if_event, most_calls, most_record_octets}
+use Rattle.floor_desk.specs.Carrying.{IsWorkOf}
 use Rattle.floor_desk.specs.States.{FloorState}
 use Rattle.floor_desk.specs.declared.entry.Ticket.{Ticket}
+use Rattle.floor_desk.specs.declared.faults.CommitFault.{CommitFault}
+use Rattle.floor_desk.specs.declared.faults.CommitFault.TheVariants as commits
 use Rattle.floor_desk.specs.declared.faults.EnterFault.{EnterFault}
 use Rattle.floor_desk.specs.declared.faults.EnterFault.TheVariants as enters
+use Rattle.floor_desk.specs.declared.load.Load.{Load}
 use Rattle.floor_desk.specs.declared.floor.Spot.{Spot}
 use Rattle.floor_desk.specs.declared.floor.Spot.TheVariants.{Home, Out, Broken}
 
@@ -68,3 +73,26 @@ module _ {G : Type 0} where
     pub works : IsNotBroken floor.spot
     pub calls : floor.calls < most_calls
     pub records : length floor.records ≤ most_record_octets
+
+  -- ---- a commit
+
+  -- why the press doesn't leave
+  abbrev pub Hinders : FloorState G → CommitFault → Type 0
+  Hinders floor (commits.Stopped at) = (device : G) × (floor.spot ≡ Broken device at)
+  Hinders floor (commits.Busy at upto) = floor.spot ≡ Out at upto
+  Hinders floor (commits.Nothing upto) = (press : PressState G) × (floor.spot ≡ Home press) × (floor.calls ≡ 0) × (upto ≡ floor.core.events)
+  Hinders floor commits.NoMemory = (press : PressState G) × (floor.spot ≡ Home press) × (floor.calls ≢ 0)
+  Hinders floor commits.DiskFault = ⊥
+
+  -- the floor without what is pending, and the press out
+  abbrev pub lent : FloorState G → ℕ → FloorState G
+  lent floor place = record floor { records = []; sends = []; calls = 0; spot = Out place floor.core.events }
+
+  -- the press left with all that was pending
+  pub record IsLentBy (old new : FloorState G) (place : ℕ) (load : Load G) : Type 0 where
+    pub left : new ≡ lent old place
+    pub home : old.spot ≡ Home load.press
+    pub some : old.calls ≢ 0
+    pub upto : load.upto ≡ old.core.events
+    pub sends : load.sends ≡ old.sends
+    pub work : IsWorkOf old.core old.records (room_of load.press.layout) load.work

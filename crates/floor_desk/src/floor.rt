@@ -1,6 +1,6 @@
 //! The floor, and what it stands for.
 
-ghost use Rattle.std.specs.Prelude.{◌≡◌, ◌≢◌, ◌<◌, ◌≤◌, ◌+◌, ◌^◌, ℕ, List, [], ◌∷◌, ◌++◌, IfOk, IfErr, IfSome, IsNone, MatchBool, OnErr, OnOk, Some, None, Option, Ok, Err, length, max, min, Result};
+ghost use Rattle.std.specs.Prelude.{◌≡◌, ◌≢◌, ◌<◌, ◌≤◌, ◌+◌, ◌-◌, ◌^◌, ℕ, List, [], ◌∷◌, ◌++◌, IfOk, IfErr, IfSome, IsNone, MatchBool, OnErr, OnOk, Some, None, Option, Ok, Err, length, max, min, Result};
 ghost use Rattle.bac_values.specs.Moments.{IsMoment};
 ghost use Rattle.bac_values.specs.declared.input.Input.{Input as Entered};
 ghost use Rattle.bac_values.specs.declared.note.Send.{Send as Datagram};
@@ -15,7 +15,7 @@ ghost use Rattle.alarm_core.specs.Verdicts.{Answers, step_verdict};
 ghost use Rattle.alarm_core.specs.declared.event.Event.{Event as Happening};
 ghost use Rattle.alarm_journal.specs.Press.{PressState, room_of};
 ghost use Rattle.service_desk.specs.Answers.{Replied, answer_to, entering, if_owed};
-ghost use Rattle.state_codec.specs.Records.{HasRecord};
+ghost use Rattle.state_codec.specs.Records.{HasRecord, written_event};
 ghost use Rattle.floor_desk.specs.declared.entry.Entry.{Entry as Step};
 ghost use Rattle.floor_desk.specs.declared.entry.Entry.TheVariants.{Looked, Taken};
 ghost use Rattle.floor_desk.specs.declared.entry.Look.TheVariants.{Refused};
@@ -23,7 +23,7 @@ ghost use Rattle.floor_desk.specs.declared.faults.EnterFault.TheVariants as ente
 ghost use Rattle.floor_desk.specs.declared.floor.Spot.TheVariants.{Home, Out};
 ghost use Rattle.floor_desk.specs.Accounts.{Loan, account, entry_of};
 ghost use Rattle.floor_desk.specs.Carrying.{FitsPress, IsCarried, Lends, Tells};
-ghost use Rattle.floor_desk.specs.Moves.{Comes, IsNotOut, IsReady, Refuses};
+ghost use Rattle.floor_desk.specs.Moves.{Comes, Hinders, IsLentBy, IsNotOut, IsReady, Refuses};
 ghost use Rattle.floor_desk.specs.Standing.{FloorStands};
 
 use crate::entry::{Entry, Kind, Ticket};
@@ -150,6 +150,41 @@ fn listed(alloc: Global, reply: Option<Send>) -> Result<Items<Send>, NoMemory>
     }
 }
 
+/// What an event adds to what is pending.
+#[derive(Drop)]
+struct Parts {
+    // Its record.
+    octets: Vec<u8>,
+    // Its reply, where one is owed.
+    reply: Items<Send>,
+    // The answer where its notifications don't fit the outbox.
+    full: Items<Send>,
+}
+
+// What an event adds, made ready.
+fn readied(
+    alloc: Global,
+    event: &Event,
+    reply: Option<Send>,
+    full: Option<Send>,
+) -> Result<Parts, NoMemory>
+    requires record { HasRecord event.now }
+    ensures record { IfOk result (λ parts. parts.octets.items ≡ written_event event.now) }
+    ensures short { IfOk result (λ parts. length parts.octets.items ≤ 1006) }
+    ensures reply { IfOk result (λ parts. parts.reply ≡ if_owed reply) }
+    ensures full { IfOk result (λ parts. parts.full ≡ if_owed full) }
+{
+    let octets = write_event(alloc, event)?;
+    records_are_short();
+    let reply = listed(alloc, reply)?;
+    let full = listed(alloc, full)?;
+    Ok(Parts {
+        octets,
+        reply,
+        full,
+    })
+}
+
 impl<G: Ground> Floor<G> {
     /// A floor with the press at home and nothing pending.
     pub(crate) fn new(alloc: Global, core: Core, press: Press<G>) -> Floor<G>
@@ -206,8 +241,13 @@ impl<G: Ground> Floor<G> {
         requires few { self.old.calls < 1024 }
         ensures comes { Comes self.old self.new (Replied send) result }
     {
-        let sends = listed(alloc, Some(send))?;
-        self.pending.make_room(0)?;
+        let sends = match listed(alloc, Some(send)) {
+            Ok(sends) => sends,
+            Err(NoMemory) => return Err(EnterFault::NoMemory),
+        };
+        if self.pending.make_room(0).is_err() {
+            return Err(EnterFault::NoMemory);
+        }
         self.pending.add_reply(sends);
         Ok(self.ticket(Kind::Replied))
     }
@@ -230,20 +270,23 @@ impl<G: Ground> Floor<G> {
             return Err(EnterFault::NoMemory);
         }
         let event = raised_event(&self.core, event);
-        let octets = write_event(alloc, &event)?;
-        records_are_short();
-        let reply = listed(alloc, reply)?;
         let told = full.is_some();
-        let full = listed(alloc, full)?;
-        self.pending.make_room(octets.len())?;
+        let parts = match readied(alloc, &event, reply, full) {
+            Ok(parts) => parts,
+            Err(NoMemory) => return Err(EnterFault::NoMemory),
+        };
+        if self.pending.make_room(parts.octets.len()).is_err() {
+            return Err(EnterFault::NoMemory);
+        }
         match counted::<Brand>(&mut self.core, &event, Blank::new(1)) {
             Ok(outcome) => {
-                self.pending.add_event(octets, outcome.sends, reply);
+                self.pending
+                    .add_event(parts.octets, outcome.sends, parts.reply);
                 Ok(self.ticket(Kind::Entered))
             }
             Err(StepFault::Full { would, limit }) => {
                 if told {
-                    self.pending.add_reply(full);
+                    self.pending.add_reply(parts.full);
                 }
                 Err(EnterFault::Full { would, limit })
             }
@@ -258,7 +301,11 @@ impl<G: Ground> Floor<G> {
         requires short { length self.old.records ≤ 57952 }
         ensures comes { Comes self.old self.new (answer_to self.old.core input.now moment) result }
     {
-        match decide(alloc, &self.core, input, moment)? {
+        let decision = match decide(alloc, &self.core, input, moment) {
+            Ok(decision) => decision,
+            Err(NoMemory) => return Err(EnterFault::NoMemory),
+        };
+        match decision {
             Decision::Ignore => Ok(self.ticket(Kind::Ignored)),
             Decision::Idle => Ok(self.ticket(Kind::Idle)),
             Decision::Refuse { why } => Ok(self.ticket(Kind::Refused { why })),
@@ -293,20 +340,17 @@ impl<G: Ground> Floor<G> {
         ensures same { IfErr result (λ fault. ((would limit : ℕ) → fault ≢ enters.Full would limit) → self.new ≡ self.old) }
         ensures origin { self.new.origin ≡ self.old.origin }
     {
-        if let Some(fault) = self.shut() {
-            return Err(fault);
+        match self.shut() {
+            Some(fault) => Err(fault),
+            None => self.look(alloc, moment, &input),
         }
-        self.look(alloc, moment, &input)
     }
 
-    /// The press leaves, with all that is pending, and the entry of this turn stands at this place.
-    pub fn lend(&mut self, alloc: Global, place: u64) -> Result<Load<G>, CommitFault>
-        ensures lent { IfOk result (λ load. (h : List (ℕ × Step G)) (n : ℕ) → place ≡ length h + 1 → FloorStands G.told G.disk_faults self.old h
-            → Lends G.told self.old.origin (account self.old.origin h) load × FloorStands G.told G.disk_faults self.new (h ++ (n, Taken load.upto) ∷ [])) }
+    // The press leaves, with all that is pending; or why it doesn't.
+    fn lend_now(&mut self, alloc: Global, place: u64) -> Result<Load<G>, CommitFault>
+        ensures lent { IfOk result (λ load. IsLentBy self.old self.new place load) }
         ensures fits { IfOk result (λ load. FitsPress (room_of load.press.layout) load.press.layout.half load.work) }
-        ensures refused { IfErr result (λ fault. (h : List (ℕ × Step G)) (n : ℕ) → FloorStands G.told G.disk_faults self.old h → FloorStands G.told G.disk_faults self.new (h ++ (n, Looked (Refused fault)) ∷ [])) }
-        ensures same { IfErr result (λ fault. self.new ≡ self.old) }
-        ensures origin { self.new.origin ≡ self.old.origin }
+        ensures hindered { IfErr result (λ fault. (self.new ≡ self.old) × Hinders self.old fault) }
     {
         let press = match &self.spot {
             Spot::Home(press) => press,
@@ -322,8 +366,14 @@ impl<G: Ground> Floor<G> {
         if self.pending.calls == 0 {
             return Err(CommitFault::Nothing { upto });
         }
-        let work = work_of(alloc, &self.core, press, self.pending.records.as_slice())?;
-        let sends = self.pending.take_sends(alloc)?;
+        let work = match work_of(alloc, &self.core, press, self.pending.records.as_slice()) {
+            Ok(work) => work,
+            Err(NoMemory) => return Err(CommitFault::NoMemory),
+        };
+        let sends = match self.pending.take_sends(alloc) {
+            Ok(sends) => sends,
+            Err(NoMemory) => return Err(CommitFault::NoMemory),
+        };
         self.pending.records.clear();
         self.pending.calls = 0;
         let spot = mem::replace(&mut self.spot, Spot::Out { place, upto });
@@ -336,6 +386,18 @@ impl<G: Ground> Floor<G> {
             work,
             sends,
         })
+    }
+
+    /// The press leaves, with all that is pending, and the entry of this turn stands at this place.
+    pub fn lend(&mut self, alloc: Global, place: u64) -> Result<Load<G>, CommitFault>
+        ensures lent { IfOk result (λ load. (h : List (ℕ × Step G)) (n : ℕ) → place ≡ length h + 1 → FloorStands G.told G.disk_faults self.old h
+            → Lends G.told self.old.origin (account self.old.origin h) load × FloorStands G.told G.disk_faults self.new (h ++ (n, Taken load.upto) ∷ [])) }
+        ensures fits { IfOk result (λ load. FitsPress (room_of load.press.layout) load.press.layout.half load.work) }
+        ensures refused { IfErr result (λ fault. (h : List (ℕ × Step G)) (n : ℕ) → FloorStands G.told G.disk_faults self.old h → FloorStands G.told G.disk_faults self.new (h ++ (n, Looked (Refused fault)) ∷ [])) }
+        ensures same { IfErr result (λ fault. self.new ≡ self.old) }
+        ensures origin { self.new.origin ≡ self.old.origin }
+    {
+        self.lend_now(alloc, place)
     }
 
     // The press is no longer out, and so many datagrams more were lost.

@@ -159,10 +159,13 @@ impl<G: Ground> Carried<G> {
         ensures tells { Tells self.now result }
     {
         match self {
-            Carried::Home { press, upto, .. } => Entry::Returned {
-                upto: *upto,
-                press: Memo::of(press),
-            },
+            Carried::Home { press, upto, .. } => {
+                let memo = Memo::of(press);
+                Entry::Returned {
+                    upto: *upto,
+                    press: memo,
+                }
+            }
             Carried::Broken { upto, .. } => Entry::Failed { upto: *upto },
         }
     }
