@@ -10,8 +10,12 @@ use Rattle.ground_io.proofs.Crashes.{adds_none, always_weaker}
 use Rattle.ground_io.specs.Counts.{Rose}
 use Rattle.bac_values.specs.declared.note.Send.{Send}
 use Rattle.alarm_core.specs.Allowed.{IsHistory, Represents}
-use Rattle.alarm_core.specs.Fits.{FitsEvent}
-use Rattle.alarm_core.specs.State.{CoreState}
+use Rattle.alarm_core.specs.Fits.{FitsEvent, FitsSite}
+use Rattle.alarm_core.specs.Limits.{KeepsLimits}
+use Rattle.alarm_core.specs.Sites.{IsSite}
+use Rattle.alarm_core.specs.SiteStates.{IsStateOf}
+use Rattle.alarm_core.proofs.KeptSites.{keeps_to_its_site}
+use Rattle.alarm_core.specs.State.{CoreState, state_of}
 use Rattle.alarm_core.specs.declared.event.Event.{Event}
 use Rattle.alarm_core.specs.declared.site.Site.{Site}
 use Rattle.alarm_journal.specs.Emissions.{EmitsAll}
@@ -21,6 +25,9 @@ use Rattle.alarm_journal.specs.Press.{Between, Lasts, PressState, Settled, Throu
 use Rattle.alarm_journal.specs.Protocol.{AddsSome, IsCutShort, IsTwoCutShort, two_writes}
 use Rattle.state_codec.specs.Contents.{ImageStands, SpellsEvents, StandsForHistory, records_of}
 use Rattle.state_codec.specs.Records.{HasRecord, written_act, written_event}
+use Rattle.state_codec.specs.Snapshots.{written_state}
+use Rattle.state_codec.specs.Spelled.{FitsState}
+use Rattle.state_codec.proofs.Committed.{snapshot_stands}
 use Rattle.state_codec.proofs.Following.{spell_more}
 use Rattle.floor_desk.specs.Accounts.{Account, Front, front_of}
 use Rattle.floor_desk.specs.Carrying.{IsCarried, IsSnapshotOf, IsWorkFor, Lends, content_with}
@@ -107,6 +114,21 @@ batch_of_events site content events older octets stood is have fit same = record
   together = ap (λ (l : List Event). reverse events ++ l) stood.together ∙ (sym (append_assoc (reverse events) (reverse stood.later) stood.older) ∙ ap (λ (l : List Event). l ++ stood.older) (sym (reverse-append stood.later events)));
   snapshot = stood.snapshot;
   records = spell_more content.bodies stood.later octets events stood.records (record { octets_are = same; have = have });
+}
+
+-- the snapshot of a core's state stands for what the core does
+pub snapshot_of_core : (core : CoreState) (octets : List ℕ) → IsSite core.site → KeepsLimits core.site → FitsSite core.site → core.events < 2 ^ 63 → 1 ≤ length (written_state core) → octets ≡ written_state core → (IsStateOf core.site core → FitsState core) → IsSnapshotOf core octets
+snapshot_of_core core octets is limits fits few some same typed = record {
+  octets_are = same;
+  stands = λ history stands fit.
+      let left = state_of core.site history in
+      let shows : core ≡ left = stands.shows in
+      let count : core.events ≡ length history = ap (λ (s : CoreState). s.events) shows in
+      let brief : length history < 2 ^ 63 = omega (arith, few, count) in
+      let long : 0 < length octets = omega (arith, some, ap (λ (l : List ℕ). length l) same) in
+      let own : IsStateOf core.site left = keeps_to_its_site.keeps core.site is limits fits history stands.is_history fit brief in
+      let its_types : FitsState core = typed (subst (λ (s : CoreState). IsStateOf core.site s) (sym shows) own) in
+      snapshot_stands core.site history octets is limits fits stands.is_history fit brief long (same ∙ ap written_state shows) (subst (λ (s : CoreState). FitsState s) shows its_types);
 }
 
 module _ {G : Type 0} (told : G → Option Told) where

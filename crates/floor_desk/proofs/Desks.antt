@@ -1,5 +1,6 @@
 -- What a caller knows after its turn.
-use Rattle.std.proofs.Common.{◌≡◌, ℕ, ◌+◌, ◌≤◌, List, [], ◌∷◌, ◌++◌, refl, sym, ap, ◌∙◌, subst, max, arith}
+use Rattle.std.proofs.Common.{◌≡◌, ℕ, ◌+◌, ◌≤◌, List, [], ◌∷◌, ◌++◌, refl, sym, ap, ◌∙◌, subst, max, append_assoc}
+use Rattle.std.proofs.lemmas.List.{append-nil, replicate_more}
 use Rattle.std.specs.Prelude.{Option, Some, replicate}
 use Rattle.ground_io.specs.Trace.{Told}
 use Rattle.turnstile.specs.Histories.{StartsWith, entries_under}
@@ -129,3 +130,31 @@ module _ {G : Type 0} (told : G → Option Told) (disk_faults : G → ℕ) where
       let t' : Takes disk_faults origin p q upto = subst (λ u. Takes disk_faults origin p q u) (sym same) t in
       let a' : Adds disk_faults origin q r (Failed upto) = subst (λ (x : Entry G). Adds disk_faults origin q r x) is a in
       leaves origin p q r r upto (Failed upto) p.mark t' a' (ap (λ z. record r { mark = z }) (mark_stays origin p q r upto (Failed upto) t' a'))
+
+module _ {G : Type 0} where
+  -- nothing was waited for
+  pub waited_here : (p : Known (Entry G) (CoreState × PressState G)) → Waited p p
+  waited_here p = record {
+    count = 0;
+    begins = ([], sym (append-nil p.seen));
+    same = ap (λ (z : List (Entry G)). record p { mine = z; seen = p.seen }) (sym (append-nil p.mine));
+  }
+
+  -- one turn more was given back
+  pub waited_more : (licenses : List (ℕ × Entry G) → ℕ → Type 0) (p q r s : Known (Entry G) (CoreState × PressState G)) → Waited p q → Sees licenses q r → s ≡ with_entry r (Looked Closing) → Waited p s
+  waited_more licenses p q r s w t gave =
+      let e : Entry G = Looked Closing in
+      let last : List (ℕ × Entry G) = (p.number, e) ∷ [] in
+      let one : s ≡ record q { mine = q.mine ++ e ∷ []; seen = r.seen ++ (q.number, e) ∷ [] } = gave ∙ ap (λ (k : Known (Entry G) (CoreState × PressState G)). with_entry k e) t.same in
+      let two : s ≡ record p { mine = (p.mine ++ replicate w.count e) ++ e ∷ []; seen = r.seen ++ last } =
+      one ∙ ap (λ (k : Known (Entry G) (CoreState × PressState G)). record k { mine = k.mine ++ e ∷ []; seen = r.seen ++ (k.number, e) ∷ [] }) w.same in
+      let more : (p.mine ++ replicate w.count e) ++ e ∷ [] ≡ p.mine ++ replicate (w.count + 1) e = append_assoc p.mine (replicate w.count e) (e ∷ []) ∙ ap (λ (z : List (Entry G)). p.mine ++ z) (replicate_more w.count e) in
+      let three : s ≡ record p { mine = p.mine ++ replicate (w.count + 1) e; seen = r.seen ++ last } = two ∙ ap (λ (z : List (Entry G)). record p { mine = z; seen = r.seen ++ last }) more in
+      let seen : s.seen ≡ r.seen ++ last = ap (λ (k : Known (Entry G) (CoreState × PressState G)). k.seen) three in record {
+        count = w.count + 1;
+        begins = (
+          (w.begins.0 ++ t.begins.0) ++ last,
+          seen ∙ (ap (λ (z : List (ℕ × Entry G)). z ++ last) (t.begins.1 ∙ (ap (λ (z : List (ℕ × Entry G)). z ++ t.begins.0) w.begins.1 ∙ append_assoc p.seen w.begins.0 t.begins.0)) ∙ append_assoc p.seen (w.begins.0 ++ t.begins.0) last),
+        );
+        same = three ∙ ap (λ (z : List (ℕ × Entry G)). record p { mine = p.mine ++ replicate (w.count + 1) e; seen = z }) (sym seen);
+      }

@@ -35,12 +35,13 @@ use Rattle.floor_desk.specs.Accounts.{Account, Due, Front, IsAnswered, IsBehind,
 use Rattle.floor_desk.specs.Carrying.{IsCarried, IsWorkOf, Lends}
 use Rattle.floor_desk.specs.Courses.{IsCourse, KeepsFronts}
 use Rattle.floor_desk.specs.Moves.{Accepts, Comes, Hinders, IsFull, IsLentBy, IsNotBroken, IsReady, MayEnter, Refuses, lent, with_answer}
-use Rattle.floor_desk.specs.Prefixes.{HasLost, RestsOn, capped}
+use Rattle.floor_desk.specs.Keeping.{HoldsHistory}
+use Rattle.floor_desk.specs.Prefixes.{HasLost, RestsOn, behind, capped}
 use Rattle.floor_desk.specs.Standing.{FloorStands, Held, Holds, Shows, Stands, pending_events}
 use Rattle.floor_desk.specs.States.{FloorState}
 use Rattle.floor_desk.proofs.Growing.{course_same, shows_accepted, shows_looked}
 use Rattle.floor_desk.proofs.Histories.{account_snoc, legal_snoc, long_is}
-use Rattle.floor_desk.proofs.Prefixes.{lost_both, lost_none}
+use Rattle.floor_desk.proofs.Prefixes.{keeps_now, lost_both, lost_none}
 
 loan_is : (x y : Loan) → Some x ≡ Some y → x ≡ y
 loan_is x y same = cc
@@ -339,3 +340,47 @@ module _ {G : Type 0} (told : G → Option Told) (disk_faults : G → ℕ) where
           durable = s.fronts.durable;
         };
       }))
+
+  -- the desk waits for the press, to be closed
+  pub waits_out : (floor : FloorState G) (h : List (ℕ × Entry G)) (n at upto : ℕ) → floor.spot ≡ Out at upto → FloorStands told disk_faults floor h → FloorStands told disk_faults floor (h ++ (n, Looked Closing) ∷ [])
+  waits_out floor h n at upto is f = (let b = busy floor h at upto is f in closes floor h n (record { number = b.0; place = at; upto = upto }) f b.1)
+
+  -- at the opening
+  pub opens : (floor : FloorState G) (press : PressState G) → floor.core ≡ floor.origin.0 → floor.records ≡ [] → floor.sends ≡ [] → floor.calls ≡ 0 → floor.lost ≡ 0 → floor.spot ≡ Home press → press ≡ floor.origin.1 → FloorStands told disk_faults floor []
+  opens floor press core records sends calls lost spot same = record {
+    legal = tt;
+    shows = record {
+      core = core;
+      records = records;
+      sends = sends;
+      calls = omega (arith, calls);
+      spot = subst (λ (s : Spot G). Stands told disk_faults floor.origin (start floor.origin) floor.lost s) (sym spot) (refl, refl, same);
+      holds = λ journal history stands first. (
+        subst (λ (n : ℕ). HoldsHistory journal floor.origin.0.site (behind history n []) floor.origin.1.layout (told floor.origin.1.device)) (sym none) first,
+        keeps_now journal floor.origin.0.site history [] (told floor.origin.1.device) first.0 first.2 first.1.1,
+      );
+      lost = subst (λ (n : ℕ). HasLost n (told floor.origin.1.device) (told floor.origin.1.device)) (sym lost) (lost_none (told floor.origin.1.device));
+      course = record {
+        events = omega arith;
+        site = refl;
+        stands = λ history stands. stands;
+        recorded = All-nil HasRecord;
+        fit = All-nil FitsEvent;
+        rests = All-nil (λ (due : Due). due.after ≤ floor.origin.0.events);
+      };
+      fronts = record {
+        events = omega arith;
+        dues = omega arith;
+        calls = omega arith;
+        rests = All-nil (λ (due : Due). due.after ≤ floor.origin.0.events + 0);
+        lent = λ loan out. absurd (cc);
+        home = λ none works. (refl, omega arith);
+        back = omega arith;
+        first = omega arith;
+        durable = omega arith;
+      };
+    };
+  }
+    where
+      none : floor.origin.0.events - floor.origin.0.events ≡ 0
+      none = omega arith

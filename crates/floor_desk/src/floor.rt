@@ -101,6 +101,23 @@ impl<G: Ground> Model for Floor<G> {
     } };
 }
 
+// The event with another moment. It has a record.
+fn moved_to(moment: u64, event: Event) -> Event
+    requires range { IsMoment moment }
+    requires allowed { (state : CoreState) × IsAllowed state event.act }
+    ensures moved { result ≡ record event { moment = moment } }
+    ensures record { HasRecord result }
+    ensures fits { FitsEvent result }
+{
+    let moved = Event {
+        moment,
+        act: event.act,
+    };
+    allowed_event_has_record(&moved);
+    event_fits(&moved);
+    moved
+}
+
 // The event at a moment raised to the last one. It has a record.
 fn raised_event(core: &Core, event: Event) -> Event
     requires moment { IsMoment event.moment }
@@ -108,17 +125,12 @@ fn raised_event(core: &Core, event: Event) -> Event
     ensures raised { result ≡ raised core.now.last_moment event }
     ensures moment { IsMoment result.moment }
     ensures not_before { core.now.last_moment ≤ result.moment }
+    ensures allowed { IsAllowed core.now result.act }
     ensures record { HasRecord result }
     ensures fits { FitsEvent result }
 {
     let moment = event.moment.max(core.last_moment());
-    let event = Event {
-        moment,
-        act: event.act,
-    };
-    allowed_event_has_record(&event);
-    event_fits(&event);
-    event
+    moved_to(moment, event)
 }
 
 // The core takes an event that isn't before its last one. Its steps are counted in a ledger of their own, that nobody reads.
@@ -285,9 +297,10 @@ impl<G: Ground> Floor<G> {
                 Ok(self.ticket(Kind::Entered))
             }
             Err(StepFault::Full { would, limit }) => {
-                if told {
-                    self.pending.add_reply(parts.full);
+                if !told {
+                    return Err(EnterFault::Full { would, limit });
                 }
+                self.pending.add_reply(parts.full);
                 Err(EnterFault::Full { would, limit })
             }
             Err(StepFault::NoMemory) => Err(EnterFault::NoMemory),

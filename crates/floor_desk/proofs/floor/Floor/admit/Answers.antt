@@ -1,4 +1,4 @@
-use Rattle.std.proofs.Common.{sym, subst}
+use Rattle.std.proofs.Common.{refl, sym, subst}
 use Rattle.bac_values.specs.declared.input.Input.{Input}
 use Rattle.service_desk.specs.Answers.{answer_to}
 use Rattle.floor_desk.specs.Moves.{Comes}
@@ -12,5 +12,5 @@ pub returns-clause-stands : goal.returns-clause-stands
 returns-clause-stands g c = λ h n memo same f.
     let old = c.args.self.now in
     let new = c.look.new.self in
-    comes g.G.Ground.told g.G.Ground.disk_faults old new h n c.args.moment memo c.look.result (comes_origin g.G.Ground.told g.G.Ground.disk_faults old new _ c.look.result c.look.ensures.comes) f (c.in-None.ensures.ready tt)
+    comes g.G.Ground.told g.G.Ground.disk_faults old new h n c.args.moment memo c.look.result (comes_origin g.G.Ground.told g.G.Ground.disk_faults old new _ c.look.result c.look.ensures.comes) f (c.in-None.ensures.ready refl)
     (subst (λ (i : Input). Comes old new (answer_to old.core i c.args.moment) c.look.result) (sym same) c.look.ensures.comes)
