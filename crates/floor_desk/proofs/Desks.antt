@@ -1,7 +1,7 @@
 -- What a caller knows after its turn.
 use Rattle.std.proofs.Common.{◌≡◌, ℕ, ◌+◌, ◌≤◌, List, [], ◌∷◌, ◌++◌, refl, sym, ap, ◌∙◌, subst, max, append_assoc}
 use Rattle.std.proofs.lemmas.List.{append-nil, replicate_more}
-use Rattle.std.specs.Prelude.{Option, Some, replicate}
+use Rattle.std.specs.Prelude.{Option, Some, Err, replicate}
 use Rattle.ground_io.specs.Trace.{Told}
 use Rattle.turnstile.specs.Histories.{StartsWith, entries_under}
 use Rattle.turnstile.specs.Passes.{Known, Sees, with_entry}
@@ -11,13 +11,15 @@ use Rattle.alarm_core.specs.State.{CoreState}
 use Rattle.alarm_journal.specs.Press.{PressState}
 use Rattle.floor_desk.specs.declared.entry.Entry.{Entry}
 use Rattle.floor_desk.specs.declared.entry.Entry.TheVariants.{Looked, Taken, Returned, Failed}
-use Rattle.floor_desk.specs.declared.entry.Look.TheVariants.{Closing}
+use Rattle.floor_desk.specs.declared.entry.Look.TheVariants.{Refused as Denied, Closing}
+use Rattle.floor_desk.specs.declared.faults.CommitFault.{CommitFault}
+use Rattle.floor_desk.specs.declared.faults.CommitFault.TheVariants as commits
 use Rattle.floor_desk.specs.declared.load.Carried.{Carried}
 use Rattle.floor_desk.specs.declared.load.Load.{Load}
 use Rattle.floor_desk.specs.Accounts.{Account, IsLegal, IsLegalFrom, Loan, account, account_from, front_of, start, step}
 use Rattle.floor_desk.specs.Carrying.{IsCarried, LeftWith, Lends}
 use Rattle.floor_desk.specs.Courses.{KeepsFronts}
-use Rattle.floor_desk.specs.Desks.{Adds, HasTaken, Leaves, Takes, Waited}
+use Rattle.floor_desk.specs.Desks.{Adds, Commits, HasTaken, Leaves, Takes, Waited}
 use Rattle.floor_desk.specs.Standing.{FloorStands}
 use Rattle.floor_desk.specs.States.{FloorState}
 use Rattle.floor_desk.proofs.Growing.{carried_at, carried_still}
@@ -130,6 +132,16 @@ module _ {G : Type 0} (told : G → Option Told) (disk_faults : G → ℕ) where
       let t' : Takes disk_faults origin p q upto = subst (λ u. Takes disk_faults origin p q u) (sym same) t in
       let a' : Adds disk_faults origin q r (Failed upto) = subst (λ (x : Entry G). Adds disk_faults origin q r x) is a in
       leaves origin p q r r upto (Failed upto) p.mark t' a' (ap (λ z. record r { mark = z }) (mark_stays origin p q r upto (Failed upto) t' a'))
+
+  -- a commit that was refused; none is for a disk that failed
+  pub refused_commits : (origin : CoreState × PressState G) (p q : K) (fault : CommitFault) → Adds disk_faults origin p q (Looked (Denied fault)) → Commits disk_faults origin p q (Err fault)
+  refused_commits origin p q (commits.Stopped at) a = a
+  refused_commits origin p q (commits.Busy at upto) a = a
+  refused_commits origin p q (commits.Nothing upto) a = a
+  refused_commits origin p q commits.NoMemory a = a
+  refused_commits origin p q commits.DiskFault a =
+      let seen : q.seen ≡ (p.seen ++ a.between) ++ (p.number, Looked (Denied commits.DiskFault)) ∷ [] = ap (λ (k : K). k.seen) a.same in
+      absurd ((legal_after disk_faults (start origin) (p.seen ++ a.between) ((p.number, Looked (Denied commits.DiskFault)) ∷ []) (subst (λ (h : List (ℕ × Entry G)). IsLegalFrom disk_faults (start origin) h) seen a.legal)).0)
 
 module _ {G : Type 0} where
   -- nothing was waited for

@@ -11,7 +11,7 @@ bring-requires g c =
     let q = c.take-turn.result.pass in let old = c.take-turn.result.value in let w = c.requires.taken in let f = c.take-turn.ensures.value in
     let from : old.origin ≡ c.args.self.now.origin = search rules in
     let still = open_at told faults c.args.self.now.origin _ c.args.pass q w.0 old w.1 c.take-turn.ensures.sees from f in
-    is_out told faults old (account old.origin q.seen) w.1.loan old.spot f.shows.spot (still.loan ∙ w.1.out)
+    record { out = is_out told faults old (account old.origin q.seen) w.1.loan old.spot f.shows.spot (still.loan ∙ w.1.out) }
 
 pub give-requires-clause-value : goal.give-requires-clause-value
 give-requires-clause-value g c =

@@ -47,8 +47,8 @@ returns-in-Ok-counted g c =
           c.in-Ok-counted.ensures.verdict c.raised_event-event.ensures.record c.raised_event-event.ensures.fits c.in-Ok-counted.ensures.represents c.in-Ok-counted.ensures.state records sends calls c.ticket.ensures.ticket));
     }
 
-pub returns-in-Err-Full-then-not-told : goal.returns-in-Err-Full-then-not-told
-returns-in-Err-Full-then-not-told g c =
+pub returns-then-not-told : goal.returns-then-not-told
+returns-then-not-told g c =
     let inside = c.self.inside in
     let view : FloorState _ = record {
       core = inside.core;

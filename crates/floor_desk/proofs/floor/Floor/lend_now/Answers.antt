@@ -13,7 +13,7 @@ returns-in-Err-clause-hindered g c = (refl, (c.in-Home.press, search rules, sear
 pub returns-in-Err-take_sends-clause-hindered : goal.returns-in-Err-take_sends-clause-hindered
 returns-in-Err-take_sends-clause-hindered g c =
     let inside = c.self.inside in
-    let left = c.take_sends-sends.new.self in
+    let left = c.take_sends.new.self in
     let view : FloorState _ = record {
       core = inside.core;
       records = inside.pending.records.items;
@@ -23,7 +23,7 @@ returns-in-Err-take_sends-clause-hindered g c =
       spot = inside.spot;
       origin = (inside.opened.0.value, inside.opened.1.value);
     } in
-    let same = c.take_sends-sends.ensures.same in (
+    let same = c.take_sends.ensures.same in (
       same_parts view inside.core inside.core left.records.items view.records (flat_map (λ sends. sends) left.sends.items) view.sends left.calls view.calls refl same.0 c.in-Err-take_sends.ensures.refused same.1 ∙ c.self.view_is,
       (c.in-Home.press, search rules, search rules),
     )
