@@ -4,7 +4,7 @@ use Rattle.std.proofs.lemmas.List.{append-nil, replicate_more}
 use Rattle.std.specs.Prelude.{Option, Some, Err, replicate}
 use Rattle.ground_io.specs.Trace.{Told}
 use Rattle.turnstile.specs.Histories.{StartsWith, entries_under}
-use Rattle.turnstile.specs.Passes.{Known, Sees, with_entry}
+use Rattle.turnstile.specs.Passes.{Identity, IsOf, Known, Sees, with_entry}
 use Rattle.turnstile.proofs.Counts.{under_append, under_same}
 use Rattle.turnstile.specs.declared.memo.Memo.{Memo}
 use Rattle.alarm_core.specs.State.{CoreState}
@@ -169,4 +169,12 @@ module _ {G : Type 0} where
           seen ∙ (ap (λ (z : List (ℕ × Entry G)). z ++ last) (t.begins.1 ∙ (ap (λ (z : List (ℕ × Entry G)). z ++ t.begins.0) w.begins.1 ∙ append_assoc p.seen w.begins.0 t.begins.0)) ∙ append_assoc p.seen (w.begins.0 ++ t.begins.0) last),
         );
         same = three ∙ ap (λ (z : List (ℕ × Entry G)). record p { mine = p.mine ++ replicate (w.count + 1) e; seen = z }) (sym seen);
+      }
+
+  -- the pass is still one of its turnstile
+  pub still_of : (licenses : List (ℕ × Entry G) → ℕ → Type 0) (t : Identity (CoreState × PressState G)) (p q s : Known (Entry G) (CoreState × PressState G)) (e : Entry G) → IsOf t p → Sees licenses p q → s ≡ with_entry q e → IsOf t s
+  still_of licenses t p q s e is sees gave =
+      let after : s ≡ with_entry (record p { seen = q.seen }) e = gave ∙ ap (λ (k : Known (Entry G) (CoreState × PressState G)). with_entry k e) sees.same in record {
+        table = ap (λ (k : Known (Entry G) (CoreState × PressState G)). k.table) after ∙ is.table;
+        origin = ap (λ (k : Known (Entry G) (CoreState × PressState G)). k.origin) after ∙ is.origin;
       }

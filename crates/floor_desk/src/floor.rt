@@ -433,7 +433,11 @@ impl<G: Ground> Floor<G> {
         ensures origin { self.new.origin ≡ self.old.origin }
     {
         match carried {
-            Carried::Home { press, upto: _, lost } => self.end_loan(Spot::Home(press), lost),
+            Carried::Home {
+                press,
+                upto: _,
+                lost,
+            } => self.end_loan(Spot::Home(press), lost),
             Carried::Broken { device, upto: _ } => self.end_loan(Spot::Broken { device, place }, 0),
         }
     }
