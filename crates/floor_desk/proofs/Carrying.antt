@@ -1,14 +1,12 @@
 -- What a load leaves when it was carried out.
-use Rattle.std.proofs.Common.{◌≡◌, ◌⊎◌, ℕ, ◌+◌, ◌-◌, ◌^◌, ◌<◌, ◌≤◌, Option, Some, None, List, [], ◌∷◌, ◌++◌, All, length, get_or, map, take, drop, reverse, refl, ap, ◌∙◌, sym, subst, inl, inr, arith, append_assoc, length-append}
+use Rattle.std.proofs.Common.{◌≡◌, ◌⊎◌, ℕ, ◌+◌, ◌-◌, ◌^◌, ◌<◌, ◌≤◌, Option, Some, None, List, [], ◌∷◌, ◌++◌, All, length, take, reverse, refl, ap, ◌∙◌, sym, subst, inl, inr, arith, append_assoc, length-append}
 use Rattle.std.specs.Int.{w64, to_be_bytes}
 use Rattle.std.proofs.lemmas.List.{get_or-reverse, length-reverse, reverse-append}
 use Rattle.std.proofs.lemmas.List.Elements.{All-append, All-drop}
 use Rattle.ground_io.specs.Trace.{Told, Adds, disk_of}
 use Rattle.ground_io.specs.declared.entry.Entry.{Entry}
-use Rattle.ground_io.specs.declared.entry.Entry.TheVariants.{Wrote, Broke, Synced}
 use Rattle.ground_io.proofs.Crashes.{adds_none, always_weaker}
 use Rattle.ground_io.specs.Counts.{Rose}
-use Rattle.bac_values.specs.declared.note.Send.{Send}
 use Rattle.alarm_core.specs.Allowed.{IsHistory, Represents}
 use Rattle.alarm_core.specs.Fits.{FitsEvent, FitsSite}
 use Rattle.alarm_core.specs.Limits.{KeepsLimits}
@@ -23,7 +21,7 @@ use Rattle.alarm_journal.specs.Journal.{Content, OpensTo, only_snapshot, with_ba
 use Rattle.alarm_journal.specs.Journal.{Site as Journal}
 use Rattle.alarm_journal.specs.Press.{Between, Lasts, PressState, Settled, Throughout}
 use Rattle.alarm_journal.specs.Protocol.{AddsSome, IsCutShort, IsTwoCutShort, two_writes}
-use Rattle.state_codec.specs.Contents.{ImageStands, SpellsEvents, StandsForHistory, records_of}
+use Rattle.state_codec.specs.Contents.{ImageStands, StandsForHistory, records_of}
 use Rattle.state_codec.specs.Records.{HasRecord, written_act, written_event}
 use Rattle.state_codec.specs.Snapshots.{written_state}
 use Rattle.state_codec.specs.Spelled.{FitsState}
@@ -31,10 +29,10 @@ use Rattle.state_codec.proofs.Committed.{snapshot_stands}
 use Rattle.state_codec.proofs.Following.{spell_more}
 use Rattle.floor_desk.specs.Accounts.{Account, Front, front_of}
 use Rattle.floor_desk.specs.Carrying.{IsCarried, IsSnapshotOf, IsWorkFor, Lends, content_with}
-use Rattle.floor_desk.specs.Courses.{IsCourse, KeepsFronts}
+use Rattle.floor_desk.specs.Courses.{IsCourse}
 use Rattle.floor_desk.specs.Keeping.{Commits, HoldsHistory, Rests}
 use Rattle.floor_desk.specs.Prefixes.{HasLost, KeepsOrder, RestsOn, behind, losses}
-use Rattle.floor_desk.specs.Standing.{Held, Holds, pending_events}
+use Rattle.floor_desk.specs.Standing.{Holds, pending_events}
 use Rattle.floor_desk.specs.declared.load.Carried.TheVariants.{Home as HomeAgain, Broken as Gone}
 use Rattle.floor_desk.specs.declared.load.Load.{Load}
 use Rattle.floor_desk.specs.declared.load.Work.{Work}

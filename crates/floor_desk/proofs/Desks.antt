@@ -1,9 +1,9 @@
 -- What a caller knows after its turn.
-use Rattle.std.proofs.Common.{◌≡◌, ℕ, ◌+◌, ◌≤◌, List, [], ◌∷◌, ◌++◌, refl, sym, ap, ◌∙◌, subst, max, append_assoc}
+use Rattle.std.proofs.Common.{◌≡◌, ℕ, ◌+◌, List, [], ◌∷◌, ◌++◌, refl, sym, ap, ◌∙◌, subst, max, append_assoc}
 use Rattle.std.proofs.lemmas.List.{append-nil, replicate_more}
-use Rattle.std.specs.Prelude.{Option, Some, Err, replicate}
+use Rattle.std.specs.Prelude.{Option, Err, replicate}
 use Rattle.ground_io.specs.Trace.{Told}
-use Rattle.turnstile.specs.Histories.{StartsWith, entries_under}
+use Rattle.turnstile.specs.Histories.{entries_under}
 use Rattle.turnstile.specs.Passes.{Identity, IsOf, Known, Sees, with_entry}
 use Rattle.turnstile.proofs.Counts.{under_append, under_same}
 use Rattle.turnstile.specs.declared.memo.Memo.{Memo}
@@ -16,7 +16,7 @@ use Rattle.floor_desk.specs.declared.faults.CommitFault.{CommitFault}
 use Rattle.floor_desk.specs.declared.faults.CommitFault.TheVariants as commits
 use Rattle.floor_desk.specs.declared.load.Carried.{Carried}
 use Rattle.floor_desk.specs.declared.load.Load.{Load}
-use Rattle.floor_desk.specs.Accounts.{Account, IsLegal, IsLegalFrom, Loan, account, account_from, front_of, start, step}
+use Rattle.floor_desk.specs.Accounts.{Account, IsLegal, IsLegalFrom, account, account_from, front_of, start}
 use Rattle.floor_desk.specs.Carrying.{IsCarried, LeftWith, Lends}
 use Rattle.floor_desk.specs.Courses.{KeepsFronts}
 use Rattle.floor_desk.specs.Desks.{Adds, Commits, HasTaken, Leaves, Takes, Waited}

@@ -1,26 +1,20 @@
 -- A floor after one turn more.
-use Rattle.std.proofs.Common.{◌≡◌, ◌≢◌, ◌⊎◌, inl, inr, ℕ, ◌+◌, ◌-◌, ◌^◌, ◌≤◌, ◌<◌, min, List, [], ◌∷◌, ◌++◌, length, map, take, drop, refl, sym, ap, ◌∙◌, subst, arith}
+use Rattle.std.proofs.Common.{◌≡◌, ◌≢◌, inl, inr, ℕ, ◌+◌, ◌-◌, ◌≤◌, ◌<◌, List, [], ◌∷◌, ◌++◌, length, map, refl, sym, ap, ◌∙◌, subst, arith}
 use Rattle.std.specs.Prelude.{Option, Some, None, Result, Ok, Err, IfOk, IfErr}
-use Rattle.std.proofs.lemmas.List.{append-nil, drop_all, take_all}
+use Rattle.std.proofs.lemmas.List.{drop_all, take_all}
 use Rattle.std.proofs.lemmas.List.Elements.{All-nil}
-use Rattle.ground_io.specs.Counts.{Rose}
 use Rattle.ground_io.specs.Trace.{Told}
 use Rattle.bac_values.specs.declared.input.Input.{Input}
-use Rattle.bac_values.specs.declared.note.Send.{Send}
 use Rattle.turnstile.specs.declared.memo.Memo.{Memo}
-use Rattle.alarm_core.specs.Allowed.{Represents}
 use Rattle.alarm_core.specs.Fits.{FitsEvent}
 use Rattle.alarm_core.specs.State.{CoreState}
-use Rattle.alarm_core.specs.declared.event.Event.{Event}
 use Rattle.alarm_journal.specs.Press.{PressState, room_of}
-use Rattle.service_desk.specs.Answers.{Answer, Entered, Full, Refused, Replied, Unchanged, Ignored, answer_to, dues_of, event_of, state_behind}
+use Rattle.service_desk.specs.Answers.{Answer, Entered, Full, Refused, Replied, Unchanged, Ignored, answer_to}
 use Rattle.state_codec.specs.Contents.{records_of}
 use Rattle.state_codec.specs.Records.{HasRecord}
 use Rattle.floor_desk.specs.declared.entry.Entry.{Entry}
-use Rattle.floor_desk.specs.declared.entry.Entry.TheVariants.{Event as Happened, Looked, Taken, Returned, Failed}
-use Rattle.floor_desk.specs.declared.entry.Kind.{Kind}
+use Rattle.floor_desk.specs.declared.entry.Entry.TheVariants.{Looked, Taken, Returned, Failed}
 use Rattle.floor_desk.specs.declared.entry.Kind.TheVariants as kinds
-use Rattle.floor_desk.specs.declared.entry.Look.{Look}
 use Rattle.floor_desk.specs.declared.entry.Look.TheVariants.{Tried, Refused as Denied, Closing}
 use Rattle.floor_desk.specs.declared.entry.Ticket.{Ticket}
 use Rattle.floor_desk.specs.declared.faults.CommitFault.{CommitFault}
@@ -31,13 +25,12 @@ use Rattle.floor_desk.specs.declared.load.Carried.TheVariants.{Home as HomeAgain
 use Rattle.floor_desk.specs.declared.load.Load.{Load}
 use Rattle.floor_desk.specs.declared.floor.Spot.{Spot}
 use Rattle.floor_desk.specs.declared.floor.Spot.TheVariants.{Home, Out, Broken}
-use Rattle.floor_desk.specs.Accounts.{Account, Due, Front, IsAnswered, IsBehind, IsDenied, IsLegalFrom, IsOpen, IsTicketOf, Loan, MayFollow, accepted, account, counts, entry_by, entry_of, front_of, if_event, looked, most_calls, most_record_octets, start, step, ticket_for, tried}
+use Rattle.floor_desk.specs.Accounts.{Account, Due, IsBehind, IsDenied, IsLegalFrom, IsOpen, IsTicketOf, Loan, MayFollow, accepted, account, entry_of, looked, most_calls, most_record_octets, start, step, ticket_for}
 use Rattle.floor_desk.specs.Carrying.{IsCarried, IsWorkOf, Lends}
-use Rattle.floor_desk.specs.Courses.{IsCourse, KeepsFronts}
 use Rattle.floor_desk.specs.Moves.{Accepts, Comes, Hinders, IsFull, IsLentBy, IsNotBroken, IsReady, MayEnter, Refuses, lent, with_answer}
 use Rattle.floor_desk.specs.Keeping.{HoldsHistory}
 use Rattle.floor_desk.specs.Prefixes.{HasLost, RestsOn, behind, capped}
-use Rattle.floor_desk.specs.Standing.{FloorStands, Held, Holds, Shows, Stands, pending_events}
+use Rattle.floor_desk.specs.Standing.{FloorStands, Holds, Shows, Stands, pending_events}
 use Rattle.floor_desk.specs.States.{FloorState}
 use Rattle.floor_desk.proofs.Growing.{course_same, shows_accepted, shows_looked}
 use Rattle.floor_desk.proofs.Histories.{account_snoc, legal_snoc, long_is}

@@ -1,8 +1,8 @@
 -- What stands for an account stands for one that went on from it.
-use Rattle.std.proofs.Common.{◌≡◌, ℕ, ◌+◌, ◌-◌, ◌≤◌, Option, Some, None, List, [], ◌∷◌, ◌++◌, All, length, map, take, drop, reverse, refl, ap, ◌∙◌, sym, subst, arith, append_assoc, length-append}
-use Rattle.std.proofs.lemmas.List.{append-nil, drop-append-le, drop_all, map-append, take-append-le, take_all}
+use Rattle.std.proofs.Common.{◌≡◌, ℕ, ◌+◌, ◌-◌, ◌≤◌, Option, List, [], ◌∷◌, ◌++◌, All, length, map, take, drop, refl, ap, ◌∙◌, sym, subst, arith, length-append}
+use Rattle.std.proofs.lemmas.List.{drop-append-le, map-append, take-append-le}
 use Rattle.std.proofs.lemmas.List.Concat.{flat_map-append}
-use Rattle.std.proofs.lemmas.List.Elements.{All-append, All-map, All-nil, All-weaker}
+use Rattle.std.proofs.lemmas.List.Elements.{All-append, All-map, All-weaker}
 use Rattle.ground_io.specs.Counts.{Rose}
 use Rattle.ground_io.specs.Trace.{Told}
 use Rattle.bac_values.specs.declared.note.Send.{Send}
@@ -14,13 +14,13 @@ use Rattle.alarm_journal.specs.Press.{PressState}
 use Rattle.service_desk.specs.Answers.{Answer, Entered, Full, Refused, Replied, Unchanged, Ignored, dues_of, event_of, state_behind}
 use Rattle.state_codec.specs.Contents.{records_of}
 use Rattle.state_codec.specs.Records.{HasRecord, written_event}
-use Rattle.floor_desk.specs.Accounts.{Account, Due, Front, Loan, accepted, due_after, front_of, if_event, looked, step}
+use Rattle.floor_desk.specs.Accounts.{Account, Due, Front, accepted, due_after, front_of, if_event, looked, step}
 use Rattle.floor_desk.specs.Carrying.{IsCarried}
 use Rattle.floor_desk.specs.Courses.{IsCourse, KeepsFronts}
 use Rattle.floor_desk.specs.Keeping.{HoldsHistory}
 use Rattle.floor_desk.specs.Moves.{MayEnter, with_answer}
 use Rattle.floor_desk.specs.Prefixes.{HasLost, KeepsOrder, RestsOn, behind}
-use Rattle.floor_desk.specs.Standing.{Held, Holds, Shows, Stands, pending_events, pending_sends}
+use Rattle.floor_desk.specs.Standing.{Held, Holds, Shows, Stands, pending_sends}
 use Rattle.floor_desk.specs.States.{FloorState}
 use Rattle.floor_desk.specs.declared.entry.Entry.TheVariants.{Taken}
 use Rattle.floor_desk.specs.declared.load.Carried.{Carried}
@@ -28,7 +28,7 @@ use Rattle.floor_desk.specs.declared.load.Carried.TheVariants.{Home as HomeAgain
 use Rattle.floor_desk.specs.declared.floor.Spot.{Spot}
 use Rattle.floor_desk.specs.declared.floor.Spot.TheVariants.{Home, Out, Broken}
 use Rattle.floor_desk.proofs.Histories.{IsStill, still_accepted, still_looked}
-use Rattle.floor_desk.proofs.Prefixes.{behind_all, behind_first, behind_more, keeps_more}
+use Rattle.floor_desk.proofs.Prefixes.{behind_first, behind_more, keeps_more}
 
 -- ---- what an answer makes of a state, and the dues that it gives
 

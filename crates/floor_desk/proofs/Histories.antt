@@ -1,7 +1,7 @@
 -- Accounts of longer histories, and a loan that stays open.
-use Rattle.std.proofs.Common.{◌≡◌, ℕ, ◌+◌, ◌≤◌, true, false, List, [], ◌∷◌, ◌++◌, length, refl, sym, ap, ◌∙◌, subst, arith, inr, eq-eqb, append_assoc}
+use Rattle.std.proofs.Common.{◌≡◌, ℕ, ◌+◌, ◌≤◌, true, false, List, [], ◌∷◌, ◌++◌, length, refl, sym, ap, ◌∙◌, arith, inr, eq-eqb, append_assoc}
 use Rattle.std.proofs.lemmas.List.{append-nil}
-use Rattle.std.specs.Prelude.{Some, None, Ok, Err, Result, ◌==◌, if◌then◌else◌}
+use Rattle.std.specs.Prelude.{Some, Ok, Err, Result, ◌==◌, if◌then◌else◌}
 use Rattle.turnstile.specs.Histories.{entries_under}
 use Rattle.alarm_core.specs.declared.event.Event.{Event}
 use Rattle.service_desk.specs.Answers.{Answer, answer_to, event_of}

@@ -1,5 +1,5 @@
 -- What an input makes of a floor, part by part.
-use Rattle.std.proofs.Common.{◌≡◌, ℕ, ◌+◌, ◌≤◌, max, List, [], ◌∷◌, ◌++◌, reverse, refl, sym, ap, ◌∙◌, subst, arith, append_assoc}
+use Rattle.std.proofs.Common.{◌≡◌, ℕ, ◌+◌, ◌≤◌, max, List, [], ◌∷◌, ◌++◌, refl, sym, ap, ◌∙◌, subst, arith, append_assoc}
 use Rattle.std.specs.Prelude.{Option, Some, None, Result, Ok, Err, is_some, true, false}
 use Rattle.std.specs.List.{flat_map}
 use Rattle.std.proofs.lemmas.List.{append-nil}
@@ -15,13 +15,12 @@ use Rattle.alarm_core.specs.State.{CoreState}
 use Rattle.alarm_core.specs.declared.event.Event.{Event}
 use Rattle.alarm_core.specs.declared.event.StepFault.{StepFault}
 use Rattle.alarm_core.specs.declared.event.StepFault.TheVariants as faults
-use Rattle.service_desk.specs.Answers.{Answer, Entered, Full, Refused, Replied, Unchanged, Ignored, entering, if_owed}
+use Rattle.service_desk.specs.Answers.{Refused, Replied, Unchanged, Ignored, entering, if_owed}
 use Rattle.state_codec.specs.Records.{HasRecord, written_event}
 use Rattle.floor_desk.specs.declared.entry.Kind.TheVariants as kinds
 use Rattle.floor_desk.specs.declared.entry.Ticket.{Ticket}
-use Rattle.floor_desk.specs.declared.faults.EnterFault.{EnterFault}
 use Rattle.floor_desk.specs.declared.faults.EnterFault.TheVariants as enters
-use Rattle.floor_desk.specs.Moves.{Accepts, Comes, MayEnter, with_answer}
+use Rattle.floor_desk.specs.Moves.{Comes}
 use Rattle.floor_desk.specs.States.{FloorState}
 
 -- an event that isn't before a moment has its own

@@ -1,8 +1,8 @@
 -- What a crash leaves of a floor, where the order and the dues grow, and stretch by stretch.
-use Rattle.std.proofs.Common.{◌≡◌, ◌⊎◌, ℕ, ◌+◌, ◌-◌, ◌^◌, ◌≤◌, min, Option, Some, None, List, [], ◌∷◌, ◌++◌, All, length, map, take, drop, reverse, refl, ap, ◌∙◌, sym, subst, inl, inr, arith, append_assoc, length-append, length-drop}
+use Rattle.std.proofs.Common.{◌≡◌, ◌⊎◌, ℕ, ◌+◌, ◌-◌, ◌^◌, ◌≤◌, Option, Some, None, List, [], ◌∷◌, ◌++◌, length, map, take, drop, reverse, refl, ap, ◌∙◌, sym, subst, inl, inr, arith, append_assoc, length-append, length-drop}
 use Rattle.std.proofs.lemmas.List.{append-nil, append_cancel_left, length-map, length-take, take-append-le, take-append-drop, take_all, map-append, reverse-append}
-use Rattle.std.proofs.lemmas.List.Elements.{All-append, All-take, All-weaker}
-use Rattle.ground_io.specs.Disk.{Disk, Each, Always, after_entry, disk_after}
+use Rattle.std.proofs.lemmas.List.Elements.{All-take, All-weaker}
+use Rattle.ground_io.specs.Disk.{Disk, Always, after_entry}
 use Rattle.ground_io.specs.Sent.{Along, emissions, sent_after, sent_with}
 use Rattle.ground_io.specs.Trace.{Told, Adds, disk_of}
 use Rattle.ground_io.specs.declared.entry.Entry.{Entry}
@@ -19,7 +19,7 @@ use Rattle.alarm_journal.specs.Press.{Lasts, Throughout}
 use Rattle.state_codec.specs.Contents.{ImageStands, StandsForHistory}
 use Rattle.floor_desk.specs.Accounts.{Due}
 use Rattle.floor_desk.specs.Keeping.{Commits}
-use Rattle.floor_desk.specs.Prefixes.{HasLost, KeepsOrder, LeavesPrefix, RestsOn, Settle, Settles, behind, capped, losses}
+use Rattle.floor_desk.specs.Prefixes.{HasLost, KeepsOrder, LeavesPrefix, RestsOn, Settle, behind, capped, losses}
 
 -- ---- a history with the events of an order
 

@@ -13,7 +13,6 @@ use Rattle.floor_desk.specs.declared.entry.Entry.{Entry}
 use Rattle.floor_desk.specs.declared.entry.Entry.TheVariants.{Event as Happened, Looked, Taken, Returned, Failed}
 use Rattle.floor_desk.specs.declared.entry.Kind.{Kind}
 use Rattle.floor_desk.specs.declared.entry.Kind.TheVariants as kinds
-use Rattle.floor_desk.specs.declared.entry.Look.{Look}
 use Rattle.floor_desk.specs.declared.entry.Look.TheVariants.{Tried, Refused as Denied, Closing}
 use Rattle.floor_desk.specs.declared.entry.Ticket.{Ticket}
 use Rattle.floor_desk.specs.declared.faults.CommitFault.{CommitFault}

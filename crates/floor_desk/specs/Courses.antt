@@ -1,5 +1,5 @@
 -- What the entries of a floor make of an account, whichever they are.
-use Rattle.std.specs.Prelude.{◌≡◌, ◌≤◌, ℕ, ◌+◌, All, List, length, take, Option, Some, None}
+use Rattle.std.specs.Prelude.{◌≡◌, ◌≤◌, ◌+◌, All, List, length, take, Some, None}
 use Rattle.alarm_core.specs.Allowed.{Represents}
 use Rattle.alarm_core.specs.Fits.{FitsEvent}
 use Rattle.alarm_core.specs.State.{CoreState}

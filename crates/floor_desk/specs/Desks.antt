@@ -1,6 +1,5 @@
 -- What a call of the desk adds to the history.
-use Rattle.std.specs.Prelude.{◌≡◌, ◌<◌, ◌≤◌, ℕ, List, [], ◌∷◌, ◌++◌, max, replicate, Option, Some, Result, Ok, Err}
-use Rattle.ground_io.specs.Trace.{Told}
+use Rattle.std.specs.Prelude.{◌≡◌, ◌<◌, ◌≤◌, ℕ, List, [], ◌∷◌, ◌++◌, max, replicate, Some, Result, Ok, Err}
 use Rattle.turnstile.specs.Histories.{StartsWith, entries_under}
 use Rattle.turnstile.specs.Passes.{Known}
 use Rattle.turnstile.specs.declared.memo.Memo.{Memo}

@@ -1,5 +1,5 @@
 -- What a journal holds of a history, and what a crash leaves of one commit.
-use Rattle.std.specs.Prelude.{◌≡◌, ◌⊎◌, ℕ, Option, Some, None, List, length}
+use Rattle.std.specs.Prelude.{◌⊎◌, ℕ, Option, Some, None, List, length}
 use Rattle.ground_io.specs.Trace.{Told, disk_of}
 use Rattle.alarm_journal.specs.Journal.{Content}
 use Rattle.alarm_journal.specs.Journal.{Site as Journal}

@@ -1,4 +1,4 @@
-use Rattle.std.proofs.Common.{rules, ◌≡◌, ap, ◌∙◌, sym, subst, ◌++◌, ◌∷◌, []}
+use Rattle.std.proofs.Common.{rules, ◌≡◌, sym, subst, ◌++◌, ◌∷◌, []}
 use Rattle.turnstile.specs.Passes.{with_entry}
 use Rattle.floor_desk.specs.Standing.{FloorStands}
 use Rattle.floor_desk.proofs.Desks.{adds}

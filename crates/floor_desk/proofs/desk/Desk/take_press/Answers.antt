@@ -1,4 +1,4 @@
-use Rattle.std.proofs.Common.{rules, ◌≡◌, ap, ◌∙◌, subst, ◌++◌, ◌∷◌, []}
+use Rattle.std.proofs.Common.{rules, ◌≡◌, ap, ◌∙◌, subst}
 use Rattle.floor_desk.specs.declared.entry.Entry.TheVariants.{Looked}
 use Rattle.floor_desk.specs.declared.entry.Look.TheVariants.{Refused}
 use Rattle.floor_desk.specs.Accounts.{account}

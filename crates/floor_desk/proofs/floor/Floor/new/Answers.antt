@@ -1,4 +1,4 @@
-use Rattle.std.proofs.Common.{rules, refl, sym}
+use Rattle.std.proofs.Common.{rules, refl}
 use Rattle.floor_desk.proofs.Floors.{opens}
 use Rattle.floor_desk.proofs.floor.Floor.new.Goals as goal
 
