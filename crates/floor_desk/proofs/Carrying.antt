@@ -1,0 +1,234 @@
+-- What a load leaves when it was carried out.
+use Rattle.std.proofs.Common.{◌≡◌, ◌⊎◌, ℕ, ◌+◌, ◌-◌, ◌^◌, ◌<◌, ◌≤◌, Option, Some, None, List, [], ◌∷◌, ◌++◌, All, length, take, reverse, refl, ap, ◌∙◌, sym, subst, inl, inr, arith, append_assoc, length-append}
+use Rattle.std.specs.Int.{w64, to_be_bytes}
+use Rattle.std.proofs.lemmas.List.{get_or-reverse, length-reverse, reverse-append}
+use Rattle.std.proofs.lemmas.List.Elements.{All-append, All-drop}
+use Rattle.ground_io.specs.Trace.{Told, Adds, disk_of}
+use Rattle.ground_io.specs.declared.entry.Entry.{Entry}
+use Rattle.ground_io.proofs.Crashes.{adds_none, always_weaker}
+use Rattle.ground_io.specs.Counts.{Rose}
+use Rattle.alarm_core.specs.Allowed.{IsHistory, Represents}
+use Rattle.alarm_core.specs.Fits.{FitsEvent, FitsSite}
+use Rattle.alarm_core.specs.Limits.{KeepsLimits}
+use Rattle.alarm_core.specs.Sites.{IsSite}
+use Rattle.alarm_core.specs.SiteStates.{IsStateOf}
+use Rattle.alarm_core.proofs.KeptSites.{keeps_to_its_site}
+use Rattle.alarm_core.specs.State.{CoreState, state_of}
+use Rattle.alarm_core.specs.declared.event.Event.{Event}
+use Rattle.alarm_core.specs.declared.site.Site.{Site}
+use Rattle.alarm_journal.specs.Emissions.{EmitsAll}
+use Rattle.alarm_journal.specs.Journal.{Content, OpensTo, only_snapshot, with_batch}
+use Rattle.alarm_journal.specs.Journal.{Site as Journal}
+use Rattle.alarm_journal.specs.Press.{Between, Lasts, PressState, Settled, Throughout}
+use Rattle.alarm_journal.specs.Protocol.{AddsSome, IsCutShort, IsTwoCutShort, two_writes}
+use Rattle.state_codec.specs.Contents.{ImageStands, StandsForHistory, records_of}
+use Rattle.state_codec.specs.Records.{HasRecord, written_act, written_event}
+use Rattle.state_codec.specs.Snapshots.{written_state}
+use Rattle.state_codec.specs.Spelled.{FitsState}
+use Rattle.state_codec.proofs.Committed.{snapshot_stands}
+use Rattle.state_codec.proofs.Following.{spell_more}
+use Rattle.floor_desk.specs.Accounts.{Account, Front, front_of}
+use Rattle.floor_desk.specs.Carrying.{IsCarried, IsSnapshotOf, IsWorkFor, Lends, content_with}
+use Rattle.floor_desk.specs.Courses.{IsCourse}
+use Rattle.floor_desk.specs.Keeping.{Commits, HoldsHistory, Rests}
+use Rattle.floor_desk.specs.Prefixes.{HasLost, KeepsOrder, RestsOn, behind, losses}
+use Rattle.floor_desk.specs.Standing.{Holds, pending_events}
+use Rattle.floor_desk.specs.declared.load.Carried.TheVariants.{Home as HomeAgain, Broken as Gone}
+use Rattle.floor_desk.specs.declared.load.Load.{Load}
+use Rattle.floor_desk.specs.declared.load.Work.{Work}
+use Rattle.floor_desk.specs.declared.load.Work.TheVariants.{Nothing, Batch, Snapshot}
+use Rattle.floor_desk.proofs.Prefixes.{behind_rest, keeps_commit, keeps_emitting, losses_sent, lost_both, lost_emitting}
+
+-- ---- a press at rest
+
+pub between_now : (journal : Journal) (before after : Content) (told : Option Told) → Lasts journal told before → Between journal before after told told
+between_now journal before after None lasts = tt
+between_now journal before after (Some told) lasts = record { entries = []; adds = adds_none (Some told); quiet = tt; always = λ image may. inl (lasts image may) }
+
+-- what is written of a journal loses no datagram
+pub written_quietly : (first : ℕ) (body : List ℕ) (second : ℕ) (gate : List ℕ) (old new : Option Told) → Adds old new (two_writes first body second gate) → HasLost 0 old new
+written_quietly first body second gate old None adds = tt
+written_quietly first body second gate None (Some new) adds = absurd adds
+written_quietly first body second gate (Some old) (Some new) adds = (two_writes first body second gate, adds, refl)
+
+cut_loses_nothing : (place : ℕ) (octets : List ℕ) (entries : List Entry) → IsCutShort place octets entries → losses entries ≡ 0
+cut_loses_nothing place octets entries (inl wrote) = ap losses wrote
+cut_loses_nothing place octets entries (inr (left, size, broke)) = ap losses broke
+
+both_lose_nothing : (first : ℕ) (body : List ℕ) (second : ℕ) (gate : List ℕ) (entries : List Entry) → IsTwoCutShort first body second gate entries → losses entries ≡ 0
+both_lose_nothing first body second gate entries (inl cut) = cut_loses_nothing first body entries cut
+both_lose_nothing first body second gate entries (inr (more, cut, same)) = ap losses same ∙ cut_loses_nothing second gate more cut
+
+pub cut_quietly : (first : ℕ) (body : List ℕ) (second : ℕ) (gate : List ℕ) (old new : Option Told) → AddsSome (IsTwoCutShort first body second gate) old new → HasLost 0 old new
+cut_quietly first body second gate old None some = tt
+cut_quietly first body second gate None (Some new) some = absurd some
+cut_quietly first body second gate (Some old) (Some new) (entries, cut, adds) = (entries, adds, omega (arith, losses_sent entries, both_lose_nothing first body second gate entries cut))
+
+-- from a content that stands for the one history to a content that stands for the other
+content_committed : (journal : Journal) (site : Site) (before after : List Event) (first second : Content) (old new : Option Told) → StandsForHistory site first before → StandsForHistory site second after → Between journal first second old new → Commits journal site before after old new
+content_committed journal site before after first second old None one two between = tt
+content_committed journal site before after first second None (Some new) one two between = absurd between
+content_committed journal site before after first second (Some old) (Some new) one two between = record {
+  entries = between.entries;
+  adds = between.adds;
+  quiet = between.quiet;
+  always = always_weaker P Q to (disk_of old) between.entries between.always;
+}
+  where
+    P : List ℕ → Type 0
+    P image = OpensTo journal image first ⊎ OpensTo journal image second
+
+    Q : List ℕ → Type 0
+    Q image = ImageStands journal site image before ⊎ ImageStands journal site image after
+
+    to : (image : List ℕ) → P image → Q image
+    to image (inl opens) = inl (record { content = first; opens = opens; stands = one })
+    to image (inr opens) = inr (record { content = second; opens = opens; stands = two })
+
+-- ---- what the work stands for
+
+record_is_some : (event : Event) → 0 < length (written_event event)
+record_is_some event = omega (arith, length-append (to_be_bytes w64 event.moment) (written_act event.act))
+
+-- no records are those of no events
+pub no_events : (events : List Event) → records_of events ≡ [] → events ≡ []
+no_events [] none = refl
+no_events (event ∷ events) none = absurd (omega (arith, record_is_some event, ap (λ (l : List ℕ). length l) none, length-append (written_event event) (records_of events)))
+
+All-reverse : {X : Type 0} (P : X → Type 0) (xs : List X) → All P xs → All P (reverse xs)
+All-reverse P xs all k d few =
+    let size = length-reverse xs in
+    let here : k < length xs = omega arith in
+    subst P (sym (get_or-reverse xs k d here)) (all (length xs - 1 - k) d (omega arith))
+
+-- a batch with the records of the next events
+batch_of_events : (site : Site) (content : Content) (events older : List Event) (octets : List ℕ) → StandsForHistory site content older → IsHistory site (reverse events ++ older) → All HasRecord events → All FitsEvent events → octets ≡ records_of events
+    → StandsForHistory site (with_batch content octets) (reverse events ++ older)
+batch_of_events site content events older octets stood is have fit same = record {
+  is_history = is;
+  fit = All-append FitsEvent (reverse events) older (All-reverse FitsEvent events fit) stood.fit;
+  older = stood.older;
+  later = stood.later ++ events;
+  together = ap (λ (l : List Event). reverse events ++ l) stood.together ∙ (sym (append_assoc (reverse events) (reverse stood.later) stood.older) ∙ ap (λ (l : List Event). l ++ stood.older) (sym (reverse-append stood.later events)));
+  snapshot = stood.snapshot;
+  records = spell_more content.bodies stood.later octets events stood.records (record { octets_are = same; have = have });
+}
+
+-- the snapshot of a core's state stands for what the core does
+pub snapshot_of_core : (core : CoreState) (octets : List ℕ) → IsSite core.site → KeepsLimits core.site → FitsSite core.site → core.events < 2 ^ 63 → 1 ≤ length (written_state core) → octets ≡ written_state core → (IsStateOf core.site core → FitsState core) → IsSnapshotOf core octets
+snapshot_of_core core octets is limits fits few some same typed = record {
+  octets_are = same;
+  stands = λ history stands fit.
+      let left = state_of core.site history in
+      let shows : core ≡ left = stands.shows in
+      let count : core.events ≡ length history = ap (λ (s : CoreState). s.events) shows in
+      let brief : length history < 2 ^ 63 = omega (arith, few, count) in
+      let long : 0 < length octets = omega (arith, some, ap (λ (l : List ℕ). length l) same) in
+      let own : IsStateOf core.site left = keeps_to_its_site.keeps core.site is limits fits history stands.is_history fit brief in
+      let its_types : FitsState core = typed (subst (λ (s : CoreState). IsStateOf core.site s) (sym shows) own) in
+      snapshot_stands core.site history octets is limits fits stands.is_history fit brief long (same ∙ ap written_state shows) (subst (λ (s : CoreState). FitsState s) shows its_types);
+}
+
+module _ {G : Type 0} (told : G → Option Told) where
+  -- the journal with the work stands for the history with the whole order
+  work_stands : (origin : CoreState × PressState G) (a : Account G) (room : ℕ) (work : Work) (history : List Event) (content : Content) → IsCourse origin a → Represents origin.0 history → IsWorkFor a room work
+      → StandsForHistory origin.0.site content (behind history a.taken.events a.order) → StandsForHistory origin.0.site (content_with work content) (behind history (length a.order) a.order)
+  work_stands origin a room Nothing history content c stands work stood =
+      let same : behind history (length a.order) a.order ≡ behind history a.taken.events a.order =
+      behind_rest history a.order a.taken.events ∙ ap (λ (l : List Event). reverse l ++ behind history a.taken.events a.order) (no_events (pending_events a) work) in
+      subst (λ (h : List Event). StandsForHistory origin.0.site content h) (sym same) stood
+  work_stands origin a room (Batch job) history content c stands work stood =
+      let before : List Event = behind history a.taken.events a.order in
+      let rest = behind_rest history a.order a.taken.events in
+      let is : IsHistory origin.0.site (reverse (pending_events a) ++ before) = subst (λ (h : List Event). IsHistory origin.0.site h) rest (subst (λ (s : Site). IsHistory s (behind history (length a.order) a.order)) c.site (c.stands history stands).is_history) in
+      subst (λ (h : List Event). StandsForHistory origin.0.site (with_batch content job) h) (sym rest)
+      (batch_of_events origin.0.site content (pending_events a) before job stood is (All-drop HasRecord a.taken.events a.order c.recorded) (All-drop FitsEvent a.taken.events a.order c.fit) work)
+  work_stands origin a room (Snapshot job) history content c stands work stood =
+      let all : List Event = behind history (length a.order) a.order in
+      let rest = behind_rest history a.order a.taken.events in
+      let fit : All FitsEvent all = subst (λ (h : List Event). All FitsEvent h) (sym rest) (All-append FitsEvent (reverse (pending_events a)) (behind history a.taken.events a.order) (All-reverse FitsEvent (pending_events a) (All-drop FitsEvent a.taken.events a.order c.fit)) stood.fit) in
+      subst (λ (s : Site). StandsForHistory s (only_snapshot job) all) c.site (work.0.stands all (c.stands history stands) fit)
+
+  -- the press that a load left with, by what its account says
+  module _ (origin : CoreState × PressState G) (a : Account G) (load : Load G) (lent : Lends told origin a load) where
+    home : (a.back ≡ a.taken) × (a.durable ≡ origin.0.events + a.taken.events)
+    home = lent.fronts.home lent.none lent.works
+
+    -- it holds the first events, and their dues were sent
+    held_before : Holds told origin a (origin.0.events + a.taken.events) a.taken load.press
+    held_before =
+        subst (λ (p : PressState G). Holds told origin a (origin.0.events + a.taken.events) a.taken p) (sym lent.press)
+        (subst (λ (t : Front). Holds told origin a (origin.0.events + a.taken.events) t a.press) home.0 (subst (λ (d : ℕ). Holds told origin a d a.back a.press) home.1 lent.holds))
+
+    events_are : (history : List Event) → Represents origin.0 history → origin.0.events ≡ length history
+    events_are history stands = ap (λ (s : CoreState). s.events) stands.shows
+
+    -- what it leaves where it writes, or is lost
+    pub keeps_written : (journal : Journal) (history : List Event) (new : Option Told) → Represents origin.0 history → HoldsHistory journal origin.0.site history origin.1.layout (told origin.1.device)
+        → ((content : Content) → Rests journal load.press.layout (told load.press.device) content → Between journal content (content_with load.work content) (told load.press.device) new)
+        → KeepsOrder journal origin.0.site history a.order a.dues a.taken.dues (told origin.1.device) new
+    keeps_written journal history new stands first between =
+        let both = held_before journal history stands first in
+        let count : (origin.0.events + a.taken.events) - origin.0.events ≡ a.taken.events = omega arith in
+        let held : HoldsHistory journal origin.0.site (behind history a.taken.events a.order) load.press.layout (told load.press.device) = subst (λ (n : ℕ). HoldsHistory journal origin.0.site (behind history n a.order) load.press.layout (told load.press.device)) count both.0 in
+        let (content, rests, stood) = held in
+        let commits : Commits journal origin.0.site (behind history a.taken.events a.order) (behind history (length a.order) a.order) (told load.press.device) new =
+        content_committed journal origin.0.site (behind history a.taken.events a.order) (behind history (length a.order) a.order) content (content_with load.work content) (told load.press.device) new stood
+        (work_stands origin a _ load.work history content lent.course stands lent.work stood) (between content rests) in
+        keeps_commit journal origin.0.site history a.order a.dues a.taken.dues a.taken.events (length a.order) (told origin.1.device) (told load.press.device) new lent.fronts.dues lent.fronts.events (omega arith) lent.fronts.events
+        (subst (λ (n : ℕ). RestsOn (n + a.taken.events) (take a.taken.dues a.dues)) (events_are history stands) lent.fronts.rests) both.1 commits
+
+    -- what is held once it was written and emitted
+    pub holds_carried : (mid press : PressState G) (gone lost : ℕ)
+        → ((journal : Journal) (content : Content) → Rests journal load.press.layout (told load.press.device) content → Rests journal mid.layout (told mid.device) (content_with load.work content))
+        → ((journal : Journal) (content : Content) → Rests journal load.press.layout (told load.press.device) content → Between journal content (content_with load.work content) (told load.press.device) (told mid.device))
+        → EmitsAll load.sends gone lost (told mid.device) (told press.device)
+        → ((journal : Journal) (content : Content) → Settled journal mid.layout (told mid.device) content → Settled journal press.layout (told press.device) content)
+        → ((journal : Journal) (content : Content) → Settled journal mid.layout (told mid.device) content → Lasts journal (told press.device) content)
+        → ((journal : Journal) (content : Content) → Settled journal mid.layout (told mid.device) content → Throughout journal content (told mid.device) (told press.device))
+        → Holds told origin a load.upto (front_of a) press
+    holds_carried mid press gone lost rest between emits settled lasts through journal history stands first =
+        let both = held_before journal history stands first in
+        let count : (origin.0.events + a.taken.events) - origin.0.events ≡ a.taken.events = omega arith in
+        let held : HoldsHistory journal origin.0.site (behind history a.taken.events a.order) load.press.layout (told load.press.device) = subst (λ (n : ℕ). HoldsHistory journal origin.0.site (behind history n a.order) load.press.layout (told load.press.device)) count both.0 in
+        let (content, rests, stood) = held in
+        let after = content_with load.work content in
+        let stood_after : StandsForHistory origin.0.site after (behind history (length a.order) a.order) = work_stands origin a _ load.work history content lent.course stands lent.work stood in
+        let rests_mid : Rests journal mid.layout (told mid.device) after = rest journal content rests in
+        let kept : KeepsOrder journal origin.0.site history a.order a.dues a.taken.dues (told origin.1.device) (told mid.device) = keeps_written journal history (told mid.device) stands first (between journal) in
+        let all : load.upto - origin.0.events ≡ length a.order = omega (arith, lent.upto, lent.course.events) in (
+          subst (λ (n : ℕ). HoldsHistory journal origin.0.site (behind history n a.order) press.layout (told press.device)) (sym all) (after, (settled journal after rests_mid.0, lasts journal after rests_mid.0), stood_after),
+          keeps_emitting journal origin.0.site history a.order a.dues a.taken.dues (length a.order) (told origin.1.device) (told mid.device) (told press.device) after load.sends gone lost lent.fronts.dues (omega arith)
+              (subst (λ (n : ℕ). RestsOn n a.dues) (lent.course.events ∙ ap (λ (n : ℕ). n + length a.order) (events_are history stands)) lent.course.rests) stood_after lent.sends kept emits (through journal after rests_mid.0),
+        )
+
+    -- what comes back home
+    pub back_home : (disk_faults : G → ℕ) (mid press : PressState G) (gone lost : ℕ) → lost ≤ 2 ^ 64 - 1
+        → ((journal : Journal) (content : Content) → Rests journal load.press.layout (told load.press.device) content → Rests journal mid.layout (told mid.device) (content_with load.work content))
+        → ((journal : Journal) (content : Content) → Rests journal load.press.layout (told load.press.device) content → Between journal content (content_with load.work content) (told load.press.device) (told mid.device))
+        → HasLost 0 (told load.press.device) (told mid.device) → disk_faults load.press.device ≤ disk_faults mid.device
+        → EmitsAll load.sends gone lost (told mid.device) (told press.device)
+        → ((journal : Journal) (content : Content) → Settled journal mid.layout (told mid.device) content → Settled journal press.layout (told press.device) content)
+        → ((journal : Journal) (content : Content) → Settled journal mid.layout (told mid.device) content → Lasts journal (told press.device) content)
+        → ((journal : Journal) (content : Content) → Settled journal mid.layout (told mid.device) content → Throughout journal content (told mid.device) (told press.device))
+        → disk_faults press.device ≡ disk_faults mid.device → IsCarried told disk_faults origin a load.upto (front_of a) (HomeAgain press load.upto lost)
+    back_home disk_faults mid press gone lost few rest between quiet later emits settled lasts through same = (
+      refl,
+      omega (arith, later, same, ap (λ (p : PressState G). disk_faults p.device) lent.press),
+      holds_carried mid press gone lost rest between emits settled lasts through,
+      subst (λ (p : PressState G). HasLost lost (told p.device) (told press.device)) lent.press
+          (subst (λ (n : ℕ). HasLost n (told load.press.device) (told press.device)) (omega (arith, few))
+          (lost_both 0 lost (told load.press.device) (told mid.device) (told press.device) quiet (lost_emitting load.sends gone lost (told mid.device) (told press.device) few emits))),
+    )
+
+    -- what is left where the disk failed
+    pub back_broken : (disk_faults : G → ℕ) (device : G)
+        → ((journal : Journal) (content : Content) → Rests journal load.press.layout (told load.press.device) content → Between journal content (content_with load.work content) (told load.press.device) (told device))
+        → HasLost 0 (told load.press.device) (told device) → Rose (disk_faults load.press.device) (disk_faults device) → IsCarried told disk_faults origin a load.upto (front_of a) (Gone device load.upto)
+    back_broken disk_faults device between quiet rose = (
+      refl,
+      subst (λ (p : PressState G). Rose (disk_faults p.device) (disk_faults device)) lent.press rose,
+      λ journal history stands first.
+          subst (λ (t : Front). KeepsOrder journal origin.0.site history a.order a.dues t.dues (told origin.1.device) (told device)) (sym home.0) (keeps_written journal history (told device) stands first (between journal)),
+      subst (λ (p : PressState G). HasLost 0 (told p.device) (told device)) lent.press quiet,
+    )

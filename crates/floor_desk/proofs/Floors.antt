@@ -1,0 +1,379 @@
+-- A floor after one turn more.
+use Rattle.std.proofs.Common.{◌≡◌, ◌≢◌, inl, inr, ℕ, ◌+◌, ◌-◌, ◌≤◌, ◌<◌, List, [], ◌∷◌, ◌++◌, length, map, refl, sym, ap, ◌∙◌, subst, arith}
+use Rattle.std.specs.Prelude.{Option, Some, None, Result, Ok, Err, IfOk, IfErr}
+use Rattle.std.proofs.lemmas.List.{drop_all, take_all}
+use Rattle.std.proofs.lemmas.List.Elements.{All-nil}
+use Rattle.ground_io.specs.Trace.{Told}
+use Rattle.bac_values.specs.declared.input.Input.{Input}
+use Rattle.turnstile.specs.declared.memo.Memo.{Memo}
+use Rattle.alarm_core.specs.Fits.{FitsEvent}
+use Rattle.alarm_core.specs.State.{CoreState}
+use Rattle.alarm_journal.specs.Press.{PressState, room_of}
+use Rattle.service_desk.specs.Answers.{Answer, Entered, Full, Refused, Replied, Unchanged, Ignored, answer_to}
+use Rattle.state_codec.specs.Contents.{records_of}
+use Rattle.state_codec.specs.Records.{HasRecord}
+use Rattle.floor_desk.specs.declared.entry.Entry.{Entry}
+use Rattle.floor_desk.specs.declared.entry.Entry.TheVariants.{Looked, Taken, Returned, Failed}
+use Rattle.floor_desk.specs.declared.entry.Kind.TheVariants as kinds
+use Rattle.floor_desk.specs.declared.entry.Look.TheVariants.{Tried, Refused as Denied, Closing}
+use Rattle.floor_desk.specs.declared.entry.Ticket.{Ticket}
+use Rattle.floor_desk.specs.declared.faults.CommitFault.{CommitFault}
+use Rattle.floor_desk.specs.declared.faults.CommitFault.TheVariants as commits
+use Rattle.floor_desk.specs.declared.faults.EnterFault.{EnterFault}
+use Rattle.floor_desk.specs.declared.faults.EnterFault.TheVariants as enters
+use Rattle.floor_desk.specs.declared.load.Carried.TheVariants.{Home as HomeAgain, Broken as Gone}
+use Rattle.floor_desk.specs.declared.load.Load.{Load}
+use Rattle.floor_desk.specs.declared.floor.Spot.{Spot}
+use Rattle.floor_desk.specs.declared.floor.Spot.TheVariants.{Home, Out, Broken}
+use Rattle.floor_desk.specs.Accounts.{Account, Due, IsBehind, IsDenied, IsLegalFrom, IsOpen, IsTicketOf, Loan, MayFollow, accepted, account, entry_of, looked, most_calls, most_record_octets, start, step, ticket_for}
+use Rattle.floor_desk.specs.Carrying.{IsCarried, IsWorkOf, Lends}
+use Rattle.floor_desk.specs.Moves.{Accepts, Comes, Hinders, IsFull, IsLentBy, IsNotBroken, IsReady, MayEnter, Refuses, lent, with_answer}
+use Rattle.floor_desk.specs.Keeping.{HoldsHistory}
+use Rattle.floor_desk.specs.Prefixes.{HasLost, RestsOn, behind, capped}
+use Rattle.floor_desk.specs.Standing.{FloorStands, Holds, Shows, Stands, pending_events}
+use Rattle.floor_desk.specs.States.{FloorState}
+use Rattle.floor_desk.proofs.Growing.{course_same, shows_accepted, shows_looked}
+use Rattle.floor_desk.proofs.Histories.{account_snoc, legal_snoc, long_is}
+use Rattle.floor_desk.proofs.Prefixes.{keeps_now, lost_both, lost_none}
+
+loan_is : (x y : Loan) → Some x ≡ Some y → x ≡ y
+loan_is x y same = cc
+
+some_is : (x y : Ticket) → Some x ≡ Some y → x ≡ y
+some_is x y same = cc
+
+module _ {G : Type 0} (told : G → Option Told) (disk_faults : G → ℕ) where
+  -- an entry may follow, and the floor is what the account comes to with it
+  pub follows : (old new : FloorState G) (h : List (ℕ × Entry G)) (n : ℕ) (e : Entry G) → new.origin ≡ old.origin → FloorStands told disk_faults old h
+      → MayFollow disk_faults (account old.origin h) n e → Shows told disk_faults new (step (account old.origin h) n e) → FloorStands told disk_faults new (h ++ (n, e) ∷ [])
+  follows old new h n e same f may shows =
+      let is : step (account old.origin h) n e ≡ account new.origin (h ++ (n, e) ∷ []) = sym (account_snoc (start old.origin) h (n, e)) ∙ ap (λ o. account o (h ++ (n, e) ∷ [])) (sym same) in record {
+        legal = subst (λ (o : CoreState × PressState G). IsLegalFrom disk_faults (start o) (h ++ (n, e) ∷ [])) (sym same) (legal_snoc disk_faults (start old.origin) h (n, e) f.legal may);
+        shows = subst (λ (a : Account G). Shows told disk_faults new a) is shows;
+      }
+
+  -- ---- an input
+
+  -- a spot that isn't broken
+  not_failed : (origin : CoreState × PressState G) (a : Account G) (lost : ℕ) (spot : Spot G) → IsNotBroken spot → Stands told disk_faults origin a lost spot → a.failed ≡ None
+  not_failed origin a lost (Home press) not here = here.1
+  not_failed origin a lost (Out place upto) not here = here.0
+  not_failed origin a lost (Broken device place) not here = absurd not
+
+  not_behind : (floor : FloorState G) (a : Account G) → Shows told disk_faults floor a → floor.calls < most_calls → length floor.records ≤ most_record_octets → IsBehind a → ⊥
+  not_behind floor a s few short (inl many) = absurd (omega (arith, s.calls, few, many))
+  not_behind floor a s few short (inr long) = absurd (omega (arith, ap (λ (l : List ℕ). length l) s.records, short, long))
+
+  is_open : (floor : FloorState G) (a : Account G) → Shows told disk_faults floor a → IsReady floor → IsOpen a
+  is_open floor a s ready = record { works = not_failed floor.origin a floor.lost floor.spot ready.works s.spot; ahead = not_behind floor a s ready.calls ready.records }
+
+  is_behind : (floor : FloorState G) (a : Account G) → Shows told disk_faults floor a → IsFull floor → IsBehind a
+  is_behind floor a s (inl many) = inl (omega (arith, s.calls, many))
+  is_behind floor a s (inr long) = inr (omega (arith, ap (λ (l : List ℕ). length l) s.records, long))
+
+  -- an answer that was taken, in the account
+  taken_in : (old new : FloorState G) (a : Account G) (answer : Answer) → Shows told disk_faults old a → Accepts old new answer → Shows told disk_faults new (accepted a answer)
+  taken_in old new a answer s acc =
+      let may : MayEnter a.state answer = subst (λ (c : CoreState). MayEnter c answer) s.core acc.enters in
+      let is : new ≡ with_answer a.state old answer = subst (λ (c : CoreState). new ≡ with_answer c old answer) s.core acc.with_it in
+      subst (λ (f : FloorState G). Shows told disk_faults f (accepted a answer)) (sym is) (shows_accepted told disk_faults old a answer may s)
+
+  -- the entry of an input that was taken
+  ticket_follows : (a : Account G) (n moment : ℕ) (input : Memo Input) (answer : Answer) → answer ≡ answer_to a.state input.value moment → IsOpen a → (ticket : Ticket) → IsTicketOf a.state.events answer ticket
+      → MayFollow disk_faults a n (entry_of input moment (Ok ticket)) × (step a n (entry_of input moment (Ok ticket)) ≡ accepted a answer)
+  ticket_follows a n moment input (Entered event reply) is opened ticket of =
+      subst (λ (t : Ticket). MayFollow disk_faults a n (entry_of input moment (Ok t)) × (step a n (entry_of input moment (Ok t)) ≡ accepted a (Entered event reply))) (sym of)
+      (record { looked_at = opened; event = event; reply = reply; answer_is = sym is; ticket_is = refl }, ap (λ (x : Answer). accepted a x) (sym is))
+  ticket_follows a n moment input (Full would limit reply) is opened ticket of = absurd cc
+  ticket_follows a n moment input (Refused why) is opened ticket of =
+      let t : Ticket = record { number = a.state.events; kind = kinds.Refused why } in
+      subst (λ (t : Ticket). MayFollow disk_faults a n (entry_of input moment (Ok t)) × (step a n (entry_of input moment (Ok t)) ≡ accepted a (Refused why))) (some_is t ticket of)
+      ((opened, ap (λ (x : Answer). ticket_for a.state.events x) (sym is)), ap (λ (x : Answer). accepted a x) (sym is))
+  ticket_follows a n moment input (Replied send) is opened ticket of =
+      let t : Ticket = record { number = a.state.events; kind = kinds.Replied } in
+      subst (λ (t : Ticket). MayFollow disk_faults a n (entry_of input moment (Ok t)) × (step a n (entry_of input moment (Ok t)) ≡ accepted a (Replied send))) (some_is t ticket of)
+      ((opened, ap (λ (x : Answer). ticket_for a.state.events x) (sym is)), ap (λ (x : Answer). accepted a x) (sym is))
+  ticket_follows a n moment input Unchanged is opened ticket of =
+      let t : Ticket = record { number = a.state.events; kind = kinds.Idle } in
+      subst (λ (t : Ticket). MayFollow disk_faults a n (entry_of input moment (Ok t)) × (step a n (entry_of input moment (Ok t)) ≡ accepted a Unchanged)) (some_is t ticket of)
+      ((opened, ap (λ (x : Answer). ticket_for a.state.events x) (sym is)), ap (λ (x : Answer). accepted a x) (sym is))
+  ticket_follows a n moment input Ignored is opened ticket of =
+      let t : Ticket = record { number = a.state.events; kind = kinds.Ignored } in
+      subst (λ (t : Ticket). MayFollow disk_faults a n (entry_of input moment (Ok t)) × (step a n (entry_of input moment (Ok t)) ≡ accepted a Ignored)) (some_is t ticket of)
+      ((opened, ap (λ (x : Answer). ticket_for a.state.events x) (sym is)), ap (λ (x : Answer). accepted a x) (sym is))
+
+  -- what came of an input that was looked at
+  pub comes : (old new : FloorState G) (h : List (ℕ × Entry G)) (n moment : ℕ) (input : Memo Input) (result : Result Ticket EnterFault) → new.origin ≡ old.origin → FloorStands told disk_faults old h → IsReady old
+      → Comes old new (answer_to old.core input.value moment) result → FloorStands told disk_faults new (h ++ (n, entry_of input moment result) ∷ [])
+  comes old new h n moment input (Ok ticket) same f ready came =
+      let a : Account G = account old.origin h in
+      let answer : Answer = answer_to old.core input.value moment in
+      let is : answer ≡ answer_to a.state input.value moment = ap (λ (c : CoreState). answer_to c input.value moment) f.shows.core in
+      let of : IsTicketOf a.state.events answer ticket = subst (λ (c : CoreState). IsTicketOf c.events answer ticket) f.shows.core came.1 in
+      let may = ticket_follows a n moment input answer is (is_open old a f.shows ready) ticket of in
+      follows old new h n (entry_of input moment (Ok ticket)) same f may.0 (subst (λ (b : Account G). Shows told disk_faults new b) (sym may.1) (taken_in old new a answer f.shows came.0))
+  comes old new h n moment input (Err (enters.Full would limit)) same f ready came =
+      let a : Account G = account old.origin h in
+      let answer : Answer = answer_to old.core input.value moment in
+      let is : answer ≡ answer_to a.state input.value moment = ap (λ (c : CoreState). answer_to c input.value moment) f.shows.core in
+      follows old new h n (Looked (Tried input moment (Err (enters.Full would limit)))) same f (is_open old a f.shows ready, came.1, sym is ∙ came.2)
+      (subst (λ (x : Answer). Shows told disk_faults new (accepted a x)) is (taken_in old new a answer f.shows came.0))
+  comes old new h n moment input (Err enters.NoMemory) same f ready came =
+      let a : Account G = account old.origin h in
+      follows old new h n (Looked (Tried input moment (Err enters.NoMemory))) same f (is_open old a f.shows ready) (subst (λ (x : FloorState G). Shows told disk_faults x (looked a)) (sym came) (shows_looked told disk_faults old a f.shows))
+  comes old new h n moment input (Err (enters.Stopped at)) same f ready came = absurd came
+  comes old new h n moment input (Err (enters.Behind pending octets)) same f ready came = absurd came
+
+  -- it leaves the origin
+  pub comes_origin : (old new : FloorState G) (answer : Answer) (result : Result Ticket EnterFault) → Comes old new answer result → new.origin ≡ old.origin
+  comes_origin old new answer (Ok ticket) came = ap (λ (x : FloorState G). x.origin) came.0.with_it
+  comes_origin old new answer (Err (enters.Full would limit)) came = ap (λ (x : FloorState G). x.origin) came.0.with_it
+  comes_origin old new answer (Err enters.NoMemory) came = ap (λ (x : FloorState G). x.origin) came
+  comes_origin old new answer (Err (enters.Stopped at)) came = absurd came
+  comes_origin old new answer (Err (enters.Behind pending octets)) came = absurd came
+
+  broken_at : (origin : CoreState × PressState G) (a : Account G) (lost : ℕ) (spot : Spot G) (device : G) (at : ℕ) → spot ≡ Broken device at → Stands told disk_faults origin a lost spot → a.failed ≡ Some at
+  broken_at origin a lost spot device at is here = (subst (λ (s : Spot G). Stands told disk_faults origin a lost s) is here).1
+
+  -- an input that isn't looked at
+  pub refuses : (floor : FloorState G) (h : List (ℕ × Entry G)) (n moment : ℕ) (input : Memo Input) (fault : EnterFault) → FloorStands told disk_faults floor h → Refuses floor fault → FloorStands told disk_faults floor (h ++ (n, entry_of input moment (Err fault)) ∷ [])
+  refuses floor h n moment input (enters.Stopped at) f why =
+      let a : Account G = account floor.origin h in
+      follows floor floor h n (Looked (Tried input moment (Err (enters.Stopped at)))) refl f (broken_at floor.origin a floor.lost floor.spot why.0 at why.1 f.shows.spot) (shows_looked told disk_faults floor a f.shows)
+  refuses floor h n moment input (enters.Behind pending octets) f why =
+      let a : Account G = account floor.origin h in
+      follows floor floor h n (Looked (Tried input moment (Err (enters.Behind pending octets)))) refl f
+      (not_failed floor.origin a floor.lost floor.spot why.0 f.shows.spot, is_behind floor a f.shows why.1, why.2 ∙ f.shows.calls, why.3 ∙ ap (λ (l : List ℕ). length l) f.shows.records) (shows_looked told disk_faults floor a f.shows)
+  refuses floor h n moment input (enters.Full would limit) f why = absurd why
+  refuses floor h n moment input enters.NoMemory f why = absurd why
+
+  -- ---- a commit that is refused
+
+  pub looks : (floor : FloorState G) (h : List (ℕ × Entry G)) (n : ℕ) (fault : CommitFault) → FloorStands told disk_faults floor h → IsDenied (account floor.origin h) fault → FloorStands told disk_faults floor (h ++ (n, Looked (Denied fault)) ∷ [])
+  looks floor h n fault f why = follows floor floor h n (Looked (Denied fault)) refl f why (shows_looked told disk_faults floor (account floor.origin h) f.shows)
+
+  pub closes : (floor : FloorState G) (h : List (ℕ × Entry G)) (n : ℕ) (loan : Loan) → FloorStands told disk_faults floor h → (account floor.origin h).loan ≡ Some loan → FloorStands told disk_faults floor (h ++ (n, Looked Closing) ∷ [])
+  closes floor h n loan f out = follows floor floor h n (Looked Closing) refl f (loan, out) (shows_looked told disk_faults floor (account floor.origin h) f.shows)
+
+  -- what a spot tells of the account
+  at_spot : (floor : FloorState G) (a : Account G) (spot : Spot G) → floor.spot ≡ spot → Shows told disk_faults floor a → Stands told disk_faults floor.origin a floor.lost spot
+  at_spot floor a spot is s = subst (λ (x : Spot G). Stands told disk_faults floor.origin a floor.lost x) is s.spot
+
+  pub busy : (floor : FloorState G) (h : List (ℕ × Entry G)) (at upto : ℕ) → floor.spot ≡ Out at upto → FloorStands told disk_faults floor h → IsDenied (account floor.origin h) (commits.Busy at upto)
+  busy floor h at upto is f = (let here = at_spot floor (account floor.origin h) (Out at upto) is f.shows in (here.1, here.2))
+
+  pub stopped : (floor : FloorState G) (h : List (ℕ × Entry G)) (device : G) (at : ℕ) → floor.spot ≡ Broken device at → FloorStands told disk_faults floor h → IsDenied (account floor.origin h) (commits.Stopped at)
+  stopped floor h device at is f = (at_spot floor (account floor.origin h) (Broken device at) is f.shows).1
+
+  pub idle : (floor : FloorState G) (h : List (ℕ × Entry G)) (press : PressState G) → floor.spot ≡ Home press → floor.calls ≡ 0 → FloorStands told disk_faults floor h → IsDenied (account floor.origin h) (commits.Nothing floor.core.events)
+  idle floor h press is none f =
+      let here = at_spot floor (account floor.origin h) (Home press) is f.shows in
+      (here.1, here.0, omega (arith, none, f.shows.calls), ap (λ (c : CoreState). c.events) f.shows.core)
+
+  pub waits : (floor : FloorState G) (h : List (ℕ × Entry G)) (press : PressState G) → floor.spot ≡ Home press → floor.calls ≢ 0 → FloorStands told disk_faults floor h → IsDenied (account floor.origin h) commits.NoMemory
+  waits floor h press is some f =
+      let here = at_spot floor (account floor.origin h) (Home press) is f.shows in (here.1, here.0, omega (arith, some, f.shows.calls))
+
+  -- ---- the press leaves
+
+  shows_taken : (floor : FloorState G) (a : Account G) (n place : ℕ) (press : PressState G) → floor.spot ≡ Home press → place ≡ a.long + 1 → Shows told disk_faults floor a → Shows told disk_faults (lent floor place) (step a n (Taken floor.core.events))
+  shows_taken floor a n place press is at s =
+      let b : Account G = step a n (Taken floor.core.events) in
+      let upto : floor.core.events ≡ floor.origin.0.events + length a.order = ap (λ (c : CoreState). c.events) s.core ∙ s.course.events in
+      let here = at_spot floor a (Home press) is s in record {
+        core = s.core;
+        records = ap records_of (sym (drop_all (length a.order) a.order (omega arith)));
+        sends = ap (λ (l : List Due). map (λ due. due.send) l) (sym (drop_all (length a.dues) a.dues (omega arith)));
+        calls = omega arith;
+        spot = (here.1, n, ap (λ (z : ℕ). Some record { number = n; place = z; upto = floor.core.events }) (sym at));
+        holds = s.holds;
+        lost = s.lost;
+        course = course_same floor.origin a b refl refl refl s.course;
+        fronts = record {
+          events = omega arith;
+          dues = omega arith;
+          calls = omega arith;
+          rests = subst (λ (l : List Due). RestsOn (floor.origin.0.events + length a.order) l) (sym (take_all (length a.dues) a.dues (omega arith))) (subst (λ (k : ℕ). RestsOn k a.dues) s.course.events s.course.rests);
+          lent = λ loan out. ap (λ (l : Loan). l.upto) (sym (loan_is _ loan out)) ∙ upto;
+          home = λ none works. absurd (cc);
+          back = omega (arith, s.fronts.back, s.fronts.dues);
+          first = s.fronts.first;
+          durable = omega (arith, s.fronts.durable, s.fronts.events);
+        };
+      }
+
+  -- its load is what the account lends
+  pub lends : (old new : FloorState G) (h : List (ℕ × Entry G)) (n place : ℕ) (load : Load G) → IsLentBy old new place load → place ≡ length h + 1 → FloorStands told disk_faults old h
+      → Lends told old.origin (account old.origin h) load × FloorStands told disk_faults new (h ++ (n, Taken load.upto) ∷ [])
+  lends old new h n place load is at f =
+      let a : Account G = account old.origin h in
+      let here = at_spot old a (Home load.press) is.home f.shows in
+      let long = long_is (start old.origin) h in
+      let denied = waits old h load.press is.home is.some f in
+      let next : FloorStands told disk_faults new (h ++ (n, Taken old.core.events) ∷ []) =
+      follows old new h n (Taken old.core.events) (ap (λ (x : FloorState G). x.origin) is.left) f (here.1, here.0, denied.2, ap (λ (c : CoreState). c.events) f.shows.core)
+      (subst (λ (x : FloorState G). Shows told disk_faults x (step a n (Taken old.core.events))) (sym is.left) (shows_taken old a n place load.press is.home (omega (arith, long, at)) f.shows)) in (
+        record {
+          none = here.0;
+          works = here.1;
+          upto = is.upto ∙ ap (λ (c : CoreState). c.events) f.shows.core;
+          press = here.2;
+          sends = is.sends ∙ f.shows.sends;
+          work = subst (λ (c : CoreState). IsWorkOf c (records_of (pending_events a)) (room_of load.press.layout) load.work) f.shows.core (subst (λ (l : List ℕ). IsWorkOf old.core l (room_of load.press.layout) load.work) f.shows.records is.work);
+          holds = f.shows.holds;
+          course = f.shows.course;
+          fronts = f.shows.fronts;
+        },
+        subst (λ (u : ℕ). FloorStands told disk_faults new (h ++ (n, Taken u) ∷ [])) (sym is.upto) next,
+      )
+
+  -- a commit that is refused
+  pub hinders : (floor : FloorState G) (h : List (ℕ × Entry G)) (n : ℕ) (fault : CommitFault) → FloorStands told disk_faults floor h → Hinders floor fault → FloorStands told disk_faults floor (h ++ (n, Looked (Denied fault)) ∷ [])
+  hinders floor h n (commits.Stopped at) f why = looks floor h n (commits.Stopped at) f (stopped floor h why.0 at why.1 f)
+  hinders floor h n (commits.Busy at upto) f why = looks floor h n (commits.Busy at upto) f (busy floor h at upto why f)
+  hinders floor h n (commits.Nothing upto) f why = looks floor h n (commits.Nothing upto) f (let i = idle floor h why.0 why.1 why.2 f in (i.0, i.1, i.2, why.3 ∙ i.3))
+  hinders floor h n commits.NoMemory f why = looks floor h n commits.NoMemory f (waits floor h why.0 why.1 why.2 f)
+  hinders floor h n commits.DiskFault f why = absurd why
+
+  -- what became of a commit at its turn
+  pub lent_by : (old new : FloorState G) (place : ℕ) (result : Result (Load G) CommitFault) → IfOk result (λ load. IsLentBy old new place load)
+      → IfOk result (λ load. (h : List (ℕ × Entry G)) (n : ℕ) → place ≡ length h + 1 → FloorStands told disk_faults old h → Lends told old.origin (account old.origin h) load × FloorStands told disk_faults new (h ++ (n, Taken load.upto) ∷ []))
+  lent_by old new place (Ok load) is = λ h n at f. lends old new h n place load is at f
+  lent_by old new place (Err fault) is = tt
+
+  pub refused_by : (old new : FloorState G) (result : Result (Load G) CommitFault) → IfErr result (λ fault. (new ≡ old) × Hinders old fault)
+      → IfErr result (λ fault. (h : List (ℕ × Entry G)) (n : ℕ) → FloorStands told disk_faults old h → FloorStands told disk_faults new (h ++ (n, Looked (Denied fault)) ∷ []))
+  refused_by old new (Ok load) is = tt
+  refused_by old new (Err fault) is = λ h n f. subst (λ (x : FloorState G). FloorStands told disk_faults x (h ++ (n, Looked (Denied fault)) ∷ [])) (sym is.0) (hinders old h n fault f is.1)
+
+  pub same_by : (old new : FloorState G) (result : Result (Load G) CommitFault) → IfErr result (λ fault. (new ≡ old) × Hinders old fault) → IfErr result (λ fault. new ≡ old)
+  same_by old new (Ok load) is = tt
+  same_by old new (Err fault) is = is.0
+
+  pub origin_by : (old new : FloorState G) (place : ℕ) (result : Result (Load G) CommitFault) → IfOk result (λ load. IsLentBy old new place load) → IfErr result (λ fault. (new ≡ old) × Hinders old fault) → new.origin ≡ old.origin
+  origin_by old new place (Ok load) is why = ap (λ (x : FloorState G). x.origin) is.left
+  origin_by old new place (Err fault) is why = ap (λ (x : FloorState G). x.origin) why.0
+
+  -- ---- the press comes back
+
+  no_loan : (o : Option Loan) (l : Loan) → o ≡ None → o ≡ Some l → ⊥
+  no_loan o l x y = cc
+
+  -- where a loan is open the press is out
+  pub is_out : (floor : FloorState G) (a : Account G) (l : Loan) (spot : Spot G) → Stands told disk_faults floor.origin a floor.lost spot → a.loan ≡ Some l → (at : ℕ) × (upto : ℕ) × (spot ≡ Out at upto)
+  is_out floor a l (Home press) s out = absurd (no_loan a.loan l s.0 out)
+  is_out floor a l (Out place upto) s out = (place, upto, refl)
+  is_out floor a l (Broken device place) s out = absurd (no_loan a.loan l s.0 out)
+
+  -- home, with what the load was to write
+  pub brings : (old new : FloorState G) (h : List (ℕ × Entry G)) (loan : Loan) (press : PressState G) (memo : Memo (PressState G)) (at to event more : ℕ) → memo.value ≡ press → old.spot ≡ Out at to
+      → new ≡ record old { spot = Home press; lost = capped (old.lost + more) } → FloorStands told disk_faults old h → (account old.origin h).loan ≡ Some loan
+      → IsCarried told disk_faults old.origin (account old.origin h) loan.upto (account old.origin h).taken (HomeAgain press event more) → FloorStands told disk_faults new (h ++ (loan.number, Returned event memo) ∷ [])
+  brings old new h loan press memo at to event more shows away is f out carried =
+      let a : Account G = account old.origin h in
+      let s = f.shows in
+      let here = at_spot old a (Out at to) away s in
+      let b : Account G = step a loan.number (Returned event memo) in
+      let same : press ≡ memo.value = sym shows in
+      let upto : event ≡ old.origin.0.events + a.taken.events = carried.0 ∙ s.fronts.lent loan out in
+      follows old new h loan.number (Returned event memo) (ap (λ (x : FloorState G). x.origin) is) f
+      ((loan, out, refl, sym carried.0), subst (λ (p : PressState G). disk_faults a.press.device ≤ disk_faults p.device) same carried.1)
+      (subst (λ (x : FloorState G). Shows told disk_faults x b) (sym is) (record {
+        core = s.core;
+        records = s.records;
+        sends = s.sends;
+        calls = s.calls;
+        spot = (refl, here.0, same);
+        holds = subst (λ (p : PressState G). Holds told old.origin a event a.taken p) same (subst (λ (u : ℕ). Holds told old.origin a u a.taken press) (sym carried.0) carried.2);
+        lost = subst (λ (p : PressState G). HasLost (capped (old.lost + more)) (told old.origin.1.device) (told p.device)) same (lost_both old.lost more (told old.origin.1.device) (told a.press.device) (told press.device) s.lost carried.3);
+        course = course_same old.origin a b refl refl refl s.course;
+        fronts = record {
+          events = s.fronts.events;
+          dues = s.fronts.dues;
+          calls = s.fronts.calls;
+          rests = s.fronts.rests;
+          lent = λ loan none. absurd (cc);
+          home = λ none works. (refl, upto);
+          back = omega arith;
+          first = omega (arith, upto);
+          durable = omega (arith, upto);
+        };
+      }))
+
+  -- lost, with nothing sent
+  pub breaks : (old new : FloorState G) (h : List (ℕ × Entry G)) (loan : Loan) (device : G) (at to place event : ℕ) → old.spot ≡ Out at to → new ≡ record old { spot = Broken device place; lost = capped (old.lost + 0) } → place ≡ length h + 1
+      → FloorStands told disk_faults old h → (account old.origin h).loan ≡ Some loan
+      → IsCarried told disk_faults old.origin (account old.origin h) loan.upto (account old.origin h).taken (Gone device event) → FloorStands told disk_faults new (h ++ (loan.number, Failed event) ∷ [])
+  breaks old new h loan device at to place event away is here_at f out carried =
+      let a : Account G = account old.origin h in
+      let s = f.shows in
+      let b : Account G = step a loan.number (Failed event) in
+      let long = long_is (start old.origin) h in
+      let place_is : a.long + 1 ≡ place = omega (arith, long, here_at) in
+      let before : HasLost (capped (old.lost + 0)) (told old.origin.1.device) (told a.press.device) = lost_both old.lost 0 (told old.origin.1.device) (told a.press.device) (told a.press.device) s.lost (lost_none (told a.press.device)) in
+      follows old new h loan.number (Failed event) (ap (λ (x : FloorState G). x.origin) is) f (loan, out, refl, sym carried.0)
+      (subst (λ (x : FloorState G). Shows told disk_faults x b) (sym is) (record {
+        core = s.core;
+        records = s.records;
+        sends = s.sends;
+        calls = s.calls;
+        spot = (refl, ap Some place_is, carried.1, carried.2, lost_both old.lost 0 (told old.origin.1.device) (told a.press.device) (told device) s.lost carried.3);
+        holds = s.holds;
+        lost = before;
+        course = course_same old.origin a b refl refl refl s.course;
+        fronts = record {
+          events = s.fronts.events;
+          dues = s.fronts.dues;
+          calls = s.fronts.calls;
+          rests = s.fronts.rests;
+          lent = λ loan none. absurd (cc);
+          home = λ none works. absurd (cc);
+          back = s.fronts.back;
+          first = s.fronts.first;
+          durable = s.fronts.durable;
+        };
+      }))
+
+  -- the desk waits for the press, to be closed
+  pub waits_out : (floor : FloorState G) (h : List (ℕ × Entry G)) (n at upto : ℕ) → floor.spot ≡ Out at upto → FloorStands told disk_faults floor h → FloorStands told disk_faults floor (h ++ (n, Looked Closing) ∷ [])
+  waits_out floor h n at upto is f = (let b = busy floor h at upto is f in closes floor h n (record { number = b.0; place = at; upto = upto }) f b.1)
+
+  -- at the opening
+  pub opens : (floor : FloorState G) (press : PressState G) → floor.core ≡ floor.origin.0 → floor.records ≡ [] → floor.sends ≡ [] → floor.calls ≡ 0 → floor.lost ≡ 0 → floor.spot ≡ Home press → press ≡ floor.origin.1 → FloorStands told disk_faults floor []
+  opens floor press core records sends calls lost spot same = record {
+    legal = tt;
+    shows = record {
+      core = core;
+      records = records;
+      sends = sends;
+      calls = omega (arith, calls);
+      spot = subst (λ (s : Spot G). Stands told disk_faults floor.origin (start floor.origin) floor.lost s) (sym spot) (refl, refl, same);
+      holds = λ journal history stands first. (
+        subst (λ (n : ℕ). HoldsHistory journal floor.origin.0.site (behind history n []) floor.origin.1.layout (told floor.origin.1.device)) (sym none) first,
+        keeps_now journal floor.origin.0.site history [] (told floor.origin.1.device) first.0 first.2 first.1.1,
+      );
+      lost = subst (λ (n : ℕ). HasLost n (told floor.origin.1.device) (told floor.origin.1.device)) (sym lost) (lost_none (told floor.origin.1.device));
+      course = record {
+        events = omega arith;
+        site = refl;
+        stands = λ history stands. stands;
+        recorded = All-nil HasRecord;
+        fit = All-nil FitsEvent;
+        rests = All-nil (λ (due : Due). due.after ≤ floor.origin.0.events);
+      };
+      fronts = record {
+        events = omega arith;
+        dues = omega arith;
+        calls = omega arith;
+        rests = All-nil (λ (due : Due). due.after ≤ floor.origin.0.events + 0);
+        lent = λ loan out. absurd (cc);
+        home = λ none works. (refl, omega arith);
+        back = omega arith;
+        first = omega arith;
+        durable = omega arith;
+      };
+    };
+  }
+    where
+      none : floor.origin.0.events - floor.origin.0.events ≡ 0
+      none = omega arith

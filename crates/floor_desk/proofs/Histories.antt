@@ -1,0 +1,134 @@
+-- Accounts of longer histories, and a loan that stays open.
+use Rattle.std.proofs.Common.{◌≡◌, ℕ, ◌+◌, ◌≤◌, true, false, List, [], ◌∷◌, ◌++◌, length, refl, sym, ap, ◌∙◌, arith, inr, eq-eqb, append_assoc}
+use Rattle.std.proofs.lemmas.List.{append-nil}
+use Rattle.std.specs.Prelude.{Some, Ok, Err, Result, ◌==◌, if◌then◌else◌}
+use Rattle.turnstile.specs.Histories.{entries_under}
+use Rattle.alarm_core.specs.declared.event.Event.{Event}
+use Rattle.service_desk.specs.Answers.{Answer, answer_to, event_of}
+use Rattle.floor_desk.specs.declared.entry.Entry.{Entry}
+use Rattle.floor_desk.specs.declared.entry.Entry.TheVariants.{Event as Happened, Looked, Taken, Returned, Failed}
+use Rattle.floor_desk.specs.declared.entry.Look.TheVariants.{Tried, Refused as Denied, Closing}
+use Rattle.floor_desk.specs.declared.entry.Ticket.{Ticket}
+use Rattle.floor_desk.specs.declared.faults.EnterFault.{EnterFault}
+use Rattle.floor_desk.specs.declared.faults.EnterFault.TheVariants as enters
+use Rattle.floor_desk.specs.Accounts.{Account, Due, Loan, Licenses, MayFollow, IsLegalFrom, accepted, account_from, if_event, looked, step, tried}
+
+module _ {G : Type 0} where
+  -- one entry more
+  pub account_snoc : (a : Account G) (h : List (ℕ × Entry G)) (c : ℕ × Entry G) → account_from a (h ++ c ∷ []) ≡ step (account_from a h) c.0 c.1
+  account_snoc a [] c = refl
+  account_snoc a (e ∷ es) c = account_snoc (step a e.0 e.1) es c
+
+  -- one history behind the other
+  pub account_append : (a : Account G) (h k : List (ℕ × Entry G)) → account_from a (h ++ k) ≡ account_from (account_from a h) k
+  account_append a [] k = refl
+  account_append a (e ∷ es) k = account_append (step a e.0 e.1) es k
+
+  long_tried : (a : Account G) (answer : Answer) (result : Result Ticket EnterFault) → (tried a answer result).long ≡ a.long + 1
+  long_tried a answer (Ok ticket) = refl
+  long_tried a answer (Err (enters.Stopped at)) = refl
+  long_tried a answer (Err (enters.Behind pending octets)) = refl
+  long_tried a answer (Err (enters.Full would limit)) = refl
+  long_tried a answer (Err enters.NoMemory) = refl
+
+  long_step : (a : Account G) (n : ℕ) (e : Entry G) → (step a n e).long ≡ a.long + 1
+  long_step a n (Happened input moment ticket) = refl
+  long_step a n (Looked (Tried input moment answer)) = long_tried a (answer_to a.state input.value moment) answer
+  long_step a n (Looked (Denied fault)) = refl
+  long_step a n (Looked Closing) = refl
+  long_step a n (Taken upto) = refl
+  long_step a n (Returned upto press) = refl
+  long_step a n (Failed upto) = refl
+
+  pub long_is : (a : Account G) (h : List (ℕ × Entry G)) → (account_from a h).long ≡ a.long + length h
+  long_is a [] = omega arith
+  long_is a (e ∷ es) = let i = long_is (step a e.0 e.1) es in let s = long_step a e.0 e.1 in omega arith
+
+  pub licenses_last : (h : List (ℕ × Entry G)) (n upto : ℕ) (e : Entry G) → Licenses ((n, e) ∷ []) upto → Licenses (h ++ (n, e) ∷ []) upto
+  licenses_last [] n upto e l = l
+  licenses_last (x ∷ h) n upto e l = inr (licenses_last h n upto e l)
+
+  -- ---- a loan that stays open
+
+  -- of two accounts the second has more events, datagrams and calls, and the same of all that the press's entries change
+  pub record IsStill (a b : Account G) : Type 0 where
+    pub more : List Event
+    pub order : b.order ≡ a.order ++ more
+    pub owed : List Due
+    pub dues : b.dues ≡ a.dues ++ owed
+    pub calls : a.calls ≤ b.calls
+    pub taken : b.taken ≡ a.taken
+    pub back : b.back ≡ a.back
+    pub durable : b.durable ≡ a.durable
+    pub press : b.press ≡ a.press
+    pub loan : b.loan ≡ a.loan
+    pub failed : b.failed ≡ a.failed
+
+  pub still_here : (a : Account G) → IsStill a a
+  still_here a = record { more = []; order = sym (append-nil a.order); owed = []; dues = sym (append-nil a.dues); calls = omega arith; taken = refl; back = refl; durable = refl; press = refl; loan = refl; failed = refl }
+
+  pub still_then : (a b c : Account G) → IsStill a b → IsStill b c → IsStill a c
+  still_then a b c x y = record {
+    more = x.more ++ y.more;
+    order = y.order ∙ (ap (λ (l : List Event). l ++ y.more) x.order ∙ append_assoc a.order x.more y.more);
+    owed = x.owed ++ y.owed;
+    dues = y.dues ∙ (ap (λ (l : List Due). l ++ y.owed) x.dues ∙ append_assoc a.dues x.owed y.owed);
+    calls = omega (arith, x.calls, y.calls);
+    taken = y.taken ∙ x.taken;
+    back = y.back ∙ x.back;
+    durable = y.durable ∙ x.durable;
+    press = y.press ∙ x.press;
+    loan = y.loan ∙ x.loan;
+    failed = y.failed ∙ x.failed;
+  }
+
+  pub still_looked : (a : Account G) → IsStill a (looked a)
+  still_looked a = record { more = []; order = sym (append-nil a.order); owed = []; dues = sym (append-nil a.dues); calls = omega arith; taken = refl; back = refl; durable = refl; press = refl; loan = refl; failed = refl }
+
+  pub still_accepted : (a : Account G) (answer : Answer) → IsStill a (accepted a answer)
+  still_accepted a answer = record { more = if_event (event_of answer); order = refl; owed = _; dues = refl; calls = omega arith; taken = refl; back = refl; durable = refl; press = refl; loan = refl; failed = refl }
+
+  pub still_tried : (a : Account G) (answer : Answer) (result : Result Ticket EnterFault) → IsStill a (tried a answer result)
+  still_tried a answer (Ok ticket) = still_accepted a answer
+  still_tried a answer (Err (enters.Stopped at)) = still_looked a
+  still_tried a answer (Err (enters.Behind pending octets)) = still_looked a
+  still_tried a answer (Err (enters.Full would limit)) = still_accepted a answer
+  still_tried a answer (Err enters.NoMemory) = still_looked a
+
+module _ {G : Type 0} (disk_faults : G → ℕ) where
+  pub legal_snoc : (a : Account G) (h : List (ℕ × Entry G)) (c : ℕ × Entry G) → IsLegalFrom disk_faults a h → MayFollow disk_faults (account_from a h) c.0 c.1 → IsLegalFrom disk_faults a (h ++ c ∷ [])
+  legal_snoc a [] c l m = (m, tt)
+  legal_snoc a (e ∷ es) c l m = (l.0, legal_snoc (step a e.0 e.1) es c l.1 m)
+
+  pub legal_after : (a : Account G) (h k : List (ℕ × Entry G)) → IsLegalFrom disk_faults a (h ++ k) → IsLegalFrom disk_faults (account_from a h) k
+  legal_after a [] k l = l
+  legal_after a (e ∷ es) k l = legal_after (step a e.0 e.1) es k l.1
+
+  other : (a : Account G) (l k : Loan) → a.loan ≡ Some l → a.loan ≡ Some k → k ≡ l
+  other a l k x y = cc
+
+  own : (a : Account G) (l k : Loan) (n : ℕ) → a.loan ≡ Some l → a.loan ≡ Some k → k.number ≡ n → (n == l.number) ≡ false → ⊥
+  own a l k n x y is differs =
+      let same : n ≡ l.number = sym is ∙ ap (λ (z : Loan). z.number) (other a l k x y) in
+      let yes : (n == l.number) ≡ true = eq-eqb n l.number same in cc
+
+  -- an entry of another pass
+  kept : (a : Account G) (l : Loan) (n : ℕ) (e : Entry G) → a.loan ≡ Some l → MayFollow disk_faults a n e → (n == l.number) ≡ false → IsStill a (step a n e)
+  kept a l n (Happened input moment ticket) x m differs = still_accepted a (answer_to a.state input.value moment)
+  kept a l n (Looked (Tried input moment answer)) x m differs = still_tried a (answer_to a.state input.value moment) answer
+  kept a l n (Looked (Denied fault)) x m differs = still_looked a
+  kept a l n (Looked Closing) x m differs = still_looked a
+  kept a l n (Taken upto) x m differs = (let y = m.1 in cc)
+  kept a l n (Returned upto press) x m differs = absurd (own a l m.0.0 n x m.0.1 m.0.2 differs)
+  kept a l n (Failed upto) x m differs = absurd (own a l m.0 n x m.1 m.2 differs)
+
+  -- while a loan is open, only its own pass may end it
+  pub still_out : (a : Account G) (l : Loan) (h : List (ℕ × Entry G)) → a.loan ≡ Some l → IsLegalFrom disk_faults a h → entries_under l.number h ≡ [] → IsStill a (account_from a h)
+  still_out a l [] x legal none_own = still_here a
+  still_out a l (e ∷ es) x legal none_own =
+      elim (e.0 == l.number) as (λ b. (e.0 == l.number) ≡ b → (if b then (e.1 ∷ entries_under l.number es) else entries_under l.number es) ≡ [] → IsStill a (account_from (step a e.0 e.1) es)) [
+        | true ↦ λ is none. cc
+        | false ↦ λ is none.
+            let one : IsStill a (step a e.0 e.1) = kept a l e.0 e.1 x legal.0 is in
+            still_then a (step a e.0 e.1) (account_from (step a e.0 e.1) es) one (still_out (step a e.0 e.1) l es (one.loan ∙ x) legal.1 none)
+      ] refl none_own

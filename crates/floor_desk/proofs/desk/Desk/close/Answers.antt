@@ -1,0 +1,19 @@
+use Rattle.floor_desk.specs.declared.entry.Entry.TheVariants.{Looked}
+use Rattle.floor_desk.specs.declared.entry.Look.TheVariants.{Closing}
+use Rattle.floor_desk.proofs.Desks.{still_of, waited_more}
+use Rattle.floor_desk.proofs.Floors.{waits_out}
+use Rattle.floor_desk.proofs.desk.Desk.close.Goals as goal
+
+pub give-pass-requires-clause-value : goal.give-pass-requires-clause-value
+give-pass-requires-clause-value g c =
+    let q = c.take-turn.result.pass in
+    let out = rw c.if-is_out.true at c.is_out.ensures.out in
+    waits_out g.G.Ground.told g.G.Ground.disk_faults c.take-turn.result.value q.seen q.number out.0 out.1 out.2 c.take-turn.ensures.value
+
+pub loop-preserved : goal.loop-preserved
+loop-preserved g c =
+    let q = c.take-turn.result.pass in
+    record {
+      here = still_of _ c.args.self c.loop.pass q c.give-pass.result (Looked Closing) c.loop.invariant.here c.take-turn.ensures.sees c.give-pass.ensures;
+      waited = waited_more _ c.args.pass c.loop.pass q c.give-pass.result c.loop.invariant.waited c.take-turn.ensures.sees c.give-pass.ensures;
+    }

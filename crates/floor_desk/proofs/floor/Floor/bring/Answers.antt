@@ -1,0 +1,24 @@
+use Rattle.std.proofs.Common.{◌++◌, ◌∷◌, [], sym, subst}
+use Rattle.floor_desk.specs.Standing.{FloorStands}
+use Rattle.floor_desk.proofs.Floors.{breaks, brings}
+use Rattle.floor_desk.proofs.floor.Floor.bring.Goals as goal
+
+pub returns-in-Home-clause-stands : goal.returns-in-Home-clause-stands
+returns-in-Home-clause-stands g c = λ h loan entry at tells f out carried.
+    let told = g.G.Ground.told in
+    let faults = g.G.Ground.disk_faults in
+    let t = rw c.in-Home.is at tells in
+    let k = rw c.in-Home.is at carried in
+    let r = c.requires.out in
+    subst (λ e. FloorStands told faults c.end_loan.new.self (h ++ (loan.number, e) ∷ [])) (sym t.2)
+    (brings told faults c.args.self.now c.end_loan.new.self h loan c.in-Home.press t.0 r.0 r.1 c.in-Home.upto c.in-Home.lost t.1 r.2 c.end_loan.ensures.ended f out k)
+
+pub returns-in-Broken-clause-stands : goal.returns-in-Broken-clause-stands
+returns-in-Broken-clause-stands g c = λ h loan entry at tells f out carried.
+    let told = g.G.Ground.told in
+    let faults = g.G.Ground.disk_faults in
+    let t = rw c.in-Broken.is at tells in
+    let k = rw c.in-Broken.is at carried in
+    let r = c.requires.out in
+    subst (λ e. FloorStands told faults c.end_loan-in-Broken.new.self (h ++ (loan.number, e) ∷ [])) (sym t)
+    (breaks told faults c.args.self.now c.end_loan-in-Broken.new.self h loan c.in-Broken.device r.0 r.1 c.args.place c.in-Broken.upto r.2 c.end_loan-in-Broken.ensures.ended at f out k)

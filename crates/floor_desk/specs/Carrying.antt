@@ -1,0 +1,82 @@
+-- What leaves a floor with the press, and what comes back.
+use Rattle.std.specs.Prelude.{◌≡◌, ◌<◌, ◌≤◌, ℕ, ◌+◌, All, List, [], length, Option, None}
+use Rattle.ground_io.specs.Counts.{Rose}
+use Rattle.ground_io.specs.Trace.{Told}
+use Rattle.turnstile.specs.declared.memo.Memo.{Memo}
+use Rattle.alarm_core.specs.Allowed.{Represents}
+use Rattle.alarm_core.specs.Fits.{FitsEvent}
+use Rattle.alarm_core.specs.State.{CoreState}
+use Rattle.alarm_core.specs.declared.event.Event.{Event}
+use Rattle.alarm_journal.specs.Journal.{Content, only_snapshot, with_batch}
+use Rattle.alarm_journal.specs.Press.{PressState, room_of}
+use Rattle.state_codec.specs.Contents.{StandsForHistory, records_of}
+use Rattle.state_codec.specs.Snapshots.{written_state}
+use Rattle.floor_desk.specs.Accounts.{Account, Front, step}
+use Rattle.floor_desk.specs.Courses.{IsCourse, KeepsFronts}
+use Rattle.floor_desk.specs.Prefixes.{HasLost}
+use Rattle.floor_desk.specs.Standing.{Held, Holds, pending_events, pending_sends}
+use Rattle.floor_desk.specs.declared.entry.Entry.{Entry}
+use Rattle.floor_desk.specs.declared.entry.Entry.TheVariants.{Taken, Returned, Failed}
+use Rattle.floor_desk.specs.declared.load.Carried.{Carried}
+use Rattle.floor_desk.specs.declared.load.Carried.TheVariants.{Home, Broken}
+use Rattle.floor_desk.specs.declared.load.Load.{Load}
+use Rattle.floor_desk.specs.declared.load.Work.{Work}
+use Rattle.floor_desk.specs.declared.load.Work.TheVariants.{Nothing, Batch, Snapshot}
+
+-- octets are the snapshot of a state: of each history that it represents, a journal that has them alone stands for it
+pub record IsSnapshotOf (state : CoreState) (octets : List ℕ) : Type 0 where
+  pub octets_are : octets ≡ written_state state
+  pub stands : (history : List Event) → Represents state history → All FitsEvent history → StandsForHistory state.site (only_snapshot octets) history
+
+-- the work of a state with these records: nothing where there are none, else the records where there is room for them, or the state in their place
+abbrev pub IsWorkOf : CoreState → List ℕ → ℕ → Work → Type 0
+IsWorkOf state records room Nothing = records ≡ []
+IsWorkOf state records room (Batch job) = job ≡ records
+IsWorkOf state records room (Snapshot job) = IsSnapshotOf state job × (room < length records)
+
+-- the work is of its sort, and fits a press whose area has so many octets
+abbrev pub FitsPress : ℕ → ℕ → Work → Type 0
+FitsPress room half Nothing = Unit {0}
+FitsPress room half (Batch job) = (0 < length job) × (length job ≤ room)
+FitsPress room half (Snapshot job) = (0 < length job) × (length job + 5 ≤ half)
+
+-- what a journal holds once the work is written
+abbrev pub content_with : Work → Content → Content
+content_with Nothing content = content
+content_with (Batch job) content = with_batch content job
+content_with (Snapshot job) content = only_snapshot job
+
+module _ {G : Type 0} where
+  -- the work of what is pending
+  abbrev pub IsWorkFor : Account G → ℕ → Work → Type 0
+  IsWorkFor a room work = IsWorkOf a.state (records_of (pending_events a)) room work
+
+  -- the entry tells of what came back
+  abbrev pub Tells : Carried G → Entry G → Type 0
+  Tells (Home press upto more) entry = (memo : Memo (PressState G)) × (memo.value ≡ press) × (entry ≡ Returned upto memo)
+  Tells (Broken device upto) entry = entry ≡ Failed upto
+
+module _ {G : Type 0} (told : G → Option Told) where
+  -- a load leaves at the end of a history: with the press, which was at home as it last came back, and with all that was pending
+  pub record Lends (origin : CoreState × PressState G) (a : Account G) (load : Load G) : Type 0 where
+    pub none : a.loan ≡ None
+    pub works : a.failed ≡ None
+    pub upto : load.upto ≡ a.state.events
+    pub press : load.press ≡ a.press
+    pub sends : load.sends ≡ pending_sends a
+    pub work : IsWorkFor a (room_of load.press.layout) load.work
+    pub holds : Holds told origin a a.durable a.back a.press
+    pub course : IsCourse origin a
+    pub fronts : KeepsFronts origin a
+
+  -- the account is the one that a load left behind it
+  abbrev pub LeftWith : CoreState × PressState G → Account G → Load G → Type 0
+  LeftWith origin b load = (a : Account G) × (n : ℕ) × (b ≡ step a n (Taken load.upto)) × Lends origin a load
+
+module _ {G : Type 0} (told : G → Option Told) (disk_faults : G → ℕ) where
+  -- What comes back belongs to a load that left with the press to write up to an event, when the history reached to a front of what it comes to now. Home, the order up to that event is written, and just the dues up to that front were sent, of which so many more were lost. Lost, none was sent behind those that were sent before the load.
+  abbrev pub IsCarried : CoreState × PressState G → Account G → ℕ → Front → Carried G → Type 0
+  IsCarried origin a upto front (Home press event more) =
+      (event ≡ upto) × (disk_faults a.press.device ≤ disk_faults press.device) × Holds told origin a upto front press × HasLost more (told a.press.device) (told press.device)
+  IsCarried origin a upto front (Broken device event) =
+      (event ≡ upto) × Rose (disk_faults a.press.device) (disk_faults device) × Held told origin a a.back device × HasLost 0 (told a.press.device) (told device)

@@ -1,0 +1,10 @@
+pub mod Accounts
+pub mod Carrying
+pub mod Courses
+pub mod Desks
+pub mod Keeping
+pub mod Moves
+pub mod OpeningSteps
+pub mod Prefixes
+pub mod Standing
+pub mod States

@@ -1,0 +1,461 @@
+//! The floor, and what it stands for.
+
+ghost use Rattle.std.specs.Prelude.{◌≡◌, ◌≢◌, ◌<◌, ◌≤◌, ◌+◌, ◌-◌, ◌^◌, ℕ, List, [], ◌∷◌, ◌++◌, IfOk, IfErr, IfSome, IsNone, MatchBool, OnErr, OnOk, Some, None, Option, Ok, Err, length, max, min, Result};
+ghost use Rattle.bac_values.specs.Moments.{IsMoment};
+ghost use Rattle.bac_values.specs.declared.input.Input.{Input as Entered};
+ghost use Rattle.bac_values.specs.declared.note.Send.{Send as Datagram};
+ghost use Rattle.turnstile.specs.declared.memo.Memo.{Memo as Kept};
+ghost use Rattle.alarm_core.specs.Allowed.{IsAllowed, Represents};
+ghost use Rattle.alarm_core.specs.CoreSteps.{next_sends, next_state};
+ghost use Rattle.alarm_core.specs.Fits.{FitsEvent};
+ghost use Rattle.alarm_core.specs.History.{raised};
+ghost use Rattle.alarm_core.specs.Limits.{KeepsLimits};
+ghost use Rattle.alarm_core.specs.State.{CoreState};
+ghost use Rattle.alarm_core.specs.Verdicts.{Answers, step_verdict};
+ghost use Rattle.alarm_core.specs.declared.event.Event.{Event as Happening};
+ghost use Rattle.alarm_journal.specs.Press.{PressState, room_of};
+ghost use Rattle.service_desk.specs.Answers.{Replied, answer_to, entering, if_owed};
+ghost use Rattle.state_codec.specs.Records.{HasRecord, written_event};
+ghost use Rattle.floor_desk.specs.declared.entry.Entry.{Entry as Step};
+ghost use Rattle.floor_desk.specs.declared.entry.Entry.TheVariants.{Looked, Taken};
+ghost use Rattle.floor_desk.specs.declared.entry.Look.TheVariants.{Refused};
+ghost use Rattle.floor_desk.specs.declared.faults.EnterFault.TheVariants as enters;
+ghost use Rattle.floor_desk.specs.declared.floor.Spot.TheVariants.{Home, Out};
+ghost use Rattle.floor_desk.specs.Accounts.{Loan, account, entry_of};
+ghost use Rattle.floor_desk.specs.Carrying.{FitsPress, IsCarried, Lends, Tells};
+ghost use Rattle.floor_desk.specs.Moves.{Comes, Hinders, IsLentBy, IsNotOut, IsReady, Refuses};
+ghost use Rattle.floor_desk.specs.Standing.{FloorStands};
+
+use crate::entry::{Entry, Kind, Ticket};
+use crate::faults::{CommitFault, EnterFault};
+use crate::load::{Carried, Load, work_of};
+use crate::pending::Pending;
+use alarm_core::{Core, Event, Outcome, StepFault, event_fits};
+use alarm_journal::Press;
+use bac_values::{Input, Items, NoMemory, Send, single};
+use event_machine::Steps;
+use ground_io::Ground;
+use service_desk::{Decision, decide};
+use state_codec::{allowed_event_has_record, records_are_short, write_event};
+use std::alloc::Global;
+use std::marker::{Brand, Model};
+use std::mem;
+use std::sync::ledger::{Blank, Ledger};
+use turnstile::{Chronicle, Memo};
+
+/// How many events a history may have. One more is as good as no memory for it.
+const MOST_EVENTS: u64 = 1 << 63;
+
+/// Where the press is.
+#[derive(Drop)]
+pub enum Spot<G: Ground> {
+    /// At home.
+    Home(Press<G>),
+    /// Out, since the entry at this place of the history.
+    Out {
+        /// The place of its entry, from 1.
+        place: u64,
+        /// The number of the last event that it writes.
+        upto: u64,
+    },
+    /// Gone: its disk failed.
+    Broken {
+        /// What is left of it.
+        device: G,
+        /// The place of its entry, from 1.
+        place: u64,
+    },
+}
+
+/// What callers share: the core, the press, and what is pending between them. It waits for nobody.
+#[derive(Drop)]
+pub struct Floor<G: Ground> {
+    core: Core,
+    pending: Pending,
+    lost: u64,
+    spot: Spot<G>,
+    opened: (Memo<Core>, Memo<Press<G>>),
+}
+
+impl<G: Ground> Model for Floor<G> {
+    ghost use Rattle.std.specs.Prelude.{◌≤◌, length};
+    ghost use Rattle.std.specs.List.{flat_map};
+    ghost use Rattle.alarm_core.specs.Limits.{KeepsLimits};
+    ghost use Rattle.floor_desk.specs.States.{FloorState};
+
+    ghost Value = { FloorState G };
+
+    ghost view = { λ floor. record {
+      core = floor.core;
+      records = floor.pending.records.items;
+      sends = flat_map (λ sends. sends) floor.pending.sends.items;
+      calls = floor.pending.calls;
+      lost = floor.lost;
+      spot = floor.spot;
+      origin = (floor.opened.0.value, floor.opened.1.value);
+    } };
+
+    ghost invariant = { λ floor. record {
+      limits : KeepsLimits floor.core.site;
+      few : length floor.pending.records.items ≤ 60000;
+    } };
+}
+
+// The event with another moment. It has a record.
+fn moved_to(moment: u64, event: Event) -> Event
+    requires range { IsMoment moment }
+    requires allowed { (state : CoreState) × IsAllowed state event.act }
+    ensures moved { result ≡ record event { moment = moment } }
+    ensures record { HasRecord result }
+    ensures fits { FitsEvent result }
+{
+    let moved = Event {
+        moment,
+        act: event.act,
+    };
+    allowed_event_has_record(&moved);
+    event_fits(&moved);
+    moved
+}
+
+// The event at a moment raised to the last one. It has a record.
+fn raised_event(core: &Core, event: Event) -> Event
+    requires moment { IsMoment event.moment }
+    requires allowed { IsAllowed core.now event.act }
+    ensures raised { result ≡ raised core.now.last_moment event }
+    ensures moment { IsMoment result.moment }
+    ensures not_before { core.now.last_moment ≤ result.moment }
+    ensures allowed { IsAllowed core.now result.act }
+    ensures record { HasRecord result }
+    ensures fits { FitsEvent result }
+{
+    let moment = event.moment.max(core.last_moment());
+    moved_to(moment, event)
+}
+
+// The core takes an event that isn't before its last one. Its steps are counted in a ledger of their own, that nobody reads.
+fn counted<L: Ledger>(core: &mut Core, event: &Event, blank: Blank) -> Result<Outcome, StepFault>
+    requires name { blank.name ≡ L.name }
+    requires parts { blank.parts ≡ L.parts }
+    requires some { 0 < blank.parts }
+    requires moment { IsMoment event.now.moment }
+    requires not_before { core.old.last_moment ≤ event.now.moment }
+    requires allowed { IsAllowed core.old event.now.act }
+    requires few { core.old.events < 2 ^ 63 }
+    ensures state { OnOk result (core.new ≡ next_state event.now core.old) }
+    ensures sends { IfOk result (λ outcome. outcome.sends ≡ next_sends event.now core.old) }
+    ensures same { OnErr result (core.new ≡ core.old) }
+    ensures represents { (history : List Happening) → Represents core.old history → OnOk result (Represents core.new (event.now ∷ history)) }
+    ensures verdict { Answers result (step_verdict event.now core.old) }
+{
+    let mut steps = Steps::<L>::new(blank);
+    core.step(event, &mut steps)
+}
+
+// The datagrams of a reply, if there is one.
+fn listed(alloc: Global, reply: Option<Send>) -> Result<Items<Send>, NoMemory>
+    ensures listed { IfOk result (λ sends. sends ≡ if_owed reply) }
+{
+    match reply {
+        Some(send) => Ok(Items::of(single(alloc, send)?)),
+        None => Ok(Items::of(Vec::new(alloc))),
+    }
+}
+
+/// What an event adds to what is pending.
+#[derive(Drop)]
+struct Parts {
+    // Its record.
+    octets: Vec<u8>,
+    // Its reply, where one is owed.
+    reply: Items<Send>,
+    // The answer where its notifications don't fit the outbox.
+    full: Items<Send>,
+}
+
+// What an event adds, made ready.
+fn readied(
+    alloc: Global,
+    event: &Event,
+    reply: Option<Send>,
+    full: Option<Send>,
+) -> Result<Parts, NoMemory>
+    requires record { HasRecord event.now }
+    ensures record { IfOk result (λ parts. parts.octets.items ≡ written_event event.now) }
+    ensures short { IfOk result (λ parts. length parts.octets.items ≤ 1006) }
+    ensures reply { IfOk result (λ parts. parts.reply ≡ if_owed reply) }
+    ensures full { IfOk result (λ parts. parts.full ≡ if_owed full) }
+{
+    let octets = write_event(alloc, event)?;
+    records_are_short();
+    let reply = listed(alloc, reply)?;
+    let full = listed(alloc, full)?;
+    Ok(Parts {
+        octets,
+        reply,
+        full,
+    })
+}
+
+impl<G: Ground> Floor<G> {
+    /// A floor with the press at home and nothing pending.
+    pub(crate) fn new(alloc: Global, core: Core, press: Press<G>) -> Floor<G>
+        requires limits { KeepsLimits core.site }
+        ensures stands { FloorStands G.told G.disk_faults result [] }
+        ensures origin { result.origin ≡ (core, press) }
+        ensures home { (result.core ≡ core) × (result.spot ≡ Home press) }
+    {
+        let opened = (Memo::of(&core), Memo::of(&press));
+        Floor {
+            core,
+            pending: Pending::new(alloc),
+            lost: 0,
+            spot: Spot::Home(press),
+            opened,
+        }
+    }
+
+    // The core and the press of a floor with the press at home.
+    pub(crate) fn into_parts(self) -> (Core, Press<G>)
+        requires home { (press : PressState G) × (self.spot ≡ Home press) }
+        ensures core { result.0 ≡ self.core }
+        ensures press { self.spot ≡ Home result.1 }
+    {
+        let Floor { core, spot, .. } = self;
+        let Spot::Home(press) = spot else {
+            unreachable!()
+        };
+        (core, press)
+    }
+
+    // Whether the press is out.
+    pub(crate) fn is_out(&self) -> bool
+        ensures out { MatchBool result ((at : ℕ) × (upto : ℕ) × (self.now.spot ≡ Out at upto)) (IsNotOut self.now.spot) }
+    {
+        match &self.spot {
+            Spot::Out { .. } => true,
+            _ => false,
+        }
+    }
+
+    // The ticket of an input that is no event.
+    fn ticket(&self, kind: Kind) -> Ticket
+        ensures ticket { result ≡ record { number = self.now.core.events; kind = kind } }
+    {
+        Ticket {
+            number: self.core.events(),
+            kind,
+        }
+    }
+
+    // An input that is answered without an event.
+    fn reply(&mut self, alloc: Global, send: Send) -> Result<Ticket, EnterFault>
+        requires few { self.old.calls < 1024 }
+        ensures comes { Comes self.old self.new (Replied send) result }
+    {
+        let sends = match listed(alloc, Some(send)) {
+            Ok(sends) => sends,
+            Err(NoMemory) => return Err(EnterFault::NoMemory),
+        };
+        if self.pending.make_room(0).is_err() {
+            return Err(EnterFault::NoMemory);
+        }
+        self.pending.add_reply(sends);
+        Ok(self.ticket(Kind::Replied))
+    }
+
+    // An event that comes next.
+    fn enter(
+        &mut self,
+        alloc: Global,
+        event: Event,
+        reply: Option<Send>,
+        full: Option<Send>,
+    ) -> Result<Ticket, EnterFault>
+        requires moment { IsMoment event.moment }
+        requires allowed { IsAllowed self.old.core event.act }
+        requires few { self.old.calls < 1024 }
+        requires short { length self.old.records ≤ 57952 }
+        ensures comes { Comes self.old self.new (entering (raised self.old.core.last_moment event) reply full (step_verdict (raised self.old.core.last_moment event) self.old.core)) result }
+    {
+        if self.core.events() >= MOST_EVENTS {
+            return Err(EnterFault::NoMemory);
+        }
+        let event = raised_event(&self.core, event);
+        let told = full.is_some();
+        let parts = match readied(alloc, &event, reply, full) {
+            Ok(parts) => parts,
+            Err(NoMemory) => return Err(EnterFault::NoMemory),
+        };
+        if self.pending.make_room(parts.octets.len()).is_err() {
+            return Err(EnterFault::NoMemory);
+        }
+        match counted::<Brand>(&mut self.core, &event, Blank::new(1)) {
+            Ok(outcome) => {
+                self.pending
+                    .add_event(parts.octets, outcome.sends, parts.reply);
+                Ok(self.ticket(Kind::Entered))
+            }
+            Err(StepFault::Full { would, limit }) => {
+                if !told {
+                    return Err(EnterFault::Full { would, limit });
+                }
+                self.pending.add_reply(parts.full);
+                Err(EnterFault::Full { would, limit })
+            }
+            Err(StepFault::NoMemory) => Err(EnterFault::NoMemory),
+        }
+    }
+
+    // An input that is looked at.
+    fn look(&mut self, alloc: Global, moment: u64, input: &Input) -> Result<Ticket, EnterFault>
+        requires moment { IsMoment moment }
+        requires few { self.old.calls < 1024 }
+        requires short { length self.old.records ≤ 57952 }
+        ensures comes { Comes self.old self.new (answer_to self.old.core input.now moment) result }
+    {
+        let decision = match decide(alloc, &self.core, input, moment) {
+            Ok(decision) => decision,
+            Err(NoMemory) => return Err(EnterFault::NoMemory),
+        };
+        match decision {
+            Decision::Ignore => Ok(self.ticket(Kind::Ignored)),
+            Decision::Idle => Ok(self.ticket(Kind::Idle)),
+            Decision::Refuse { why } => Ok(self.ticket(Kind::Refused { why })),
+            Decision::Reply { send } => self.reply(alloc, send),
+            Decision::Enter { event, reply, full } => self.enter(alloc, event, reply, full),
+        }
+    }
+
+    // Why no input is looked at now.
+    fn shut(&self) -> Option<EnterFault>
+        ensures shut { IfSome result (Refuses self.now) }
+        ensures ready { IsNone result → IsReady self.now }
+    {
+        if let Spot::Broken { place, .. } = &self.spot {
+            return Some(EnterFault::Stopped { at: *place });
+        }
+        if self.pending.is_behind() {
+            return Some(EnterFault::Behind {
+                pending: self.pending.calls,
+                octets: self.pending.octets(),
+            });
+        }
+        None
+    }
+
+    /// Takes an input at a moment. The causes of a refusal are looked at in the order of `EnterFault`; but for `Full`,
+    /// whose requester is told, nothing has changed behind one.
+    pub fn admit(&mut self, alloc: Global, moment: u64, input: Input) -> Result<Ticket, EnterFault>
+        requires moment { IsMoment moment }
+        ensures stands { (h : List (ℕ × Step G)) (n : ℕ) (memo : Kept Entered) → memo.value ≡ input → FloorStands G.told G.disk_faults self.old h → FloorStands G.told G.disk_faults self.new (h ++ (n, entry_of memo moment result) ∷ []) }
+        ensures refused { IfErr result (λ fault. self.new.core ≡ self.old.core) }
+        ensures same { IfErr result (λ fault. ((would limit : ℕ) → fault ≢ enters.Full would limit) → self.new ≡ self.old) }
+        ensures origin { self.new.origin ≡ self.old.origin }
+    {
+        match self.shut() {
+            Some(fault) => Err(fault),
+            None => self.look(alloc, moment, &input),
+        }
+    }
+
+    // The press leaves, with all that is pending; or why it doesn't.
+    fn lend_now(&mut self, alloc: Global, place: u64) -> Result<Load<G>, CommitFault>
+        ensures lent { IfOk result (λ load. IsLentBy self.old self.new place load) }
+        ensures fits { IfOk result (λ load. FitsPress (room_of load.press.layout) load.press.layout.half load.work) }
+        ensures hindered { IfErr result (λ fault. (self.new ≡ self.old) × Hinders self.old fault) }
+    {
+        let press = match &self.spot {
+            Spot::Home(press) => press,
+            Spot::Out { place, upto } => {
+                return Err(CommitFault::Busy {
+                    at: *place,
+                    upto: *upto,
+                });
+            }
+            Spot::Broken { place, .. } => return Err(CommitFault::Stopped { at: *place }),
+        };
+        let upto = self.core.events();
+        if self.pending.calls == 0 {
+            return Err(CommitFault::Nothing { upto });
+        }
+        let work = match work_of(alloc, &self.core, press, self.pending.records.as_slice()) {
+            Ok(work) => work,
+            Err(NoMemory) => return Err(CommitFault::NoMemory),
+        };
+        let sends = match self.pending.take_sends(alloc) {
+            Ok(sends) => sends,
+            Err(NoMemory) => return Err(CommitFault::NoMemory),
+        };
+        self.pending.records.clear();
+        self.pending.calls = 0;
+        let spot = mem::replace(&mut self.spot, Spot::Out { place, upto });
+        let Spot::Home(press) = spot else {
+            unreachable!()
+        };
+        Ok(Load {
+            press,
+            upto,
+            work,
+            sends,
+        })
+    }
+
+    /// The press leaves, with all that is pending, and the entry of this turn stands at this place.
+    pub fn lend(&mut self, alloc: Global, place: u64) -> Result<Load<G>, CommitFault>
+        ensures lent { IfOk result (λ load. (h : List (ℕ × Step G)) (n : ℕ) → place ≡ length h + 1 → FloorStands G.told G.disk_faults self.old h
+            → Lends G.told self.old.origin (account self.old.origin h) load × FloorStands G.told G.disk_faults self.new (h ++ (n, Taken load.upto) ∷ [])) }
+        ensures fits { IfOk result (λ load. FitsPress (room_of load.press.layout) load.press.layout.half load.work) }
+        ensures refused { IfErr result (λ fault. (h : List (ℕ × Step G)) (n : ℕ) → FloorStands G.told G.disk_faults self.old h → FloorStands G.told G.disk_faults self.new (h ++ (n, Looked (Refused fault)) ∷ [])) }
+        ensures same { IfErr result (λ fault. self.new ≡ self.old) }
+        ensures origin { self.new.origin ≡ self.old.origin }
+    {
+        self.lend_now(alloc, place)
+    }
+
+    // The press is no longer out, and so many datagrams more were lost.
+    fn end_loan(&mut self, spot: Spot<G>, lost: u64)
+        requires out { (at : ℕ) × (upto : ℕ) × (self.old.spot ≡ Out at upto) }
+        ensures ended { self.new ≡ record self.old { spot = spot; lost = min (self.old.lost + lost) (2 ^ 64 - 1) } }
+    {
+        self.lost = self.lost.saturating_add(lost);
+        let before = mem::replace(&mut self.spot, spot);
+        let Spot::Out { .. } = before else {
+            unreachable!()
+        };
+    }
+
+    /// The press comes back, or what is left of it, and the entry of this turn stands at this place. It takes no memory.
+    pub fn bring(&mut self, place: u64, carried: Carried<G>)
+        requires out { (at : ℕ) × (upto : ℕ) × (self.old.spot ≡ Out at upto) }
+        ensures stands { (h : List (ℕ × Step G)) (loan : Loan) (entry : Step G) → place ≡ length h + 1 → Tells carried entry → FloorStands G.told G.disk_faults self.old h → (account self.old.origin h).loan ≡ Some loan
+            → IsCarried G.told G.disk_faults self.old.origin (account self.old.origin h) loan.upto (account self.old.origin h).taken carried → FloorStands G.told G.disk_faults self.new (h ++ (loan.number, entry) ∷ []) }
+        ensures origin { self.new.origin ≡ self.old.origin }
+    {
+        match carried {
+            Carried::Home {
+                press,
+                upto: _,
+                lost,
+            } => self.end_loan(Spot::Home(press), lost),
+            Carried::Broken { device, upto: _ } => self.end_loan(Spot::Broken { device, place }, 0),
+        }
+    }
+}
+
+impl<G: Ground> Chronicle for Floor<G> {
+    ghost use Rattle.floor_desk.specs.Accounts.{Licenses, Licenses_more};
+    ghost use Rattle.floor_desk.specs.Standing.{FloorStands};
+
+    type Entry = Entry<G>;
+
+    type Origin = (Core, Press<G>);
+
+    ghost stands = { λ floor history. FloorStands G.told G.disk_faults floor history };
+
+    ghost origin = { λ floor. floor.origin };
+
+    ghost licenses = { Licenses };
+
+    ghost licenses_more = { Licenses_more };
+}
