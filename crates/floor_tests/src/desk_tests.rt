@@ -51,6 +51,18 @@ fn press_of(rt: &impl Abort, alloc: Global, failing: &[u64]) -> Result<Press<Mem
     }
 }
 
+// A desk over such a press, at the start of the site.
+fn desk_of(rt: &impl Abort, alloc: Global, failing: &[u64]) -> Result<(Shared, Caller), Fail>
+    ensures here { IfOk result (λ opened. IsOf opened.0 opened.1) }
+{
+    let core = core_of(alloc)?;
+    let press = press_of(rt, alloc, failing)?;
+    match Desk::open(alloc, core, press) {
+        Ok(opened) => Ok(opened),
+        Err(_) => panic!(rt; "no memory for a desk"),
+    }
+}
+
 // One value is entered, with this answer.
 fn enter<R: Wait + Abort>(
     rt: &R,
@@ -151,12 +163,7 @@ fn close<R: Wait>(rt: &R, desk: Shared, pass: Caller) -> bool
 fn one_commit_takes_all_that_waits(rt: HostRuntime) -> Result<(), Fail> {
     let alloc = rt.alloc();
     let object = ObjectId::of_kind(ObjectKind::IntegerValue, 1)?;
-    let core = core_of(alloc)?;
-    let press = press_of(&rt, alloc, &[])?;
-    let (desk, pass) = match Desk::open(alloc, core, press) {
-        Ok(opened) => opened,
-        Err(_) => panic!(rt; "no memory for a desk"),
-    };
+    let (desk, pass) = desk_of(&rt, alloc, &[])?;
     let pass = fill(&rt, alloc, &desk, pass, object);
     holds(&rt, close(&rt, desk, pass));
     Ok(())
@@ -185,12 +192,7 @@ fn lose<R: Wait + Abort>(
 fn a_failed_sync_stops_the_desk(rt: HostRuntime) -> Result<(), Fail> {
     let alloc = rt.alloc();
     let object = ObjectId::of_kind(ObjectKind::IntegerValue, 1)?;
-    let core = core_of(alloc)?;
-    let press = press_of(&rt, alloc, &[9])?;
-    let (desk, pass) = match Desk::open(alloc, core, press) {
-        Ok(opened) => opened,
-        Err(_) => panic!(rt; "no memory for a desk"),
-    };
+    let (desk, pass) = desk_of(&rt, alloc, &[9])?;
     let pass = lose(&rt, alloc, &desk, pass, object);
     holds(&rt, close(&rt, desk, pass));
     Ok(())
@@ -222,12 +224,7 @@ fn split<R: Wait + Abort>(
 fn two_callers_are_one_again(rt: HostRuntime) -> Result<(), Fail> {
     let alloc = rt.alloc();
     let object = ObjectId::of_kind(ObjectKind::IntegerValue, 1)?;
-    let core = core_of(alloc)?;
-    let press = press_of(&rt, alloc, &[])?;
-    let (desk, pass) = match Desk::open(alloc, core, press) {
-        Ok(opened) => opened,
-        Err(_) => panic!(rt; "no memory for a desk"),
-    };
+    let (desk, pass) = desk_of(&rt, alloc, &[])?;
     let pass = split(&rt, alloc, &desk, pass, object);
     holds(&rt, close(&rt, desk, pass));
     Ok(())
