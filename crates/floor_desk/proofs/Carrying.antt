@@ -3,8 +3,7 @@ use Rattle.std.proofs.Common.{◌≡◌, ◌⊎◌, ℕ, ◌+◌, ◌-◌, ◌^�
 use Rattle.std.specs.Int.{w64, to_be_bytes}
 use Rattle.std.proofs.lemmas.List.{get_or-reverse, length-reverse, reverse-append}
 use Rattle.std.proofs.lemmas.List.Elements.{All-append, All-drop}
-use Rattle.ground_io.specs.Trace.{Told, Adds, disk_of}
-use Rattle.ground_io.specs.declared.entry.Entry.{Entry}
+use Rattle.ground_io.specs.Trace.{Told, disk_of}
 use Rattle.ground_io.proofs.Crashes.{adds_none, always_weaker}
 use Rattle.ground_io.specs.Counts.{Rose}
 use Rattle.alarm_core.specs.Allowed.{IsHistory, Represents}
@@ -20,7 +19,6 @@ use Rattle.alarm_journal.specs.Emissions.{EmitsAll}
 use Rattle.alarm_journal.specs.Journal.{Content, OpensTo, only_snapshot, with_batch}
 use Rattle.alarm_journal.specs.Journal.{Site as Journal}
 use Rattle.alarm_journal.specs.Press.{Between, Lasts, PressState, Settled, Throughout}
-use Rattle.alarm_journal.specs.Protocol.{AddsSome, IsCutShort, IsTwoCutShort, two_writes}
 use Rattle.state_codec.specs.Contents.{ImageStands, StandsForHistory, records_of}
 use Rattle.state_codec.specs.Records.{HasRecord, written_act, written_event}
 use Rattle.state_codec.specs.Snapshots.{written_state}
@@ -28,16 +26,16 @@ use Rattle.state_codec.specs.Spelled.{FitsState}
 use Rattle.state_codec.proofs.Committed.{snapshot_stands}
 use Rattle.state_codec.proofs.Following.{spell_more}
 use Rattle.floor_desk.specs.Accounts.{Account, Front, front_of}
-use Rattle.floor_desk.specs.Carrying.{IsCarried, IsSnapshotOf, IsWorkFor, Lends, content_with}
-use Rattle.floor_desk.specs.Courses.{IsCourse}
+use Rattle.floor_desk.specs.Carrying.{IsCarriedOut, IsSnapshotOf, IsWorkFor, Lends, content_with}
+use Rattle.floor_desk.specs.Courses.{KeepsCourse}
 use Rattle.floor_desk.specs.Keeping.{Commits, HoldsHistory, Rests}
-use Rattle.floor_desk.specs.Prefixes.{HasLost, KeepsOrder, RestsOn, behind, losses}
-use Rattle.floor_desk.specs.Standing.{Holds, pending_events}
+use Rattle.floor_desk.specs.Prefixes.{HasLost, KeepsOrder, RestsOn, with_first}
+use Rattle.floor_desk.specs.Standing.{HoldsOrder, pending_events}
 use Rattle.floor_desk.specs.declared.load.Carried.TheVariants.{Home as HomeAgain, Broken as Gone}
 use Rattle.floor_desk.specs.declared.load.Load.{Load}
-use Rattle.floor_desk.specs.declared.load.Work.{Work}
-use Rattle.floor_desk.specs.declared.load.Work.TheVariants.{Nothing, Batch, Snapshot}
-use Rattle.floor_desk.proofs.Prefixes.{behind_rest, keeps_commit, keeps_emitting, losses_sent, lost_both, lost_emitting}
+use Rattle.floor_desk.specs.declared.work.Work.{Work}
+use Rattle.floor_desk.specs.declared.work.Work.TheVariants.{Nothing, Batch, Snapshot}
+use Rattle.floor_desk.proofs.Prefixes.{first_and_rest, keeps_commit, keeps_emitting, lost_both, lost_emitting}
 
 -- ---- a press at rest
 
@@ -45,27 +43,8 @@ pub between_now : (journal : Journal) (before after : Content) (told : Option To
 between_now journal before after None lasts = tt
 between_now journal before after (Some told) lasts = record { entries = []; adds = adds_none (Some told); quiet = tt; always = λ image may. inl (lasts image may) }
 
--- what is written of a journal loses no datagram
-pub written_quietly : (first : ℕ) (body : List ℕ) (second : ℕ) (gate : List ℕ) (old new : Option Told) → Adds old new (two_writes first body second gate) → HasLost 0 old new
-written_quietly first body second gate old None adds = tt
-written_quietly first body second gate None (Some new) adds = absurd adds
-written_quietly first body second gate (Some old) (Some new) adds = (two_writes first body second gate, adds, refl)
-
-cut_loses_nothing : (place : ℕ) (octets : List ℕ) (entries : List Entry) → IsCutShort place octets entries → losses entries ≡ 0
-cut_loses_nothing place octets entries (inl wrote) = ap losses wrote
-cut_loses_nothing place octets entries (inr (left, size, broke)) = ap losses broke
-
-both_lose_nothing : (first : ℕ) (body : List ℕ) (second : ℕ) (gate : List ℕ) (entries : List Entry) → IsTwoCutShort first body second gate entries → losses entries ≡ 0
-both_lose_nothing first body second gate entries (inl cut) = cut_loses_nothing first body entries cut
-both_lose_nothing first body second gate entries (inr (more, cut, same)) = ap losses same ∙ cut_loses_nothing second gate more cut
-
-pub cut_quietly : (first : ℕ) (body : List ℕ) (second : ℕ) (gate : List ℕ) (old new : Option Told) → AddsSome (IsTwoCutShort first body second gate) old new → HasLost 0 old new
-cut_quietly first body second gate old None some = tt
-cut_quietly first body second gate None (Some new) some = absurd some
-cut_quietly first body second gate (Some old) (Some new) (entries, cut, adds) = (entries, adds, omega (arith, losses_sent entries, both_lose_nothing first body second gate entries cut))
-
 -- from a content that stands for the one history to a content that stands for the other
-content_committed : (journal : Journal) (site : Site) (before after : List Event) (first second : Content) (old new : Option Told) → StandsForHistory site first before → StandsForHistory site second after → Between journal first second old new → Commits journal site before after old new
+pub content_committed : (journal : Journal) (site : Site) (before after : List Event) (first second : Content) (old new : Option Told) → StandsForHistory site first before → StandsForHistory site second after → Between journal first second old new → Commits journal site before after old new
 content_committed journal site before after first second old None one two between = tt
 content_committed journal site before after first second None (Some new) one two between = absurd between
 content_committed journal site before after first second (Some old) (Some new) one two between = record {
@@ -87,7 +66,7 @@ content_committed journal site before after first second (Some old) (Some new) o
 
 -- ---- what the work stands for
 
-record_is_some : (event : Event) → 0 < length (written_event event)
+pub record_is_some : (event : Event) → 0 < length (written_event event)
 record_is_some event = omega (arith, length-append (to_be_bytes w64 event.moment) (written_act event.act))
 
 -- no records are those of no events
@@ -131,22 +110,22 @@ snapshot_of_core core octets is limits fits few some same typed = record {
 
 module _ {G : Type 0} (told : G → Option Told) where
   -- the journal with the work stands for the history with the whole order
-  work_stands : (origin : CoreState × PressState G) (a : Account G) (room : ℕ) (work : Work) (history : List Event) (content : Content) → IsCourse origin a → Represents origin.0 history → IsWorkFor a room work
-      → StandsForHistory origin.0.site content (behind history a.taken.events a.order) → StandsForHistory origin.0.site (content_with work content) (behind history (length a.order) a.order)
+  work_stands : (origin : CoreState × PressState G) (a : Account G) (room : ℕ) (work : Work) (history : List Event) (content : Content) → KeepsCourse origin a → Represents origin.0 history → IsWorkFor a room work
+      → StandsForHistory origin.0.site content (with_first history a.taken.events a.order) → StandsForHistory origin.0.site (content_with work content) (with_first history (length a.order) a.order)
   work_stands origin a room Nothing history content c stands work stood =
-      let same : behind history (length a.order) a.order ≡ behind history a.taken.events a.order =
-      behind_rest history a.order a.taken.events ∙ ap (λ (l : List Event). reverse l ++ behind history a.taken.events a.order) (no_events (pending_events a) work) in
+      let same : with_first history (length a.order) a.order ≡ with_first history a.taken.events a.order =
+      first_and_rest history a.order a.taken.events ∙ ap (λ (l : List Event). reverse l ++ with_first history a.taken.events a.order) (no_events (pending_events a) work) in
       subst (λ (h : List Event). StandsForHistory origin.0.site content h) (sym same) stood
   work_stands origin a room (Batch job) history content c stands work stood =
-      let before : List Event = behind history a.taken.events a.order in
-      let rest = behind_rest history a.order a.taken.events in
-      let is : IsHistory origin.0.site (reverse (pending_events a) ++ before) = subst (λ (h : List Event). IsHistory origin.0.site h) rest (subst (λ (s : Site). IsHistory s (behind history (length a.order) a.order)) c.site (c.stands history stands).is_history) in
+      let before : List Event = with_first history a.taken.events a.order in
+      let rest = first_and_rest history a.order a.taken.events in
+      let is : IsHistory origin.0.site (reverse (pending_events a) ++ before) = subst (λ (h : List Event). IsHistory origin.0.site h) rest (subst (λ (s : Site). IsHistory s (with_first history (length a.order) a.order)) c.site (c.stands history stands).is_history) in
       subst (λ (h : List Event). StandsForHistory origin.0.site (with_batch content job) h) (sym rest)
       (batch_of_events origin.0.site content (pending_events a) before job stood is (All-drop HasRecord a.taken.events a.order c.recorded) (All-drop FitsEvent a.taken.events a.order c.fit) work)
   work_stands origin a room (Snapshot job) history content c stands work stood =
-      let all : List Event = behind history (length a.order) a.order in
-      let rest = behind_rest history a.order a.taken.events in
-      let fit : All FitsEvent all = subst (λ (h : List Event). All FitsEvent h) (sym rest) (All-append FitsEvent (reverse (pending_events a)) (behind history a.taken.events a.order) (All-reverse FitsEvent (pending_events a) (All-drop FitsEvent a.taken.events a.order c.fit)) stood.fit) in
+      let all : List Event = with_first history (length a.order) a.order in
+      let rest = first_and_rest history a.order a.taken.events in
+      let fit : All FitsEvent all = subst (λ (h : List Event). All FitsEvent h) (sym rest) (All-append FitsEvent (reverse (pending_events a)) (with_first history a.taken.events a.order) (All-reverse FitsEvent (pending_events a) (All-drop FitsEvent a.taken.events a.order c.fit)) stood.fit) in
       subst (λ (s : Site). StandsForHistory s (only_snapshot job) all) c.site (work.0.stands all (c.stands history stands) fit)
 
   -- the press that a load left with, by what its account says
@@ -155,10 +134,10 @@ module _ {G : Type 0} (told : G → Option Told) where
     home = lent.fronts.home lent.none lent.works
 
     -- it holds the first events, and their dues were sent
-    held_before : Holds told origin a (origin.0.events + a.taken.events) a.taken load.press
+    held_before : HoldsOrder told origin a (origin.0.events + a.taken.events) a.taken load.press
     held_before =
-        subst (λ (p : PressState G). Holds told origin a (origin.0.events + a.taken.events) a.taken p) (sym lent.press)
-        (subst (λ (t : Front). Holds told origin a (origin.0.events + a.taken.events) t a.press) home.0 (subst (λ (d : ℕ). Holds told origin a d a.back a.press) home.1 lent.holds))
+        subst (λ (p : PressState G). HoldsOrder told origin a (origin.0.events + a.taken.events) a.taken p) (sym lent.press)
+        (subst (λ (t : Front). HoldsOrder told origin a (origin.0.events + a.taken.events) t a.press) home.0 (subst (λ (d : ℕ). HoldsOrder told origin a d a.back a.press) home.1 lent.holds))
 
     events_are : (history : List Event) → Represents origin.0 history → origin.0.events ≡ length history
     events_are history stands = ap (λ (s : CoreState). s.events) stands.shows
@@ -170,10 +149,10 @@ module _ {G : Type 0} (told : G → Option Told) where
     keeps_written journal history new stands first between =
         let both = held_before journal history stands first in
         let count : (origin.0.events + a.taken.events) - origin.0.events ≡ a.taken.events = omega arith in
-        let held : HoldsHistory journal origin.0.site (behind history a.taken.events a.order) load.press.layout (told load.press.device) = subst (λ (n : ℕ). HoldsHistory journal origin.0.site (behind history n a.order) load.press.layout (told load.press.device)) count both.0 in
+        let held : HoldsHistory journal origin.0.site (with_first history a.taken.events a.order) load.press.layout (told load.press.device) = subst (λ (n : ℕ). HoldsHistory journal origin.0.site (with_first history n a.order) load.press.layout (told load.press.device)) count both.0 in
         let (content, rests, stood) = held in
-        let commits : Commits journal origin.0.site (behind history a.taken.events a.order) (behind history (length a.order) a.order) (told load.press.device) new =
-        content_committed journal origin.0.site (behind history a.taken.events a.order) (behind history (length a.order) a.order) content (content_with load.work content) (told load.press.device) new stood
+        let commits : Commits journal origin.0.site (with_first history a.taken.events a.order) (with_first history (length a.order) a.order) (told load.press.device) new =
+        content_committed journal origin.0.site (with_first history a.taken.events a.order) (with_first history (length a.order) a.order) content (content_with load.work content) (told load.press.device) new stood
         (work_stands origin a _ load.work history content lent.course stands lent.work stood) (between content rests) in
         keeps_commit journal origin.0.site history a.order a.dues a.taken.dues a.taken.events (length a.order) (told origin.1.device) (told load.press.device) new lent.fronts.dues lent.fronts.events (omega arith) lent.fronts.events
         (subst (λ (n : ℕ). RestsOn (n + a.taken.events) (take a.taken.dues a.dues)) (events_are history stands) lent.fronts.rests) both.1 commits
@@ -186,18 +165,18 @@ module _ {G : Type 0} (told : G → Option Told) where
         → ((journal : Journal) (content : Content) → Settled journal mid.layout (told mid.device) content → Settled journal press.layout (told press.device) content)
         → ((journal : Journal) (content : Content) → Settled journal mid.layout (told mid.device) content → Lasts journal (told press.device) content)
         → ((journal : Journal) (content : Content) → Settled journal mid.layout (told mid.device) content → Throughout journal content (told mid.device) (told press.device))
-        → Holds told origin a load.upto (front_of a) press
+        → HoldsOrder told origin a load.upto (front_of a) press
     holds_carried mid press gone lost rest between emits settled lasts through journal history stands first =
         let both = held_before journal history stands first in
         let count : (origin.0.events + a.taken.events) - origin.0.events ≡ a.taken.events = omega arith in
-        let held : HoldsHistory journal origin.0.site (behind history a.taken.events a.order) load.press.layout (told load.press.device) = subst (λ (n : ℕ). HoldsHistory journal origin.0.site (behind history n a.order) load.press.layout (told load.press.device)) count both.0 in
+        let held : HoldsHistory journal origin.0.site (with_first history a.taken.events a.order) load.press.layout (told load.press.device) = subst (λ (n : ℕ). HoldsHistory journal origin.0.site (with_first history n a.order) load.press.layout (told load.press.device)) count both.0 in
         let (content, rests, stood) = held in
         let after = content_with load.work content in
-        let stood_after : StandsForHistory origin.0.site after (behind history (length a.order) a.order) = work_stands origin a _ load.work history content lent.course stands lent.work stood in
+        let stood_after : StandsForHistory origin.0.site after (with_first history (length a.order) a.order) = work_stands origin a _ load.work history content lent.course stands lent.work stood in
         let rests_mid : Rests journal mid.layout (told mid.device) after = rest journal content rests in
         let kept : KeepsOrder journal origin.0.site history a.order a.dues a.taken.dues (told origin.1.device) (told mid.device) = keeps_written journal history (told mid.device) stands first (between journal) in
         let all : load.upto - origin.0.events ≡ length a.order = omega (arith, lent.upto, lent.course.events) in (
-          subst (λ (n : ℕ). HoldsHistory journal origin.0.site (behind history n a.order) press.layout (told press.device)) (sym all) (after, (settled journal after rests_mid.0, lasts journal after rests_mid.0), stood_after),
+          subst (λ (n : ℕ). HoldsHistory journal origin.0.site (with_first history n a.order) press.layout (told press.device)) (sym all) (after, (settled journal after rests_mid.0, lasts journal after rests_mid.0), stood_after),
           keeps_emitting journal origin.0.site history a.order a.dues a.taken.dues (length a.order) (told origin.1.device) (told mid.device) (told press.device) after load.sends gone lost lent.fronts.dues (omega arith)
               (subst (λ (n : ℕ). RestsOn n a.dues) (lent.course.events ∙ ap (λ (n : ℕ). n + length a.order) (events_are history stands)) lent.course.rests) stood_after lent.sends kept emits (through journal after rests_mid.0),
         )
@@ -211,7 +190,7 @@ module _ {G : Type 0} (told : G → Option Told) where
         → ((journal : Journal) (content : Content) → Settled journal mid.layout (told mid.device) content → Settled journal press.layout (told press.device) content)
         → ((journal : Journal) (content : Content) → Settled journal mid.layout (told mid.device) content → Lasts journal (told press.device) content)
         → ((journal : Journal) (content : Content) → Settled journal mid.layout (told mid.device) content → Throughout journal content (told mid.device) (told press.device))
-        → disk_faults press.device ≡ disk_faults mid.device → IsCarried told disk_faults origin a load.upto (front_of a) (HomeAgain press load.upto lost)
+        → disk_faults press.device ≡ disk_faults mid.device → IsCarriedOut told disk_faults origin a load.upto (front_of a) (HomeAgain press load.upto lost)
     back_home disk_faults mid press gone lost few rest between quiet later emits settled lasts through same = (
       refl,
       omega (arith, later, same, ap (λ (p : PressState G). disk_faults p.device) lent.press),
@@ -224,7 +203,7 @@ module _ {G : Type 0} (told : G → Option Told) where
     -- what is left where the disk failed
     pub back_broken : (disk_faults : G → ℕ) (device : G)
         → ((journal : Journal) (content : Content) → Rests journal load.press.layout (told load.press.device) content → Between journal content (content_with load.work content) (told load.press.device) (told device))
-        → HasLost 0 (told load.press.device) (told device) → Rose (disk_faults load.press.device) (disk_faults device) → IsCarried told disk_faults origin a load.upto (front_of a) (Gone device load.upto)
+        → HasLost 0 (told load.press.device) (told device) → Rose (disk_faults load.press.device) (disk_faults device) → IsCarriedOut told disk_faults origin a load.upto (front_of a) (Gone device load.upto)
     back_broken disk_faults device between quiet rose = (
       refl,
       subst (λ (p : PressState G). Rose (disk_faults p.device) (disk_faults device)) lent.press rose,

@@ -17,9 +17,9 @@ use Rattle.floor_desk.specs.declared.faults.CommitFault.TheVariants as commits
 use Rattle.floor_desk.specs.declared.load.Carried.{Carried}
 use Rattle.floor_desk.specs.declared.load.Load.{Load}
 use Rattle.floor_desk.specs.Accounts.{Account, IsLegal, IsLegalFrom, account, account_from, front_of, start}
-use Rattle.floor_desk.specs.Carrying.{IsCarried, LeftWith, Lends}
+use Rattle.floor_desk.specs.Carrying.{IsCarriedOut, LeftWith, Lends}
 use Rattle.floor_desk.specs.Courses.{KeepsFronts}
-use Rattle.floor_desk.specs.Desks.{Adds, Commits, HasTaken, Leaves, Takes, Waited}
+use Rattle.floor_desk.specs.Desks.{MakesEntry, HasCommitted, HasTaken, Leaves, TakesPress, Waited}
 use Rattle.floor_desk.specs.Standing.{FloorStands}
 use Rattle.floor_desk.specs.States.{FloorState}
 use Rattle.floor_desk.proofs.Growing.{carried_at, carried_still}
@@ -31,7 +31,7 @@ module _ {G : Type 0} (told : G → Option Told) (disk_faults : G → ℕ) where
 
   -- a turn that was given back with an entry
   pub adds : (origin : CoreState × PressState G) (licenses : List (ℕ × Entry G) → ℕ → Type 0) (p q r : K) (e : Entry G) (floor : FloorState G) → Sees licenses p q → r ≡ with_entry q e → floor.origin ≡ origin
-      → FloorStands told disk_faults floor (q.seen ++ (q.number, e) ∷ []) → Adds disk_faults origin p r e
+      → FloorStands told disk_faults floor (q.seen ++ (q.number, e) ∷ []) → MakesEntry disk_faults origin p r e
   adds origin licenses p q r e floor s gave from f = record {
     between = s.begins.0;
     same = gave ∙ (ap (λ (k : K). with_entry k e) s.same ∙ ap (λ (z : List (ℕ × Entry G)). record p { mine = p.mine ++ e ∷ []; seen = z ++ (p.number, e) ∷ [] }) s.begins.1);
@@ -40,7 +40,7 @@ module _ {G : Type 0} (told : G → Option Told) (disk_faults : G → ℕ) where
 
   -- the press left at this turn
   pub takes : (origin : CoreState × PressState G) (licenses : List (ℕ × Entry G) → ℕ → Type 0) (p q r : K) (upto : ℕ) (floor : FloorState G) → Sees licenses p q → r ≡ with_entry q (Taken upto) → floor.origin ≡ origin
-      → upto ≡ (account origin q.seen).state.events → FloorStands told disk_faults floor (q.seen ++ (q.number, Taken upto) ∷ []) → Takes disk_faults origin p r upto
+      → upto ≡ (account origin q.seen).state.events → FloorStands told disk_faults floor (q.seen ++ (q.number, Taken upto) ∷ []) → TakesPress disk_faults origin p r upto
   unfolding adds
   takes origin licenses p q r upto floor s gave from all f =
       let after = account_snoc (start origin) q.seen (q.number, Taken upto) in
@@ -88,24 +88,24 @@ module _ {G : Type 0} (told : G → Option Told) (disk_faults : G → ℕ) where
 
   -- so what was carried out for the pass is what the floor waits for
   pub carried_for : (origin : CoreState × PressState G) (licenses : List (ℕ × Entry G) → ℕ → Type 0) (p q : K) (upto : ℕ) (floor : FloorState G) (carried : Carried G) → (t : HasTaken origin p upto) → Sees licenses p q → floor.origin ≡ origin → FloorStands told disk_faults floor q.seen
-      → IsCarried told disk_faults origin (account origin p.seen) upto (account origin p.seen).taken carried
-      → IsCarried told disk_faults floor.origin (account floor.origin q.seen) t.loan.upto (account floor.origin q.seen).taken carried
+      → IsCarriedOut told disk_faults origin (account origin p.seen) upto (account origin p.seen).taken carried
+      → IsCarriedOut told disk_faults floor.origin (account floor.origin q.seen) t.loan.upto (account floor.origin q.seen).taken carried
   carried_for origin licenses p q upto floor carried t s from f c =
       let a : Account G = account origin p.seen in
       let is : upto ≡ origin.0.events + a.taken.events = sym t.upto_is ∙ t.fronts.lent t.loan t.out in
       let legal : IsLegal disk_faults origin q.seen = subst (λ (o : CoreState × PressState G). IsLegal disk_faults o q.seen) from f.legal in
-      subst (λ (u : ℕ). IsCarried told disk_faults floor.origin (account floor.origin q.seen) u (account floor.origin q.seen).taken carried) (sym t.upto_is)
-      (subst (λ (o : CoreState × PressState G). IsCarried told disk_faults o (account o q.seen) upto (account o q.seen).taken carried) (sym from)
+      subst (λ (u : ℕ). IsCarriedOut told disk_faults floor.origin (account floor.origin q.seen) u (account floor.origin q.seen).taken carried) (sym t.upto_is)
+      (subst (λ (o : CoreState × PressState G). IsCarriedOut told disk_faults o (account o q.seen) upto (account o q.seen).taken carried) (sym from)
       (carried_still origin told disk_faults a (account origin q.seen) upto carried (still_taken origin licenses p q upto t s legal) t.fronts is c))
 
   -- and it belongs to the pass that took the press
-  pub carried_out : (origin : CoreState × PressState G) (b : Account G) (load : Load G) (carried : Carried G) → LeftWith told origin b load → ((o : CoreState × PressState G) (a : Account G) → Lends told o a load → IsCarried told disk_faults o a load.upto (front_of a) carried)
-      → IsCarried told disk_faults origin b load.upto b.taken carried
+  pub carried_out : (origin : CoreState × PressState G) (b : Account G) (load : Load G) (carried : Carried G) → LeftWith told origin b load → ((o : CoreState × PressState G) (a : Account G) → Lends told o a load → IsCarriedOut told disk_faults o a load.upto (front_of a) carried)
+      → IsCarriedOut told disk_faults origin b load.upto b.taken carried
   carried_out origin b load carried (a, n, is, lends) does =
-      subst (λ (x : Account G). IsCarried told disk_faults origin x load.upto x.taken carried) (sym is) (carried_at origin told disk_faults a n load.upto carried (does origin a lends))
+      subst (λ (x : Account G). IsCarriedOut told disk_faults origin x load.upto x.taken carried) (sym is) (carried_at origin told disk_faults a n load.upto carried (does origin a lends))
 
   -- both turns of a commit, and a mark
-  pub leaves : (origin : CoreState × PressState G) (p q r s : K) (upto : ℕ) (e : Entry G) (mark : ℕ) → Takes disk_faults origin p q upto → Adds disk_faults origin q r e → s ≡ record r { mark = mark } → Leaves disk_faults origin p s upto e mark
+  pub leaves : (origin : CoreState × PressState G) (p q r s : K) (upto : ℕ) (e : Entry G) (mark : ℕ) → TakesPress disk_faults origin p q upto → MakesEntry disk_faults origin q r e → s ≡ record r { mark = mark } → Leaves disk_faults origin p s upto e mark
   leaves origin p q r s upto e mark t a marked = record {
     before = t.adds.between;
     between = a.between;
@@ -115,26 +115,26 @@ module _ {G : Type 0} (told : G → Option Told) (disk_faults : G → ℕ) where
   }
 
   -- neither turn has changed the mark
-  pub mark_stays : (origin : CoreState × PressState G) (p q r : K) (upto : ℕ) (e : Entry G) → Takes disk_faults origin p q upto → Adds disk_faults origin q r e → r.mark ≡ p.mark
+  pub mark_stays : (origin : CoreState × PressState G) (p q r : K) (upto : ℕ) (e : Entry G) → TakesPress disk_faults origin p q upto → MakesEntry disk_faults origin q r e → r.mark ≡ p.mark
   mark_stays origin p q r upto e t a = ap (λ (k : K). k.mark) a.same ∙ ap (λ (k : K). k.mark) t.adds.same
 
   -- a commit whose press came back, and its mark
-  pub writes : (origin : CoreState × PressState G) (p q r s : K) (to upto : ℕ) (e : Entry G) (memo : Memo (PressState G)) → Takes disk_faults origin p q to → Adds disk_faults origin q r e → e ≡ Returned upto memo → upto ≡ to
+  pub writes : (origin : CoreState × PressState G) (p q r s : K) (to upto : ℕ) (e : Entry G) (memo : Memo (PressState G)) → TakesPress disk_faults origin p q to → MakesEntry disk_faults origin q r e → e ≡ Returned upto memo → upto ≡ to
       → s ≡ record r { mark = max r.mark upto } → Leaves disk_faults origin p s upto (Returned upto memo) (max p.mark upto)
   writes origin p q r s to upto e memo t a is same marked =
-      let t' : Takes disk_faults origin p q upto = subst (λ u. Takes disk_faults origin p q u) (sym same) t in
-      let a' : Adds disk_faults origin q r (Returned upto memo) = subst (λ (x : Entry G). Adds disk_faults origin q r x) is a in
+      let t' : TakesPress disk_faults origin p q upto = subst (λ u. TakesPress disk_faults origin p q u) (sym same) t in
+      let a' : MakesEntry disk_faults origin q r (Returned upto memo) = subst (λ (x : Entry G). MakesEntry disk_faults origin q r x) is a in
       leaves origin p q r s upto (Returned upto memo) (max p.mark upto) t' a' (marked ∙ ap (λ z. record r { mark = max z upto }) (mark_stays origin p q r upto (Returned upto memo) t' a'))
 
   -- a commit whose disk failed
-  pub fails : (origin : CoreState × PressState G) (p q r : K) (to upto : ℕ) (e : Entry G) → Takes disk_faults origin p q to → Adds disk_faults origin q r e → e ≡ Failed upto → upto ≡ to → Leaves disk_faults origin p r upto (Failed upto) p.mark
+  pub fails : (origin : CoreState × PressState G) (p q r : K) (to upto : ℕ) (e : Entry G) → TakesPress disk_faults origin p q to → MakesEntry disk_faults origin q r e → e ≡ Failed upto → upto ≡ to → Leaves disk_faults origin p r upto (Failed upto) p.mark
   fails origin p q r to upto e t a is same =
-      let t' : Takes disk_faults origin p q upto = subst (λ u. Takes disk_faults origin p q u) (sym same) t in
-      let a' : Adds disk_faults origin q r (Failed upto) = subst (λ (x : Entry G). Adds disk_faults origin q r x) is a in
+      let t' : TakesPress disk_faults origin p q upto = subst (λ u. TakesPress disk_faults origin p q u) (sym same) t in
+      let a' : MakesEntry disk_faults origin q r (Failed upto) = subst (λ (x : Entry G). MakesEntry disk_faults origin q r x) is a in
       leaves origin p q r r upto (Failed upto) p.mark t' a' (ap (λ z. record r { mark = z }) (mark_stays origin p q r upto (Failed upto) t' a'))
 
   -- a commit that was refused; none is for a disk that failed
-  pub refused_commits : (origin : CoreState × PressState G) (p q : K) (fault : CommitFault) → Adds disk_faults origin p q (Looked (Denied fault)) → Commits disk_faults origin p q (Err fault)
+  pub refused_commits : (origin : CoreState × PressState G) (p q : K) (fault : CommitFault) → MakesEntry disk_faults origin p q (Looked (Denied fault)) → HasCommitted disk_faults origin p q (Err fault)
   refused_commits origin p q (commits.Stopped at) a = a
   refused_commits origin p q (commits.Busy at upto) a = a
   refused_commits origin p q (commits.Nothing upto) a = a

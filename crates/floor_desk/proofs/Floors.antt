@@ -25,12 +25,12 @@ use Rattle.floor_desk.specs.declared.load.Carried.TheVariants.{Home as HomeAgain
 use Rattle.floor_desk.specs.declared.load.Load.{Load}
 use Rattle.floor_desk.specs.declared.floor.Spot.{Spot}
 use Rattle.floor_desk.specs.declared.floor.Spot.TheVariants.{Home, Out, Broken}
-use Rattle.floor_desk.specs.Accounts.{Account, Due, IsBehind, IsDenied, IsLegalFrom, IsOpen, IsTicketOf, Loan, MayFollow, accepted, account, entry_of, looked, most_calls, most_record_octets, start, step, ticket_for}
-use Rattle.floor_desk.specs.Carrying.{IsCarried, IsWorkOf, Lends}
-use Rattle.floor_desk.specs.Moves.{Accepts, Comes, Hinders, IsFull, IsLentBy, IsNotBroken, IsReady, MayEnter, Refuses, lent, with_answer}
+use Rattle.floor_desk.specs.Accounts.{Account, Due, IsBehind, IsDenied, IsLegalFrom, IsOpen, IsTicketOf, Loan, MayComeNext, accepted, account, entry_for, looked, most_calls, most_record_octets, start, step, ticket_for}
+use Rattle.floor_desk.specs.Carrying.{IsCarriedOut, IsWorkOf, Lends}
+use Rattle.floor_desk.specs.Moves.{Accepts, CameOf, Hinders, NeedsCommit, IsLentBy, IsNotBroken, IsReady, MayEnter, Refuses, lent, with_answer}
 use Rattle.floor_desk.specs.Keeping.{HoldsHistory}
-use Rattle.floor_desk.specs.Prefixes.{HasLost, RestsOn, behind, capped}
-use Rattle.floor_desk.specs.Standing.{FloorStands, Holds, Shows, Stands, pending_events}
+use Rattle.floor_desk.specs.Prefixes.{HasLost, RestsOn, with_first, capped}
+use Rattle.floor_desk.specs.Standing.{FloorStands, HoldsOrder, ShowsAccount, Stands, pending_events}
 use Rattle.floor_desk.specs.States.{FloorState}
 use Rattle.floor_desk.proofs.Growing.{course_same, shows_accepted, shows_looked}
 use Rattle.floor_desk.proofs.Histories.{account_snoc, legal_snoc, long_is}
@@ -45,11 +45,11 @@ some_is x y same = cc
 module _ {G : Type 0} (told : G → Option Told) (disk_faults : G → ℕ) where
   -- an entry may follow, and the floor is what the account comes to with it
   pub follows : (old new : FloorState G) (h : List (ℕ × Entry G)) (n : ℕ) (e : Entry G) → new.origin ≡ old.origin → FloorStands told disk_faults old h
-      → MayFollow disk_faults (account old.origin h) n e → Shows told disk_faults new (step (account old.origin h) n e) → FloorStands told disk_faults new (h ++ (n, e) ∷ [])
+      → MayComeNext disk_faults (account old.origin h) n e → ShowsAccount told disk_faults new (step (account old.origin h) n e) → FloorStands told disk_faults new (h ++ (n, e) ∷ [])
   follows old new h n e same f may shows =
       let is : step (account old.origin h) n e ≡ account new.origin (h ++ (n, e) ∷ []) = sym (account_snoc (start old.origin) h (n, e)) ∙ ap (λ o. account o (h ++ (n, e) ∷ [])) (sym same) in record {
         legal = subst (λ (o : CoreState × PressState G). IsLegalFrom disk_faults (start o) (h ++ (n, e) ∷ [])) (sym same) (legal_snoc disk_faults (start old.origin) h (n, e) f.legal may);
-        shows = subst (λ (a : Account G). Shows told disk_faults new a) is shows;
+        shows = subst (λ (a : Account G). ShowsAccount told disk_faults new a) is shows;
       }
 
   -- ---- an input
@@ -60,72 +60,72 @@ module _ {G : Type 0} (told : G → Option Told) (disk_faults : G → ℕ) where
   not_failed origin a lost (Out place upto) not here = here.0
   not_failed origin a lost (Broken device place) not here = absurd not
 
-  not_behind : (floor : FloorState G) (a : Account G) → Shows told disk_faults floor a → floor.calls < most_calls → length floor.records ≤ most_record_octets → IsBehind a → ⊥
+  not_behind : (floor : FloorState G) (a : Account G) → ShowsAccount told disk_faults floor a → floor.calls < most_calls → length floor.records ≤ most_record_octets → IsBehind a → ⊥
   not_behind floor a s few short (inl many) = absurd (omega (arith, s.calls, few, many))
   not_behind floor a s few short (inr long) = absurd (omega (arith, ap (λ (l : List ℕ). length l) s.records, short, long))
 
-  is_open : (floor : FloorState G) (a : Account G) → Shows told disk_faults floor a → IsReady floor → IsOpen a
+  is_open : (floor : FloorState G) (a : Account G) → ShowsAccount told disk_faults floor a → IsReady floor → IsOpen a
   is_open floor a s ready = record { works = not_failed floor.origin a floor.lost floor.spot ready.works s.spot; ahead = not_behind floor a s ready.calls ready.records }
 
-  is_behind : (floor : FloorState G) (a : Account G) → Shows told disk_faults floor a → IsFull floor → IsBehind a
+  is_behind : (floor : FloorState G) (a : Account G) → ShowsAccount told disk_faults floor a → NeedsCommit floor → IsBehind a
   is_behind floor a s (inl many) = inl (omega (arith, s.calls, many))
   is_behind floor a s (inr long) = inr (omega (arith, ap (λ (l : List ℕ). length l) s.records, long))
 
   -- an answer that was taken, in the account
-  taken_in : (old new : FloorState G) (a : Account G) (answer : Answer) → Shows told disk_faults old a → Accepts old new answer → Shows told disk_faults new (accepted a answer)
+  taken_in : (old new : FloorState G) (a : Account G) (answer : Answer) → ShowsAccount told disk_faults old a → Accepts old new answer → ShowsAccount told disk_faults new (accepted a answer)
   taken_in old new a answer s acc =
       let may : MayEnter a.state answer = subst (λ (c : CoreState). MayEnter c answer) s.core acc.enters in
       let is : new ≡ with_answer a.state old answer = subst (λ (c : CoreState). new ≡ with_answer c old answer) s.core acc.with_it in
-      subst (λ (f : FloorState G). Shows told disk_faults f (accepted a answer)) (sym is) (shows_accepted told disk_faults old a answer may s)
+      subst (λ (f : FloorState G). ShowsAccount told disk_faults f (accepted a answer)) (sym is) (shows_accepted told disk_faults old a answer may s)
 
   -- the entry of an input that was taken
   ticket_follows : (a : Account G) (n moment : ℕ) (input : Memo Input) (answer : Answer) → answer ≡ answer_to a.state input.value moment → IsOpen a → (ticket : Ticket) → IsTicketOf a.state.events answer ticket
-      → MayFollow disk_faults a n (entry_of input moment (Ok ticket)) × (step a n (entry_of input moment (Ok ticket)) ≡ accepted a answer)
+      → MayComeNext disk_faults a n (entry_for input moment (Ok ticket)) × (step a n (entry_for input moment (Ok ticket)) ≡ accepted a answer)
   ticket_follows a n moment input (Entered event reply) is opened ticket of =
-      subst (λ (t : Ticket). MayFollow disk_faults a n (entry_of input moment (Ok t)) × (step a n (entry_of input moment (Ok t)) ≡ accepted a (Entered event reply))) (sym of)
+      subst (λ (t : Ticket). MayComeNext disk_faults a n (entry_for input moment (Ok t)) × (step a n (entry_for input moment (Ok t)) ≡ accepted a (Entered event reply))) (sym of)
       (record { looked_at = opened; event = event; reply = reply; answer_is = sym is; ticket_is = refl }, ap (λ (x : Answer). accepted a x) (sym is))
   ticket_follows a n moment input (Full would limit reply) is opened ticket of = absurd cc
   ticket_follows a n moment input (Refused why) is opened ticket of =
       let t : Ticket = record { number = a.state.events; kind = kinds.Refused why } in
-      subst (λ (t : Ticket). MayFollow disk_faults a n (entry_of input moment (Ok t)) × (step a n (entry_of input moment (Ok t)) ≡ accepted a (Refused why))) (some_is t ticket of)
+      subst (λ (t : Ticket). MayComeNext disk_faults a n (entry_for input moment (Ok t)) × (step a n (entry_for input moment (Ok t)) ≡ accepted a (Refused why))) (some_is t ticket of)
       ((opened, ap (λ (x : Answer). ticket_for a.state.events x) (sym is)), ap (λ (x : Answer). accepted a x) (sym is))
   ticket_follows a n moment input (Replied send) is opened ticket of =
       let t : Ticket = record { number = a.state.events; kind = kinds.Replied } in
-      subst (λ (t : Ticket). MayFollow disk_faults a n (entry_of input moment (Ok t)) × (step a n (entry_of input moment (Ok t)) ≡ accepted a (Replied send))) (some_is t ticket of)
+      subst (λ (t : Ticket). MayComeNext disk_faults a n (entry_for input moment (Ok t)) × (step a n (entry_for input moment (Ok t)) ≡ accepted a (Replied send))) (some_is t ticket of)
       ((opened, ap (λ (x : Answer). ticket_for a.state.events x) (sym is)), ap (λ (x : Answer). accepted a x) (sym is))
   ticket_follows a n moment input Unchanged is opened ticket of =
       let t : Ticket = record { number = a.state.events; kind = kinds.Idle } in
-      subst (λ (t : Ticket). MayFollow disk_faults a n (entry_of input moment (Ok t)) × (step a n (entry_of input moment (Ok t)) ≡ accepted a Unchanged)) (some_is t ticket of)
+      subst (λ (t : Ticket). MayComeNext disk_faults a n (entry_for input moment (Ok t)) × (step a n (entry_for input moment (Ok t)) ≡ accepted a Unchanged)) (some_is t ticket of)
       ((opened, ap (λ (x : Answer). ticket_for a.state.events x) (sym is)), ap (λ (x : Answer). accepted a x) (sym is))
   ticket_follows a n moment input Ignored is opened ticket of =
       let t : Ticket = record { number = a.state.events; kind = kinds.Ignored } in
-      subst (λ (t : Ticket). MayFollow disk_faults a n (entry_of input moment (Ok t)) × (step a n (entry_of input moment (Ok t)) ≡ accepted a Ignored)) (some_is t ticket of)
+      subst (λ (t : Ticket). MayComeNext disk_faults a n (entry_for input moment (Ok t)) × (step a n (entry_for input moment (Ok t)) ≡ accepted a Ignored)) (some_is t ticket of)
       ((opened, ap (λ (x : Answer). ticket_for a.state.events x) (sym is)), ap (λ (x : Answer). accepted a x) (sym is))
 
   -- what came of an input that was looked at
   pub comes : (old new : FloorState G) (h : List (ℕ × Entry G)) (n moment : ℕ) (input : Memo Input) (result : Result Ticket EnterFault) → new.origin ≡ old.origin → FloorStands told disk_faults old h → IsReady old
-      → Comes old new (answer_to old.core input.value moment) result → FloorStands told disk_faults new (h ++ (n, entry_of input moment result) ∷ [])
+      → CameOf old new (answer_to old.core input.value moment) result → FloorStands told disk_faults new (h ++ (n, entry_for input moment result) ∷ [])
   comes old new h n moment input (Ok ticket) same f ready came =
       let a : Account G = account old.origin h in
       let answer : Answer = answer_to old.core input.value moment in
       let is : answer ≡ answer_to a.state input.value moment = ap (λ (c : CoreState). answer_to c input.value moment) f.shows.core in
       let of : IsTicketOf a.state.events answer ticket = subst (λ (c : CoreState). IsTicketOf c.events answer ticket) f.shows.core came.1 in
       let may = ticket_follows a n moment input answer is (is_open old a f.shows ready) ticket of in
-      follows old new h n (entry_of input moment (Ok ticket)) same f may.0 (subst (λ (b : Account G). Shows told disk_faults new b) (sym may.1) (taken_in old new a answer f.shows came.0))
+      follows old new h n (entry_for input moment (Ok ticket)) same f may.0 (subst (λ (b : Account G). ShowsAccount told disk_faults new b) (sym may.1) (taken_in old new a answer f.shows came.0))
   comes old new h n moment input (Err (enters.Full would limit)) same f ready came =
       let a : Account G = account old.origin h in
       let answer : Answer = answer_to old.core input.value moment in
       let is : answer ≡ answer_to a.state input.value moment = ap (λ (c : CoreState). answer_to c input.value moment) f.shows.core in
       follows old new h n (Looked (Tried input moment (Err (enters.Full would limit)))) same f (is_open old a f.shows ready, came.1, sym is ∙ came.2)
-      (subst (λ (x : Answer). Shows told disk_faults new (accepted a x)) is (taken_in old new a answer f.shows came.0))
+      (subst (λ (x : Answer). ShowsAccount told disk_faults new (accepted a x)) is (taken_in old new a answer f.shows came.0))
   comes old new h n moment input (Err enters.NoMemory) same f ready came =
       let a : Account G = account old.origin h in
-      follows old new h n (Looked (Tried input moment (Err enters.NoMemory))) same f (is_open old a f.shows ready) (subst (λ (x : FloorState G). Shows told disk_faults x (looked a)) (sym came) (shows_looked told disk_faults old a f.shows))
+      follows old new h n (Looked (Tried input moment (Err enters.NoMemory))) same f (is_open old a f.shows ready) (subst (λ (x : FloorState G). ShowsAccount told disk_faults x (looked a)) (sym came) (shows_looked told disk_faults old a f.shows))
   comes old new h n moment input (Err (enters.Stopped at)) same f ready came = absurd came
   comes old new h n moment input (Err (enters.Behind pending octets)) same f ready came = absurd came
 
   -- it leaves the origin
-  pub comes_origin : (old new : FloorState G) (answer : Answer) (result : Result Ticket EnterFault) → Comes old new answer result → new.origin ≡ old.origin
+  pub comes_origin : (old new : FloorState G) (answer : Answer) (result : Result Ticket EnterFault) → CameOf old new answer result → new.origin ≡ old.origin
   comes_origin old new answer (Ok ticket) came = ap (λ (x : FloorState G). x.origin) came.0.with_it
   comes_origin old new answer (Err (enters.Full would limit)) came = ap (λ (x : FloorState G). x.origin) came.0.with_it
   comes_origin old new answer (Err enters.NoMemory) came = ap (λ (x : FloorState G). x.origin) came
@@ -136,7 +136,7 @@ module _ {G : Type 0} (told : G → Option Told) (disk_faults : G → ℕ) where
   broken_at origin a lost spot device at is here = (subst (λ (s : Spot G). Stands told disk_faults origin a lost s) is here).1
 
   -- an input that isn't looked at
-  pub refuses : (floor : FloorState G) (h : List (ℕ × Entry G)) (n moment : ℕ) (input : Memo Input) (fault : EnterFault) → FloorStands told disk_faults floor h → Refuses floor fault → FloorStands told disk_faults floor (h ++ (n, entry_of input moment (Err fault)) ∷ [])
+  pub refuses : (floor : FloorState G) (h : List (ℕ × Entry G)) (n moment : ℕ) (input : Memo Input) (fault : EnterFault) → FloorStands told disk_faults floor h → Refuses floor fault → FloorStands told disk_faults floor (h ++ (n, entry_for input moment (Err fault)) ∷ [])
   refuses floor h n moment input (enters.Stopped at) f why =
       let a : Account G = account floor.origin h in
       follows floor floor h n (Looked (Tried input moment (Err (enters.Stopped at)))) refl f (broken_at floor.origin a floor.lost floor.spot why.0 at why.1 f.shows.spot) (shows_looked told disk_faults floor a f.shows)
@@ -156,7 +156,7 @@ module _ {G : Type 0} (told : G → Option Told) (disk_faults : G → ℕ) where
   closes floor h n loan f out = follows floor floor h n (Looked Closing) refl f (loan, out) (shows_looked told disk_faults floor (account floor.origin h) f.shows)
 
   -- what a spot tells of the account
-  at_spot : (floor : FloorState G) (a : Account G) (spot : Spot G) → floor.spot ≡ spot → Shows told disk_faults floor a → Stands told disk_faults floor.origin a floor.lost spot
+  at_spot : (floor : FloorState G) (a : Account G) (spot : Spot G) → floor.spot ≡ spot → ShowsAccount told disk_faults floor a → Stands told disk_faults floor.origin a floor.lost spot
   at_spot floor a spot is s = subst (λ (x : Spot G). Stands told disk_faults floor.origin a floor.lost x) is s.spot
 
   pub busy : (floor : FloorState G) (h : List (ℕ × Entry G)) (at upto : ℕ) → floor.spot ≡ Out at upto → FloorStands told disk_faults floor h → IsDenied (account floor.origin h) (commits.Busy at upto)
@@ -176,7 +176,7 @@ module _ {G : Type 0} (told : G → Option Told) (disk_faults : G → ℕ) where
 
   -- ---- the press leaves
 
-  shows_taken : (floor : FloorState G) (a : Account G) (n place : ℕ) (press : PressState G) → floor.spot ≡ Home press → place ≡ a.long + 1 → Shows told disk_faults floor a → Shows told disk_faults (lent floor place) (step a n (Taken floor.core.events))
+  shows_taken : (floor : FloorState G) (a : Account G) (n place : ℕ) (press : PressState G) → floor.spot ≡ Home press → place ≡ a.long + 1 → ShowsAccount told disk_faults floor a → ShowsAccount told disk_faults (lent floor place) (step a n (Taken floor.core.events))
   shows_taken floor a n place press is at s =
       let b : Account G = step a n (Taken floor.core.events) in
       let upto : floor.core.events ≡ floor.origin.0.events + length a.order = ap (λ (c : CoreState). c.events) s.core ∙ s.course.events in
@@ -185,6 +185,7 @@ module _ {G : Type 0} (told : G → Option Told) (disk_faults : G → ℕ) where
         records = ap records_of (sym (drop_all (length a.order) a.order (omega arith)));
         sends = ap (λ (l : List Due). map (λ due. due.send) l) (sym (drop_all (length a.dues) a.dues (omega arith)));
         calls = omega arith;
+        durable = s.durable;
         spot = (here.1, n, ap (λ (z : ℕ). Some record { number = n; place = z; upto = floor.core.events }) (sym at));
         holds = s.holds;
         lost = s.lost;
@@ -212,7 +213,7 @@ module _ {G : Type 0} (told : G → Option Told) (disk_faults : G → ℕ) where
       let denied = waits old h load.press is.home is.some f in
       let next : FloorStands told disk_faults new (h ++ (n, Taken old.core.events) ∷ []) =
       follows old new h n (Taken old.core.events) (ap (λ (x : FloorState G). x.origin) is.left) f (here.1, here.0, denied.2, ap (λ (c : CoreState). c.events) f.shows.core)
-      (subst (λ (x : FloorState G). Shows told disk_faults x (step a n (Taken old.core.events))) (sym is.left) (shows_taken old a n place load.press is.home (omega (arith, long, at)) f.shows)) in (
+      (subst (λ (x : FloorState G). ShowsAccount told disk_faults x (step a n (Taken old.core.events))) (sym is.left) (shows_taken old a n place load.press is.home (omega (arith, long, at)) f.shows)) in (
         record {
           none = here.0;
           works = here.1;
@@ -250,6 +251,14 @@ module _ {G : Type 0} (told : G → Option Told) (disk_faults : G → ℕ) where
   same_by old new (Ok load) is = tt
   same_by old new (Err fault) is = is.0
 
+  pub out_by : (old new : FloorState G) (place : ℕ) (result : Result (Load G) CommitFault) → IfOk result (λ load. IsLentBy old new place load) → IfOk result (λ load. new.spot ≡ Out place load.upto)
+  out_by old new place (Ok load) is = ap (λ (x : FloorState G). x.spot) is.left ∙ ap (λ (u : ℕ). Out place u) (sym is.upto)
+  out_by old new place (Err fault) is = tt
+
+  pub hinders_by : (old new : FloorState G) (result : Result (Load G) CommitFault) → IfErr result (λ fault. (new ≡ old) × Hinders old fault) → IfErr result (λ fault. Hinders old fault)
+  hinders_by old new (Ok load) is = tt
+  hinders_by old new (Err fault) is = is.1
+
   pub origin_by : (old new : FloorState G) (place : ℕ) (result : Result (Load G) CommitFault) → IfOk result (λ load. IsLentBy old new place load) → IfErr result (λ fault. (new ≡ old) × Hinders old fault) → new.origin ≡ old.origin
   origin_by old new place (Ok load) is why = ap (λ (x : FloorState G). x.origin) is.left
   origin_by old new place (Err fault) is why = ap (λ (x : FloorState G). x.origin) why.0
@@ -267,8 +276,8 @@ module _ {G : Type 0} (told : G → Option Told) (disk_faults : G → ℕ) where
 
   -- home, with what the load was to write
   pub brings : (old new : FloorState G) (h : List (ℕ × Entry G)) (loan : Loan) (press : PressState G) (memo : Memo (PressState G)) (at to event more : ℕ) → memo.value ≡ press → old.spot ≡ Out at to
-      → new ≡ record old { spot = Home press; lost = capped (old.lost + more) } → FloorStands told disk_faults old h → (account old.origin h).loan ≡ Some loan
-      → IsCarried told disk_faults old.origin (account old.origin h) loan.upto (account old.origin h).taken (HomeAgain press event more) → FloorStands told disk_faults new (h ++ (loan.number, Returned event memo) ∷ [])
+      → new ≡ record old { spot = Home press; durable = event; lost = capped (old.lost + more) } → FloorStands told disk_faults old h → (account old.origin h).loan ≡ Some loan
+      → IsCarriedOut told disk_faults old.origin (account old.origin h) loan.upto (account old.origin h).taken (HomeAgain press event more) → FloorStands told disk_faults new (h ++ (loan.number, Returned event memo) ∷ [])
   brings old new h loan press memo at to event more shows away is f out carried =
       let a : Account G = account old.origin h in
       let s = f.shows in
@@ -278,13 +287,14 @@ module _ {G : Type 0} (told : G → Option Told) (disk_faults : G → ℕ) where
       let upto : event ≡ old.origin.0.events + a.taken.events = carried.0 ∙ s.fronts.lent loan out in
       follows old new h loan.number (Returned event memo) (ap (λ (x : FloorState G). x.origin) is) f
       ((loan, out, refl, sym carried.0), subst (λ (p : PressState G). disk_faults a.press.device ≤ disk_faults p.device) same carried.1)
-      (subst (λ (x : FloorState G). Shows told disk_faults x b) (sym is) (record {
+      (subst (λ (x : FloorState G). ShowsAccount told disk_faults x b) (sym is) (record {
         core = s.core;
         records = s.records;
         sends = s.sends;
         calls = s.calls;
+        durable = refl;
         spot = (refl, here.0, same);
-        holds = subst (λ (p : PressState G). Holds told old.origin a event a.taken p) same (subst (λ (u : ℕ). Holds told old.origin a u a.taken press) (sym carried.0) carried.2);
+        holds = subst (λ (p : PressState G). HoldsOrder told old.origin a event a.taken p) same (subst (λ (u : ℕ). HoldsOrder told old.origin a u a.taken press) (sym carried.0) carried.2);
         lost = subst (λ (p : PressState G). HasLost (capped (old.lost + more)) (told old.origin.1.device) (told p.device)) same (lost_both old.lost more (told old.origin.1.device) (told a.press.device) (told press.device) s.lost carried.3);
         course = course_same old.origin a b refl refl refl s.course;
         fronts = record {
@@ -301,10 +311,10 @@ module _ {G : Type 0} (told : G → Option Told) (disk_faults : G → ℕ) where
       }))
 
   -- lost, with nothing sent
-  pub breaks : (old new : FloorState G) (h : List (ℕ × Entry G)) (loan : Loan) (device : G) (at to place event : ℕ) → old.spot ≡ Out at to → new ≡ record old { spot = Broken device place; lost = capped (old.lost + 0) } → place ≡ length h + 1
+  pub breaks : (old new : FloorState G) (h : List (ℕ × Entry G)) (loan : Loan) (device : G) (at to place event durable : ℕ) → old.spot ≡ Out at to → durable ≡ old.durable → new ≡ record old { spot = Broken device place; durable = durable; lost = capped (old.lost + 0) } → place ≡ length h + 1
       → FloorStands told disk_faults old h → (account old.origin h).loan ≡ Some loan
-      → IsCarried told disk_faults old.origin (account old.origin h) loan.upto (account old.origin h).taken (Gone device event) → FloorStands told disk_faults new (h ++ (loan.number, Failed event) ∷ [])
-  breaks old new h loan device at to place event away is here_at f out carried =
+      → IsCarriedOut told disk_faults old.origin (account old.origin h) loan.upto (account old.origin h).taken (Gone device event) → FloorStands told disk_faults new (h ++ (loan.number, Failed event) ∷ [])
+  breaks old new h loan device at to place event durable away written is here_at f out carried =
       let a : Account G = account old.origin h in
       let s = f.shows in
       let b : Account G = step a loan.number (Failed event) in
@@ -312,11 +322,12 @@ module _ {G : Type 0} (told : G → Option Told) (disk_faults : G → ℕ) where
       let place_is : a.long + 1 ≡ place = omega (arith, long, here_at) in
       let before : HasLost (capped (old.lost + 0)) (told old.origin.1.device) (told a.press.device) = lost_both old.lost 0 (told old.origin.1.device) (told a.press.device) (told a.press.device) s.lost (lost_none (told a.press.device)) in
       follows old new h loan.number (Failed event) (ap (λ (x : FloorState G). x.origin) is) f (loan, out, refl, sym carried.0)
-      (subst (λ (x : FloorState G). Shows told disk_faults x b) (sym is) (record {
+      (subst (λ (x : FloorState G). ShowsAccount told disk_faults x b) (sym is) (record {
         core = s.core;
         records = s.records;
         sends = s.sends;
         calls = s.calls;
+        durable = written ∙ s.durable;
         spot = (refl, ap Some place_is, carried.1, carried.2, lost_both old.lost 0 (told old.origin.1.device) (told a.press.device) (told device) s.lost carried.3);
         holds = s.holds;
         lost = before;
@@ -338,18 +349,27 @@ module _ {G : Type 0} (told : G → Option Told) (disk_faults : G → ℕ) where
   pub waits_out : (floor : FloorState G) (h : List (ℕ × Entry G)) (n at upto : ℕ) → floor.spot ≡ Out at upto → FloorStands told disk_faults floor h → FloorStands told disk_faults floor (h ++ (n, Looked Closing) ∷ [])
   waits_out floor h n at upto is f = (let b = busy floor h at upto is f in closes floor h n (record { number = b.0; place = at; upto = upto }) f b.1)
 
+  -- the place of its next entry is no part of what a floor stands for
+  pub stands_at : (floor : FloorState G) (next : ℕ) (h : List (ℕ × Entry G)) → FloorStands told disk_faults floor h → FloorStands told disk_faults (record floor { next = next }) h
+  stands_at floor next h f =
+      let s = f.shows in record {
+        legal = f.legal;
+        shows = record { core = s.core; records = s.records; sends = s.sends; calls = s.calls; durable = s.durable; spot = s.spot; holds = s.holds; lost = s.lost; course = s.course; fronts = s.fronts };
+      }
+
   -- at the opening
-  pub opens : (floor : FloorState G) (press : PressState G) → floor.core ≡ floor.origin.0 → floor.records ≡ [] → floor.sends ≡ [] → floor.calls ≡ 0 → floor.lost ≡ 0 → floor.spot ≡ Home press → press ≡ floor.origin.1 → FloorStands told disk_faults floor []
-  opens floor press core records sends calls lost spot same = record {
+  pub opens : (floor : FloorState G) (press : PressState G) → floor.core ≡ floor.origin.0 → floor.records ≡ [] → floor.sends ≡ [] → floor.calls ≡ 0 → floor.lost ≡ 0 → floor.durable ≡ floor.origin.0.events → floor.spot ≡ Home press → press ≡ floor.origin.1 → FloorStands told disk_faults floor []
+  opens floor press core records sends calls lost durable spot same = record {
     legal = tt;
     shows = record {
       core = core;
       records = records;
       sends = sends;
       calls = omega (arith, calls);
+      durable = durable;
       spot = subst (λ (s : Spot G). Stands told disk_faults floor.origin (start floor.origin) floor.lost s) (sym spot) (refl, refl, same);
       holds = λ journal history stands first. (
-        subst (λ (n : ℕ). HoldsHistory journal floor.origin.0.site (behind history n []) floor.origin.1.layout (told floor.origin.1.device)) (sym none) first,
+        subst (λ (n : ℕ). HoldsHistory journal floor.origin.0.site (with_first history n []) floor.origin.1.layout (told floor.origin.1.device)) (sym none) first,
         keeps_now journal floor.origin.0.site history [] (told floor.origin.1.device) first.0 first.2 first.1.1,
       );
       lost = subst (λ (n : ℕ). HasLost n (told floor.origin.1.device) (told floor.origin.1.device)) (sym lost) (lost_none (told floor.origin.1.device));

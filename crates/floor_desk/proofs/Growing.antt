@@ -15,12 +15,12 @@ use Rattle.service_desk.specs.Answers.{Answer, Entered, Full, Refused, Replied, 
 use Rattle.state_codec.specs.Contents.{records_of}
 use Rattle.state_codec.specs.Records.{HasRecord, written_event}
 use Rattle.floor_desk.specs.Accounts.{Account, Due, Front, accepted, due_after, front_of, if_event, looked, step}
-use Rattle.floor_desk.specs.Carrying.{IsCarried}
-use Rattle.floor_desk.specs.Courses.{IsCourse, KeepsFronts}
+use Rattle.floor_desk.specs.Carrying.{IsCarriedOut}
+use Rattle.floor_desk.specs.Courses.{KeepsCourse, KeepsFronts}
 use Rattle.floor_desk.specs.Keeping.{HoldsHistory}
 use Rattle.floor_desk.specs.Moves.{MayEnter, with_answer}
-use Rattle.floor_desk.specs.Prefixes.{HasLost, KeepsOrder, RestsOn, behind}
-use Rattle.floor_desk.specs.Standing.{Held, Holds, Shows, Stands, pending_sends}
+use Rattle.floor_desk.specs.Prefixes.{HasLost, KeepsOrder, RestsOn, with_first}
+use Rattle.floor_desk.specs.Standing.{KeptOrder, HoldsOrder, ShowsAccount, Stands, pending_sends}
 use Rattle.floor_desk.specs.States.{FloorState}
 use Rattle.floor_desk.specs.declared.entry.Entry.TheVariants.{Taken}
 use Rattle.floor_desk.specs.declared.load.Carried.{Carried}
@@ -28,7 +28,7 @@ use Rattle.floor_desk.specs.declared.load.Carried.TheVariants.{Home as HomeAgain
 use Rattle.floor_desk.specs.declared.floor.Spot.{Spot}
 use Rattle.floor_desk.specs.declared.floor.Spot.TheVariants.{Home, Out, Broken}
 use Rattle.floor_desk.proofs.Histories.{IsStill, still_accepted, still_looked}
-use Rattle.floor_desk.proofs.Prefixes.{behind_first, behind_more, keeps_more}
+use Rattle.floor_desk.proofs.Prefixes.{first_of_more, first_more, keeps_more}
 
 -- ---- what an answer makes of a state, and the dues that it gives
 
@@ -79,26 +79,26 @@ module _ {G : Type 0} (origin : CoreState × PressState G) where
   -- ---- what the press holds
 
   module _ (told : G → Option Told) where
-    pub held_more : (a b : Account G) (back : Front) (device : G) → IsStill a b → back.dues ≤ length a.dues → Held told origin a back device → Held told origin b back device
+    pub held_more : (a b : Account G) (back : Front) (device : G) → IsStill a b → back.dues ≤ length a.dues → KeptOrder told origin a back device → KeptOrder told origin b back device
     held_more a b back device s few held journal history stands holds =
         subst (λ (l : List Event). KeepsOrder journal origin.0.site history l b.dues back.dues (told origin.1.device) (told device)) (sym s.order)
         (subst (λ (l : List Due). KeepsOrder journal origin.0.site history (a.order ++ s.more) l back.dues (told origin.1.device) (told device)) (sym s.dues)
         (keeps_more journal origin.0.site history a.order s.more a.dues s.owed back.dues (told origin.1.device) (told device) few (held journal history stands holds)))
 
-    pub holds_more : (a b : Account G) (durable : ℕ) (back : Front) (press : PressState G) → IsStill a b → durable - origin.0.events ≤ length a.order → back.dues ≤ length a.dues → Holds told origin a durable back press → Holds told origin b durable back press
+    pub holds_more : (a b : Account G) (durable : ℕ) (back : Front) (press : PressState G) → IsStill a b → durable - origin.0.events ≤ length a.order → back.dues ≤ length a.dues → HoldsOrder told origin a durable back press → HoldsOrder told origin b durable back press
     holds_more a b durable back press s within few holds journal history stands first =
         let both = holds journal history stands first in
-        let same : behind history (durable - origin.0.events) b.order ≡ behind history (durable - origin.0.events) a.order =
-        ap (λ (l : List Event). behind history (durable - origin.0.events) l) s.order ∙ behind_first history a.order s.more (durable - origin.0.events) within in (
+        let same : with_first history (durable - origin.0.events) b.order ≡ with_first history (durable - origin.0.events) a.order =
+        ap (λ (l : List Event). with_first history (durable - origin.0.events) l) s.order ∙ first_of_more history a.order s.more (durable - origin.0.events) within in (
           subst (λ (h : List Event). HoldsHistory journal origin.0.site h press.layout (told press.device)) (sym same) both.0,
           held_more a b back press.device s few (λ j h r f. (holds j h r f).1) journal history stands first,
         )
 
-    pub holds_still : (a b : Account G) → IsStill a b → KeepsFronts origin a → Holds told origin a a.durable a.back a.press → Holds told origin b b.durable b.back b.press
+    pub holds_still : (a b : Account G) → IsStill a b → KeepsFronts origin a → HoldsOrder told origin a a.durable a.back a.press → HoldsOrder told origin b b.durable b.back b.press
     holds_still a b s f holds =
-        subst (λ (d : ℕ). Holds told origin b d b.back b.press) (sym s.durable)
-        (subst (λ (t : Front). Holds told origin b a.durable t b.press) (sym s.back)
-        (subst (λ (p : PressState G). Holds told origin b a.durable a.back p) (sym s.press)
+        subst (λ (d : ℕ). HoldsOrder told origin b d b.back b.press) (sym s.durable)
+        (subst (λ (t : Front). HoldsOrder told origin b a.durable t b.press) (sym s.back)
+        (subst (λ (p : PressState G). HoldsOrder told origin b a.durable a.back p) (sym s.press)
         (holds_more a b a.durable a.back a.press s (omega (arith, f.durable, f.events)) (omega (arith, f.back, f.dues)) holds)))
 
     pub stands_still : (disk_faults : G → ℕ) (a b : Account G) (lost : ℕ) (spot : Spot G) → IsStill a b → KeepsFronts origin a → Stands told disk_faults origin a lost spot → Stands told disk_faults origin b lost spot
@@ -108,41 +108,41 @@ module _ {G : Type 0} (origin : CoreState × PressState G) where
       s.loan ∙ here.0,
       s.failed ∙ here.1,
       subst (λ (p : PressState G). Rose (disk_faults p.device) (disk_faults device)) (sym s.press) here.2,
-      subst (λ (t : Front). Held told origin b t device) (sym s.back) (held_more a b a.back device s (omega (arith, f.back, f.dues)) here.3),
+      subst (λ (t : Front). KeptOrder told origin b t device) (sym s.back) (held_more a b a.back device s (omega (arith, f.back, f.dues)) here.3),
       here.4,
     )
 
     -- ---- what comes back
 
-    pub carried_still : (disk_faults : G → ℕ) (a b : Account G) (upto : ℕ) (carried : Carried G) → IsStill a b → KeepsFronts origin a → upto ≡ origin.0.events + a.taken.events → IsCarried told disk_faults origin a upto a.taken carried → IsCarried told disk_faults origin b upto b.taken carried
+    pub carried_still : (disk_faults : G → ℕ) (a b : Account G) (upto : ℕ) (carried : Carried G) → IsStill a b → KeepsFronts origin a → upto ≡ origin.0.events + a.taken.events → IsCarriedOut told disk_faults origin a upto a.taken carried → IsCarriedOut told disk_faults origin b upto b.taken carried
     carried_still disk_faults a b upto (HomeAgain press event more) s f is c = (
       c.0,
       subst (λ (p : PressState G). disk_faults p.device ≤ disk_faults press.device) (sym s.press) c.1,
-      subst (λ (t : Front). Holds told origin b upto t press) (sym s.taken) (holds_more a b upto a.taken press s (omega (arith, is, f.events)) f.dues c.2),
+      subst (λ (t : Front). HoldsOrder told origin b upto t press) (sym s.taken) (holds_more a b upto a.taken press s (omega (arith, is, f.events)) f.dues c.2),
       subst (λ (p : PressState G). HasLost more (told p.device) (told press.device)) (sym s.press) c.3,
     )
     carried_still disk_faults a b upto (Gone device event) s f is c = (
       c.0,
       subst (λ (p : PressState G). Rose (disk_faults p.device) (disk_faults device)) (sym s.press) c.1,
-      subst (λ (t : Front). Held told origin b t device) (sym s.back) (held_more a b a.back device s (omega (arith, f.back, f.dues)) c.2),
+      subst (λ (t : Front). KeptOrder told origin b t device) (sym s.back) (held_more a b a.back device s (omega (arith, f.back, f.dues)) c.2),
       subst (λ (p : PressState G). HasLost 0 (told p.device) (told device)) (sym s.press) c.3,
     )
 
     -- behind the entry with which the press left
-    pub carried_at : (disk_faults : G → ℕ) (a : Account G) (n upto : ℕ) (carried : Carried G) → IsCarried told disk_faults origin a upto (front_of a) carried → IsCarried told disk_faults origin (step a n (Taken upto)) upto (step a n (Taken upto)).taken carried
+    pub carried_at : (disk_faults : G → ℕ) (a : Account G) (n upto : ℕ) (carried : Carried G) → IsCarriedOut told disk_faults origin a upto (front_of a) carried → IsCarriedOut told disk_faults origin (step a n (Taken upto)) upto (step a n (Taken upto)).taken carried
     carried_at disk_faults a n upto (HomeAgain press event more) c = c
     carried_at disk_faults a n upto (Gone device event) c = c
 
   -- ---- an answer that is taken
 
-  pub course_accepted : (a : Account G) (answer : Answer) → MayEnter a.state answer → IsCourse origin a → IsCourse origin (accepted a answer)
+  pub course_accepted : (a : Account G) (answer : Answer) → MayEnter a.state answer → KeepsCourse origin a → KeepsCourse origin (accepted a answer)
   course_accepted a answer may c =
       let event : List Event = if_event (event_of answer) in
       let state = state_behind a.state answer in
       let more : state.events ≡ a.state.events + length event = events_behind a.state answer in record {
         events = omega (arith, more, c.events, length-append a.order event);
         site = site_behind a.state answer ∙ c.site;
-        stands = λ history stands. subst (λ (h : List Event). Represents state h) (sym (behind_more history a.order event)) (may.stands (behind history (length a.order) a.order) (c.stands history stands));
+        stands = λ history stands. subst (λ (h : List Event). Represents state h) (sym (first_more history a.order event)) (may.stands (with_first history (length a.order) a.order) (c.stands history stands));
         recorded = All-append HasRecord a.order event c.recorded may.recorded;
         fit = All-append FitsEvent a.order event c.fit may.fit;
         rests =
@@ -151,11 +151,11 @@ module _ {G : Type 0} (origin : CoreState × PressState G) where
       }
 
   -- the same events and datagrams
-  pub course_same : (a b : Account G) → b.state ≡ a.state → b.order ≡ a.order → b.dues ≡ a.dues → IsCourse origin a → IsCourse origin b
+  pub course_same : (a b : Account G) → b.state ≡ a.state → b.order ≡ a.order → b.dues ≡ a.dues → KeepsCourse origin a → KeepsCourse origin b
   course_same a b state order dues c = record {
     events = ap (λ (s : CoreState). s.events) state ∙ (c.events ∙ ap (λ (l : List Event). origin.0.events + length l) (sym order));
     site = ap (λ (s : CoreState). s.site) state ∙ c.site;
-    stands = λ history stands. subst (λ (s : CoreState). Represents s (behind history (length b.order) b.order)) (sym state) (subst (λ (l : List Event). Represents a.state (behind history (length l) l)) (sym order) (c.stands history stands));
+    stands = λ history stands. subst (λ (s : CoreState). Represents s (with_first history (length b.order) b.order)) (sym state) (subst (λ (l : List Event). Represents a.state (with_first history (length l) l)) (sym order) (c.stands history stands));
     recorded = subst (λ (l : List Event). All HasRecord l) (sym order) c.recorded;
     fit = subst (λ (l : List Event). All FitsEvent l) (sym order) c.fit;
     rests = subst (λ (s : CoreState). RestsOn s.events b.dues) (sym state) (subst (λ (l : List Due). RestsOn a.state.events l) (sym dues) c.rests);
@@ -163,7 +163,7 @@ module _ {G : Type 0} (origin : CoreState × PressState G) where
 
 module _ {G : Type 0} (told : G → Option Told) (disk_faults : G → ℕ) where
   -- an answer is taken: the floor with it shows the account with it
-  pub shows_accepted : (floor : FloorState G) (a : Account G) (answer : Answer) → MayEnter a.state answer → Shows told disk_faults floor a → Shows told disk_faults (with_answer a.state floor answer) (accepted a answer)
+  pub shows_accepted : (floor : FloorState G) (a : Account G) (answer : Answer) → MayEnter a.state answer → ShowsAccount told disk_faults floor a → ShowsAccount told disk_faults (with_answer a.state floor answer) (accepted a answer)
   shows_accepted floor a answer may s =
       let origin = floor.origin in
       let event : List Event = if_event (event_of answer) in
@@ -178,6 +178,7 @@ module _ {G : Type 0} (told : G → Option Told) (disk_faults : G → ℕ) where
             ∙ (ap (λ (l : List Send). pending_sends a ++ l) (sym (sends_of_dues (state_behind a.state answer).events (dues_of a.state answer)))
             ∙ (sym (map-append (λ (due : Due). due.send) (drop a.taken.dues a.dues) dues) ∙ ap (λ (l : List Due). map (λ due. due.send) l) (sym (drop-append-le a.taken.dues a.dues dues s.fronts.dues))));
         calls = omega (arith, s.calls, s.fronts.calls);
+        durable = s.durable;
         spot = stands_still origin told disk_faults a (accepted a answer) floor.lost floor.spot still s.fronts s.spot;
         holds = holds_still origin told a (accepted a answer) still s.fronts s.holds;
         lost = s.lost;
@@ -186,12 +187,13 @@ module _ {G : Type 0} (told : G → Option Told) (disk_faults : G → ℕ) where
       }
 
   -- an entry that changes nothing
-  pub shows_looked : (floor : FloorState G) (a : Account G) → Shows told disk_faults floor a → Shows told disk_faults floor (looked a)
+  pub shows_looked : (floor : FloorState G) (a : Account G) → ShowsAccount told disk_faults floor a → ShowsAccount told disk_faults floor (looked a)
   shows_looked floor a s = record {
     core = s.core;
     records = s.records;
     sends = s.sends;
     calls = s.calls;
+    durable = s.durable;
     spot = stands_still floor.origin told disk_faults a (looked a) floor.lost floor.spot (still_looked a) s.fronts s.spot;
     holds = s.holds;
     lost = s.lost;

@@ -11,7 +11,7 @@ use Rattle.floor_desk.specs.declared.entry.Look.TheVariants.{Tried, Refused as D
 use Rattle.floor_desk.specs.declared.entry.Ticket.{Ticket}
 use Rattle.floor_desk.specs.declared.faults.EnterFault.{EnterFault}
 use Rattle.floor_desk.specs.declared.faults.EnterFault.TheVariants as enters
-use Rattle.floor_desk.specs.Accounts.{Account, Due, Loan, Licenses, MayFollow, IsLegalFrom, accepted, account_from, if_event, looked, step, tried}
+use Rattle.floor_desk.specs.Accounts.{Account, Due, Loan, Licenses, MayComeNext, IsLegalFrom, accepted, account_from, if_event, looked, step, tried}
 
 module _ {G : Type 0} where
   -- one entry more
@@ -96,7 +96,7 @@ module _ {G : Type 0} where
   still_tried a answer (Err enters.NoMemory) = still_looked a
 
 module _ {G : Type 0} (disk_faults : G → ℕ) where
-  pub legal_snoc : (a : Account G) (h : List (ℕ × Entry G)) (c : ℕ × Entry G) → IsLegalFrom disk_faults a h → MayFollow disk_faults (account_from a h) c.0 c.1 → IsLegalFrom disk_faults a (h ++ c ∷ [])
+  pub legal_snoc : (a : Account G) (h : List (ℕ × Entry G)) (c : ℕ × Entry G) → IsLegalFrom disk_faults a h → MayComeNext disk_faults (account_from a h) c.0 c.1 → IsLegalFrom disk_faults a (h ++ c ∷ [])
   legal_snoc a [] c l m = (m, tt)
   legal_snoc a (e ∷ es) c l m = (l.0, legal_snoc (step a e.0 e.1) es c l.1 m)
 
@@ -113,7 +113,7 @@ module _ {G : Type 0} (disk_faults : G → ℕ) where
       let yes : (n == l.number) ≡ true = eq-eqb n l.number same in cc
 
   -- an entry of another pass
-  kept : (a : Account G) (l : Loan) (n : ℕ) (e : Entry G) → a.loan ≡ Some l → MayFollow disk_faults a n e → (n == l.number) ≡ false → IsStill a (step a n e)
+  kept : (a : Account G) (l : Loan) (n : ℕ) (e : Entry G) → a.loan ≡ Some l → MayComeNext disk_faults a n e → (n == l.number) ≡ false → IsStill a (step a n e)
   kept a l n (Happened input moment ticket) x m differs = still_accepted a (answer_to a.state input.value moment)
   kept a l n (Looked (Tried input moment answer)) x m differs = still_tried a (answer_to a.state input.value moment) answer
   kept a l n (Looked (Denied fault)) x m differs = still_looked a

@@ -20,7 +20,7 @@ use Rattle.state_codec.specs.Records.{HasRecord, written_event}
 use Rattle.floor_desk.specs.declared.entry.Kind.TheVariants as kinds
 use Rattle.floor_desk.specs.declared.entry.Ticket.{Ticket}
 use Rattle.floor_desk.specs.declared.faults.EnterFault.TheVariants as enters
-use Rattle.floor_desk.specs.Moves.{Comes}
+use Rattle.floor_desk.specs.Moves.{CameOf}
 use Rattle.floor_desk.specs.States.{FloorState}
 
 -- an event that isn't before a moment has its own
@@ -65,18 +65,18 @@ module _ {G : Type 0} where
   unchanged : (floor : FloorState G) → floor ≡ with_parts floor floor.core (floor.records ++ []) (floor.sends ++ []) (floor.calls + 0)
   unchanged floor = same_parts floor floor.core floor.core floor.records (floor.records ++ []) floor.sends (floor.sends ++ []) floor.calls (floor.calls + 0) refl (sym (append-nil floor.records)) (sym (append-nil floor.sends)) (omega arith)
 
-  pub comes_ignored : (floor : FloorState G) → Comes floor floor Ignored (Ok record { number = floor.core.events; kind = kinds.Ignored })
+  pub comes_ignored : (floor : FloorState G) → CameOf floor floor Ignored (Ok record { number = floor.core.events; kind = kinds.Ignored })
   comes_ignored floor = (record { with_it = unchanged floor; enters = record { recorded = All-nil HasRecord; fit = All-nil FitsEvent; stands = λ history stands. stands } }, refl)
 
-  pub comes_unchanged : (floor : FloorState G) → Comes floor floor Unchanged (Ok record { number = floor.core.events; kind = kinds.Idle })
+  pub comes_unchanged : (floor : FloorState G) → CameOf floor floor Unchanged (Ok record { number = floor.core.events; kind = kinds.Idle })
   comes_unchanged floor = (record { with_it = unchanged floor; enters = record { recorded = All-nil HasRecord; fit = All-nil FitsEvent; stands = λ history stands. stands } }, refl)
 
-  pub comes_refused : (floor : FloorState G) (why : SetFault) → Comes floor floor (Refused why) (Ok record { number = floor.core.events; kind = kinds.Refused why })
+  pub comes_refused : (floor : FloorState G) (why : SetFault) → CameOf floor floor (Refused why) (Ok record { number = floor.core.events; kind = kinds.Refused why })
   comes_refused floor why = (record { with_it = unchanged floor; enters = record { recorded = All-nil HasRecord; fit = All-nil FitsEvent; stands = λ history stands. stands } }, refl)
 
   -- a reply is owed
   pub comes_replied : (floor : FloorState G) (send : Send) (records : List ℕ) (sends : List Send) (calls : ℕ) → records ≡ floor.records → sends ≡ floor.sends ++ send ∷ [] → calls ≡ floor.calls + 1
-      → Comes floor (with_parts floor floor.core records sends calls) (Replied send) (Ok record { number = floor.core.events; kind = kinds.Replied })
+      → CameOf floor (with_parts floor floor.core records sends calls) (Replied send) (Ok record { number = floor.core.events; kind = kinds.Replied })
   comes_replied floor send records sends calls a b c = (
     record {
       with_it = same_parts floor floor.core floor.core records (floor.records ++ []) sends (floor.sends ++ send ∷ []) calls (floor.calls + 1) refl (a ∙ sym (append-nil floor.records)) b c;
@@ -89,9 +89,9 @@ module _ {G : Type 0} where
   pub comes_entered : (floor : FloorState G) (event : Event) (reply full : Option Send) (verdict : Result (Unit {0}) StepFault) (core : CoreState) (records : List ℕ) (sends : List Send) (calls : ℕ) (ticket : Ticket) → verdict ≡ Ok tt
       → HasRecord event → FitsEvent event → ((history : List Event) → Represents floor.core history → Represents core (event ∷ history))
       → core ≡ next_state event floor.core → records ≡ floor.records ++ written_event event → sends ≡ floor.sends ++ (next_sends event floor.core ++ if_owed reply) → calls ≡ floor.calls + 1 → ticket ≡ record { number = core.events; kind = kinds.Entered }
-      → Comes floor (with_parts floor core records sends calls) (entering event reply full verdict) (Ok ticket)
+      → CameOf floor (with_parts floor core records sends calls) (entering event reply full verdict) (Ok ticket)
   comes_entered floor event reply full verdict core records sends calls ticket fits has types stands a b c d of =
-      subst (λ (v : Result (Unit {0}) StepFault). Comes floor (with_parts floor core records sends calls) (entering event reply full v) (Ok ticket)) (sym fits) (
+      subst (λ (v : Result (Unit {0}) StepFault). CameOf floor (with_parts floor core records sends calls) (entering event reply full v) (Ok ticket)) (sym fits) (
         record {
           with_it = same_parts floor core (next_state event floor.core) records (floor.records ++ (written_event event ++ [])) sends (floor.sends ++ (next_sends event floor.core ++ if_owed reply)) calls (floor.calls + 1) a (b ∙ ap (λ (l : List ℕ). floor.records ++ l) (sym (append-nil (written_event event)))) c d;
           enters = record {
@@ -105,9 +105,9 @@ module _ {G : Type 0} where
 
   -- its notifications don't fit, and the requester is told
   pub comes_full : (floor : FloorState G) (event : Event) (reply full : Option Send) (verdict : Result (Unit {0}) StepFault) (would limit : ℕ) (core : CoreState) (records : List ℕ) (sends : List Send) (calls : ℕ) → verdict ≡ Err (faults.Full would limit) → core ≡ floor.core
-      → records ≡ floor.records → sends ≡ floor.sends ++ if_owed full → IsCounted full floor.calls calls → Comes floor (with_parts floor core records sends calls) (entering event reply full verdict) (Err (enters.Full would limit))
+      → records ≡ floor.records → sends ≡ floor.sends ++ if_owed full → IsCounted full floor.calls calls → CameOf floor (with_parts floor core records sends calls) (entering event reply full verdict) (Err (enters.Full would limit))
   comes_full floor event reply None verdict would limit core records sends calls full a b c d =
-      subst (λ (v : Result (Unit {0}) StepFault). Comes floor (with_parts floor core records sends calls) (entering event reply None v) (Err (enters.Full would limit))) (sym full) (
+      subst (λ (v : Result (Unit {0}) StepFault). CameOf floor (with_parts floor core records sends calls) (entering event reply None v) (Err (enters.Full would limit))) (sym full) (
         record {
           with_it = same_parts floor core floor.core records (floor.records ++ []) sends (floor.sends ++ []) calls (floor.calls + 0) a (b ∙ sym (append-nil floor.records)) c (omega (arith, d));
           enters = record { recorded = All-nil HasRecord; fit = All-nil FitsEvent; stands = λ history stands. stands };
@@ -116,7 +116,7 @@ module _ {G : Type 0} where
         refl,
       )
   comes_full floor event reply (Some send) verdict would limit core records sends calls full a b c d =
-      subst (λ (v : Result (Unit {0}) StepFault). Comes floor (with_parts floor core records sends calls) (entering event reply (Some send) v) (Err (enters.Full would limit))) (sym full) (
+      subst (λ (v : Result (Unit {0}) StepFault). CameOf floor (with_parts floor core records sends calls) (entering event reply (Some send) v) (Err (enters.Full would limit))) (sym full) (
         record {
           with_it = same_parts floor core floor.core records (floor.records ++ []) sends (floor.sends ++ send ∷ []) calls (floor.calls + 1) a (b ∙ sym (append-nil floor.records)) c d;
           enters = record { recorded = All-nil HasRecord; fit = All-nil FitsEvent; stands = λ history stands. stands };

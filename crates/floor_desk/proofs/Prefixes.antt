@@ -19,30 +19,30 @@ use Rattle.alarm_journal.specs.Press.{Lasts, Throughout}
 use Rattle.state_codec.specs.Contents.{ImageStands, StandsForHistory}
 use Rattle.floor_desk.specs.Accounts.{Due}
 use Rattle.floor_desk.specs.Keeping.{Commits}
-use Rattle.floor_desk.specs.Prefixes.{HasLost, KeepsOrder, LeavesPrefix, RestsOn, Settle, behind, capped, losses}
+use Rattle.floor_desk.specs.Prefixes.{HasLost, KeepsOrder, LeavesPrefix, RestsOn, Settle, with_first, capped, losses}
 
 -- ---- a history with the events of an order
 
-pub behind_none : (history : List Event) (order : List Event) → behind history 0 order ≡ history
-behind_none history order = refl
+pub first_none : (history : List Event) (order : List Event) → with_first history 0 order ≡ history
+first_none history order = refl
 
-pub behind_all : (history order : List Event) → behind history (length order) order ≡ reverse order ++ history
-behind_all history order = ap (λ (l : List Event). reverse l ++ history) (take_all (length order) order (omega arith))
+pub first_all : (history order : List Event) → with_first history (length order) order ≡ reverse order ++ history
+first_all history order = ap (λ (l : List Event). reverse l ++ history) (take_all (length order) order (omega arith))
 
 -- with later events
-pub behind_more : (history order more : List Event) → behind history (length (order ++ more)) (order ++ more) ≡ reverse more ++ behind history (length order) order
-behind_more history order more =
-    behind_all history (order ++ more) ∙ (ap (λ (l : List Event). l ++ history) (reverse-append order more)
-    ∙ (append_assoc (reverse more) (reverse order) history ∙ ap (λ (l : List Event). reverse more ++ l) (sym (behind_all history order))))
+pub first_more : (history order more : List Event) → with_first history (length (order ++ more)) (order ++ more) ≡ reverse more ++ with_first history (length order) order
+first_more history order more =
+    first_all history (order ++ more) ∙ (ap (λ (l : List Event). l ++ history) (reverse-append order more)
+    ∙ (append_assoc (reverse more) (reverse order) history ∙ ap (λ (l : List Event). reverse more ++ l) (sym (first_all history order))))
 
 -- the first of them are the same
-pub behind_first : (history order more : List Event) (count : ℕ) → count ≤ length order → behind history count (order ++ more) ≡ behind history count order
-behind_first history order more count few = ap (λ (l : List Event). reverse l ++ history) (take-append-le count order more few)
+pub first_of_more : (history order more : List Event) (count : ℕ) → count ≤ length order → with_first history count (order ++ more) ≡ with_first history count order
+first_of_more history order more count few = ap (λ (l : List Event). reverse l ++ history) (take-append-le count order more few)
 
 -- the others stand in front of them
-pub behind_rest : (history order : List Event) (count : ℕ) → behind history (length order) order ≡ reverse (drop count order) ++ behind history count order
-behind_rest history order count =
-    behind_all history order ∙ (ap (λ (l : List Event). reverse l ++ history) (sym (take-append-drop count order))
+pub first_and_rest : (history order : List Event) (count : ℕ) → with_first history (length order) order ≡ reverse (drop count order) ++ with_first history count order
+first_and_rest history order count =
+    first_all history order ∙ (ap (λ (l : List Event). reverse l ++ history) (sym (take-append-drop count order))
     ∙ (ap (λ (l : List Event). l ++ history) (reverse-append (take count order) (drop count order)) ∙ append_assoc (reverse (drop count order)) (reverse (take count order)) history))
 
 -- ---- along a trace
@@ -176,7 +176,7 @@ module _ (journal : Journal) (site : Site) (history : List Event) where
     within = omega (arith, leaves.within, length-append order more);
     owed = omega (arith, leaves.owed, length-append dues owed);
     covers = subst (λ (l : List Due). RestsOn (length history + leaves.count) l) (sym (take-append-le (length sent) dues owed leaves.owed)) leaves.covers;
-    stands = subst (λ (h : List Event). ImageStands journal site image h) (sym (behind_first history order more leaves.count leaves.within)) leaves.stands;
+    stands = subst (λ (h : List Event). ImageStands journal site image h) (sym (first_of_more history order more leaves.count leaves.within)) leaves.stands;
   }
 
   pub keeps_more : (order more : List Event) (dues owed : List Due) (sent : ℕ) (old new : Option Told) → sent ≤ length dues → KeepsOrder journal site history order dues sent old new → KeepsOrder journal site history (order ++ more) (dues ++ owed) sent old new
@@ -208,7 +208,7 @@ module _ (journal : Journal) (site : Site) (history : List Event) where
 
   -- a commit of some of the events, of which the first are enough for what was sent
   pub keeps_commit : (order : List Event) (dues : List Due) (sent first second : ℕ) (old mid new : Option Told) → sent ≤ length dues → first ≤ length order → second ≤ length order → first ≤ second → RestsOn (length history + first) (take sent dues)
-      → KeepsOrder journal site history order dues sent old mid → Commits journal site (behind history first order) (behind history second order) mid new → KeepsOrder journal site history order dues sent old new
+      → KeepsOrder journal site history order dues sent old mid → Commits journal site (with_first history first order) (with_first history second order) mid new → KeepsOrder journal site history order dues sent old new
   keeps_commit order dues sent first second old mid None few one two less rests keeps commits = tt
   keeps_commit order dues sent first second old None (Some new) few one two less rests keeps commits = absurd commits
   keeps_commit order dues sent first second None (Some mid) (Some new) few one two less rests keeps commits = absurd keeps
@@ -224,7 +224,7 @@ module _ (journal : Journal) (site : Site) (history : List Event) where
       P = LeavesPrefix journal site history order dues
 
       Q : List ℕ → Type 0
-      Q image = ImageStands journal site image (behind history first order) ⊎ ImageStands journal site image (behind history second order)
+      Q image = ImageStands journal site image (with_first history first order) ⊎ ImageStands journal site image (with_first history second order)
 
       gone : List Entry
       gone = sent_after entries []
@@ -245,7 +245,7 @@ module _ (journal : Journal) (site : Site) (history : List Event) where
 
   -- all that is owed besides is emitted, behind events that are enough for it
   pub keeps_emitting : (order : List Event) (dues : List Due) (sent count : ℕ) (old mid new : Option Told) (content : Content) (sends : List Send) (gone lost : ℕ) → sent ≤ length dues → count ≤ length order → RestsOn (length history + count) dues
-      → StandsForHistory site content (behind history count order) → sends ≡ map (λ due. due.send) (drop sent dues)
+      → StandsForHistory site content (with_first history count order) → sends ≡ map (λ due. due.send) (drop sent dues)
       → KeepsOrder journal site history order dues sent old mid → EmitsAll sends gone lost mid new → Throughout journal content mid new → KeepsOrder journal site history order dues (length dues) old new
   keeps_emitting order dues sent count old mid None content sends gone lost few within rests stands is keeps emits through = tt
   keeps_emitting order dues sent count old None (Some new) content sends gone lost few within rests stands is keeps emits through = absurd emits

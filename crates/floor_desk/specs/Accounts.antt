@@ -196,18 +196,18 @@ module _ {G : Type 0} where
 
 module _ {G : Type 0} (disk_faults : G → ℕ) where
   -- an entry of a pass with this number
-  abbrev pub MayFollow : Account G → ℕ → Entry G → Type 0
-  MayFollow a n (Happened input moment ticket) = IsEntered a (answer_to a.state input.value moment) ticket
-  MayFollow a n (Looked (Tried input moment answer)) = IsAnswered a (answer_to a.state input.value moment) answer
-  MayFollow a n (Looked (Denied fault)) = IsDenied a fault
-  MayFollow a n (Looked Closing) = (loan : Loan) × (a.loan ≡ Some loan)
-  MayFollow a n (Taken upto) = (a.failed ≡ None) × (a.loan ≡ None) × IsPending a × (upto ≡ a.state.events)
-  MayFollow a n (Returned upto press) = IsOutWith a n upto × (disk_faults a.press.device ≤ disk_faults press.value.device)
-  MayFollow a n (Failed upto) = IsOutWith a n upto
+  abbrev pub MayComeNext : Account G → ℕ → Entry G → Type 0
+  MayComeNext a n (Happened input moment ticket) = IsEntered a (answer_to a.state input.value moment) ticket
+  MayComeNext a n (Looked (Tried input moment answer)) = IsAnswered a (answer_to a.state input.value moment) answer
+  MayComeNext a n (Looked (Denied fault)) = IsDenied a fault
+  MayComeNext a n (Looked Closing) = (loan : Loan) × (a.loan ≡ Some loan)
+  MayComeNext a n (Taken upto) = (a.failed ≡ None) × (a.loan ≡ None) × IsPending a × (upto ≡ a.state.events)
+  MayComeNext a n (Returned upto press) = IsOutWith a n upto × (disk_faults a.press.device ≤ disk_faults press.value.device)
+  MayComeNext a n (Failed upto) = IsOutWith a n upto
 
   abbrev pub IsLegalFrom : Account G → List (ℕ × Entry G) → Type 0
   IsLegalFrom a [] = ⊤
-  IsLegalFrom a (e ∷ es) = MayFollow a e.0 e.1 × IsLegalFrom (step a e.0 e.1) es
+  IsLegalFrom a (e ∷ es) = MayComeNext a e.0 e.1 × IsLegalFrom (step a e.0 e.1) es
 
   -- each entry may follow those before it
   abbrev pub IsLegal : CoreState × PressState G → List (ℕ × Entry G) → Type 0
@@ -221,21 +221,21 @@ module _ {G : Type 0} where
   entry_by input moment number kinds.Entered = Happened input moment record { number = number; kind = kinds.Entered }
   entry_by input moment number kind = Looked (Tried input moment (Ok record { number = number; kind = kind }))
 
-  abbrev pub entry_of : Memo Input → ℕ → Result Ticket EnterFault → Entry G
-  entry_of input moment (Ok ticket) = entry_by input moment ticket.number ticket.kind
-  entry_of input moment (Err fault) = Looked (Tried input moment (Err fault))
+  abbrev pub entry_for : Memo Input → ℕ → Result Ticket EnterFault → Entry G
+  entry_for input moment (Ok ticket) = entry_by input moment ticket.number ticket.kind
+  entry_for input moment (Err fault) = Looked (Tried input moment (Err fault))
 
-  abbrev pub Gives : Entry G → ℕ → Type 0
-  Gives (Happened input moment ticket) to = ⊥
-  Gives (Looked look) to = ⊥
-  Gives (Taken upto) to = ⊥
-  Gives (Returned upto press) to = to ≤ upto
-  Gives (Failed upto) to = ⊥
+  abbrev pub GivesMark : Entry G → ℕ → Type 0
+  GivesMark (Happened input moment ticket) to = ⊥
+  GivesMark (Looked look) to = ⊥
+  GivesMark (Taken upto) to = ⊥
+  GivesMark (Returned upto press) to = to ≤ upto
+  GivesMark (Failed upto) to = ⊥
 
   -- the press came back with at least so many events written
   abbrev pub Licenses : List (ℕ × Entry G) → ℕ → Type 0
   Licenses [] to = ⊥
-  Licenses (e ∷ es) to = Gives e.1 to ⊎ Licenses es to
+  Licenses (e ∷ es) to = GivesMark e.1 to ⊎ Licenses es to
 
   pub Licenses_more : (h more : List (ℕ × Entry G)) (to : ℕ) → Licenses h to → Licenses (h ++ more) to
   Licenses_more [] more to l = absurd l

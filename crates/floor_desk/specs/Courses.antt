@@ -7,14 +7,14 @@ use Rattle.alarm_core.specs.declared.event.Event.{Event}
 use Rattle.alarm_journal.specs.Press.{PressState}
 use Rattle.state_codec.specs.Records.{HasRecord}
 use Rattle.floor_desk.specs.Accounts.{Account, Loan}
-use Rattle.floor_desk.specs.Prefixes.{RestsOn, behind}
+use Rattle.floor_desk.specs.Prefixes.{RestsOn, with_first}
 
 module _ {G : Type 0} where
   -- The state is the one that the events leave behind each history that the first state stands for. Each event has a record. No datagram rests on more events than there are.
-  pub record IsCourse (origin : CoreState × PressState G) (a : Account G) : Type 0 where
+  pub record KeepsCourse (origin : CoreState × PressState G) (a : Account G) : Type 0 where
     pub events : a.state.events ≡ origin.0.events + length a.order
     pub site : a.state.site ≡ origin.0.site
-    pub stands : (history : List Event) → Represents origin.0 history → Represents a.state (behind history (length a.order) a.order)
+    pub stands : (history : List Event) → Represents origin.0 history → Represents a.state (with_first history (length a.order) a.order)
     pub recorded : All HasRecord a.order
     pub fit : All FitsEvent a.order
     pub rests : RestsOn a.state.events a.dues

@@ -27,14 +27,14 @@ module _ {G : Type 0} (origin : CoreState × PressState G) where
 
 module _ {G : Type 0} (disk_faults : G → ℕ) (origin : CoreState × PressState G) where
   -- one entry of this call
-  pub record Adds (p q : Known (Entry G) (CoreState × PressState G)) (e : Entry G) : Type 0 where
+  pub record MakesEntry (p q : Known (Entry G) (CoreState × PressState G)) (e : Entry G) : Type 0 where
     pub between : List (ℕ × Entry G)
     pub same : q ≡ record p { mine = p.mine ++ e ∷ []; seen = (p.seen ++ between) ++ (p.number, e) ∷ [] }
     pub legal : IsLegal disk_faults origin q.seen
 
   -- the press left, with all events of that moment
-  pub record Takes (p q : Known (Entry G) (CoreState × PressState G)) (upto : ℕ) : Type 0 where
-    pub adds : Adds p q (Taken upto)
+  pub record TakesPress (p q : Known (Entry G) (CoreState × PressState G)) (upto : ℕ) : Type 0 where
+    pub adds : MakesEntry p q (Taken upto)
     pub all : upto ≡ (account origin (p.seen ++ adds.between)).state.events
     pub has : HasTaken origin q upto
 
@@ -47,10 +47,10 @@ module _ {G : Type 0} (disk_faults : G → ℕ) (origin : CoreState × PressStat
     pub legal : IsLegal disk_faults origin q.seen
 
   -- what a commit has done: all events were written that there were as the press left, and the mark is no lower; or the disk failed; or the commit was refused
-  abbrev pub Commits : Known (Entry G) (CoreState × PressState G) → Known (Entry G) (CoreState × PressState G) → Result ℕ CommitFault → Type 0
-  Commits p q (Ok upto) = (memo : Memo (PressState G)) × Leaves p q upto (Returned upto memo) (max p.mark upto)
-  Commits p q (Err commits.DiskFault) = (upto : ℕ) × Leaves p q upto (Failed upto) p.mark
-  Commits p q (Err fault) = Adds p q (Looked (Refused fault))
+  abbrev pub HasCommitted : Known (Entry G) (CoreState × PressState G) → Known (Entry G) (CoreState × PressState G) → Result ℕ CommitFault → Type 0
+  HasCommitted p q (Ok upto) = (memo : Memo (PressState G)) × Leaves p q upto (Returned upto memo) (max p.mark upto)
+  HasCommitted p q (Err commits.DiskFault) = (upto : ℕ) × Leaves p q upto (Failed upto) p.mark
+  HasCommitted p q (Err fault) = MakesEntry p q (Looked (Refused fault))
 
 module _ {G : Type 0} where
   -- the pass waited for the press, and has seen more
@@ -60,6 +60,6 @@ module _ {G : Type 0} where
     pub same : q ≡ record p { mine = p.mine ++ replicate count (Looked Closing); seen = q.seen }
 
   -- what is told of the event with a number, and the mark that the pass then knows
-  abbrev pub IsTold : ℕ → Known (Entry G) (CoreState × PressState G) → Known (Entry G) (CoreState × PressState G) → Standing → Type 0
-  IsTold number p q (Durable mark) = (number ≤ mark) × (p.mark ≤ mark) × (q ≡ record p { mark = mark })
-  IsTold number p q (NotYet mark) = (mark < number) × (p.mark ≤ mark) × (q ≡ record p { mark = mark })
+  abbrev pub TellsStanding : ℕ → Known (Entry G) (CoreState × PressState G) → Known (Entry G) (CoreState × PressState G) → Standing → Type 0
+  TellsStanding number p q (Durable mark) = (number ≤ mark) × (p.mark ≤ mark) × (q ≡ record p { mark = mark })
+  TellsStanding number p q (NotYet mark) = (mark < number) × (p.mark ≤ mark) × (q ≡ record p { mark = mark })

@@ -1,4 +1,4 @@
--- What a journal holds of a history, and what a crash leaves of one commit.
+-- What a journal holds of a history, what a crash leaves of one commit, and why a journal is refused.
 use Rattle.std.specs.Prelude.{◌⊎◌, ℕ, Option, Some, None, List, length}
 use Rattle.ground_io.specs.Trace.{Told, disk_of}
 use Rattle.alarm_journal.specs.Journal.{Content}
@@ -6,6 +6,8 @@ use Rattle.alarm_journal.specs.Journal.{Site as Journal}
 use Rattle.alarm_journal.specs.Press.{Lasts, Settled}
 use Rattle.alarm_journal.specs.Protocol.{Leads}
 use Rattle.alarm_journal.specs.declared.layout.Layout.{Layout}
+use Rattle.alarm_journal.specs.declared.open_fault.OpenFault.{OpenFault}
+use Rattle.alarm_journal.specs.declared.open_fault.OpenFault.TheVariants.{DiskFault, SmallDevice, Foreign, Damaged, NoMemory}
 use Rattle.alarm_core.specs.declared.event.Event.{Event}
 use Rattle.alarm_core.specs.declared.site.Site.{Site}
 use Rattle.state_codec.specs.Contents.{ImageStands, StandsForHistory}
@@ -32,3 +34,11 @@ abbrev pub StoodFor : Journal → Site → List Event → Option Told → Option
 StoodFor journal site history (Some old) (Some new) = ImageStands journal site (disk_of old).contents history
 StoodFor journal site history None new = ⊥
 StoodFor journal site history old None = ⊥
+
+-- A journal isn't opened for what its device is: a device whose call failed, or want of memory, tells nothing of that.
+abbrev pub IsJournalRefusal : OpenFault → Type 0
+IsJournalRefusal DiskFault = ⊥
+IsJournalRefusal (SmallDevice size need) = Unit {0}
+IsJournalRefusal (Foreign at) = Unit {0}
+IsJournalRefusal (Damaged at) = Unit {0}
+IsJournalRefusal NoMemory = ⊥

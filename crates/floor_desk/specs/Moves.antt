@@ -43,11 +43,11 @@ module _ {G : Type 0} where
     pub enters : MayEnter old.core answer
 
   -- what came of an answer
-  abbrev pub Comes : FloorState G → FloorState G → Answer → Result Ticket EnterFault → Type 0
-  Comes old new answer (Ok ticket) = Accepts old new answer × IsTicketOf old.core.events answer ticket
-  Comes old new answer (Err (enters.Full would limit)) = Accepts old new answer × (reply : Option Send) × (answer ≡ Full would limit reply)
-  Comes old new answer (Err enters.NoMemory) = new ≡ old
-  Comes old new answer (Err fault) = ⊥
+  abbrev pub CameOf : FloorState G → FloorState G → Answer → Result Ticket EnterFault → Type 0
+  CameOf old new answer (Ok ticket) = Accepts old new answer × IsTicketOf old.core.events answer ticket
+  CameOf old new answer (Err (enters.Full would limit)) = Accepts old new answer × (reply : Option Send) × (answer ≡ Full would limit reply)
+  CameOf old new answer (Err enters.NoMemory) = new ≡ old
+  CameOf old new answer (Err fault) = ⊥
 
   abbrev pub IsNotBroken : Spot G → Type 0
   IsNotBroken (Home press) = Unit {0}
@@ -59,14 +59,20 @@ module _ {G : Type 0} where
   IsNotOut (Out place upto) = ⊥
   IsNotOut (Broken device place) = Unit {0}
 
+  -- the ground of a press that is at home, or what is left of one that is lost
+  abbrev pub IsGroundOf : Spot G → G → Type 0
+  IsGroundOf (Home press) device = device ≡ press.device
+  IsGroundOf (Out place upto) device = ⊥
+  IsGroundOf (Broken left place) device = device ≡ left
+
   -- a commit has to come first
-  abbrev pub IsFull : FloorState G → Type 0
-  IsFull floor = (most_calls ≤ floor.calls) ⊎ (most_record_octets < length floor.records)
+  abbrev pub NeedsCommit : FloorState G → Type 0
+  NeedsCommit floor = (most_calls ≤ floor.calls) ⊎ (most_record_octets < length floor.records)
 
   -- why no input is looked at
   abbrev pub Refuses : FloorState G → EnterFault → Type 0
   Refuses floor (enters.Stopped at) = (device : G) × (floor.spot ≡ Broken device at)
-  Refuses floor (enters.Behind pending octets) = IsNotBroken floor.spot × IsFull floor × (pending ≡ floor.calls) × (octets ≡ length floor.records)
+  Refuses floor (enters.Behind pending octets) = IsNotBroken floor.spot × NeedsCommit floor × (pending ≡ floor.calls) × (octets ≡ length floor.records)
   Refuses floor fault = ⊥
 
   pub record IsReady (floor : FloorState G) : Type 0 where

@@ -4,10 +4,12 @@ use Rattle.ground_io.specs.Trace.{Told, disk_of}
 use Rattle.alarm_journal.specs.Journal.{opened_from}
 use Rattle.alarm_journal.specs.Opened.{StandsAt, content_in}
 use Rattle.alarm_journal.specs.declared.open_fault.OpenFault.{OpenFault}
-use Rattle.alarm_journal.specs.declared.open_fault.OpenFault.TheVariants.{Damaged}
+use Rattle.alarm_journal.specs.declared.open_fault.OpenFault.TheVariants.{Damaged, NoMemory}
 use Rattle.alarm_journal.specs.declared.opened.Opened.{Opened}
 use Rattle.alarm_core.specs.declared.site.Site.{Site}
 use Rattle.state_codec.specs.DamageSteps.{IsDamagedAt}
+use Rattle.state_codec.specs.declared.recovering.RecoverFault.{RecoverFault}
+use Rattle.state_codec.specs.declared.recovering.RecoverFault.TheVariants as recovering
 use Rattle.floor_desk.specs.Keeping.{journal_of}
 
 -- the octets opened, and stand as they were opened, but a snapshot or a record at this place can't be there
@@ -16,6 +18,11 @@ pub record IsDamagedWithin (site : Site) (text : List ℕ) (old new : Told) (at 
   pub opens : opened_from (journal_of site text) (disk_of old).contents ≡ Ok (content_in opened)
   pub stands : StandsAt opened (disk_of new).contents
   pub damaged : IsDamagedAt site opened at
+
+-- A snapshot or a record that can't be there is damage; want of memory stays one.
+abbrev pub open_fault_of : RecoverFault → OpenFault
+open_fault_of (recovering.Damaged at) = Damaged at
+open_fault_of recovering.NoMemory = NoMemory
 
 -- where it tells, and goes on telling
 abbrev pub IsRefusedFor : Site → List ℕ → Option Told → Option Told → OpenFault → Type 0

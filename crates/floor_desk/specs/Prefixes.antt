@@ -11,9 +11,9 @@ use Rattle.alarm_journal.specs.Journal.{Site as Journal}
 use Rattle.state_codec.specs.Contents.{ImageStands}
 use Rattle.floor_desk.specs.Accounts.{Due}
 
--- a history, and the first events of an order behind it
-abbrev pub behind : List Event → ℕ → List Event → List Event
-behind history count order = reverse (take count order) ++ history
+-- a history, with the first events of an order behind it
+abbrev pub with_first : List Event → ℕ → List Event → List Event
+with_first history count order = reverse (take count order) ++ history
 
 -- each of these datagrams rests on no more events
 abbrev pub RestsOn : ℕ → List Due → Type 0
@@ -25,7 +25,7 @@ pub record LeavesPrefix (journal : Journal) (site : Site) (history order : List 
   pub within : count ≤ length order
   pub owed : length sent ≤ length dues
   pub covers : RestsOn (length history + count) (take (length sent) dues)
-  pub stands : ImageStands journal site image (behind history count order)
+  pub stands : ImageStands journal site image (with_first history count order)
 
 -- one datagram was sent, or lost
 abbrev pub Settles : Send → Entry → Type 0

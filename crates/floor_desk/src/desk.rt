@@ -1,29 +1,38 @@
 //! A floor that callers share, each in a thread of its own.
 
-ghost use Rattle.std.specs.Prelude.{◌≡◌, ◌∷◌, ℕ, IfErr, IfOk, IsOkAnd};
+ghost use Rattle.std.specs.Prelude.{◌≡◌, ◌≤◌, List, [], ◌∷◌, ℕ, IfErr, IfOk, IsOkAnd, MatchResult, length};
+ghost use Rattle.ground_io.specs.Counts.{HasCause};
 ghost use Rattle.bac_values.specs.Moments.{IsMoment};
 ghost use Rattle.bac_values.specs.declared.input.Input.{Input as Entered};
 ghost use Rattle.turnstile.specs.Histories.{times};
-ghost use Rattle.turnstile.specs.Passes.{IsNewFrom, IsOf, Joins, Known, Sees, all_calls, first_pass};
+ghost use Rattle.turnstile.specs.Passes.{IsNewFrom, IsOf, Joins, all_calls, first_pass};
 ghost use Rattle.turnstile.specs.declared.memo.Memo.{Memo as Kept};
+ghost use Rattle.alarm_core.specs.Allowed.{Represents};
 ghost use Rattle.alarm_core.specs.Limits.{KeepsLimits};
-ghost use Rattle.alarm_core.specs.State.{CoreState};
-ghost use Rattle.alarm_journal.specs.Press.{PressState, room_of};
+ghost use Rattle.alarm_core.specs.Sites.{IsSite};
+ghost use Rattle.alarm_core.specs.declared.event.Event.{Event as Happening};
+ghost use Rattle.alarm_journal.specs.Press.{Reopens, ReopensSynced, room_of};
+ghost use Rattle.alarm_journal.specs.declared.open_fault.OpenFault.TheVariants as refusals;
+ghost use Rattle.state_codec.specs.Sizes.{most_text};
 ghost use Rattle.floor_desk.specs.declared.entry.Entry.{Entry as Step};
 ghost use Rattle.floor_desk.specs.declared.entry.Entry.TheVariants.{Looked};
 ghost use Rattle.floor_desk.specs.declared.entry.Look.TheVariants.{Refused};
-ghost use Rattle.floor_desk.specs.Accounts.{Licenses, account, entry_of};
-ghost use Rattle.floor_desk.specs.Carrying.{FitsPress, IsCarried, LeftWith, Tells};
-ghost use Rattle.floor_desk.specs.Desks.{Adds, Commits, HasTaken, IsTold, Takes, Waited};
+ghost use Rattle.floor_desk.specs.Accounts.{account, entry_for};
+ghost use Rattle.floor_desk.specs.Carrying.{FitsPress, IsCarriedOut, LeftWith, TellsCarried};
+ghost use Rattle.floor_desk.specs.Desks.{HasCommitted, HasTaken, MakesEntry, TakesPress, TellsStanding};
+ghost use Rattle.floor_desk.specs.Emission.{Emits};
+ghost use Rattle.floor_desk.specs.Ending.{IsClosed};
+ghost use Rattle.floor_desk.specs.Keeping.{HoldsHistory, IsJournalRefusal, StoodFor, journal_of};
 ghost use Rattle.floor_desk.specs.Moves.{IsNotOut};
-ghost use Rattle.floor_desk.specs.Standing.{FloorStands};
+ghost use Rattle.floor_desk.specs.OpeningSteps.{IsRefusedFor};
 
 use crate::entry::{Entry, Look, Ticket};
 use crate::faults::{CommitFault, EnterFault};
 use crate::floor::Floor;
 use crate::load::{Carried, Load};
-use alarm_core::Core;
-use alarm_journal::Press;
+use crate::opening::open_journal;
+use alarm_core::{Core, Site};
+use alarm_journal::{OpenFault, Press};
 use bac_values::Input;
 use ground_io::Ground;
 use std::alloc::Global;
@@ -49,6 +58,13 @@ pub enum Standing {
     },
 }
 
+/// What a journal held as its desk was opened.
+#[derive(Clone, Copy, Debug, PartialEq, Eq, Drop)]
+pub struct Opening {
+    /// How many events.
+    pub events: u64,
+}
+
 /// A floor that threads share.
 pub struct Desk<G: Ground> {
     turnstile: Turnstile<Floor<G>>,
@@ -65,23 +81,67 @@ impl<G: Ground> Model for Desk<G> {
 }
 
 impl<G: Ground> Desk<G> {
-    /// A desk over a floor whose press is at home, and its first pass. Where there is no memory both come back.
-    pub fn open(
-        alloc: Global,
-        core: Core,
-        press: Press<G>,
-    ) -> Result<(Desk<G>, DeskPass<G>), (Core, Press<G>, NoMemory)>
+    // A desk over a core and a press, and its first pass. Where there is no memory the press's ground comes back.
+    fn over(alloc: Global, core: Core, press: Press<G>) -> Result<(Desk<G>, DeskPass<G>), G>
         requires limits { KeepsLimits core.site }
         ensures origin { IfOk result (λ opened. opened.0.origin ≡ (core, press)) }
         ensures first { IfOk result (λ opened. opened.1 ≡ first_pass opened.0) }
-        ensures back { IfErr result (λ refused. (refused.0 ≡ core) × (refused.1 ≡ press)) }
+        ensures back { IfErr result (λ device. device ≡ press.device) }
     {
         match Turnstile::open(alloc, Floor::new(alloc, core, press)) {
             Ok((turnstile, pass)) => Ok((Desk { turnstile }, pass)),
-            Err((floor, refused)) => {
-                let (core, press) = floor.into_parts();
-                Err((core, press, refused))
-            }
+            Err((floor, NoMemory)) => Err(floor.into_ground()),
+        }
+    }
+
+    /// Opens the journal of a site, whose text is given, and a desk that goes on with it, with its first pass. A blank device
+    /// is formatted. An `Err` gives the ground back.
+    pub fn open(
+        alloc: Global,
+        site: &Site,
+        text: &[u8],
+        device: G,
+    ) -> Result<(Desk<G>, DeskPass<G>, Opening), (G, OpenFault)>
+        requires site { IsSite site.now }
+        requires limits { KeepsLimits site.now }
+        requires short { length text.now ≤ most_text }
+        ensures site { IfOk result (λ opened. opened.0.origin.0.site ≡ site.now) }
+        ensures first { IfOk result (λ opened. opened.1 ≡ first_pass opened.0) }
+        ensures opening { IfOk result (λ opened. opened.2.events ≡ opened.0.origin.0.events) }
+
+        // A history that the device's octets stood for is what the desk's core represents and its press holds.
+        ensures represents { (history : List Happening) → IfOk result (λ opened. StoodFor (journal_of site.now text.now) site.now history (G.told device) (G.told opened.0.origin.1.device)
+            → Represents opened.0.origin.0 history) }
+        ensures holds { (history : List Happening) → IfOk result (λ opened. StoodFor (journal_of site.now text.now) site.now history (G.told device) (G.told opened.0.origin.1.device)
+            → HoldsHistory (journal_of site.now text.now) site.now history opened.0.origin.1.layout (G.told opened.0.origin.1.device)) }
+
+        // A crash at any moment from the first sync on, which an `Ok` has done, leaves what opens as the device did before;
+        // and nothing goes out.
+        ensures reopens { MatchResult result
+            (λ opened. ReopensSynced (journal_of site.now text.now) (G.told device) (G.told opened.0.origin.1.device))
+            (λ lost. Reopens (journal_of site.now text.now) (G.told device) (G.told lost.0)) }
+        ensures quiet { MatchResult result (λ opened. Emits (G.told device) (G.told opened.0.origin.1.device) []) (λ lost. Emits (G.told device) (G.told lost.0) []) }
+
+        // The journal is refused for what its octets are, and never where they stood for a history.
+        ensures refused { IfErr result (λ lost. IsJournalRefusal lost.1 → IsRefusedFor site.now text.now (G.told device) (G.told lost.0) lost.1) }
+        ensures stands { (history : List Happening) → IfErr result (λ lost. StoodFor (journal_of site.now text.now) site.now history (G.told device) (G.told lost.0)
+            → IsJournalRefusal lost.1 → ⊥) }
+        ensures same { MatchResult result (λ opened. G.size opened.0.origin.1.device ≡ G.size device) (λ lost. G.size lost.0 ≡ G.size device) }
+        ensures emitted { MatchResult result (λ opened. G.emit_faults opened.0.origin.1.device ≡ G.emit_faults device) (λ lost. G.emit_faults lost.0 ≡ G.emit_faults device) }
+        ensures cause { MatchResult result
+            (λ opened. G.disk_faults device ≤ G.disk_faults opened.0.origin.1.device)
+            (λ lost. HasCause (G.disk_faults device) (G.disk_faults lost.0) (lost.1 ≡ refusals.DiskFault)) }
+    {
+        let (press, core) = match open_journal(alloc, site, text, device) {
+            Ok(opened) => opened,
+            Err((device, fault)) => return Err((device, fault)),
+        };
+        let opening = Opening {
+            events: core.events(),
+        };
+        match Desk::over(alloc, core, press) {
+            Ok((desk, pass)) => Ok((desk, pass, opening)),
+            Err(device) => Err((device, OpenFault::NoMemory)),
         }
     }
 
@@ -97,7 +157,7 @@ impl<G: Ground> Desk<G> {
         requires here { IsOf self.now pass }
         requires moment { IsMoment moment }
         ensures here { IsOf self.now result.0 }
-        ensures entered { (memo : Kept Entered) × (memo.value ≡ input) × Adds G.disk_faults self.now.origin pass result.0 (entry_of memo moment result.1) }
+        ensures entered { (memo : Kept Entered) × (memo.value ≡ input) × MakesEntry G.disk_faults self.now.origin pass result.0 (entry_for memo moment result.1) }
     {
         let memo = Memo::of(&input);
         let mut turn = self.turnstile.take(rt, pass);
@@ -115,8 +175,8 @@ impl<G: Ground> Desk<G> {
     ) -> (DeskPass<G>, Result<Load<G>, CommitFault>)
         requires here { IsOf self.now pass }
         ensures here { IsOf self.now result.0 }
-        ensures refused { IfErr result.1 (λ fault. Adds G.disk_faults self.now.origin pass result.0 (Looked (Refused fault))) }
-        ensures taken { IfOk result.1 (λ load. Takes G.disk_faults self.now.origin pass result.0 load.upto) }
+        ensures refused { IfErr result.1 (λ fault. MakesEntry G.disk_faults self.now.origin pass result.0 (Looked (Refused fault))) }
+        ensures taken { IfOk result.1 (λ load. TakesPress G.disk_faults self.now.origin pass result.0 load.upto) }
         ensures lends { IfOk result.1 (λ load. LeftWith G.told self.now.origin (account self.now.origin result.0.seen) load) }
         ensures fits { IfOk result.1 (λ load. FitsPress (room_of load.press.layout) load.press.layout.half load.work) }
     {
@@ -136,9 +196,9 @@ impl<G: Ground> Desk<G> {
     // The press that this pass took comes back, or what is left of it.
     fn return_press<R: Wait>(&self, rt: &R, pass: DeskPass<G>, carried: Carried<G>) -> DeskPass<G>
         requires here { IsOf self.now pass }
-        requires taken { (upto : ℕ) × HasTaken self.now.origin pass upto × IsCarried G.told G.disk_faults self.now.origin (account self.now.origin pass.seen) upto (account self.now.origin pass.seen).taken carried }
+        requires taken { (upto : ℕ) × HasTaken self.now.origin pass upto × IsCarriedOut G.told G.disk_faults self.now.origin (account self.now.origin pass.seen) upto (account self.now.origin pass.seen).taken carried }
         ensures here { IsOf self.now result }
-        ensures adds { (entry : Step G) × Tells carried entry × Adds G.disk_faults self.now.origin pass result entry }
+        ensures adds { (entry : Step G) × TellsCarried carried entry × MakesEntry G.disk_faults self.now.origin pass result entry }
     {
         let entry = carried.entry();
         let mut turn = self.turnstile.take(rt, pass);
@@ -156,7 +216,7 @@ impl<G: Ground> Desk<G> {
     ) -> (DeskPass<G>, Result<u64, CommitFault>)
         requires here { IsOf self.now pass }
         ensures here { IsOf self.now result.0 }
-        ensures commits { Commits G.disk_faults self.now.origin pass result.0 result.1 }
+        ensures commits { HasCommitted G.disk_faults self.now.origin pass result.0 result.1 }
     {
         let (pass, load) = self.take_press(rt, alloc, pass);
         let load = match load {
@@ -179,7 +239,7 @@ impl<G: Ground> Desk<G> {
     pub fn standing(&self, pass: DeskPass<G>, ticket: &Ticket) -> (DeskPass<G>, Standing)
         requires here { IsOf self.now pass }
         ensures here { IsOf self.now result.0 }
-        ensures told { IsTold ticket.now.number pass result.0 result.1 }
+        ensures told { TellsStanding ticket.now.number pass result.0 result.1 }
     {
         let (pass, mark) = self.turnstile.load_mark(pass);
         if ticket.number <= mark {
@@ -215,7 +275,7 @@ impl<G: Ground> Desk<G> {
     pub fn close<R: Wait>(self, rt: &R, pass: DeskPass<G>) -> Floor<G>
         requires here { IsOf self pass }
         ensures origin { result.origin ≡ self.origin }
-        ensures stands { (q r : Known (Step G) (CoreState × PressState G)) × Waited pass q × Sees Licenses q r × FloorStands G.told G.disk_faults result r.seen }
+        ensures closed { IsClosed G.told G.disk_faults pass result }
         ensures home { IsNotOut result.spot }
     {
         let mut pass = pass;
@@ -225,7 +285,8 @@ impl<G: Ground> Desk<G> {
                 pass = self.turnstile.give(turn, &Entry::Looked(Look::Closing));
             } else {
                 let Desk { turnstile } = self;
-                return turnstile.close(turn);
+                let next = turn.place;
+                return turnstile.close(turn).ended_at(next);
             }
         }
         unreachable!()

@@ -1,7 +1,7 @@
 //! The entries of a floor's history: one for each turn.
 
 ghost use Rattle.std.specs.Prelude.{◌≡◌};
-ghost use Rattle.floor_desk.specs.Accounts.{entry_of};
+ghost use Rattle.floor_desk.specs.Accounts.{entry_for};
 
 use crate::faults::{CommitFault, EnterFault};
 use alarm_journal::Press;
@@ -94,7 +94,7 @@ impl<G: Ground> Entry<G> {
         moment: u64,
         answer: Result<Ticket, EnterFault>,
     ) -> Entry<G>
-        ensures entry { result ≡ entry_of input moment answer }
+        ensures entry { result ≡ entry_for input moment answer }
     {
         if let Ok(ticket) = answer {
             if matches!(ticket.kind, Kind::Entered) {

@@ -19,17 +19,21 @@ ghost use Rattle.state_codec.specs.Records.{HasRecord, written_event};
 ghost use Rattle.floor_desk.specs.declared.entry.Entry.{Entry as Step};
 ghost use Rattle.floor_desk.specs.declared.entry.Entry.TheVariants.{Looked, Taken};
 ghost use Rattle.floor_desk.specs.declared.entry.Look.TheVariants.{Refused};
+ghost use Rattle.floor_desk.specs.declared.faults.CommitFault.TheVariants as commits;
 ghost use Rattle.floor_desk.specs.declared.faults.EnterFault.TheVariants as enters;
 ghost use Rattle.floor_desk.specs.declared.floor.Spot.TheVariants.{Home, Out};
-ghost use Rattle.floor_desk.specs.Accounts.{Loan, account, entry_of};
-ghost use Rattle.floor_desk.specs.Carrying.{FitsPress, IsCarried, Lends, Tells};
-ghost use Rattle.floor_desk.specs.Moves.{Comes, Hinders, IsLentBy, IsNotOut, IsReady, Refuses};
+ghost use Rattle.floor_desk.specs.Accounts.{Loan, account, entry_for};
+ghost use Rattle.floor_desk.specs.Carrying.{FitsPress, IsCarriedOut, Lends, TellsCarried};
+ghost use Rattle.floor_desk.specs.Ending.{IsLastCommit};
+ghost use Rattle.floor_desk.specs.Moves.{CameOf, Hinders, IsGroundOf, IsLentBy, IsNotOut, IsReady, Refuses};
+ghost use Rattle.floor_desk.specs.Prefixes.{capped};
 ghost use Rattle.floor_desk.specs.Standing.{FloorStands};
 
 use crate::entry::{Entry, Kind, Ticket};
 use crate::faults::{CommitFault, EnterFault};
-use crate::load::{Carried, Load, work_of};
+use crate::load::{Carried, Load};
 use crate::pending::Pending;
+use crate::work::work_of;
 use alarm_core::{Core, Event, Outcome, StepFault, event_fits};
 use alarm_journal::Press;
 use bac_values::{Input, Items, NoMemory, Send, single};
@@ -45,6 +49,9 @@ use turnstile::{Chronicle, Memo};
 
 /// How many events a history may have. One more is as good as no memory for it.
 const MOST_EVENTS: u64 = 1 << 63;
+
+/// No press leaves at so late a place of the history: it is as good as no memory for it.
+const MOST_PLACES: u64 = 1 << 63;
 
 /// Where the press is.
 #[derive(Drop)]
@@ -73,7 +80,9 @@ pub struct Floor<G: Ground> {
     core: Core,
     pending: Pending,
     lost: u64,
+    durable: u64,
     spot: Spot<G>,
+    next: u64,
     opened: (Memo<Core>, Memo<Press<G>>),
 }
 
@@ -91,7 +100,9 @@ impl<G: Ground> Model for Floor<G> {
       sends = flat_map (λ sends. sends) floor.pending.sends.items;
       calls = floor.pending.calls;
       lost = floor.lost;
+      durable = floor.durable;
       spot = floor.spot;
+      next = floor.next;
       origin = (floor.opened.0.value, floor.opened.1.value);
     } };
 
@@ -206,26 +217,50 @@ impl<G: Ground> Floor<G> {
         ensures home { (result.core ≡ core) × (result.spot ≡ Home press) }
     {
         let opened = (Memo::of(&core), Memo::of(&press));
+        let durable = core.events();
         Floor {
             core,
             pending: Pending::new(alloc),
             lost: 0,
+            durable,
             spot: Spot::Home(press),
+            next: 0,
             opened,
         }
     }
 
-    // The core and the press of a floor with the press at home.
-    pub(crate) fn into_parts(self) -> (Core, Press<G>)
-        requires home { (press : PressState G) × (self.spot ≡ Home press) }
-        ensures core { result.0 ≡ self.core }
-        ensures press { self.spot ≡ Home result.1 }
+    /// How many events there are.
+    pub fn events(&self) -> u64
+        ensures events { result ≡ self.now.core.events }
     {
-        let Floor { core, spot, .. } = self;
-        let Spot::Home(press) = spot else {
-            unreachable!()
-        };
-        (core, press)
+        self.core.events()
+    }
+
+    /// How many datagrams were lost since the opening, as far as 64 bits go.
+    pub fn lost(&self) -> u64
+        ensures lost { result ≡ self.now.lost }
+    {
+        self.lost
+    }
+
+    /// The number of the last event that is written.
+    pub fn durable(&self) -> u64
+        ensures durable { result ≡ self.now.durable }
+    {
+        self.durable
+    }
+
+    /// The ground of the press that is at home, or what is left of one that is lost.
+    pub fn into_ground(self) -> G
+        requires home { IsNotOut self.spot }
+        ensures device { IsGroundOf self.spot result }
+    {
+        let Floor { spot, .. } = self;
+        match spot {
+            Spot::Home(press) => press.into_ground(),
+            Spot::Broken { device, .. } => device,
+            Spot::Out { .. } => unreachable!(),
+        }
     }
 
     // Whether the press is out.
@@ -251,7 +286,7 @@ impl<G: Ground> Floor<G> {
     // An input that is answered without an event.
     fn reply(&mut self, alloc: Global, send: Send) -> Result<Ticket, EnterFault>
         requires few { self.old.calls < 1024 }
-        ensures comes { Comes self.old self.new (Replied send) result }
+        ensures comes { CameOf self.old self.new (Replied send) result }
     {
         let sends = match listed(alloc, Some(send)) {
             Ok(sends) => sends,
@@ -276,7 +311,7 @@ impl<G: Ground> Floor<G> {
         requires allowed { IsAllowed self.old.core event.act }
         requires few { self.old.calls < 1024 }
         requires short { length self.old.records ≤ 57952 }
-        ensures comes { Comes self.old self.new (entering (raised self.old.core.last_moment event) reply full (step_verdict (raised self.old.core.last_moment event) self.old.core)) result }
+        ensures comes { CameOf self.old self.new (entering (raised self.old.core.last_moment event) reply full (step_verdict (raised self.old.core.last_moment event) self.old.core)) result }
     {
         if self.core.events() >= MOST_EVENTS {
             return Err(EnterFault::NoMemory);
@@ -312,7 +347,7 @@ impl<G: Ground> Floor<G> {
         requires moment { IsMoment moment }
         requires few { self.old.calls < 1024 }
         requires short { length self.old.records ≤ 57952 }
-        ensures comes { Comes self.old self.new (answer_to self.old.core input.now moment) result }
+        ensures comes { CameOf self.old self.new (answer_to self.old.core input.now moment) result }
     {
         let decision = match decide(alloc, &self.core, input, moment) {
             Ok(decision) => decision,
@@ -348,7 +383,7 @@ impl<G: Ground> Floor<G> {
     /// whose requester is told, nothing has changed behind one.
     pub fn admit(&mut self, alloc: Global, moment: u64, input: Input) -> Result<Ticket, EnterFault>
         requires moment { IsMoment moment }
-        ensures stands { (h : List (ℕ × Step G)) (n : ℕ) (memo : Kept Entered) → memo.value ≡ input → FloorStands G.told G.disk_faults self.old h → FloorStands G.told G.disk_faults self.new (h ++ (n, entry_of memo moment result) ∷ []) }
+        ensures stands { (h : List (ℕ × Step G)) (n : ℕ) (memo : Kept Entered) → memo.value ≡ input → FloorStands G.told G.disk_faults self.old h → FloorStands G.told G.disk_faults self.new (h ++ (n, entry_for memo moment result) ∷ []) }
         ensures refused { IfErr result (λ fault. self.new.core ≡ self.old.core) }
         ensures same { IfErr result (λ fault. ((would limit : ℕ) → fault ≢ enters.Full would limit) → self.new ≡ self.old) }
         ensures origin { self.new.origin ≡ self.old.origin }
@@ -362,6 +397,7 @@ impl<G: Ground> Floor<G> {
     // The press leaves, with all that is pending; or why it doesn't.
     fn lend_now(&mut self, alloc: Global, place: u64) -> Result<Load<G>, CommitFault>
         ensures lent { IfOk result (λ load. IsLentBy self.old self.new place load) }
+        ensures few { IfOk result (λ load. place < 2 ^ 63) }
         ensures fits { IfOk result (λ load. FitsPress (room_of load.press.layout) load.press.layout.half load.work) }
         ensures hindered { IfErr result (λ fault. (self.new ≡ self.old) × Hinders self.old fault) }
     {
@@ -378,6 +414,9 @@ impl<G: Ground> Floor<G> {
         let upto = self.core.events();
         if self.pending.calls == 0 {
             return Err(CommitFault::Nothing { upto });
+        }
+        if place >= MOST_PLACES {
+            return Err(CommitFault::NoMemory);
         }
         let work = match work_of(alloc, &self.core, press, self.pending.records.as_slice()) {
             Ok(work) => work,
@@ -407,17 +446,21 @@ impl<G: Ground> Floor<G> {
             → Lends G.told self.old.origin (account self.old.origin h) load × FloorStands G.told G.disk_faults self.new (h ++ (n, Taken load.upto) ∷ [])) }
         ensures fits { IfOk result (λ load. FitsPress (room_of load.press.layout) load.press.layout.half load.work) }
         ensures refused { IfErr result (λ fault. (h : List (ℕ × Step G)) (n : ℕ) → FloorStands G.told G.disk_faults self.old h → FloorStands G.told G.disk_faults self.new (h ++ (n, Looked (Refused fault)) ∷ [])) }
+        ensures out { IfOk result (λ load. self.new.spot ≡ Out place load.upto) }
+        ensures few { IfOk result (λ load. place < 2 ^ 63) }
+        ensures hinders { IfErr result (λ fault. Hinders self.old fault) }
         ensures same { IfErr result (λ fault. self.new ≡ self.old) }
         ensures origin { self.new.origin ≡ self.old.origin }
     {
         self.lend_now(alloc, place)
     }
 
-    // The press is no longer out, and so many datagrams more were lost.
-    fn end_loan(&mut self, spot: Spot<G>, lost: u64)
+    // The press is no longer out, the events up to this one are written, and so many datagrams more were lost.
+    fn end_loan(&mut self, spot: Spot<G>, durable: u64, lost: u64)
         requires out { (at : ℕ) × (upto : ℕ) × (self.old.spot ≡ Out at upto) }
-        ensures ended { self.new ≡ record self.old { spot = spot; lost = min (self.old.lost + lost) (2 ^ 64 - 1) } }
+        ensures ended { self.new ≡ record self.old { spot = spot; durable = durable; lost = min (self.old.lost + lost) (2 ^ 64 - 1) } }
     {
+        self.durable = durable;
         self.lost = self.lost.saturating_add(lost);
         let before = mem::replace(&mut self.spot, spot);
         let Spot::Out { .. } = before else {
@@ -428,17 +471,60 @@ impl<G: Ground> Floor<G> {
     /// The press comes back, or what is left of it, and the entry of this turn stands at this place. It takes no memory.
     pub fn bring(&mut self, place: u64, carried: Carried<G>)
         requires out { (at : ℕ) × (upto : ℕ) × (self.old.spot ≡ Out at upto) }
-        ensures stands { (h : List (ℕ × Step G)) (loan : Loan) (entry : Step G) → place ≡ length h + 1 → Tells carried entry → FloorStands G.told G.disk_faults self.old h → (account self.old.origin h).loan ≡ Some loan
-            → IsCarried G.told G.disk_faults self.old.origin (account self.old.origin h) loan.upto (account self.old.origin h).taken carried → FloorStands G.told G.disk_faults self.new (h ++ (loan.number, entry) ∷ []) }
+        ensures stands { (h : List (ℕ × Step G)) (loan : Loan) (entry : Step G) → place ≡ length h + 1 → TellsCarried carried entry → FloorStands G.told G.disk_faults self.old h → (account self.old.origin h).loan ≡ Some loan
+            → IsCarriedOut G.told G.disk_faults self.old.origin (account self.old.origin h) loan.upto (account self.old.origin h).taken carried → FloorStands G.told G.disk_faults self.new (h ++ (loan.number, entry) ∷ []) }
+        ensures home { IsNotOut self.new.spot }
         ensures origin { self.new.origin ≡ self.old.origin }
     {
         match carried {
-            Carried::Home {
-                press,
-                upto: _,
-                lost,
-            } => self.end_loan(Spot::Home(press), lost),
-            Carried::Broken { device, upto: _ } => self.end_loan(Spot::Broken { device, place }, 0),
+            Carried::Home { press, upto, lost } => self.end_loan(Spot::Home(press), upto, lost),
+            Carried::Broken { device, upto: _ } => {
+                let durable = self.durable();
+                self.end_loan(Spot::Broken { device, place }, durable, 0);
+            }
+        }
+    }
+
+    // Of a floor that was closed, the place of the next entry.
+    fn next(&self) -> u64
+        ensures next { result ≡ self.now.next }
+    {
+        self.next
+    }
+
+    // The floor of a desk that was closed, with the place of its next entry.
+    pub(crate) fn ended_at(self, next: u64) -> Floor<G>
+        ensures ended { result ≡ record self { next = next } }
+    {
+        let mut floor = self;
+        floor.next = next;
+        floor
+    }
+
+    /// Commits on a floor whose desk was closed, as the pass that closed it would have: writes all that is pending and then
+    /// emits what is owed. `Ok` tells the number of the last event that is written.
+    pub fn settle(self, alloc: Global) -> (Floor<G>, Result<u64, CommitFault>)
+        requires home { IsNotOut self.spot }
+        ensures settled { (h : List (ℕ × Step G)) (n : ℕ) → self.next ≡ length h + 1 → FloorStands G.told G.disk_faults self h → IsLastCommit G.told G.disk_faults self result.0 h n result.1 }
+        ensures same { IfErr result.1 (λ fault. fault ≢ commits.DiskFault → result.0 ≡ record self { next = capped (self.next + 1) }) }
+        ensures origin { result.0.origin ≡ self.origin }
+        ensures home { IsNotOut result.0.spot }
+    {
+        let mut floor = self;
+        let place = floor.next();
+        let load = match floor.lend(alloc, place) {
+            Ok(load) => load,
+            Err(fault) => return (floor.ended_at(place.saturating_add(1)), Err(fault)),
+        };
+        match load.carry_out() {
+            Carried::Home { press, upto, lost } => {
+                floor.bring(place + 1, Carried::Home { press, upto, lost });
+                (floor.ended_at(place + 2), Ok(upto))
+            }
+            Carried::Broken { device, upto } => {
+                floor.bring(place + 1, Carried::Broken { device, upto });
+                (floor.ended_at(place + 2), Err(CommitFault::DiskFault))
+            }
         }
     }
 }

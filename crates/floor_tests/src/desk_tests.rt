@@ -1,66 +1,98 @@
-ghost use Rattle.std.specs.Prelude.{◌≡◌, IfOk};
+ghost use Rattle.std.specs.Prelude.{◌≡◌, ◌≤◌, IfOk};
 ghost use Rattle.turnstile.specs.Passes.{IsOf};
 ghost use Rattle.alarm_core.specs.Limits.{KeepsLimits};
+ghost use Rattle.alarm_core.specs.Sites.{IsSite};
 
 use crate::comparing::{holds, same};
-use crate::plant::{START, plant, tank};
-use alarm_core::Core;
-use alarm_journal::Press;
-use bac_values::{Input, ObjectId, ObjectKind, Value};
+use crate::plant::{START, operator, plant, tank};
+use alarm_core::Site;
+use bac_values::{Input, Items, ObjectId, ObjectKind, Value};
 use floor_desk::{CommitFault, Desk, DeskPass, EnterFault, Kind, Standing, Ticket};
-use ground_io::MemoryGround;
+use ground_io::{Entry, MemoryGround};
+use state_codec::need;
 use std::alloc::Global;
 use std::process::Abort;
 use std::sync::Wait;
 use std::test::Fail;
 
-type Shared = Desk<MemoryGround>;
+pub(crate) type Shared = Desk<MemoryGround>;
 
-type Caller = DeskPass<MemoryGround>;
+pub(crate) type Caller = DeskPass<MemoryGround>;
+
+// The text of the site.
+pub(crate) const TEXT: &[u8] = b"site";
 
 // The tank's value comes from the field.
-fn set(object: ObjectId, value: i32) -> Input {
+pub(crate) fn set(object: ObjectId, value: i32) -> Input {
     Input::Set {
         object,
         value: Value::Signed(value),
     }
 }
 
-fn entered(number: u64) -> Ticket {
+pub(crate) fn entered(number: u64) -> Ticket {
     Ticket {
         number,
         kind: Kind::Entered,
     }
 }
 
-// The core of a site with one tank.
-fn core_of(alloc: Global) -> Result<Core, Fail>
-    ensures limits { IfOk result (λ core. KeepsLimits core.site) }
-{
-    let site = plant(alloc, tank(alloc)?, 16)?;
-    Ok(Core::start(alloc, &site)?)
+fn replied(number: u64) -> Ticket {
+    Ticket {
+        number,
+        kind: Kind::Replied,
+    }
 }
 
-// The press of a blank journal, of whose calls these fail.
-fn press_of(rt: &impl Abort, alloc: Global, failing: &[u64]) -> Result<Press<MemoryGround>, Fail> {
-    let contents = vec![in alloc; 0u8; 120_000]?;
-    let device = MemoryGround::new(alloc, contents, failing.to_vec(alloc)?);
-    match Press::open(alloc, device, b"site", 100_000) {
-        Ok((press, _)) => Ok(press),
+// A site with one tank.
+pub(crate) fn site_of(alloc: Global) -> Result<Site, Fail>
+    ensures site { IfOk result (λ site. IsSite site) }
+    ensures limits { IfOk result (λ site. KeepsLimits site) }
+{
+    plant(alloc, tank(alloc)?, 16)
+}
+
+// A blank ground for its journal, of whose calls these fail.
+pub(crate) fn blank(alloc: Global, site: &Site, failing: &[u64]) -> Result<MemoryGround, Fail>
+    requires limits { KeepsLimits site.now }
+{
+    let size = need(site, TEXT.len() as u64) as usize;
+    let contents = vec![in alloc; 0u8; size]?;
+    Ok(MemoryGround::new(alloc, contents, failing.to_vec(alloc)?))
+}
+
+// A desk on a ground whose journal has so many events.
+fn desk_on(
+    rt: &impl Abort,
+    alloc: Global,
+    site: &Site,
+    device: MemoryGround,
+    events: u64,
+) -> (Shared, Caller)
+    requires site { IsSite site.now }
+    requires limits { KeepsLimits site.now }
+    ensures here { IsOf result.0 result.1 }
+{
+    match Desk::open(alloc, site, TEXT, device) {
+        Ok((desk, pass, opening)) => {
+            same(rt, &opening.events, &events);
+            (desk, pass)
+        }
         Err(_) => panic!(rt; "the journal doesn't open"),
     }
 }
 
-// A desk over such a press, at the start of the site.
-fn desk_of(rt: &impl Abort, alloc: Global, failing: &[u64]) -> Result<(Shared, Caller), Fail>
+// A desk on a blank ground, of whose calls these fail.
+pub(crate) fn desk_of(
+    rt: &impl Abort,
+    alloc: Global,
+    failing: &[u64],
+) -> Result<(Shared, Caller), Fail>
     ensures here { IfOk result (λ opened. IsOf opened.0 opened.1) }
 {
-    let core = core_of(alloc)?;
-    let press = press_of(rt, alloc, failing)?;
-    match Desk::open(alloc, core, press) {
-        Ok(opened) => Ok(opened),
-        Err(_) => panic!(rt; "no memory for a desk"),
-    }
+    let site = site_of(alloc)?;
+    let device = blank(alloc, &site, failing)?;
+    Ok(desk_on(rt, alloc, &site, device, 0))
 }
 
 // One value is entered, with this answer.
@@ -81,7 +113,7 @@ fn enter<R: Wait + Abort>(
 }
 
 // All that is pending is committed, with this answer.
-fn commit<R: Wait + Abort>(
+pub(crate) fn commit<R: Wait + Abort>(
     rt: &R,
     alloc: Global,
     desk: &Shared,
@@ -227,5 +259,111 @@ fn two_callers_are_one_again(rt: HostRuntime) -> Result<(), Fail> {
     let (desk, pass) = desk_of(&rt, alloc, &[])?;
     let pass = split(&rt, alloc, &desk, pass, object);
     holds(&rt, close(&rt, desk, pass));
+    Ok(())
+}
+
+// Ends a desk, and gives its ground.
+fn ground_of<R: Wait>(rt: &R, desk: Shared, pass: Caller) -> MemoryGround
+    requires here { IsOf desk pass }
+{
+    desk.close(rt, pass).into_ground()
+}
+
+// Ends a desk, and commits the one event that is pending.
+fn settle<R: Wait + Abort>(rt: &R, alloc: Global, desk: Shared, pass: Caller) -> MemoryGround
+    requires here { IsOf desk pass }
+{
+    let (floor, answer) = desk.close(rt, pass).settle(alloc);
+    same(rt, &answer, &Ok(1));
+    same(rt, &floor.events(), &1);
+    same(rt, &floor.durable(), &1);
+    same(rt, &floor.lost(), &0);
+    floor.into_ground()
+}
+
+// A desk opens on a ground, with so many events.
+fn opens_with<R: Wait + Abort>(
+    rt: &R,
+    alloc: Global,
+    site: &Site,
+    device: MemoryGround,
+    events: u64,
+) -> bool
+    requires site { IsSite site.now }
+    requires limits { KeepsLimits site.now }
+{
+    let (desk, pass) = desk_on(rt, alloc, site, device, events);
+    close(rt, desk, pass)
+}
+
+#[test]
+fn what_is_pending_at_the_close_is_settled(rt: HostRuntime) -> Result<(), Fail> {
+    let alloc = rt.alloc();
+    let object = ObjectId::of_kind(ObjectKind::IntegerValue, 1)?;
+    let site = site_of(alloc)?;
+    let (desk, pass) = desk_of(&rt, alloc, &[])?;
+    let pass = enter(&rt, alloc, &desk, pass, set(object, 51), &Ok(entered(1)));
+    let device = settle(&rt, alloc, desk, pass);
+    holds(&rt, opens_with(&rt, alloc, &site, device, 1));
+    Ok(())
+}
+
+#[test]
+fn a_second_desk_has_the_events_of_the_first(rt: HostRuntime) -> Result<(), Fail> {
+    let alloc = rt.alloc();
+    let object = ObjectId::of_kind(ObjectKind::IntegerValue, 1)?;
+    let site = site_of(alloc)?;
+    let (desk, pass) = desk_of(&rt, alloc, &[])?;
+    let pass = set_all(&rt, alloc, &desk, pass, object, 3);
+    let pass = commit(&rt, alloc, &desk, pass, &Ok(3));
+    let device = ground_of(&rt, desk, pass);
+    holds(&rt, opens_with(&rt, alloc, &site, device, 3));
+    Ok(())
+}
+
+// ReadProperty of the tank's present value.
+const READ: [u8; 17] = [
+    0x81, 0x0a, 0x00, 0x11, 0x01, 0x04, 0x00, 0x05, 0x01, 0x0c, 0x0c, 0x0b, 0x40, 0x00, 0x01, 0x19,
+    0x55,
+];
+
+// Its answer, 51.
+const ANSWER: [u8; 20] = [
+    0x81, 0x0a, 0x00, 0x14, 0x01, 0x00, 0x30, 0x01, 0x0c, 0x0c, 0x0b, 0x40, 0x00, 0x01, 0x19, 0x55,
+    0x3e, 0x31, 0x33, 0x3f,
+];
+
+// The operator asks for the tank's present value.
+fn read(alloc: Global) -> Result<Input, Fail> {
+    Ok(Input::Datagram {
+        peer: operator(),
+        bytes: Items::of(READ.to_vec(alloc)?),
+    })
+}
+
+// Whether last of all the answer went out to the operator.
+fn has_answered(device: &MemoryGround) -> bool {
+    let Some(trace) = device.trace() else {
+        return false;
+    };
+    match trace.last() {
+        Some(Entry::Emitted { peer, octets }) => {
+            *peer == operator() && octets.as_slice() == &ANSWER[..]
+        }
+        _ => false,
+    }
+}
+
+#[test]
+fn a_value_that_was_set_is_read(rt: HostRuntime) -> Result<(), Fail> {
+    let alloc = rt.alloc();
+    let object = ObjectId::of_kind(ObjectKind::IntegerValue, 1)?;
+    let question = read(alloc)?;
+    let (desk, pass) = desk_of(&rt, alloc, &[])?;
+    let pass = enter(&rt, alloc, &desk, pass, set(object, 51), &Ok(entered(1)));
+    let pass = enter(&rt, alloc, &desk, pass, question, &Ok(replied(1)));
+    let pass = commit(&rt, alloc, &desk, pass, &Ok(1));
+    let device = ground_of(&rt, desk, pass);
+    holds(&rt, has_answered(&device));
     Ok(())
 }

@@ -9,3 +9,7 @@ mod comparing;
 mod desk_tests;
 #[cfg(test)]
 mod plant;
+#[cfg(test)]
+mod serve_tests;
+#[cfg(test)]
+mod thread_tests;

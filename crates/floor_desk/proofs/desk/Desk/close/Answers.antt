@@ -1,7 +1,10 @@
+use Rattle.std.proofs.Common.{ap, ◌∙◌, subst, sym}
 use Rattle.floor_desk.specs.declared.entry.Entry.TheVariants.{Looked}
 use Rattle.floor_desk.specs.declared.entry.Look.TheVariants.{Closing}
 use Rattle.floor_desk.proofs.Desks.{still_of, waited_more}
-use Rattle.floor_desk.proofs.Floors.{waits_out}
+use Rattle.floor_desk.specs.Standing.{FloorStands}
+use Rattle.floor_desk.specs.States.{FloorState}
+use Rattle.floor_desk.proofs.Floors.{stands_at, waits_out}
 use Rattle.floor_desk.proofs.desk.Desk.close.Goals as goal
 
 pub give-pass-requires-clause-value : goal.give-pass-requires-clause-value
@@ -16,4 +19,19 @@ loop-preserved g c =
     record {
       here = still_of _ c.args.self c.loop.pass q c.give-pass.result (Looked Closing) c.loop.invariant.here c.take-turn.ensures.sees c.give-pass.ensures;
       waited = waited_more _ c.args.pass c.loop.pass q c.give-pass.result c.loop.invariant.waited c.take-turn.ensures.sees c.give-pass.ensures;
+    }
+
+pub returns-else-is_out-clause-closed : goal.returns-else-is_out-clause-closed
+returns-else-is_out-clause-closed g c =
+    let told = g.G.Ground.told in let faults = g.G.Ground.disk_faults in
+    let q = c.take-turn.result.pass in let floor = c.close.result in
+    record {
+      waiting = c.loop.pass;
+      last = q;
+      waited = c.loop.invariant.waited;
+      sees = c.take-turn.ensures.sees;
+      stands =
+          subst (λ (x : FloorState _). FloorStands told faults x q.seen) (sym c.ended_at.ensures.ended)
+          (stands_at told faults floor c.take-turn.result.place q.seen (subst (λ (x : FloorState _). FloorStands told faults x q.seen) (sym c.close.ensures) c.take-turn.ensures.value));
+      next = ap (λ (x : FloorState _). x.next) c.ended_at.ensures.ended ∙ c.take-turn.ensures.place;
     }

@@ -1,5 +1,4 @@
-use Rattle.std.proofs.Common.{rules}
 use Rattle.floor_desk.proofs.desk.Desk.open.Goals as goal
 
-pub into_parts-core-requires : goal.into_parts-core-requires
-into_parts-core-requires g c = record { home = (c.args.press, search rules) }
+pub returns-in-Ok-over-clause-holds : goal.returns-in-Ok-over-clause-holds
+returns-in-Ok-over-clause-holds g c = rw c.in-Ok-over.ensures.origin c.in-Ok.ensures.holds

@@ -1,7 +1,7 @@
 use Rattle.std.proofs.Common.{refl, sym, subst}
 use Rattle.bac_values.specs.declared.input.Input.{Input}
 use Rattle.service_desk.specs.Answers.{answer_to}
-use Rattle.floor_desk.specs.Moves.{Comes}
+use Rattle.floor_desk.specs.Moves.{CameOf}
 use Rattle.floor_desk.proofs.Floors.{comes, comes_origin, refuses}
 use Rattle.floor_desk.proofs.floor.Floor.admit.Goals as goal
 
@@ -13,4 +13,4 @@ returns-clause-stands g c = λ h n memo same f.
     let old = c.args.self.now in
     let new = c.look.new.self in
     comes g.G.Ground.told g.G.Ground.disk_faults old new h n c.args.moment memo c.look.result (comes_origin g.G.Ground.told g.G.Ground.disk_faults old new _ c.look.result c.look.ensures.comes) f (c.in-None.ensures.ready refl)
-    (subst (λ (i : Input). Comes old new (answer_to old.core i c.args.moment) c.look.result) (sym same) c.look.ensures.comes)
+    (subst (λ (i : Input). CameOf old new (answer_to old.core i c.args.moment) c.look.result) (sym same) c.look.ensures.comes)

@@ -21,4 +21,4 @@ returns-in-Broken-clause-stands g c = λ h loan entry at tells f out carried.
     let k = rw c.in-Broken.is at carried in
     let r = c.requires.out in
     subst (λ e. FloorStands told faults c.end_loan-in-Broken.new.self (h ++ (loan.number, e) ∷ [])) (sym t)
-    (breaks told faults c.args.self.now c.end_loan-in-Broken.new.self h loan c.in-Broken.device r.0 r.1 c.args.place c.in-Broken.upto r.2 c.end_loan-in-Broken.ensures.ended at f out k)
+    (breaks told faults c.args.self.now c.end_loan-in-Broken.new.self h loan c.in-Broken.device r.0 r.1 c.args.place c.in-Broken.upto c.durable-durable.result r.2 c.durable-durable.ensures.durable c.end_loan-in-Broken.ensures.ended at f out k)

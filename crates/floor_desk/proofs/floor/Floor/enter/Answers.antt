@@ -10,7 +10,7 @@ use Rattle.alarm_core.specs.declared.event.StepFault.TheVariants as faults
 use Rattle.service_desk.specs.Answers.{entering, if_owed}
 use Rattle.state_codec.specs.Records.{written_event}
 use Rattle.floor_desk.specs.declared.faults.EnterFault.TheVariants as enters
-use Rattle.floor_desk.specs.Moves.{Comes}
+use Rattle.floor_desk.specs.Moves.{CameOf}
 use Rattle.floor_desk.specs.States.{FloorState}
 use Rattle.floor_desk.proofs.Inputs.{comes_entered, comes_full, counted_none, counted_some, none_owed, one_more, two_more, with_parts}
 use Rattle.floor_desk.proofs.floor.Floor.enter.Goals as goal
@@ -24,7 +24,9 @@ returns-in-Ok-counted g c =
       sends = flat_map (λ sends. sends) inside.pending.sends.items;
       calls = inside.pending.calls;
       lost = inside.lost;
+      durable = inside.durable;
       spot = inside.spot;
+      next = inside.next;
       origin = (inside.opened.0.value, inside.opened.1.value);
     } in
     let event = c.raised_event-event.result in
@@ -41,8 +43,8 @@ returns-in-Ok-counted g c =
     let new : FloorState _ = with_parts view c.counted.new.core add.records.items (flat_map (λ sends. sends) add.sends.items) add.calls in
     record {
       comes =
-          subst (λ (old : FloorState _). Comes old new (entering (raised old.core.last_moment c.args.event) c.args.reply c.args.full (step_verdict (raised old.core.last_moment c.args.event) old.core)) (Ok c.ticket.result)) c.self.view_is
-          (subst (λ (e : Event). Comes view new (entering e c.args.reply c.args.full (step_verdict e view.core)) (Ok c.ticket.result)) c.raised_event-event.ensures.raised
+          subst (λ (old : FloorState _). CameOf old new (entering (raised old.core.last_moment c.args.event) c.args.reply c.args.full (step_verdict (raised old.core.last_moment c.args.event) old.core)) (Ok c.ticket.result)) c.self.view_is
+          (subst (λ (e : Event). CameOf view new (entering e c.args.reply c.args.full (step_verdict e view.core)) (Ok c.ticket.result)) c.raised_event-event.ensures.raised
           (comes_entered view event c.args.reply c.args.full (step_verdict event view.core) c.counted.new.core add.records.items (flat_map (λ sends. sends) add.sends.items) add.calls c.ticket.result
           c.in-Ok-counted.ensures.verdict c.raised_event-event.ensures.record c.raised_event-event.ensures.fits c.in-Ok-counted.ensures.represents c.in-Ok-counted.ensures.state records sends calls c.ticket.ensures.ticket));
     }
@@ -56,7 +58,9 @@ returns-then-not-told g c =
       sends = flat_map (λ sends. sends) inside.pending.sends.items;
       calls = inside.pending.calls;
       lost = inside.lost;
+      durable = inside.durable;
       spot = inside.spot;
+      next = inside.next;
       origin = (inside.opened.0.value, inside.opened.1.value);
     } in
     let event = c.raised_event-event.result in
@@ -69,8 +73,8 @@ returns-then-not-told g c =
     let new : FloorState _ = with_parts view c.counted.new.core room.records.items (flat_map (λ sends. sends) room.sends.items) room.calls in
     record {
       comes =
-          subst (λ (old : FloorState _). Comes old new (entering (raised old.core.last_moment c.args.event) c.args.reply c.args.full (step_verdict (raised old.core.last_moment c.args.event) old.core)) (Err (enters.Full c.in-Err-Full.would c.in-Err-Full.limit))) c.self.view_is
-          (subst (λ (e : Event). Comes view new (entering e c.args.reply c.args.full (step_verdict e view.core)) (Err (enters.Full c.in-Err-Full.would c.in-Err-Full.limit))) c.raised_event-event.ensures.raised
+          subst (λ (old : FloorState _). CameOf old new (entering (raised old.core.last_moment c.args.event) c.args.reply c.args.full (step_verdict (raised old.core.last_moment c.args.event) old.core)) (Err (enters.Full c.in-Err-Full.would c.in-Err-Full.limit))) c.self.view_is
+          (subst (λ (e : Event). CameOf view new (entering e c.args.reply c.args.full (step_verdict e view.core)) (Err (enters.Full c.in-Err-Full.would c.in-Err-Full.limit))) c.raised_event-event.ensures.raised
           (comes_full view event c.args.reply c.args.full (step_verdict event view.core) c.in-Err-Full.would c.in-Err-Full.limit c.counted.new.core room.records.items (flat_map (λ sends. sends) room.sends.items) room.calls
           verdict c.in-Err-Full.ensures.same same.0 sends (counted_none c.args.full view.calls room.calls none same.2)));
     }
@@ -84,7 +88,9 @@ returns-in-Err-Full g c =
       sends = flat_map (λ sends. sends) inside.pending.sends.items;
       calls = inside.pending.calls;
       lost = inside.lost;
+      durable = inside.durable;
       spot = inside.spot;
+      next = inside.next;
       origin = (inside.opened.0.value, inside.opened.1.value);
     } in
     let event = c.raised_event-event.result in
@@ -100,8 +106,8 @@ returns-in-Err-Full g c =
     let new : FloorState _ = with_parts view c.counted.new.core add.records.items (flat_map (λ sends. sends) add.sends.items) add.calls in
     record {
       comes =
-          subst (λ (old : FloorState _). Comes old new (entering (raised old.core.last_moment c.args.event) c.args.reply c.args.full (step_verdict (raised old.core.last_moment c.args.event) old.core)) (Err (enters.Full c.in-Err-Full.would c.in-Err-Full.limit))) c.self.view_is
-          (subst (λ (e : Event). Comes view new (entering e c.args.reply c.args.full (step_verdict e view.core)) (Err (enters.Full c.in-Err-Full.would c.in-Err-Full.limit))) c.raised_event-event.ensures.raised
+          subst (λ (old : FloorState _). CameOf old new (entering (raised old.core.last_moment c.args.event) c.args.reply c.args.full (step_verdict (raised old.core.last_moment c.args.event) old.core)) (Err (enters.Full c.in-Err-Full.would c.in-Err-Full.limit))) c.self.view_is
+          (subst (λ (e : Event). CameOf view new (entering e c.args.reply c.args.full (step_verdict e view.core)) (Err (enters.Full c.in-Err-Full.would c.in-Err-Full.limit))) c.raised_event-event.ensures.raised
           (comes_full view event c.args.reply c.args.full (step_verdict event view.core) c.in-Err-Full.would c.in-Err-Full.limit c.counted.new.core add.records.items (flat_map (λ sends. sends) add.sends.items) add.calls
           verdict c.in-Err-Full.ensures.same (c.add_reply.ensures.records ∙ same.0) sends (counted_some c.args.full view.calls add.calls some calls)));
     }

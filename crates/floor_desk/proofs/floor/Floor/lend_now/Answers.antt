@@ -7,6 +7,9 @@ use Rattle.floor_desk.proofs.floor.Floor.lend_now.Goals as goal
 pub returns-then-self-eq0-clause-hindered : goal.returns-then-self-eq0-clause-hindered
 returns-then-self-eq0-clause-hindered g c = (refl, (c.in-Home.press, search rules, search rules, search rules))
 
+pub returns-then-place-ge-MOST_PLACES-clause-hindered : goal.returns-then-place-ge-MOST_PLACES-clause-hindered
+returns-then-place-ge-MOST_PLACES-clause-hindered g c = (refl, (c.in-Home.press, search rules, search rules))
+
 pub returns-in-Err-clause-hindered : goal.returns-in-Err-clause-hindered
 returns-in-Err-clause-hindered g c = (refl, (c.in-Home.press, search rules, search rules))
 
@@ -20,7 +23,9 @@ returns-in-Err-take_sends-clause-hindered g c =
       sends = flat_map (λ sends. sends) inside.pending.sends.items;
       calls = inside.pending.calls;
       lost = inside.lost;
+      durable = inside.durable;
       spot = inside.spot;
+      next = inside.next;
       origin = (inside.opened.0.value, inside.opened.1.value);
     } in
     let same = c.take_sends.ensures.same in (

@@ -2,7 +2,7 @@ use Rattle.std.proofs.Common.{◌≡◌, ◌<◌, ◌^◌, ◌∙◌, arith, rul
 use Rattle.std.proofs.lemmas.Result.{IfOk-weaker}
 use Rattle.floor_desk.specs.Carrying.{IsSnapshotOf}
 use Rattle.floor_desk.proofs.Carrying.{snapshot_of_core}
-use Rattle.floor_desk.proofs.load.snapshot_of.Goals as goal
+use Rattle.floor_desk.proofs.snapshot.snapshot_of.Goals as goal
 
 pub returns-clause-snapshot : goal.returns-clause-snapshot
 returns-clause-snapshot c =

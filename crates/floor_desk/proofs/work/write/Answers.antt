@@ -1,9 +1,9 @@
 use Rattle.std.proofs.Common.{sym, subst}
 use Rattle.alarm_journal.specs.Press.{Between}
 use Rattle.floor_desk.specs.Carrying.{content_with}
-use Rattle.floor_desk.specs.declared.load.Work.{Work}
+use Rattle.floor_desk.specs.declared.work.Work.{Work}
 use Rattle.floor_desk.proofs.Carrying.{between_now}
-use Rattle.floor_desk.proofs.load.write.Goals as goal
+use Rattle.floor_desk.proofs.work.write.Goals as goal
 
 pub returns-in-Nothing-clause-any_moment : goal.returns-in-Nothing-clause-any_moment
 returns-in-Nothing-clause-any_moment g c = λ journal content rests.

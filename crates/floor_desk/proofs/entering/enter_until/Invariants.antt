@@ -1,0 +1,11 @@
+use Rattle.std.proofs.Common.{◌≡◌}
+use Rattle.turnstile.specs.Passes.{IsOf}
+use Rattle.floor_desk.proofs.Trying.{HasTurnedBack}
+use Rattle.floor_desk.proofs.entering.enter_until.Given as goal
+
+abbrev pub invariant-loop : goal.invariant-loop
+invariant-loop g l = record {
+  here : IsOf l.fn.desk l.pass;
+  input : l.input ≡ l.fn.first;
+  turned : HasTurnedBack (g.K.Clock.shows l.fn.clock) l.fn.pass l.pass l.fn.first;
+}

@@ -1,0 +1,6 @@
+use Rattle.turnstile.specs.Passes.{IsOf}
+use Rattle.floor_desk.specs.Workers.{HasTicked}
+use Rattle.floor_desk.proofs.ticker.tick_all.Given as goal
+
+abbrev pub invariant-loop : goal.invariant-loop
+invariant-loop g l = record { here : IsOf l.fn.desk l.pass; ticked : HasTicked (g.K.Clock.shows l.fn.clock) l.fn.pass l.pass }

@@ -1,0 +1,126 @@
+-- What each worker of a server did, told by the entries that its pass made.
+use Rattle.std.specs.Prelude.{◌≡◌, ◌⊎◌, ◌≤◌, ◌+◌, ℕ, ⊤, All, List, [], ◌∷◌, ◌++◌, length, map, take, drop, IsTrue, Option, Some, None, Result, Ok, Err}
+use Rattle.bac_values.specs.Address.{PeerData}
+use Rattle.bac_values.specs.declared.input.Input.{Input}
+use Rattle.bac_values.specs.declared.input.Input.TheVariants.{Datagram}
+use Rattle.bac_values.specs.declared.note.Send.{Send}
+use Rattle.ground_io.specs.Counts.{HasCause}
+use Rattle.ground_io.specs.declared.link.Received.{Received}
+use Rattle.ground_io.specs.declared.link.Received.TheVariants as arrivals
+use Rattle.turnstile.specs.Histories.{StartsWith}
+use Rattle.turnstile.specs.Passes.{Known}
+use Rattle.alarm_core.specs.State.{CoreState}
+use Rattle.alarm_journal.specs.Press.{PressState}
+use Rattle.floor_desk.specs.declared.entry.Entry.{Entry}
+use Rattle.floor_desk.specs.declared.entry.Ticket.{Ticket}
+use Rattle.floor_desk.specs.declared.faults.EnterFault.{EnterFault}
+use Rattle.floor_desk.specs.declared.entering.Offer.TheVariants as offers
+use Rattle.floor_desk.specs.declared.receiver.Came.{Came}
+use Rattle.floor_desk.specs.declared.receiver.Ends.{Ends}
+use Rattle.floor_desk.specs.Tries.{AreTicks, AreTried, Attempt, IsBehind, IsOfCommit, IsOfInput, IsTried, tries_in}
+
+-- the most octets of a datagram that are looked at
+abbrev pub most_octets : ℕ
+most_octets = 1_497
+
+-- a datagram of the link as an input: cut to these octets
+abbrev pub input_of : Send → Input
+input_of datagram = Datagram datagram.peer (take most_octets datagram.bytes)
+
+-- how many of these have no ticket as their last answer
+abbrev pub if_lost : Result Ticket EnterFault → ℕ
+if_lost (Ok ticket) = 0
+if_lost (Err fault) = 1
+
+abbrev pub lost_of : List Attempt → ℕ
+lost_of [] = 0
+lost_of (one ∷ more) = if_lost one.last + lost_of more
+
+-- so many datagrams were taken from a link, and these are the inputs that they are, in their order; where the link tells
+abbrev pub AreTaken : Option (List Send) → Option (List Send) → List Attempt → Type 0
+AreTaken None new attempts = ⊤
+AreTaken (Some old) None attempts = ⊥
+AreTaken (Some old) (Some new) attempts = (map (λ one. one.input) attempts ≡ map input_of (take (length attempts) old)) × (new ≡ drop (length attempts) old)
+
+-- the first datagram of a link was taken, and this is the input that it is; where the link tells
+abbrev pub IsNext : Option (List Send) → Option (List Send) → Input → Type 0
+IsNext None new input = ⊤
+IsNext (Some old) None input = ⊥
+IsNext (Some []) (Some new) input = ⊥
+IsNext (Some (first ∷ rest)) (Some new) input = (new ≡ rest) × (input ≡ input_of first)
+
+-- what came is this datagram, whose octets stand in a slice, as an input that may be made again
+pub record HasCome (received : Received) (into : List ℕ) (came : Came) : Type 0 where
+  pub peer : PeerData
+  pub is : received ≡ arrivals.Datagram peer came.length
+  pub input : came.input ≡ Datagram peer (take came.length into)
+  pub offer : came.offer ≡ offers.Datagram peer
+
+-- a link goes on telling what it told
+abbrev pub StaysLeft : Option (List Send) → Option (List Send) → Type 0
+StaysLeft None new = ⊤
+StaysLeft (Some old) None = ⊥
+StaysLeft (Some old) (Some new) = new ≡ old
+
+-- a receiver ends where so many datagrams have come, where the link failed, as its count of faults tells, or where memory was refused
+pub record EndsReceiving (count before now : ℕ) (ends : Ends) : Type 0 where
+  pub most : ends.received ≤ count
+  pub why : (ends.received ≡ count) ⊎ (IsTrue ends.link_fault ⊎ IsTrue ends.no_memory)
+  pub cause : HasCause before now (IsTrue ends.link_fault)
+  pub counted : IsTrue ends.link_fault ⊎ (now ≡ before)
+
+-- the inputs are datagrams
+abbrev pub IsDatagram : Input → Type 0
+IsDatagram (Datagram peer octets) = Unit {0}
+IsDatagram input = ⊥
+
+module _ {G : Type 0} where
+  -- a pass made these entries, and has seen more
+  pub record Worked (p q : Known (Entry G) (CoreState × PressState G)) (entries : List (Entry G)) : Type 0 where
+    pub begins : StartsWith q.seen p.seen
+    pub same : q ≡ record p { mine = p.mine ++ entries; seen = q.seen; mark = q.mark }
+    pub mark : p.mark ≤ q.mark
+
+  -- each moment is one that the clock shows
+  abbrev pub AreShown : (ℕ → Type 0) → List (Entry G) → Type 0
+  AreShown shows entries = All (λ one. shows one.moment) (tries_in entries)
+
+  -- one input was tried, again and again while a commit had to come first, with commits between; this is its last answer
+  pub record HasTried (shows : ℕ → Type 0) (p q : Known (Entry G) (CoreState × PressState G)) (input : Input) (last : Result Ticket EnterFault) : Type 0 where
+    pub entries : List (Entry G)
+    pub worked : Worked p q entries
+    pub tried : IsTried input last (tries_in entries)
+    pub parts : All (λ entry. IsOfInput entry ⊎ IsOfCommit entry) entries
+    pub shown : AreShown shows entries
+
+  -- Some datagrams were taken from the link, and tried in their order, each again and again while a commit had to come first, with commits between.
+  pub record IsReceived (shows : ℕ → Type 0) (old new : Option (List Send)) (entries : List (Entry G)) (attempts : List Attempt) : Type 0 where
+    pub tried : AreTried attempts (tries_in entries)
+    pub datagrams : All (λ one. IsDatagram one.input) attempts
+    pub taken : AreTaken old new attempts
+    pub parts : All (λ entry. IsOfInput entry ⊎ IsOfCommit entry) entries
+    pub shown : AreShown shows entries
+
+  -- what a receiver did: it counts the datagrams, and those that were given no ticket. None is left for which a commit had to come first, but where memory was refused
+  pub record HasReceived (shows : ℕ → Type 0) (old new : Option (List Send)) (p q : Known (Entry G) (CoreState × PressState G)) (ends : Ends) : Type 0 where
+    pub entries : List (Entry G)
+    pub attempts : List Attempt
+    pub worked : Worked p q entries
+    pub received : IsReceived shows old new entries attempts
+    pub count : ends.received ≡ length attempts
+    pub lost : ends.lost ≡ lost_of attempts
+    pub tried : IsTrue ends.no_memory ⊎ All (λ one. IsBehind one.last → ⊥) attempts
+
+  -- what a ticker did: Tick and Pump in turn
+  pub record HasTicked (shows : ℕ → Type 0) (p q : Known (Entry G) (CoreState × PressState G)) : Type 0 where
+    pub entries : List (Entry G)
+    pub worked : Worked p q entries
+    pub ticks : AreTicks (tries_in entries)
+    pub parts : All IsOfInput entries
+    pub shown : AreShown shows entries
+
+  -- what a committer did: it made entries of commits alone
+  pub record HasKept (p q : Known (Entry G) (CoreState × PressState G)) : Type 0 where
+    pub entries : List (Entry G)
+    pub worked : Worked p q entries
+    pub parts : All IsOfCommit entries

@@ -1,0 +1,98 @@
+//! An input that is tried until no commit has to come first.
+
+ghost use Rattle.std.specs.Prelude.{IfOk, MatchBool};
+ghost use Rattle.turnstile.specs.Passes.{IsOf};
+ghost use Rattle.floor_desk.specs.Tries.{IsBehind, IsInputOf};
+ghost use Rattle.floor_desk.specs.Workers.{HasTried};
+
+use crate::desk::{Desk, DeskPass};
+use crate::entry::Ticket;
+use crate::faults::{CommitFault, EnterFault};
+use crate::steps::Steps;
+use bac_values::{Input, Items, NoMemory, Peer};
+use ground_io::{Clock, Gate, Ground};
+use std::alloc::Global;
+use std::sync::Wait;
+
+/// An input that may be made again.
+#[derive(Clone, Copy)]
+pub(crate) enum Offer {
+    /// Time has gone by.
+    Tick,
+    /// Notifications may be sent.
+    Pump,
+    /// A datagram came from a peer.
+    Datagram {
+        /// The peer.
+        peer: Peer,
+    },
+}
+
+impl Offer {
+    /// The input; that of a datagram with these octets.
+    pub(crate) fn input(&self, alloc: Global, octets: &[u8]) -> Result<Input, NoMemory>
+        ensures input { IfOk result (λ input. IsInputOf self.now octets.now input) }
+    {
+        match self {
+            Offer::Tick => Ok(Input::Tick),
+            Offer::Pump => Ok(Input::Pump),
+            Offer::Datagram { peer } => {
+                let bytes = Items::of(octets.to_vec(alloc)?);
+                Ok(Input::Datagram { peer: *peer, bytes })
+            }
+        }
+    }
+}
+
+/// Whether the answer is that a commit has to come first.
+pub(crate) fn is_behind(answer: &Result<Ticket, EnterFault>) -> bool
+    ensures behind { MatchBool result (IsBehind answer.now) (IsBehind answer.now → ⊥) }
+{
+    matches!(answer, Err(EnterFault::Behind { .. }))
+}
+
+// Whether a commit found no memory.
+fn found_none(done: &Result<u64, CommitFault>) -> bool {
+    matches!(done, Err(CommitFault::NoMemory))
+}
+
+/// Tries an input until it isn't answered that a commit has to come first, and commits in between. Where that commit, or
+/// the input made again, finds no memory, that answer is the last one.
+pub(crate) fn enter_until<R: Wait, G: Ground, K: Clock, W: Gate>(
+    rt: &R,
+    alloc: Global,
+    desk: &Desk<G>,
+    pass: DeskPass<G>,
+    first: Input,
+    offer: Offer,
+    octets: &[u8],
+    clock: &K,
+    gate: &W,
+    steps: &mut Steps,
+) -> (DeskPass<G>, Result<Ticket, EnterFault>)
+    requires here { IsOf desk.now pass }
+    requires input { IsInputOf offer octets.now first }
+    ensures here { IsOf desk.now result.0 }
+    ensures tried { HasTried (K.shows clock.now) pass result.0 first result.1 }
+{
+    let mut pass = pass;
+    let mut input = first;
+    for _ in rt.forever() {
+        steps.next(gate);
+        let (entered, answer) = desk.enter(rt, alloc, pass, clock.now(), input);
+        if !is_behind(&answer) {
+            return (entered, answer);
+        }
+        steps.next(gate);
+        let (committed, done) = desk.commit(rt, alloc, entered);
+        if found_none(&done) {
+            return (committed, answer);
+        }
+        pass = committed;
+        input = match offer.input(alloc, octets) {
+            Ok(input) => input,
+            Err(NoMemory) => return (pass, answer),
+        };
+    }
+    unreachable!()
+}

@@ -1,0 +1,197 @@
+//! Takes datagrams from the link.
+
+ghost use Rattle.std.specs.Prelude.{◌≡◌, ◌≤◌, ◌<◌, ◌+◌, ◌^◌, ◌⊎◌, false, [], Err, None, IfErr, IfOk, IfSome, IsTrue, IsErrOf, OnOk, length, take, vec_capacity};
+ghost use Rattle.bac_values.specs.declared.input.Input.{Input as Entered};
+ghost use Rattle.ground_io.specs.Counts.{HasCause};
+ghost use Rattle.ground_io.specs.Link.{FitsInto};
+ghost use Rattle.ground_io.specs.declared.link.Received.{Received as Arrival};
+ghost use Rattle.turnstile.specs.Passes.{IsOf};
+ghost use Rattle.floor_desk.specs.Tries.{IsBehind, IsInputOf};
+ghost use Rattle.floor_desk.specs.Workers.{EndsReceiving, HasCome, HasReceived, IsDatagram, IsNext, StaysLeft, if_lost, most_octets};
+
+use crate::desk::{Desk, DeskPass};
+use crate::entering::{Offer, enter_until, is_behind};
+use crate::entry::Ticket;
+use crate::faults::EnterFault;
+use crate::steps::Steps;
+use bac_values::{Input, Items, NoMemory, Peer};
+use ground_io::{Clock, Failed, Gate, Ground, Link, Received, Worker};
+use std::alloc::Global;
+use std::sync::Wait;
+use std::sync::atomic::{AtomicU32, Ordering};
+
+/// Of a datagram no more octets are looked at.
+const MOST_OCTETS: usize = 1_497;
+
+/// What a receiver came to.
+#[derive(Clone, Copy, Debug, PartialEq, Eq, Drop)]
+pub struct Ends {
+    /// How many datagrams came.
+    pub received: u64,
+    /// How many of them were given no ticket at last.
+    pub lost: u64,
+    /// Whether the link failed.
+    pub link_fault: bool,
+    /// Whether memory was refused to the receiver's own work.
+    pub no_memory: bool,
+}
+
+impl Ends {
+    // Nothing has come yet.
+    fn none() -> Ends
+        ensures none { result ≡ record { received = 0; lost = 0; link_fault = false; no_memory = false } }
+    {
+        Ends {
+            received: 0,
+            lost: 0,
+            link_fault: false,
+            no_memory: false,
+        }
+    }
+
+    // One datagram more, with its last answer.
+    fn with(self, answer: &Result<Ticket, EnterFault>) -> Ends
+        requires few { self.received < 2 ^ 32 }
+        requires lost { self.lost ≤ self.received }
+        ensures received { result.received ≡ self.received + 1 }
+        ensures lost { result.lost ≡ self.lost + if_lost answer.now }
+        ensures link { result.link_fault ≡ self.link_fault }
+        ensures memory { IsTrue result.no_memory ⊎ ((self.no_memory ≡ false) × (IsBehind answer.now → ⊥)) }
+    {
+        let behind = is_behind(answer);
+        Ends {
+            received: self.received.saturating_add(1),
+            lost: self.lost.saturating_add(u64::from(answer.is_err())),
+            link_fault: self.link_fault,
+            no_memory: self.no_memory || behind,
+        }
+    }
+}
+
+// Why no datagram is asked for any more.
+#[derive(Clone, Copy)]
+enum Missed {
+    // The link failed.
+    Link,
+    // Memory was refused before the link was asked.
+    Memory,
+}
+
+// A datagram that came: the input that it is, how it is made again, and how many of its octets stand in the slice.
+#[derive(Drop)]
+struct Came {
+    input: Input,
+    offer: Offer,
+    length: usize,
+}
+
+// The input of a datagram whose octets stand in the slice, in a vector that has room for them.
+fn filled(mut bytes: Vec<u8>, peer: Peer, octets: &[u8]) -> Input
+    requires empty { bytes.items ≡ [] }
+    requires room { length octets.now ≤ vec_capacity bytes }
+    ensures input { result ≡ Entered.Datagram peer octets.now }
+{
+    let Ok(()) = bytes.extend_from_slice(octets) else {
+        unreachable!()
+    };
+    let bytes = Items::of(bytes);
+    Input::Datagram { peer, bytes }
+}
+
+// The datagram that came, if one did, whose octets stand in the slice; the vector has room for them.
+fn came_of(bytes: Vec<u8>, received: Received, into: &[u8]) -> Option<Came>
+    requires empty { bytes.items ≡ [] }
+    requires room { length into.now ≤ vec_capacity bytes }
+    requires fits { FitsInto received into.now }
+    ensures nothing { result ≡ None → received ≡ Arrival.Nothing }
+    ensures came { IfSome result (HasCome received into.now) }
+{
+    match received {
+        Received::Nothing => None,
+        Received::Datagram { peer, length } => Some(Came {
+            input: filled(bytes, peer, &into[..length]),
+            offer: Offer::Datagram { peer },
+            length,
+        }),
+    }
+}
+
+// The next datagram of the link, if there is one. Memory for its input is found before the link is asked.
+fn next_datagram<L: Link>(
+    alloc: Global,
+    link: &mut L,
+    into: &mut [u8],
+) -> Result<Option<Came>, Missed>
+    requires whole { length into.old ≡ most_octets }
+    ensures whole { length into.new ≡ most_octets }
+    ensures next { IfOk result (λ next. IfSome next (λ came. IsNext (L.left link.old) (L.left link.new) came.input)) }
+    ensures short { IfOk result (λ next. IfSome next (λ came. came.length ≤ most_octets)) }
+    ensures offer { IfOk result (λ next. IfSome next (λ came. IsInputOf came.offer (take came.length into.new) came.input)) }
+    ensures datagram { IfOk result (λ next. IfSome next (λ came. IsDatagram came.input)) }
+    ensures nothing { IfOk result (λ next. next ≡ None → StaysLeft (L.left link.old) (L.left link.new)) }
+    ensures missed { IfErr result (λ missed. StaysLeft (L.left link.old) (L.left link.new)) }
+    ensures cause { HasCause (L.faults link.old) (L.faults link.new) (IsErrOf result Missed.Link) }
+    ensures counted { (result ≡ Err Missed.Link) ⊎ (L.faults link.new ≡ L.faults link.old) }
+    ensures uncounted { OnOk result (L.faults link.new ≡ L.faults link.old) }
+{
+    let Ok(bytes) = Vec::with_capacity(alloc, MOST_OCTETS) else {
+        return Err(Missed::Memory);
+    };
+    let Ok(received) = link.receive(into) else {
+        return Err(Missed::Link);
+    };
+    Ok(came_of(bytes, received, into))
+}
+
+/// Takes so many datagrams from the link, and enters each at the clock's moment. It ends before where the link fails, or
+/// where memory for its own work is refused.
+pub fn receive_all<R: Wait, G: Ground, L: Link, K: Clock, W: Gate>(
+    rt: &R,
+    alloc: Global,
+    desk: &Desk<G>,
+    pass: DeskPass<G>,
+    count: u32,
+    ended: &AtomicU32,
+    link: &mut L,
+    clock: &K,
+    gate: &W,
+) -> (DeskPass<G>, Ends)
+    requires here { IsOf desk.now pass }
+    ensures here { IsOf desk.now result.0 }
+
+    // The datagrams are the link's first, in their order, each tried once with its repeats.
+    ensures received { HasReceived (K.shows clock.now) (L.left link.old) (L.left link.new) pass result.0 result.1 }
+
+    // It ends where all have come, where the link failed, or where memory was refused.
+    ensures ends { EndsReceiving count (L.faults link.old) (L.faults link.new) result.1 }
+{
+    let mut into = [0; MOST_OCTETS];
+    let mut steps = Steps::new(Worker::Receiver);
+    let mut pass = pass;
+    let mut ends = Ends::none();
+    for _ in rt.forever() {
+        if ends.received >= u64::from(count) || ends.link_fault || ends.no_memory {
+            break;
+        }
+        match next_datagram(alloc, link, &mut into) {
+            Ok(None) => {}
+            Ok(Some(came)) => {
+                let Came {
+                    input,
+                    offer,
+                    length,
+                } = came;
+                let octets = &into[..length];
+                let (entered, answer) = enter_until(
+                    rt, alloc, desk, pass, input, offer, octets, clock, gate, &mut steps,
+                );
+                pass = entered;
+                ends = ends.with(&answer);
+            }
+            Err(Missed::Link) => ends.link_fault = true,
+            Err(Missed::Memory) => ends.no_memory = true,
+        }
+    }
+    ended.fetch_add(1, Ordering::SeqCst);
+    (pass, ends)
+}

@@ -1,0 +1,58 @@
+//! The state of a core as a snapshot of its journal.
+
+ghost use Rattle.std.specs.Prelude.{◌≤◌, ◌<◌, ◌+◌, ◌^◌, ◌≡◌, IfOk, IsTrue, OnOk, length};
+ghost use Rattle.alarm_core.specs.Limits.{KeepsLimits};
+ghost use Rattle.alarm_core.specs.SiteStates.{IsStateOf};
+ghost use Rattle.state_codec.specs.Snapshots.{written_state};
+ghost use Rattle.state_codec.specs.Spelled.{FitsState};
+ghost use Rattle.floor_desk.specs.Carrying.{IsSnapshotOf};
+
+use alarm_core::{Core, site_fits};
+use alarm_journal::Job;
+use bac_values::NoMemory;
+use state_codec::{snapshots_are_short, state_fits, write_state};
+use std::alloc::Global;
+
+/// How many octets a snapshot takes of its area beside its own.
+const FRAME: u64 = 5;
+
+/// No snapshot has so many octets.
+const MOST_OCTETS: u64 = 36_000_000;
+
+/// No snapshot tells of so many events.
+const MOST_EVENTS: u64 = 1 << 63;
+
+// Whether the state after so many events is a snapshot, and one of so many octets fits an area.
+fn takes_state(events: u64, length: u64, area: u64) -> bool
+    ensures few { IsTrue result → events < 2 ^ 63 }
+    ensures short { IsTrue result → length < 36000000 }
+    ensures fits { IsTrue result → length + 5 ≤ area }
+{
+    events < MOST_EVENTS && length < MOST_OCTETS && length + FRAME <= area
+}
+
+// The state of a core in octets. It keeps to the rules of the types of its parts.
+fn state_octets(alloc: Global, core: &Core) -> Result<Vec<u8>, NoMemory>
+    ensures octets { IfOk result (λ octets. octets.items ≡ written_state core.now) }
+    ensures fits { OnOk result (IsStateOf core.now.site core.now → FitsState core.now) }
+{
+    state_fits(alloc, core)?;
+    write_state(alloc, core)
+}
+
+/// The state of a core as a snapshot. One that is longer than an area takes, or has no snapshot for the number of its
+/// events, is as good as no memory for it.
+pub(crate) fn snapshot_of(alloc: Global, core: &Core, area: u64) -> Result<Job, NoMemory>
+    requires limits { KeepsLimits core.now.site }
+    ensures snapshot { IfOk result (IsSnapshotOf core.now) }
+    ensures some { IfOk result (λ job. 0 < length job) }
+    ensures fits { IfOk result (λ job. length job + 5 ≤ area) }
+{
+    let octets = state_octets(alloc, core)?;
+    if !takes_state(core.events(), octets.len() as u64, area) {
+        return Err(NoMemory);
+    }
+    site_fits(core.site());
+    snapshots_are_short();
+    Job::snapshot(alloc, octets.as_slice())
+}

@@ -1,0 +1,66 @@
+//! Lets time pass.
+
+ghost use Rattle.turnstile.specs.Passes.{IsOf};
+ghost use Rattle.floor_desk.specs.Workers.{HasTicked};
+
+use crate::desk::{Desk, DeskPass};
+use crate::entry::Ticket;
+use crate::steps::Steps;
+use bac_values::Input;
+use ground_io::{Clock, Gate, Ground, Worker};
+use std::alloc::Global;
+use std::sync::Wait;
+use std::sync::atomic::{AtomicU32, Ordering};
+
+// One Tick and one Pump, and a look at how the last of them that was given a ticket stands.
+fn tick_once<R: Wait, G: Ground, K: Clock, W: Gate>(
+    rt: &R,
+    alloc: Global,
+    desk: &Desk<G>,
+    pass: DeskPass<G>,
+    clock: &K,
+    gate: &W,
+    steps: &mut Steps,
+) -> DeskPass<G>
+    requires here { IsOf desk.now pass }
+    ensures here { IsOf desk.now result }
+    ensures ticked { HasTicked (K.shows clock.now) pass result }
+{
+    steps.next(gate);
+    let (pass, ticked) = desk.enter(rt, alloc, pass, clock.now(), Input::Tick);
+    steps.next(gate);
+    let (pass, pumped) = desk.enter(rt, alloc, pass, clock.now(), Input::Pump);
+    match pumped.or(ticked) {
+        Ok(ticket) => {
+            steps.next(gate);
+            desk.standing(pass, &ticket).0
+        }
+        Err(_) => pass,
+    }
+}
+
+/// Enters Tick and Pump in turn, at the clock's moments, until another worker has ended.
+pub fn tick_all<R: Wait, G: Ground, K: Clock, W: Gate>(
+    rt: &R,
+    alloc: Global,
+    desk: &Desk<G>,
+    pass: DeskPass<G>,
+    ended: &AtomicU32,
+    clock: &K,
+    gate: &W,
+) -> DeskPass<G>
+    requires here { IsOf desk.now pass }
+    ensures here { IsOf desk.now result }
+    ensures ticked { HasTicked (K.shows clock.now) pass result }
+{
+    let mut steps = Steps::new(Worker::Ticker);
+    let mut pass = pass;
+    for _ in rt.forever() {
+        pass = tick_once(rt, alloc, desk, pass, clock, gate, &mut steps);
+        if ended.load(Ordering::SeqCst) >= 1 {
+            break;
+        }
+    }
+    ended.fetch_add(1, Ordering::SeqCst);
+    pass
+}

@@ -1,0 +1,210 @@
+ghost use Rattle.alarm_core.specs.Limits.{KeepsLimits};
+ghost use Rattle.alarm_core.specs.Sites.{IsSite};
+
+use crate::comparing::{holds, same};
+use crate::desk_tests::{TEXT, blank, site_of};
+use crate::plant::START;
+use alarm_core::Site;
+use bac_values::{Items, Peer, Send as Message};
+use floor_desk::{Closed, Desk, End, serve_desk};
+use ground_io::{
+    Entry, FreeGate, Gate, Ground, HeldGround, MemoryGround, MemoryLink, StillClock, Worker,
+};
+use std::alloc::Global;
+use std::hint;
+use std::process::Abort;
+use std::sync::Wait;
+use std::sync::atomic::{AtomicU64, Ordering};
+use std::test::Fail;
+use std::thread::Threads;
+
+/// Who-Is, and the I-Am of the device.
+const WHO_IS: [u8; 8] = [0x81, 0x0a, 0x00, 0x08, 0x01, 0x00, 0x10, 0x08];
+
+const I_AM: [u8; 21] = [
+    0x81, 0x0a, 0x00, 0x15, 0x01, 0x00, 0x10, 0x00, 0xc4, 0x02, 0x00, 0x03, 0xe9, 0x22, 0x05, 0xc4,
+    0x91, 0x03, 0x22, 0x03, 0xe7,
+];
+
+/// WriteProperty of TRUE to the event detection's inhibition of the integer value.
+const INHIBIT: [u8; 21] = [
+    0x81, 0x0a, 0x00, 0x15, 0x01, 0x04, 0x00, 0x05, 0x01, 0x0f, 0x0c, 0x0b, 0x40, 0x00, 0x01, 0x1a,
+    0x01, 0x62, 0x3e, 0x11, 0x3f,
+];
+
+/// So often a gate looks at most, before it lets a worker go.
+const LOOKS: u32 = 1_000_000_000;
+
+fn asker() -> Peer {
+    Peer::local(0x0a00_0009, 47808)
+}
+
+/// A datagram with these octets.
+fn datagram(alloc: Global, octets: &[u8]) -> Result<Message, Fail> {
+    Ok(Message {
+        peer: asker(),
+        bytes: Items::of(octets.to_vec(alloc)?),
+    })
+}
+
+/// What is served is this.
+fn expect_served<R: Abort>(rt: &R, closed: &Closed, received: u64, events: u64) {
+    let wanted = Closed {
+        end: End::Done,
+        received,
+        events,
+        durable: events,
+        lost: 0,
+    };
+    same(rt, closed, &wanted);
+}
+
+/// A desk on a blank ground serves so many datagrams of a link, at the site's start.
+fn serve_on<R: Threads + Wait + Sync + Abort, G: Ground + Send + Drop, W: Gate + Sync>(
+    rt: &R,
+    alloc: Global,
+    site: &Site,
+    device: G,
+    link: MemoryLink,
+    count: u32,
+    gate: &W,
+) -> (G, Closed)
+    requires site { IsSite site.now }
+    requires limits { KeepsLimits site.now }
+{
+    let (desk, pass) = match Desk::open(alloc, site, TEXT, device) {
+        Ok((desk, pass, _)) => (desk, pass),
+        Err(_) => panic!(rt; "the journal doesn't open"),
+    };
+    let clock = StillClock::new(START);
+    let (device, _link, closed) = serve_desk(rt, alloc, desk, pass, count, link, &clock, gate);
+    (device, closed)
+}
+
+/// Whether these octets, and no others, went out to the peer.
+fn sent_alone(device: &MemoryGround, wanted: &[u8]) -> bool {
+    let Some(trace) = device.trace() else {
+        return false;
+    };
+    let mut count = 0u32;
+    for entry in trace {
+        match entry {
+            Entry::Emitted { peer, octets } => {
+                if *peer != asker() || octets.as_slice() != wanted {
+                    return false;
+                }
+                count = count.saturating_add(1);
+            }
+            Entry::Lost { .. } => return false,
+            _ => {}
+        }
+    }
+    count == 1
+}
+
+#[test]
+fn who_is_is_answered(rt: HostRuntime) -> Result<(), Fail> {
+    let alloc = rt.alloc();
+    let link = MemoryLink::new(vec![in alloc; datagram(alloc, &WHO_IS)?]?, Vec::new(alloc));
+    let site = site_of(alloc)?;
+    let device = blank(alloc, &site, &[])?;
+    let (device, closed) = serve_on(&rt, alloc, &site, device, link, 1, &FreeGate);
+    expect_served(&rt, &closed, 1, 0);
+    holds(&rt, sent_alone(&device, &I_AM));
+    Ok(())
+}
+
+/// A gate that holds the receiver's first turn until the ticker's third.
+#[derive(Drop)]
+struct UntilTicked {
+    ticks: AtomicU64,
+    gave_up: AtomicU64,
+}
+
+/// Waits until a count has come so far. Where it doesn't come, it is told.
+fn wait_for(count: &AtomicU64, wanted: u64, gave_up: &AtomicU64) {
+    for _ in 0..LOOKS {
+        if count.load(Ordering::SeqCst) >= wanted {
+            return;
+        }
+        hint::spin_loop();
+    }
+    gave_up.store(1, Ordering::SeqCst);
+}
+
+impl Gate for UntilTicked {
+    ghost passed = { λ gate worker step. Unit {0} };
+
+    fn turn(&self, worker: Worker, step: u64) {
+        match worker {
+            Worker::Ticker => self.ticks.store(step, Ordering::SeqCst),
+            Worker::Receiver if step == 1 => wait_for(&self.ticks, 3, &self.gave_up),
+            _ => {}
+        }
+    }
+}
+
+#[test]
+fn the_ticker_goes_on_beside_the_receiver(rt: HostRuntime) -> Result<(), Fail> {
+    let alloc = rt.alloc();
+    let link = MemoryLink::new(vec![in alloc; datagram(alloc, &WHO_IS)?]?, Vec::new(alloc));
+    let site = site_of(alloc)?;
+    let device = blank(alloc, &site, &[])?;
+    let gate = UntilTicked {
+        ticks: AtomicU64::new(0),
+        gave_up: AtomicU64::new(0),
+    };
+    let (_device, closed) = serve_on(&rt, alloc, &site, device, link, 1, &gate);
+    expect_served(&rt, &closed, 1, 0);
+    same(&rt, &gate.gave_up.load(Ordering::SeqCst), &0);
+    Ok(())
+}
+
+/// A gate that holds the receiver's second turn until the ground's fourth sync: the first that writes an event, on a
+/// blank device.
+#[derive(Drop)]
+struct UntilSynced {
+    syncs: AtomicU64,
+    gave_up: AtomicU64,
+}
+
+impl Gate for UntilSynced {
+    ghost passed = { λ gate worker step. Unit {0} };
+
+    fn turn(&self, worker: Worker, step: u64) {
+        if worker == Worker::Receiver && step == 2 {
+            wait_for(&self.syncs, 4, &self.gave_up);
+        }
+    }
+}
+
+/// A gate that counts the syncs of a ground.
+#[derive(Drop)]
+struct Syncs<'a> {
+    gate: &'a UntilSynced,
+}
+
+impl<'a> Gate for Syncs<'a> {
+    ghost passed = { λ gate worker step. Unit {0} };
+
+    fn turn(&self, _worker: Worker, step: u64) {
+        self.gate.syncs.store(step, Ordering::SeqCst);
+    }
+}
+
+#[test]
+fn the_committer_writes_beside_the_receiver(rt: HostRuntime) -> Result<(), Fail> {
+    let alloc = rt.alloc();
+    let datagrams = vec![in alloc; datagram(alloc, &INHIBIT)?, datagram(alloc, &WHO_IS)?]?;
+    let link = MemoryLink::new(datagrams, Vec::new(alloc));
+    let site = site_of(alloc)?;
+    let gate = UntilSynced {
+        syncs: AtomicU64::new(0),
+        gave_up: AtomicU64::new(0),
+    };
+    let device = HeldGround::new(blank(alloc, &site, &[])?, Syncs { gate: &gate });
+    let (_device, closed) = serve_on(&rt, alloc, &site, device, link, 2, &gate);
+    expect_served(&rt, &closed, 2, 1);
+    same(&rt, &gate.gave_up.load(Ordering::SeqCst), &0);
+    Ok(())
+}
