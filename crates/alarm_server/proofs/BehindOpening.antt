@@ -7,20 +7,24 @@ use Rattle.script_lines.specs.Script.{lines_of}
 use Rattle.alarm_journal.specs.Journal.{Site as Journal}
 use Rattle.alarm_journal.specs.Press.{ReopensSynced}
 use Rattle.alarm_journal.specs.declared.layout.Layout.{Layout}
+use Rattle.alarm_journal.specs.declared.open_fault.OpenFault.{OpenFault}
+use Rattle.alarm_journal.specs.declared.open_fault.OpenFault.TheVariants as open_fault
 use Rattle.alarm_core.specs.declared.event.Event.{Event}
 use Rattle.alarm_core.specs.declared.site.Site.{Site}
 use Rattle.alarm_core.specs.Allowed.{Represents}
 use Rattle.alarm_core.specs.Sites.{IsSite}
 use Rattle.alarm_core.specs.State.{CoreState}
 use Rattle.alarm_server.specs.declared.status.Status.{Status}
-use Rattle.alarm_server.specs.declared.status.Status.TheVariants.{Done, Usage, SiteRefused, ScriptRefused, ReadFault, EmitFault, DiskFault, JournalRefused, NoMemory}
-use Rattle.alarm_server.specs.Emission.{Emits, Ends, lost, sent}
-use Rattle.alarm_server.specs.Keeping.{HoldsHistory, KeepsOpened, KeepsReport, StoodFor}
+use Rattle.alarm_server.specs.declared.status.Status.TheVariants.{Done, Usage, SiteRefused, ScriptRefused, ReadFault, EmitFault, DiskFault, JournalRefused, NoMemory, LinkFault}
+use Rattle.floor_desk.specs.Emission.{Emits}
+use Rattle.alarm_server.specs.Emission.{Ends, lost, sent}
+use Rattle.floor_desk.specs.Keeping.{HoldsHistory, StoodFor}
+use Rattle.alarm_server.specs.Keeping.{KeepsOpened, KeepsReport}
 use Rattle.alarm_server.specs.Pieces.{piece_text}
 use Rattle.alarm_server.specs.Report.{front_pieces, report_of}
 use Rattle.alarm_server.specs.Script.{spelled_in}
 use Rattle.alarm_server.specs.SessionSteps.{session_over, state_front}
-use Rattle.alarm_server.specs.Status.{IsOpenFault}
+use Rattle.alarm_server.specs.Status.{of_open_fault}
 use Rattle.alarm_server.specs.Stopping.{StopsReading}
 use Rattle.alarm_server.proofs.ByHistory.{reports, stops_by_history}
 use Rattle.alarm_server.proofs.Emitting.{emits}
@@ -43,6 +47,7 @@ module _ {X : Type 0} (text : X → List ℕ) where
   tells_ended journal site history EmitFault pieces old mid new (front, next, back, whole, goes) = tells_before journal site history old mid new (sent text front ++ lost text next) goes
   tells_ended journal site history DiskFault pieces old mid new (front, back, whole, goes) = tells_before journal site history old mid new (sent text front) goes
   tells_ended journal site history (JournalRefused fault) pieces old mid new goes = tells_before journal site history old mid new [] goes
+  tells_ended journal site history LinkFault pieces old mid new goes = tells_before journal site history old mid new [] goes
   tells_ended journal site history NoMemory pieces old mid new (front, back, whole, goes) = tells_before journal site history old mid new (sent text front) goes
 
   -- what goes out behind the opening is all that goes out
@@ -55,19 +60,16 @@ module _ {X : Type 0} (text : X → List ℕ) where
   ends_behind EmitFault pieces old mid new quiet (front, next, back, whole, goes) = (front, next, back, whole, emits.followed old mid new [] (sent text front ++ lost text next) quiet goes)
   ends_behind DiskFault pieces old mid new quiet (front, back, whole, goes) = (front, back, whole, emits.followed old mid new [] (sent text front) quiet goes)
   ends_behind (JournalRefused fault) pieces old mid new quiet goes = emits.followed old mid new [] [] quiet goes
+  ends_behind LinkFault pieces old mid new quiet goes = emits.followed old mid new [] [] quiet goes
   ends_behind NoMemory pieces old mid new quiet (front, back, whole, goes) = (front, back, whole, emits.followed old mid new [] (sent text front) quiet goes)
 
   -- a journal that isn't opened
-  pub ends_refused : (ended : Status) (pieces : List X) (old new : Option Told) → IsOpenFault ended → Emits old new [] → Ends Emits text ended pieces old new
-  ends_refused Done pieces old new fault quiet = absurd fault
-  ends_refused Usage pieces old new fault quiet = absurd fault
-  ends_refused (SiteRefused why) pieces old new fault quiet = absurd fault
-  ends_refused (ScriptRefused line) pieces old new fault quiet = absurd fault
-  ends_refused ReadFault pieces old new fault quiet = absurd fault
-  ends_refused EmitFault pieces old new fault quiet = absurd fault
-  ends_refused DiskFault pieces old new fault quiet = ([], pieces, refl, quiet)
-  ends_refused (JournalRefused why) pieces old new fault quiet = quiet
-  ends_refused NoMemory pieces old new fault quiet = ([], pieces, refl, quiet)
+  pub ends_refused : (fault : OpenFault) (pieces : List X) (old new : Option Told) → Emits old new [] → Ends Emits text (of_open_fault fault) pieces old new
+  ends_refused open_fault.DiskFault pieces old new quiet = ([], pieces, refl, quiet)
+  ends_refused (open_fault.SmallDevice size need) pieces old new quiet = quiet
+  ends_refused (open_fault.Foreign at) pieces old new quiet = quiet
+  ends_refused (open_fault.Damaged at) pieces old new quiet = quiet
+  ends_refused open_fault.NoMemory pieces old new quiet = ([], pieces, refl, quiet)
 
 -- ---- a session behind it
 

@@ -2,6 +2,7 @@
 use Rattle.std.proofs.Common.{◌≡◌, ◌↔◌, ℕ, ◌+◌, ◌<◌, ◌≤◌, ◌||◌, max, nat_lt, Bool, true, false, cond, IfSome, Option, Some, None, Result, Ok, Err, List, [], ◌∷◌, length, refl, sym, subst, inl, inr, arith}
 use Rattle.std.proofs.lemmas.Bool.{cases_Bool, ltb-false, ltb-true}
 use Rattle.bac_values.specs.Moments.{IsMoment}
+use Rattle.bac_values.specs.declared.note.Send.{Send}
 use Rattle.script_lines.specs.declared.line.Grammar.TheVariants.{Session}
 use Rattle.script_lines.specs.declared.line.Line.{Line}
 use Rattle.script_lines.specs.declared.line.LineSays.{LineSays}
@@ -10,7 +11,7 @@ use Rattle.script_lines.specs.Line.{is_skipped, line_of, line_says, longest_line
 use Rattle.script_lines.proofs.SpelledSession.{IsLineAt, spelled_session}
 use Rattle.alarm_core.specs.declared.event.Event.{Event}
 use Rattle.alarm_core.specs.declared.event.StepFault.{StepFault}
-use Rattle.alarm_core.specs.declared.event.StepFault.TheVariants.{Full}
+use Rattle.alarm_core.specs.declared.event.StepFault.TheVariants.{Full, NoMemory}
 use Rattle.alarm_core.specs.declared.site.Site.{Site}
 use Rattle.alarm_core.specs.Allowed.{Comes, IsAllowed, IsHistory}
 use Rattle.alarm_core.specs.History.{last_moment_of, raised}
@@ -18,13 +19,14 @@ use Rattle.alarm_core.specs.Sites.{IsSite}
 use Rattle.alarm_core.specs.State.{state_of}
 use Rattle.alarm_core.specs.Verdicts.{step_verdict}
 use Rattle.alarm_core.proofs.Counting.{counts_the_longer_history}
+use Rattle.service_desk.specs.Answers.{answer_of, entering, event_of}
 use Rattle.service_desk.specs.declared.decision.Decision.{Decision}
 use Rattle.service_desk.specs.declared.decision.Decision.TheVariants.{Ignore, Idle, Refuse, Reply, Enter}
-use Rattle.service_desk.specs.Decisions.{EntersAllowed}
+use Rattle.service_desk.specs.Decisions.{EntersAllowed, decision_on}
 use Rattle.service_desk.proofs.AllowedEvents.{decision_enters}
 use Rattle.alarm_server.specs.Report.{history_by}
 use Rattle.alarm_server.specs.Script.{spelled_by, spelled_in}
-use Rattle.alarm_server.specs.Pieces.{decision_for, entered_by, event_in}
+use Rattle.alarm_server.specs.Pieces.{answer_for}
 use Rattle.alarm_server.proofs.Spelled.{spelled-first, spelled-none}
 
 -- ---- the lines of a session are at moments in range
@@ -80,19 +82,20 @@ within count most verdict full fits = elim (cases_Bool (nat_lt most count)) [
 ]
 
 entered_goes : (site : Site) → IsSite site → (history : List Event) → IsHistory site history → (event : Event) → last_moment_of site history ≤ event.moment → IsMoment event.moment → IsAllowed (state_of site history) event.act →
-    (verdict : Result (Unit {0}) StepFault) → step_verdict event (state_of site history) ≡ verdict → Goes site history (entered_by event verdict)
-entered_goes site is history is_history event low moment allowed (Ok fits) e =
+    (reply full : Option Send) (verdict : Result (Unit {0}) StepFault) → step_verdict event (state_of site history) ≡ verdict → Goes site history (event_of (entering event reply full verdict))
+entered_goes site is history is_history event low moment allowed reply full (Ok fits) e =
     let comes : Comes site event history = record { is_site = is; is_history = is_history; not_before = low } in
     let few = within _ site.device.outbox (step_verdict event (state_of site history)) (counts_the_longer_history.full site event history comes) e in
     record { comes = comes; longer = (low, moment, allowed, few, is_history) }
-entered_goes site is history is_history event low moment allowed (Err fault) e = none_goes site history is_history
+entered_goes site is history is_history event low moment allowed reply full (Err (Full would limit)) e = none_goes site history is_history
+entered_goes site is history is_history event low moment allowed reply full (Err NoMemory) e = none_goes site history is_history
 
 last_in_range : (site : Site) → IsSite site → (history : List Event) → IsHistory site history → IsMoment (last_moment_of site history)
 last_in_range site is [] is_history = is.start
 last_in_range site is (event ∷ older) (low, moment, allowed, few, is_history) = moment
 
 decision_goes : (site : Site) → IsSite site → (history : List Event) → IsHistory site history → (moment : ℕ) → IsMoment moment → (decision : Decision) → EntersAllowed (state_of site history) moment decision →
-    Goes site history (event_in (state_of site history) decision)
+    Goes site history (event_of (answer_of (state_of site history) decision))
 decision_goes site is history is_history moment range Ignore allowed = none_goes site history is_history
 decision_goes site is history is_history moment range Idle allowed = none_goes site history is_history
 decision_goes site is history is_history moment range (Refuse why) allowed = none_goes site history is_history
@@ -103,9 +106,9 @@ decision_goes site is history is_history moment range (Enter event reply full) (
     let before = last_in_range site is history is_history in
     let low : last ≤ max event.moment last = omega arith in
     let in_range : IsMoment (max event.moment last) = (omega (arith, same, range.0, before.0), omega (arith, same, range.1, before.1)) in
-    entered_goes site is history is_history event_later low in_range allowed (step_verdict event_later (state_of site history)) refl
+    entered_goes site is history is_history event_later low in_range allowed reply full (step_verdict event_later (state_of site history)) refl
 
 -- the event of a line
-pub line_goes : (site : Site) → IsSite site → (history : List Event) → IsHistory site history → (line : Line) → IsMoment line.moment → Goes site history (event_in (state_of site history) (decision_for (state_of site history) line))
+pub line_goes : (site : Site) → IsSite site → (history : List Event) → IsHistory site history → (line : Line) → IsMoment line.moment → Goes site history (event_of (answer_for (state_of site history) line))
 line_goes site is history is_history line range =
-    decision_goes site is history is_history line.moment range (decision_for (state_of site history) line) (decision_enters site is history line.input line.moment)
+    decision_goes site is history is_history line.moment range (decision_on (state_of site history) line.input line.moment) (decision_enters site is history line.input line.moment)

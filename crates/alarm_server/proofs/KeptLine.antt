@@ -1,5 +1,5 @@
 -- One line of a session that keeps its journal: its event is committed, and then its piece goes out.
-use Rattle.std.proofs.Common.{◌≡◌, ◌≤◌, Option, Some, None, List, [], ◌∷◌, length, refl, ap, ◌∙◌, sym, subst}
+use Rattle.std.proofs.Common.{◌≡◌, ◌≤◌, Option, List, [], ◌∷◌, length, ap, ◌∙◌, sym, subst}
 use Rattle.bac_values.specs.declared.report.ReportLine.{ReportLine}
 use Rattle.ground_io.specs.declared.entry.Entry.{Entry}
 use Rattle.ground_io.specs.Trace.{Told, Adds}
@@ -12,28 +12,25 @@ use Rattle.alarm_core.specs.declared.event.Event.{Event}
 use Rattle.alarm_core.specs.declared.site.Site.{Site}
 use Rattle.alarm_core.specs.Allowed.{Represents}
 use Rattle.alarm_core.specs.State.{CoreState}
+use Rattle.service_desk.specs.Answers.{event_of}
 use Rattle.alarm_server.specs.declared.emission.Unsent.{Unsent}
-use Rattle.alarm_server.specs.Emission.{Emits, Ends, sent, SendsUpTo}
-use Rattle.alarm_server.specs.Keeping.{Commits, HoldsHistory, KeepsLines, Rests}
-use Rattle.alarm_server.specs.Pieces.{decision_for, event_in, piece_text}
+use Rattle.floor_desk.specs.Emission.{Emits}
+use Rattle.alarm_server.specs.Emission.{Ends, sent, SendsUpTo}
+use Rattle.floor_desk.specs.Keeping.{Commits, HoldsHistory, Rests}
+use Rattle.alarm_server.specs.Keeping.{KeepsLines}
+use Rattle.alarm_server.specs.Pieces.{answer_for, piece_text}
 use Rattle.alarm_server.specs.Report.{history_by, history_with}
-use Rattle.alarm_server.specs.SessionSteps.{state_by}
 use Rattle.alarm_server.specs.Status.{of_unsent}
 use Rattle.alarm_server.proofs.Emitting.{emits, emits_sent, emits_up_to}
 use Rattle.alarm_server.proofs.KeptLines.{committed, told_line, untouched}
 use Rattle.alarm_server.proofs.Sending.{front_then}
 use Rattle.alarm_server.proofs.SessionProgress.{ends_front}
 
--- no event changes the site
-pub site_stays : (state : CoreState) (event : Option Event) → (state_by state event).site ≡ state.site
-site_stays state None = refl
-site_stays state (Some event) = refl
-
 -- what holds with a line's event holds with the line
-pub with_line : (state state' : CoreState) (line : Line) (event : Option Event) (history : List Event) → Represents state history → event ≡ event_in state (decision_for state line) → state'.site ≡ state.site → Represents state' (history_with state.site history line)
+pub with_line : (state state' : CoreState) (line : Line) (event : Option Event) (history : List Event) → Represents state history → event ≡ event_of (answer_for state line) → state'.site ≡ state.site → Represents state' (history_with state.site history line)
     → (P Q : Site → List Event → Type 0) → (Represents state' (history_by history event) → P state'.site history → Q state'.site (history_by history event)) → P state.site history → Q state.site (history_with state.site history line)
 with_line state state' line event history stands is own next P Q to p =
-    let same : history_by history event ≡ history_with state.site history line = ap (λ (e : Option Event). history_by history e) is ∙ ap (λ (s : CoreState). history_by history (event_in s (decision_for s line))) stands.shows in
+    let same : history_by history event ≡ history_with state.site history line = ap (λ (e : Option Event). history_by history e) is ∙ ap (λ (s : CoreState). history_by history (event_of (answer_for s line))) stands.shows in
     let got : Q state'.site (history_by history event) = to (subst (λ (h : List Event). Represents state' h) (sym same) next) (subst (λ (s : Site). P s history) (sym own) p) in
     subst (λ (s : Site). Q s (history_with state.site history line)) own (subst (λ (h : List Event). Q state'.site h) same got)
 

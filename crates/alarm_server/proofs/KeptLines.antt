@@ -16,8 +16,9 @@ use Rattle.script_lines.specs.declared.line.Line.{Line}
 use Rattle.alarm_core.specs.declared.event.Event.{Event}
 use Rattle.alarm_core.specs.declared.site.Site.{Site}
 use Rattle.state_codec.specs.Contents.{ImageStands, StandsForHistory}
-use Rattle.alarm_server.specs.Emission.{Emits}
-use Rattle.alarm_server.specs.Keeping.{Commits, KeepsLines, KeepsReport, LeavesLines, LeavesReport}
+use Rattle.floor_desk.specs.Emission.{Emits}
+use Rattle.floor_desk.specs.Keeping.{Commits}
+use Rattle.alarm_server.specs.Keeping.{KeepsLines, KeepsReport, LeavesLines, LeavesReport}
 use Rattle.alarm_server.specs.Report.{history_over, history_with}
 
 -- ---- the history over some lines

@@ -14,7 +14,8 @@ use Rattle.script_lines.specs.declared.line.Line.{Line}
 use Rattle.alarm_core.specs.declared.event.Event.{Event}
 use Rattle.alarm_core.specs.declared.site.Site.{Site}
 use Rattle.state_codec.specs.Contents.{ImageStands, StandsForHistory}
-use Rattle.alarm_server.specs.Keeping.{KeepsOpened, KeepsReport, LeavesReport, StoodFor}
+use Rattle.floor_desk.specs.Keeping.{StoodFor}
+use Rattle.alarm_server.specs.Keeping.{KeepsOpened, KeepsReport, LeavesReport}
 use Rattle.alarm_server.proofs.KeptLines.{along_few, history-none}
 
 module _ (journal : Journal) (site : Site) where

@@ -19,8 +19,10 @@ use Rattle.alarm_core.specs.State.{CoreState}
 use Rattle.alarm_server.specs.declared.emission.Unsent.{Unsent}
 use Rattle.alarm_server.specs.declared.emission.Unsent.TheVariants.{Lost, NoMemory}
 use Rattle.alarm_server.specs.declared.tally.Tally.{Tally}
-use Rattle.alarm_server.specs.Emission.{Emits, sent, lost, SendsUpTo}
-use Rattle.alarm_server.specs.Keeping.{HoldsHistory, KeepsLines, KeepsReport, Rests}
+use Rattle.floor_desk.specs.Emission.{Emits}
+use Rattle.alarm_server.specs.Emission.{sent, lost, SendsUpTo}
+use Rattle.floor_desk.specs.Keeping.{HoldsHistory, Rests}
+use Rattle.alarm_server.specs.Keeping.{KeepsLines, KeepsReport}
 use Rattle.alarm_server.specs.Pieces.{open_piece, piece_of, piece_text}
 use Rattle.alarm_server.specs.Report.{history_over, history_with}
 use Rattle.alarm_server.specs.Script.{spelled_in}

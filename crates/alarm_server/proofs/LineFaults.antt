@@ -4,7 +4,7 @@ use Rattle.ground_io.specs.Trace.{Told}
 use Rattle.alarm_server.specs.declared.emission.Unsent.{Unsent}
 use Rattle.alarm_server.specs.declared.emission.Unsent.TheVariants as unsent
 use Rattle.alarm_server.specs.declared.status.Status.{Status}
-use Rattle.alarm_server.specs.declared.status.Status.TheVariants.{Done, Usage, SiteRefused, ScriptRefused, ReadFault, EmitFault, DiskFault, JournalRefused, NoMemory}
+use Rattle.alarm_server.specs.declared.status.Status.TheVariants.{Done, Usage, SiteRefused, ScriptRefused, ReadFault, EmitFault, DiskFault, JournalRefused, NoMemory, LinkFault}
 use Rattle.alarm_server.specs.Emission.{Ends, Going, SendsUpTo}
 use Rattle.alarm_server.specs.Status.{IsKeepFault, IsLineFault, IsPlayFault, of_unsent}
 
@@ -22,6 +22,7 @@ sends_by Goes text ReadFault pieces old new fault ends = absurd fault
 sends_by Goes text EmitFault pieces old new fault ends = ends
 sends_by Goes text DiskFault pieces old new fault ends = ends
 sends_by Goes text (JournalRefused why) pieces old new fault ends = absurd fault
+sends_by Goes text LinkFault pieces old new fault ends = absurd fault
 sends_by Goes text NoMemory pieces old new fault ends = ends
 
 pub ends_as : {X : Type 0} (Goes : Going) (text : X → List ℕ) (ended : Status) (pieces : List X) (old new : Option Told) → IsLineFault ended → Ends Goes text (of_unsent (way_of ended)) pieces old new → Ends Goes text ended pieces old new
@@ -33,6 +34,7 @@ ends_as Goes text ReadFault pieces old new fault ends = absurd fault
 ends_as Goes text EmitFault pieces old new fault ends = ends
 ends_as Goes text DiskFault pieces old new fault ends = ends
 ends_as Goes text (JournalRefused why) pieces old new fault ends = absurd fault
+ends_as Goes text LinkFault pieces old new fault ends = absurd fault
 ends_as Goes text NoMemory pieces old new fault ends = ends
 
 -- it is an end of a play, and of a session; no refusal of a line, and no failed read
@@ -45,6 +47,7 @@ is_play_fault ReadFault fault = absurd fault
 is_play_fault EmitFault fault = tt
 is_play_fault DiskFault fault = tt
 is_play_fault (JournalRefused why) fault = absurd fault
+is_play_fault LinkFault fault = absurd fault
 is_play_fault NoMemory fault = tt
 
 pub is_line_fault : (ended : Status) → IsKeepFault ended → IsLineFault ended
@@ -56,6 +59,7 @@ is_line_fault ReadFault fault = absurd fault
 is_line_fault EmitFault fault = absurd fault
 is_line_fault DiskFault fault = tt
 is_line_fault (JournalRefused why) fault = absurd fault
+is_line_fault LinkFault fault = absurd fault
 is_line_fault NoMemory fault = tt
 
 -- the same of what goes out of a whole script's report

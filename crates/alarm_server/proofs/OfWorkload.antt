@@ -11,7 +11,7 @@ use Rattle.alarm_core.specs.declared.site.Site.{Site}
 use Rattle.work_load.specs.Script.{workload_script}
 use Rattle.site_config.specs.declared.fault.SiteFault.{SiteFault}
 use Rattle.alarm_server.specs.declared.status.Status.{Status}
-use Rattle.alarm_server.specs.declared.status.Status.TheVariants.{Done, Usage, SiteRefused, ScriptRefused, ReadFault, EmitFault, DiskFault, JournalRefused, NoMemory}
+use Rattle.alarm_server.specs.declared.status.Status.TheVariants.{Done, Usage, SiteRefused, ScriptRefused, ReadFault, EmitFault, DiskFault, JournalRefused, NoMemory, LinkFault}
 use Rattle.alarm_server.specs.Status.{IsInnerFault, IsPlayFault, of_memory}
 use Rattle.alarm_server.specs.declared.tally.Tally.{Tally}
 use Rattle.alarm_server.specs.GeneratedSite.{generated_site}
@@ -56,6 +56,7 @@ ends_inner ReadFault fault = tt
 ends_inner EmitFault fault = tt
 ends_inner DiskFault fault = tt
 ends_inner (JournalRefused why) fault = absurd fault
+ends_inner LinkFault fault = absurd fault
 ends_inner NoMemory fault = tt
 
 never_site : (ended : Status) (why : SiteFault) → IsPlayFault ended → of_memory ended ≡ SiteRefused why → ⊥
@@ -67,6 +68,7 @@ never_site ReadFault why fault same = cc
 never_site EmitFault why fault same = cc
 never_site DiskFault why fault same = cc
 never_site (JournalRefused other) why fault same = absurd fault
+never_site LinkFault why fault same = absurd fault
 never_site NoMemory why fault same = cc
 
 line_of : (ended : Status) (line : ℕ) → of_memory ended ≡ ScriptRefused line → ended ≡ ScriptRefused line
@@ -78,6 +80,7 @@ line_of ReadFault line same = cc
 line_of EmitFault line same = cc
 line_of DiskFault line same = cc
 line_of (JournalRefused why) line same = cc
+line_of LinkFault line same = cc
 line_of NoMemory line same = same
 
 same_end : (x y : Status) → ◌≡◌ {A = Result Tally Status} (Err x) (Err y) → x ≡ y

@@ -10,9 +10,9 @@ use Rattle.site_config.specs.declared.fault.SiteFault.{SiteFault}
 use Rattle.site_config.specs.declared.fault.SiteFault.TheVariants as site_fault
 use Rattle.site_config.specs.Sites.{site_of}
 use Rattle.alarm_server.specs.declared.status.Status.{Status}
-use Rattle.alarm_server.specs.declared.status.Status.TheVariants.{Done, Usage, SiteRefused, ScriptRefused, ReadFault, EmitFault, DiskFault, JournalRefused, NoMemory}
+use Rattle.alarm_server.specs.declared.status.Status.TheVariants.{Done, Usage, SiteRefused, ScriptRefused, ReadFault, EmitFault, DiskFault, JournalRefused, NoMemory, LinkFault}
 use Rattle.alarm_server.specs.Emission.{Going, Ends}
-use Rattle.alarm_server.specs.Keeping.{journal_of}
+use Rattle.floor_desk.specs.Keeping.{journal_of}
 use Rattle.alarm_server.specs.OnFile.{EndsOnFile, EndsOnSite, KeepsOnFile, KeepsOnSite, RefusesFile}
 use Rattle.alarm_server.specs.Script.{spelled_in}
 use Rattle.alarm_server.specs.Report.{report_of}
@@ -34,6 +34,7 @@ ends_on_site Goes composes site history ReadFault script told fault = ([], repor
 ends_on_site Goes composes site history EmitFault script told fault = absurd fault
 ends_on_site Goes composes site history DiskFault script told fault = absurd fault
 ends_on_site Goes composes site history (JournalRefused refused) script told fault = absurd fault
+ends_on_site Goes composes site history LinkFault script told fault = absurd fault
 ends_on_site Goes composes site history NoMemory script told fault = ([], report_of site history script, refl, composes.nothing told)
 
 -- it is the text's own fault, or the text wasn't read
@@ -47,6 +48,7 @@ own_fault octets fault ReadFault says site refused = inr (inl refl)
 own_fault octets fault EmitFault says site refused = absurd site
 own_fault octets fault DiskFault says site refused = absurd site
 own_fault octets fault (JournalRefused why) says site refused = absurd site
+own_fault octets fault LinkFault says site refused = absurd site
 own_fault octets fault NoMemory says site refused = inr (inr refl)
 
 ends_by : (Goes : Going) → Composes Goes → (octets script : List ℕ) (ended : Status) (told : Option Told) (says : Result Site SiteFault) → site_of octets ≡ says → IsSiteFault ended → ((f : SiteFault) → ended ≡ SiteRefused f → RefusesFile (Some octets) f) → EndsOnSite Goes ended octets says script told told

@@ -1,5 +1,5 @@
 -- The pieces and the states of lines, one after the other; and the report by the history.
-use Rattle.std.proofs.Common.{◌≡◌, ℕ, IfSome, Option, Some, None, List, [], ◌∷◌, ◌++◌, length, refl, ap, ◌∙◌, sym}
+use Rattle.std.proofs.Common.{◌≡◌, ℕ, IfSome, List, [], ◌∷◌, ◌++◌, length, refl, ap, ◌∙◌, sym}
 use Rattle.script_lines.specs.declared.line.Grammar.TheVariants.{Session}
 use Rattle.script_lines.specs.declared.line.Line.{Line}
 use Rattle.script_lines.specs.Script.{lines_of}
@@ -9,9 +9,10 @@ use Rattle.alarm_core.specs.Allowed.{Comes, IsHistory}
 use Rattle.alarm_core.specs.Sites.{IsSite}
 use Rattle.alarm_core.specs.State.{state_of, CoreState}
 use Rattle.alarm_core.proofs.Standing.{stands}
+use Rattle.service_desk.specs.Answers.{Answer, Entered, Full, Refused, Replied, Unchanged, Ignored, event_of, state_behind}
 use Rattle.alarm_server.specs.Script.{spelled_in, refused_in}
-use Rattle.alarm_server.specs.SessionSteps.{pieces_over, session_over, state_by, state_over, state_with}
-use Rattle.alarm_server.specs.Pieces.{decision_for, event_in, open_piece, piece_of, session_end}
+use Rattle.alarm_server.specs.SessionSteps.{pieces_over, session_over, state_over, state_with}
+use Rattle.alarm_server.specs.Pieces.{answer_for, open_piece, piece_of, session_end}
 use Rattle.alarm_server.specs.Report.{front_pieces, history_by, history_over, history_with, pieces_of, report_of}
 use Rattle.alarm_server.proofs.Comings.{InRange, line_goes, spelled_in_range}
 
@@ -57,10 +58,14 @@ pieces-next lines line state =
     pieces-append lines (line ∷ []) state
     ∙ ap (λ ps. pieces_over state lines ++ ps) (pieces-first (state_over state lines) line [] ∙ ap (λ ps. piece_of (state_over state lines) line ∷ ps) (pieces-none (state_with (state_over state lines) line)))
 
--- the state of the history with an event
-history_state : (site : Site) (history : List Event) (event : Option Event) → IfSome event (λ e. Comes site e history) → state_by (state_of site history) event ≡ state_of site (history_by history event)
-history_state site history None comes = refl
-history_state site history (Some event) comes = stands.state site event history comes
+-- the state of the history with the event of an answer
+history_state : (site : Site) (history : List Event) (answer : Answer) → IfSome (event_of answer) (λ e. Comes site e history) → state_behind (state_of site history) answer ≡ state_of site (history_by history (event_of answer))
+history_state site history (Entered event reply) comes = stands.state site event history comes
+history_state site history (Full would limit reply) comes = refl
+history_state site history (Refused why) comes = refl
+history_state site history (Replied send) comes = refl
+history_state site history Unchanged comes = refl
+history_state site history Ignored comes = refl
 
 states_are : (site : Site) → IsSite site → (lines : List Line) → InRange lines → (history : List Event) → IsHistory site history → state_over (state_of site history) lines ≡ state_of site (history_over site history lines)
 unfolding history_over
@@ -69,7 +74,7 @@ states_are site is (line ∷ lines) (here, others) history is_history =
     let state = state_of site history in
     let goes = line_goes site is history is_history line here in
     states-first state line lines
-    ∙ (ap (λ s. state_over s lines) (history_state site history (event_in state (decision_for state line)) goes.comes)
+    ∙ (ap (λ s. state_over s lines) (history_state site history (answer_for state line) goes.comes)
     ∙ states_are site is lines others (history_with site history line) goes.longer)
 
 pieces_are : (site : Site) → IsSite site → (lines : List Line) → InRange lines → (history : List Event) → IsHistory site history → pieces_over (state_of site history) lines ≡ pieces_of site history lines
@@ -79,7 +84,7 @@ pieces_are site is (line ∷ lines) (here, others) history is_history =
     let state = state_of site history in
     let goes = line_goes site is history is_history line here in
     pieces-first state line lines
-    ∙ (ap (λ s. piece_of state line ∷ pieces_over s lines) (history_state site history (event_in state (decision_for state line)) goes.comes)
+    ∙ (ap (λ s. piece_of state line ∷ pieces_over s lines) (history_state site history (answer_for state line) goes.comes)
     ∙ ap (λ ps. piece_of state line ∷ ps) (pieces_are site is lines others (history_with site history line) goes.longer))
 
 -- the report by the history is the one by the state

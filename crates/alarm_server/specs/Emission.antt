@@ -3,29 +3,11 @@ use Rattle.std.specs.Prelude.{◌≡◌, ℕ, List, [], ◌∷◌, ◌++◌, map
 use Rattle.bac_values.specs.Address.{console}
 use Rattle.ground_io.specs.declared.entry.Entry.{Entry}
 use Rattle.ground_io.specs.declared.entry.Entry.TheVariants as entry
-use Rattle.ground_io.specs.Sent.{emissions}
-use Rattle.ground_io.specs.Trace.{Told, Adds}
+use Rattle.ground_io.specs.Trace.{Told}
 use Rattle.alarm_server.specs.declared.emission.Unsent.{Unsent}
 use Rattle.alarm_server.specs.declared.emission.Unsent.TheVariants.{Lost, NoMemory}
 use Rattle.alarm_server.specs.declared.status.Status.{Status}
 use Rattle.alarm_server.specs.declared.status.Status.TheVariants as status
-
--- These emissions came, in this order, and between them the disk may have been written and synced.
-abbrev pub Emits : Option Told → Option Told → List Entry → Type 0
-Emits old new entries = (more : List Entry) × Adds old new more × (emissions more ≡ entries)
-
--- all of these entries are emissions, lost ones too
-abbrev pub AreEmissions : List Entry → Type 0
-AreEmissions [] = Unit {0}
-AreEmissions (entry.Wrote place octets ∷ entries) = ⊥
-AreEmissions (entry.Broke place tried left ∷ entries) = ⊥
-AreEmissions (entry.Synced ∷ entries) = ⊥
-AreEmissions (entry.Emitted peer octets ∷ entries) = AreEmissions entries
-AreEmissions (entry.Lost peer octets ∷ entries) = AreEmissions entries
-
--- the disk was neither written nor synced
-abbrev pub LeavesDisk : Option Told → Option Told → Type 0
-LeavesDisk old new = (more : List Entry) × Adds old new more × AreEmissions more
 
 -- How what went out shows in what a ground tells before and after: by `Adds` where nothing else happened to it, by `Emits` where its disk may have been written as well.
 abbrev pub Going : Type 1
@@ -68,4 +50,5 @@ Ends Goes text status.ReadFault pieces old new = SendsFront Goes text pieces old
 Ends Goes text status.EmitFault pieces old new = LosesNext Goes text pieces old new
 Ends Goes text status.DiskFault pieces old new = SendsFront Goes text pieces old new
 Ends Goes text (status.JournalRefused fault) pieces old new = Goes old new []
+Ends Goes text status.LinkFault pieces old new = Goes old new []
 Ends Goes text status.NoMemory pieces old new = SendsFront Goes text pieces old new

@@ -1,6 +1,6 @@
 -- How a trial and a workload end before their end. Neither touches the disk.
 use Rattle.alarm_server.specs.declared.status.Status.{Status}
-use Rattle.alarm_server.specs.declared.status.Status.TheVariants.{Done, Usage, SiteRefused, ScriptRefused, ReadFault, EmitFault, DiskFault, JournalRefused, NoMemory}
+use Rattle.alarm_server.specs.declared.status.Status.TheVariants.{Done, Usage, SiteRefused, ScriptRefused, ReadFault, EmitFault, DiskFault, JournalRefused, NoMemory, LinkFault}
 
 -- an end of a trial, which has no site
 abbrev pub IsTrialFault : Status → Type 0
@@ -12,6 +12,7 @@ IsTrialFault ReadFault = Unit {0}
 IsTrialFault EmitFault = Unit {0}
 IsTrialFault DiskFault = ⊥
 IsTrialFault (JournalRefused fault) = ⊥
+IsTrialFault LinkFault = ⊥
 IsTrialFault NoMemory = Unit {0}
 
 -- an end of a workload, which reads nothing
@@ -24,4 +25,5 @@ IsWorkloadFault ReadFault = ⊥
 IsWorkloadFault EmitFault = Unit {0}
 IsWorkloadFault DiskFault = ⊥
 IsWorkloadFault (JournalRefused fault) = ⊥
+IsWorkloadFault LinkFault = ⊥
 IsWorkloadFault NoMemory = Unit {0}

@@ -12,7 +12,8 @@ use Rattle.alarm_server.specs.declared.status.Status.TheVariants.{SiteRefused, R
 use Rattle.alarm_server.specs.Emission.{Going, Ends}
 use Rattle.alarm_server.specs.Report.{front_pieces, report_of}
 use Rattle.script_lines.specs.Script.{lines_of}
-use Rattle.alarm_server.specs.Keeping.{KeepsOpened, StoodFor, journal_of}
+use Rattle.floor_desk.specs.Keeping.{StoodFor, journal_of}
+use Rattle.alarm_server.specs.Keeping.{KeepsOpened}
 use Rattle.alarm_server.specs.Script.{refused_line, spelled_in}
 use Rattle.alarm_server.specs.Pieces.{piece_text}
 use Rattle.alarm_server.specs.Stopping.{StopsReading}

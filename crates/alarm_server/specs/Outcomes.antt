@@ -10,7 +10,8 @@ use Rattle.site_config.specs.Sites.{site_of}
 use Rattle.alarm_server.specs.declared.command.Command.{Command}
 use Rattle.alarm_server.specs.declared.command.Command.TheVariants.{Trial, Session, Workload}
 use Rattle.alarm_server.specs.declared.status.Status.{Status}
-use Rattle.alarm_server.specs.Emission.{Emits, Ends}
+use Rattle.floor_desk.specs.Emission.{Emits}
+use Rattle.alarm_server.specs.Emission.{Ends}
 use Rattle.alarm_server.specs.OnFile.{AcceptsOnFile, EndsOnFile, KeepsOnFile, RefusesFile, StopsOnFile}
 use Rattle.alarm_server.specs.Script.{refused_line}
 use Rattle.alarm_server.specs.Stopping.{StopsReading}

@@ -7,8 +7,9 @@ use Rattle.script_lines.specs.Script.{lines_of}
 use Rattle.alarm_core.specs.declared.event.Event.{Event}
 use Rattle.alarm_core.specs.declared.site.Site.{Site}
 use Rattle.alarm_core.specs.State.{state_of}
+use Rattle.service_desk.specs.Answers.{event_of}
 use Rattle.alarm_server.specs.Script.{spelled_in, refused_in}
-use Rattle.alarm_server.specs.Pieces.{decision_for, event_in, open_piece, piece_of, session_end}
+use Rattle.alarm_server.specs.Pieces.{answer_for, open_piece, piece_of, session_end}
 
 abbrev pub history_by : List Event → Option Event → List Event
 history_by history None = history
@@ -16,7 +17,7 @@ history_by history (Some event) = event ∷ history
 
 -- the history with the event of a line, where the line is one
 abbrev pub history_with : Site → List Event → Line → List Event
-history_with site history line = history_by history (event_in (state_of site history) (decision_for (state_of site history) line))
+history_with site history line = history_by history (event_of (answer_for (state_of site history) line))
 
 -- the history with the events of some lines
 unfoldable pub history_over : Site → List Event → List Line → List Event

@@ -1,22 +1,17 @@
 -- A session, line by line: what each line comes to, and the pieces of the report.
-use Rattle.std.specs.Prelude.{ℕ, Option, Some, None, List, [], ◌∷◌, ◌++◌, length}
+use Rattle.std.specs.Prelude.{ℕ, List, [], ◌∷◌, ◌++◌, length}
 use Rattle.bac_values.specs.declared.report.ReportLine.{ReportLine}
 use Rattle.script_lines.specs.declared.line.Grammar.TheVariants.{Session}
 use Rattle.script_lines.specs.declared.line.Line.{Line}
 use Rattle.script_lines.specs.Script.{lines_of}
-use Rattle.alarm_core.specs.declared.event.Event.{Event}
-use Rattle.alarm_core.specs.CoreSteps.{next_state}
 use Rattle.alarm_core.specs.State.{CoreState}
-use Rattle.alarm_server.specs.Pieces.{decision_for, event_in, open_piece, piece_of, session_end}
+use Rattle.service_desk.specs.Answers.{state_behind}
+use Rattle.alarm_server.specs.Pieces.{answer_for, open_piece, piece_of, session_end}
 use Rattle.alarm_server.specs.Script.{spelled_in, refused_in}
-
-abbrev pub state_by : CoreState → Option Event → CoreState
-state_by state None = state
-state_by state (Some event) = next_state event state
 
 -- the state after a line
 abbrev pub state_with : CoreState → Line → CoreState
-state_with state line = state_by state (event_in state (decision_for state line))
+state_with state line = state_behind state (answer_for state line)
 
 -- the state after some lines, and their pieces
 unfoldable pub state_over : CoreState → List Line → CoreState

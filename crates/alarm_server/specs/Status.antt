@@ -9,13 +9,13 @@ use Rattle.site_config.specs.declared.fault.SiteFault.TheVariants as site_fault
 use Rattle.site_config.specs.FaultTexts.{fault_text}
 use Rattle.alarm_journal.specs.declared.open_fault.OpenFault.{OpenFault}
 use Rattle.alarm_journal.specs.declared.open_fault.OpenFault.TheVariants as open_fault
-use Rattle.state_codec.specs.declared.recovering.RecoverFault.{RecoverFault}
-use Rattle.state_codec.specs.declared.recovering.RecoverFault.TheVariants as recover_fault
+use Rattle.floor_desk.specs.declared.faults.KeepFault.{KeepFault}
+use Rattle.floor_desk.specs.declared.faults.KeepFault.TheVariants as keep_fault
 use Rattle.alarm_server.specs.declared.emission.Unsent.{Unsent}
 use Rattle.alarm_server.specs.declared.emission.Unsent.TheVariants.{Lost}
 use Rattle.alarm_server.specs.declared.emission.Unsent.TheVariants as unsent
 use Rattle.alarm_server.specs.declared.status.Status.{Status}
-use Rattle.alarm_server.specs.declared.status.Status.TheVariants.{Done, Usage, SiteRefused, ScriptRefused, ReadFault, EmitFault, DiskFault, JournalRefused, NoMemory}
+use Rattle.alarm_server.specs.declared.status.Status.TheVariants.{Done, Usage, SiteRefused, ScriptRefused, ReadFault, EmitFault, DiskFault, JournalRefused, NoMemory, LinkFault}
 
 -- the exit status of a program
 abbrev pub code_of : Status → ℕ
@@ -28,6 +28,7 @@ code_of EmitFault = 6
 code_of DiskFault = 7
 code_of (JournalRefused fault) = 8
 code_of NoMemory = 9
+code_of LinkFault = 10
 
 -- why a journal isn't opened, in words; those that are no refusal have the text of their own status
 abbrev pub open_fault_text : OpenFault → List ℕ
@@ -40,7 +41,7 @@ open_fault_text open_fault.NoMemory = codes "no memory"
 -- the text of a status
 abbrev pub status_text : Status → List ℕ
 status_text Done = codes "done"
-status_text Usage = codes "usage: trial LOW HIGH DEADBAND DELAY NORMAL | session SITE JOURNAL | workload SEED COUNT"
+status_text Usage = codes "usage: trial LOW HIGH DEADBAND DELAY NORMAL | session SITE JOURNAL | workload SEED COUNT | serve SITE JOURNAL COUNT"
 status_text (SiteRefused fault) = fault_text fault
 status_text (ScriptRefused line) = codes "script refused: line " ++ decimal line
 status_text ReadFault = codes "read fault"
@@ -48,6 +49,7 @@ status_text EmitFault = codes "emit fault"
 status_text DiskFault = codes "disk fault"
 status_text (JournalRefused fault) = open_fault_text fault
 status_text NoMemory = codes "no memory"
+status_text LinkFault = codes "link fault"
 
 -- a program ends where a line is lost, or finds no memory
 abbrev pub of_unsent : Unsent → Status
@@ -65,10 +67,10 @@ of_open_fault open_fault.DiskFault = DiskFault
 of_open_fault open_fault.NoMemory = NoMemory
 of_open_fault fault = JournalRefused fault
 
--- a program ends where its journal isn't what its site's events leave
-abbrev pub of_recover_fault : RecoverFault → Status
-of_recover_fault (recover_fault.Damaged at) = JournalRefused (open_fault.Damaged at)
-of_recover_fault recover_fault.NoMemory = NoMemory
+-- a program ends where an event isn't kept
+abbrev pub of_keep_fault : KeepFault → Status
+of_keep_fault keep_fault.DiskFault = DiskFault
+of_keep_fault keep_fault.NoMemory = NoMemory
 
 -- a program ends where its script gives no line
 abbrev pub of_line_fault : LineFault → Status
@@ -91,6 +93,7 @@ IsFault ReadFault = Unit {0}
 IsFault EmitFault = Unit {0}
 IsFault DiskFault = Unit {0}
 IsFault (JournalRefused fault) = Unit {0}
+IsFault LinkFault = ⊥
 IsFault NoMemory = Unit {0}
 
 -- an end of a play, which has its site already
@@ -103,6 +106,7 @@ IsPlayFault ReadFault = Unit {0}
 IsPlayFault EmitFault = Unit {0}
 IsPlayFault DiskFault = Unit {0}
 IsPlayFault (JournalRefused fault) = ⊥
+IsPlayFault LinkFault = ⊥
 IsPlayFault NoMemory = Unit {0}
 
 -- an end while a line is played: its event isn't kept, or its piece doesn't go out
@@ -118,18 +122,12 @@ IsKeepFault DiskFault = Unit {0}
 IsKeepFault NoMemory = Unit {0}
 IsKeepFault status = ⊥
 
--- an end while a journal is opened
-abbrev pub IsOpenFault : Status → Type 0
-IsOpenFault DiskFault = Unit {0}
-IsOpenFault (JournalRefused fault) = Unit {0}
-IsOpenFault NoMemory = Unit {0}
-IsOpenFault status = ⊥
-
 -- an end of a session that has its site already
 abbrev pub IsSessionFault : Status → Type 0
 IsSessionFault Done = ⊥
 IsSessionFault Usage = ⊥
 IsSessionFault (SiteRefused fault) = ⊥
+IsSessionFault LinkFault = ⊥
 IsSessionFault status = Unit {0}
 
 -- an end while a text is read
@@ -142,6 +140,7 @@ IsTextFault ReadFault = Unit {0}
 IsTextFault EmitFault = ⊥
 IsTextFault DiskFault = ⊥
 IsTextFault (JournalRefused fault) = ⊥
+IsTextFault LinkFault = ⊥
 IsTextFault NoMemory = Unit {0}
 
 -- an end before a site is found
@@ -154,6 +153,7 @@ IsSiteFault ReadFault = Unit {0}
 IsSiteFault EmitFault = ⊥
 IsSiteFault DiskFault = ⊥
 IsSiteFault (JournalRefused fault) = ⊥
+IsSiteFault LinkFault = ⊥
 IsSiteFault NoMemory = Unit {0}
 
 -- a source and a blank ground in memory, none of whose calls is to fail, fail for want of memory alone
@@ -174,4 +174,5 @@ IsInnerFault ReadFault = ⊥
 IsInnerFault EmitFault = ⊥
 IsInnerFault DiskFault = ⊥
 IsInnerFault (JournalRefused fault) = ⊥
+IsInnerFault LinkFault = ⊥
 IsInnerFault NoMemory = Unit {0}

@@ -1,11 +1,15 @@
 ghost use Rattle.std.specs.Prelude.{◌≡◌, ◌-◌, ◌^◌, map, string_bytes};
 ghost use Rattle.alarm_server.specs.Commands.{command_of, is_session, workload_of};
+ghost use Rattle.alarm_server.specs.ServeWords.{count_in};
 
 use crate::settings::Settings;
 use script_lines::unsigned;
 
 /// The most lines that a workload's script may have.
 const MOST_LINES: u64 = 20_000;
+
+/// The most datagrams that a server takes.
+const MOST_DATAGRAMS: u64 = 1_000_000;
 
 /// What the words of a program ask for.
 #[derive(Clone, Copy, Debug)]
@@ -63,4 +67,21 @@ pub fn read_command(words: &[String]) -> Option<Command>
         return Some(Command::Session);
     }
     read_workload(words)
+}
+
+/// How many datagrams the words `serve SITE JOURNAL COUNT` ask a server to take, from 1 to 1,000,000.
+pub fn count_of(words: &[String]) -> Option<u32>
+    ensures count { result ≡ count_in (map string_bytes words.now) }
+{
+    let [serve, _site, _journal, count] = words else {
+        return None;
+    };
+    if serve.as_str() != "serve" {
+        return None;
+    }
+    let count = unsigned(count.as_bytes(), MOST_DATAGRAMS)?;
+    if count == 0 {
+        return None;
+    }
+    Some(count as u32)
 }

@@ -6,12 +6,11 @@
 
 mod command;
 mod emission;
-mod keeping;
 mod on_file;
-mod opening;
 mod paths;
 mod pieces;
 mod run;
+mod serve;
 mod session;
 mod settings;
 mod status;
@@ -19,18 +18,26 @@ mod taken;
 mod tally;
 mod text;
 mod trial;
+mod waking_gate;
 mod watch;
 mod workload;
 
 use crate::paths::paths_of;
 use crate::run::run;
+use crate::serve::{Served, serve};
 use crate::status::Status;
 use crate::text::read_text;
-use ground_io::{FileGround, StdSource};
+use crate::waking_gate::WakingGate;
+use ground_io::{FileGround, Ground, Link, Source, StdSource, SystemClock, UdpLink};
 use site_config::{SiteFault, line_of_refusal};
+use std::alloc::Global;
 use std::fs::{File, OpenOptions};
 use std::io::Read;
+use std::net::UdpSocket;
 use std::process::ExitCode;
+use std::sync::Wait;
+use std::thread::Threads;
+use std::time::{Clock, Duration};
 use std::{env, io};
 
 const VERSION: &str = "alarm-server 0.1.0";
@@ -57,13 +64,23 @@ workload plays a script of COUNT lines (at most 20000), drawn from SEED, to a
 site of its own, and prints one line: how many events, changes, datagrams and
 lines with a full outbox the report would have.
 
+alarm-server serve SITE JOURNAL COUNT
+
+serve takes COUNT datagrams (1 to 1000000) from UDP port 47808, answers them,
+and sends the notifications of the site that the file SITE describes. It goes on
+from the events that the file JOURNAL holds. What is owed for an event goes out
+once the event is in JOURNAL, and on the disk. At the end it prints the line
+`served RECEIVED EVENTS DURABLE LOST`. ALARM_SERVER_PORT and
+ALARM_SERVER_ADDRESS in the environment name another port, and one address.
+
 alarm-server --help      prints this text
 alarm-server --version   prints the version
 
-It ends with 0, or says why not and ends with 1 (a file can't be opened), 2 (the
-words are of no form), 3 (the site's text is refused), 4 (a line of the script
-is refused), 5 (a file can't be read), 6 (the report can't be written), 7 (the
-journal can't be written), 8 (the journal is refused) or 9 (no memory).
+It ends with 0, or says why not and ends with 1 (a file or the port can't be
+opened), 2 (the words are of no form), 3 (the site's text is refused), 4 (a line
+of the script is refused), 5 (a file can't be read), 6 (the report can't be
+written), 7 (the journal can't be written), 8 (the journal is refused), 9 (no
+memory) or 10 (the link failed).
 docs/SITE.md, docs/SCRIPT.md and docs/JOURNAL.md describe the files.";
 
 fn words_given(rt: &HostRuntime) -> io::Result<Vec<String>> {
@@ -160,6 +177,75 @@ fn run_on_files(
     ends_on_file(rt, path, status)
 }
 
+/// So many milliseconds a server's ticker and committer rest.
+const REST: u64 = 5;
+
+/// So many milliseconds a call for a datagram waits for one.
+const PATIENCE: u64 = 200;
+
+// What the environment has under a name, or this.
+fn set_or(rt: &HostRuntime, name: &str, other: &str) -> io::Result<String> {
+    match env::var(rt, name) {
+        Ok(text) => Ok(text),
+        Err(_) => Ok(String::from_str(rt.alloc(), other)?),
+    }
+}
+
+// The socket of a server, bound to the address and the port that the environment names.
+fn bound(rt: &HostRuntime) -> io::Result<UdpSocket> {
+    let mut place = set_or(rt, "ALARM_SERVER_ADDRESS", "0.0.0.0")?;
+    let port = set_or(rt, "ALARM_SERVER_PORT", "47808")?;
+    place.push(':')?;
+    place.push_str(port.as_str())?;
+    let socket = UdpSocket::bind(rt, place.as_str())?;
+    eprintln!(rt; "listening on {place}")?;
+    Ok(socket)
+}
+
+// Serves over a ground and a link, by the system's clock.
+fn serve_over<R: Threads + Wait + Sync + Clock, S: Source, G: Ground + Send, L: Link + Send + Drop>(
+    rt: &R,
+    alloc: Global,
+    words: &[String],
+    site: &mut S,
+    device: G,
+    link: L,
+) -> (G, L, Served) {
+    let clock = SystemClock::new(rt);
+    let gate = WakingGate::new(rt, Duration::from_millis(REST));
+    serve(rt, alloc, words, site, device, link, &clock, &gate)
+}
+
+// The files of a server, and its socket.
+#[derive(Drop)]
+struct Places {
+    site: File,
+    journal: File,
+    socket: UdpSocket,
+}
+
+// Opens them, if they are all there.
+fn open_places(rt: &HostRuntime, path: &str, journal: &str) -> io::Result<Places> {
+    Ok(Places {
+        site: File::open(rt, path)?,
+        journal: open_journal_file(rt, journal)?,
+        socket: bound(rt)?,
+    })
+}
+
+// Says what a server came to, and how it ended.
+fn ends_serving(rt: &HostRuntime, path: &str, served: Served) -> io::Result<ExitCode> {
+    let Served {
+        status,
+        received,
+        events,
+        durable,
+        lost,
+    } = served;
+    println!(rt; "served {received} {events} {durable} {lost}")?;
+    ends_on_file(rt, path, status)
+}
+
 fn main(rt: HostRuntime) -> io::Result<ExitCode> {
     let words = words_given(&rt)?;
     if let Some(notice) = notice_for(&words) {
@@ -172,6 +258,29 @@ fn main(rt: HostRuntime) -> io::Result<ExitCode> {
     let site = paths.site.and_then(|place| words.get(place));
     let journal = paths.journal.and_then(|place| words.get(place));
     match (site, journal) {
+        (Some(site), Some(journal)) if paths.serves => {
+            let Ok(places) = open_places(&rt, site.as_str(), journal.as_str()) else {
+                return cannot_open(&rt);
+            };
+            let mut source = StdSource::new(places.site);
+            let link = UdpLink::new(&places.socket, Duration::from_millis(PATIENCE))?;
+            let device = FileGround::new(
+                Some(places.journal),
+                io::writer(&rt),
+                Some(places.socket),
+            )?;
+            let (device, link, served) = serve_over(
+                &rt,
+                rt.alloc(),
+                &words,
+                &mut source,
+                device,
+                link,
+            );
+            drop(device);
+            drop(link);
+            ends_serving(&rt, site.as_str(), served)
+        }
         (Some(site), Some(journal)) => run_on_files(&rt, &words, site.as_str(), journal.as_str()),
         _ => {
             let status = run_with(&rt, &words, io::empty(), None)?;

@@ -9,12 +9,15 @@ ghost use Rattle.alarm_core.specs.Limits.{KeepsLimits};
 ghost use Rattle.alarm_core.specs.Sites.{IsSite};
 ghost use Rattle.script_lines.specs.Script.{lines_of};
 ghost use Rattle.state_codec.specs.Sizes.{most_text};
-ghost use Rattle.alarm_server.specs.Keeping.{KeepsOpened, StoodFor, journal_of};
-ghost use Rattle.alarm_server.specs.OpeningSteps.{IsRefusedFor, RefusesJournal};
+ghost use Rattle.floor_desk.specs.Keeping.{StoodFor, journal_of};
+ghost use Rattle.alarm_server.specs.Keeping.{KeepsOpened};
+ghost use Rattle.floor_desk.specs.OpeningSteps.{IsRefusedFor};
+ghost use Rattle.alarm_server.specs.OpeningSteps.{RefusesJournal};
 ghost use Rattle.site_config.specs.declared.fault.SiteFault.{SiteFault};
 ghost use Rattle.site_config.specs.Sites.{site_of};
 ghost use Rattle.alarm_server.specs.Causes.{HasCauseInEither};
-ghost use Rattle.alarm_server.specs.Emission.{Emits, Ends};
+ghost use Rattle.floor_desk.specs.Emission.{Emits};
+ghost use Rattle.alarm_server.specs.Emission.{Ends};
 ghost use Rattle.alarm_server.specs.OnFile.{AcceptsOnFile, EndsOnFile, KeepsOnFile, RefusesFile, StopsOnFile};
 ghost use Rattle.alarm_server.specs.Report.{front_pieces, report_of};
 ghost use Rattle.alarm_server.specs.Script.{refused_line, spelled_in};
@@ -22,17 +25,17 @@ ghost use Rattle.alarm_server.specs.Pieces.{piece_text};
 ghost use Rattle.alarm_server.specs.Status.{IsFault, IsSessionFault, IsSiteFault, status_of};
 ghost use Rattle.alarm_server.specs.Stopping.{StopsReading};
 
-use crate::opening::open_journal;
 use crate::session::play_session;
 use crate::status::Status;
 use crate::text::read_text;
 use alarm_core::Site;
+use floor_desk::open_journal;
 use ground_io::{Ground, Source};
 use site_config::read_site;
 use std::alloc::Global;
 
 // The site whose text a source has, with the text.
-fn open_site<S: Source>(alloc: Global, source: &mut S) -> Result<(Site, Vec<u8>), Status>
+pub(crate) fn open_site<S: Source>(alloc: Global, source: &mut S) -> Result<(Site, Vec<u8>), Status>
     ensures site { IfOk result (λ read. IfSome (S.left source.old) (λ octets. (site_of octets ≡ Ok read.0) × (octets ≡ read.1.items))) }
     ensures keeps { IfOk result (λ read. IsSite read.0) }
     ensures limits { IfOk result (λ read. KeepsLimits read.0) }
@@ -84,7 +87,7 @@ fn play_site<T: Source, G: Ground>(
 {
     let (press, mut core) = match open_journal(alloc, site, text, device) {
         Ok(opened) => opened,
-        Err((device, status)) => return (device, Err(status)),
+        Err((device, fault)) => return (device, Err(Status::from(fault))),
     };
     let (device, played) = play_session(alloc, press, &mut core, script);
     match played {

@@ -1,7 +1,7 @@
 ghost use Rattle.std.specs.Prelude.{◌≡◌, map, string_bytes};
 ghost use Rattle.alarm_server.specs.Paths.{paths_for};
 
-use crate::command::{Command, read_command};
+use crate::command::{Command, count_of, read_command};
 
 /// Where the words name the files that a program opens, as places in the words from 0.
 #[derive(Clone, Copy, Debug, PartialEq, Eq)]
@@ -18,6 +18,13 @@ pub struct Paths {
 pub fn paths_of(words: &[String]) -> Option<Paths>
     ensures paths { result ≡ paths_for (map string_bytes words.now) }
 {
+    if count_of(words).is_some() {
+        return Some(Paths {
+            site: Some(1),
+            journal: Some(2),
+            serves: true,
+        });
+    }
     let (site, journal) = match read_command(words)? {
         Command::Session => (Some(1), Some(2)),
         Command::Trial { .. } | Command::Workload { .. } => (None, None),

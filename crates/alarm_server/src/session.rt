@@ -12,18 +12,20 @@ ghost use Rattle.state_codec.specs.Records.{HasRecord};
 ghost use Rattle.alarm_core.specs.declared.event.Event.{Event as Happening};
 ghost use Rattle.alarm_core.specs.Allowed.{Represents};
 ghost use Rattle.alarm_core.specs.Limits.{KeepsLimits};
-ghost use Rattle.alarm_server.specs.Keeping.{Commits, HoldsHistory, KeepsLines, KeepsReport, Rests};
+ghost use Rattle.service_desk.specs.Answers.{event_of};
+ghost use Rattle.floor_desk.specs.Keeping.{Commits, HoldsHistory, Rests};
+ghost use Rattle.alarm_server.specs.Keeping.{KeepsLines, KeepsReport};
 ghost use Rattle.alarm_server.specs.Report.{history_by, history_with};
-ghost use Rattle.alarm_server.specs.Emission.{Emits, Ends, Sends, sent};
+ghost use Rattle.floor_desk.specs.Emission.{Emits};
+ghost use Rattle.alarm_server.specs.Emission.{Ends, Sends, sent};
 ghost use Rattle.alarm_server.specs.Script.{refused_line, spelled_in};
 ghost use Rattle.alarm_server.specs.SessionSteps.{session_over, state_front, state_over, state_with};
-ghost use Rattle.alarm_server.specs.Pieces.{decision_for, end_piece, event_in, open_piece, piece_of, piece_text};
+ghost use Rattle.alarm_server.specs.Pieces.{answer_for, end_piece, open_piece, piece_of, piece_text};
 ghost use Rattle.alarm_server.specs.Status.{IsKeepFault, IsLineFault, IsPlayFault, status_of};
 ghost use Rattle.alarm_server.specs.Stopping.{StopsReading};
 ghost use Rattle.alarm_server.specs.Tallies.{tally_of, tally_with};
 
 use crate::emission::Unsent;
-use crate::keeping::keep_event;
 use crate::pieces::emit_piece;
 use crate::status::Status;
 use crate::taken::{Taken, take};
@@ -31,6 +33,7 @@ use crate::tally::Tally;
 use alarm_core::{Core, Event};
 use alarm_journal::Press;
 use bac_values::{NoMemory, ReportLine, single};
+use floor_desk::keep_event;
 use ground_io::{Ground, Source};
 use script_lines::{Line, Lines};
 use std::alloc::Global;
@@ -59,7 +62,10 @@ fn keep<G: Ground>(
     ensures emitted { MatchResult result (λ kept. G.emit_faults kept.device ≡ G.emit_faults press.device) (λ lost. G.emit_faults lost.0 ≡ G.emit_faults press.device) }
 {
     match event {
-        Some(event) => keep_event(alloc, press, core, event),
+        Some(event) => match keep_event(alloc, press, core, event) {
+            Ok(press) => Ok(press),
+            Err((device, fault)) => Err((device, Status::from(fault))),
+        },
         None => Ok(press),
     }
 }
@@ -124,7 +130,7 @@ fn count_line(
     ensures represents { (history : List Happening) → Represents core.old history → OnOk result (Represents core.new (history_with core.old.site history line.now)) }
     ensures site { OnOk result (core.new.site ≡ core.old.site) }
     ensures piece { IfOk result (λ taken. taken.piece.items ≡ piece_of core.old line.now) }
-    ensures event { IfOk result (λ taken. taken.event ≡ event_in core.old (decision_for core.old line.now)) }
+    ensures event { IfOk result (λ taken. taken.event ≡ event_of (answer_for core.old line.now)) }
     ensures record { IfOk result (λ taken. IfSome taken.event HasRecord) }
 {
     let taken = take(alloc, core, line)?;

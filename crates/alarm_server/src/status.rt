@@ -1,19 +1,19 @@
 ghost use Rattle.std.specs.Prelude.{◌≡◌};
-ghost use Rattle.alarm_server.specs.Status.{code_of, of_line_fault, of_open_fault, of_recover_fault, of_site_fault, of_unsent, open_fault_text, status_text};
+ghost use Rattle.alarm_server.specs.Status.{code_of, of_keep_fault, of_line_fault, of_open_fault, of_site_fault, of_unsent, open_fault_text, status_text};
 
 use crate::emission::Unsent;
 use alarm_journal::OpenFault;
 use bac_values::NoMemory;
+use floor_desk::KeepFault;
 use ground_io::Failed;
 use script_lines::LineFault;
 use site_config::SiteFault;
-use state_codec::RecoverFault;
 use std::alloc::AllocError;
 use std::fmt;
 
 /// The forms of the words.
 const USAGE: &str =
-    "usage: trial LOW HIGH DEADBAND DELAY NORMAL | session SITE JOURNAL | workload SEED COUNT";
+    "usage: trial LOW HIGH DEADBAND DELAY NORMAL | session SITE JOURNAL | workload SEED COUNT | serve SITE JOURNAL COUNT";
 
 /// How a program ends.
 #[derive(Debug, Drop, PartialEq)]
@@ -45,6 +45,8 @@ pub enum Status {
     },
     /// Memory was refused.
     NoMemory,
+    /// The link failed.
+    LinkFault,
 }
 
 impl Status {
@@ -62,6 +64,7 @@ impl Status {
             Status::DiskFault => 7,
             Status::JournalRefused { .. } => 8,
             Status::NoMemory => 9,
+            Status::LinkFault => 10,
         }
     }
 }
@@ -109,6 +112,7 @@ impl fmt::Display for Status {
                 write!(f, "{refused}")
             }
             Status::NoMemory => write!(f, "no memory"),
+            Status::LinkFault => write!(f, "link fault"),
         }
     }
 }
@@ -180,15 +184,13 @@ impl From<OpenFault> for Status {
     }
 }
 
-impl From<RecoverFault> for Status {
-    ghost from_gives = { λ fault status. status ≡ of_recover_fault fault };
+impl From<KeepFault> for Status {
+    ghost from_gives = { λ fault status. status ≡ of_keep_fault fault };
 
-    fn from(fault: RecoverFault) -> Status {
+    fn from(fault: KeepFault) -> Status {
         match fault {
-            RecoverFault::Damaged { at } => Status::JournalRefused {
-                fault: OpenFault::Damaged { at },
-            },
-            RecoverFault::NoMemory => Status::NoMemory,
+            KeepFault::DiskFault => Status::DiskFault,
+            KeepFault::NoMemory => Status::NoMemory,
         }
     }
 }

@@ -7,9 +7,10 @@ ghost use Rattle.alarm_core.specs.Allowed.{IsAllowed, Represents};
 ghost use Rattle.alarm_core.specs.History.{moved_by, raised};
 ghost use Rattle.alarm_core.specs.CoreSteps.{next_sends, next_state, next_transitions};
 ghost use Rattle.alarm_core.specs.Verdicts.{Answers, step_verdict};
+ghost use Rattle.service_desk.specs.Answers.{answer_of, event_of, if_owed, state_behind};
 ghost use Rattle.alarm_server.specs.Report.{history_by, history_with};
-ghost use Rattle.alarm_server.specs.SessionSteps.{state_by, state_with};
-ghost use Rattle.alarm_server.specs.Pieces.{decision_for, event_in, piece_by, piece_of, reply_lines, send_line};
+ghost use Rattle.alarm_server.specs.SessionSteps.{state_with};
+ghost use Rattle.alarm_server.specs.Pieces.{answer_for, piece_by, piece_of, send_line};
 
 use alarm_core::{Core, Event, Outcome, StepFault};
 use bac_values::{Moved, NoMemory, ReportLine, Send, push, single};
@@ -58,7 +59,7 @@ fn add_sends(piece: &mut Vec<ReportLine>, number: u64, sends: Vec<Send>) -> Resu
 }
 
 fn add_reply(piece: &mut Vec<ReportLine>, number: u64, reply: Option<Send>) -> Result<(), NoMemory>
-    ensures reply { OnOk result (piece.new.items ≡ piece.old.items ++ reply_lines number reply) }
+    ensures reply { OnOk result (piece.new.items ≡ piece.old.items ++ map (send_line number) (if_owed reply)) }
 {
     match reply {
         Some(send) => push(piece, ReportLine::Sent { line: number, send }),
@@ -74,7 +75,7 @@ fn full_piece(
     limit: u32,
     full: Option<Send>,
 ) -> Result<Vec<ReportLine>, NoMemory>
-    ensures piece { IfOk result (λ piece. piece.items ≡ ReportLine.Full number would limit ∷ reply_lines number full) }
+    ensures piece { IfOk result (λ piece. piece.items ≡ ReportLine.Full number would limit ∷ map (send_line number) (if_owed full)) }
 {
     let line = ReportLine::Full {
         line: number,
@@ -132,10 +133,10 @@ fn enter(
 ) -> Result<Taken, NoMemory>
     requires moment { IsMoment event.moment }
     requires allowed { IsAllowed core.old event.act }
-    ensures state { OnOk result (core.new ≡ state_by core.old (event_in core.old (Decision.Enter event reply full))) }
-    ensures represents { (history : List Happening) → Represents core.old history → OnOk result (Represents core.new (history_by history (event_in core.old (Decision.Enter event reply full)))) }
-    ensures piece { IfOk result (λ taken. taken.piece.items ≡ piece_by number core.old (Decision.Enter event reply full)) }
-    ensures event { IfOk result (λ taken. taken.event ≡ event_in core.old (Decision.Enter event reply full)) }
+    ensures state { OnOk result (core.new ≡ state_behind core.old (answer_of core.old (Decision.Enter event reply full))) }
+    ensures represents { (history : List Happening) → Represents core.old history → OnOk result (Represents core.new (history_by history (event_of (answer_of core.old (Decision.Enter event reply full))))) }
+    ensures piece { IfOk result (λ taken. taken.piece.items ≡ piece_by number core.old (answer_of core.old (Decision.Enter event reply full))) }
+    ensures event { IfOk result (λ taken. taken.event ≡ event_of (answer_of core.old (Decision.Enter event reply full))) }
     ensures record { IfOk result (λ taken. IfSome taken.event HasRecord) }
 {
     if core.events() >= MOST_EVENTS {
@@ -178,7 +179,7 @@ pub fn take(alloc: Global, core: &mut Core, line: &Line) -> Result<Taken, NoMemo
     ensures state { OnOk result (core.new ≡ state_with core.old line.now) }
     ensures represents { (history : List Happening) → Represents core.old history → OnOk result (Represents core.new (history_with core.old.site history line.now)) }
     ensures piece { IfOk result (λ taken. taken.piece.items ≡ piece_of core.old line.now) }
-    ensures event { IfOk result (λ taken. taken.event ≡ event_in core.old (decision_for core.old line.now)) }
+    ensures event { IfOk result (λ taken. taken.event ≡ event_of (answer_for core.old line.now)) }
     ensures record { IfOk result (λ taken. IfSome taken.event HasRecord) }
 {
     let number = line.number;

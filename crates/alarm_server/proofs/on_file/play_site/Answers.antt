@@ -1,17 +1,22 @@
-use Rattle.std.proofs.Common.{◌≡◌, ◌∙◌, Err, ap}
+use Rattle.std.proofs.Common.{◌≡◌, ◌∙◌, Err, ap, subst}
 use Rattle.script_lines.specs.declared.line.Grammar.TheVariants.{Session}
 use Rattle.script_lines.specs.Script.{lines_of}
-use Rattle.alarm_server.specs.declared.status.Status.TheVariants.{Done, ReadFault}
-use Rattle.alarm_server.specs.Emission.{Emits, Ends}
-use Rattle.alarm_server.specs.Keeping.{journal_of, KeepsOpened}
+use Rattle.alarm_server.specs.declared.status.Status.TheVariants.{Done, JournalRefused, ReadFault}
+use Rattle.floor_desk.specs.Emission.{Emits}
+use Rattle.alarm_server.specs.Emission.{Ends}
+use Rattle.floor_desk.specs.OpeningSteps.{IsRefusedFor}
+use Rattle.floor_desk.specs.Keeping.{journal_of}
+use Rattle.alarm_server.specs.Keeping.{KeepsOpened}
 use Rattle.alarm_server.specs.Pieces.{piece_text}
 use Rattle.alarm_server.specs.Report.{report_of}
 use Rattle.alarm_server.specs.Script.{spelled_in}
 use Rattle.alarm_server.specs.SessionSteps.{state_front}
+use Rattle.alarm_server.specs.Status.{of_open_fault}
 use Rattle.alarm_server.specs.Stopping.{StopsReading}
 use Rattle.alarm_server.proofs.BehindOpening.{ends_refused, ends_session, keeps_session, stops_session}
 use Rattle.alarm_server.proofs.KeptOpenings.{opening_kept}
 use Rattle.alarm_server.proofs.KeptProgress.{in_any}
+use Rattle.alarm_server.proofs.OfOpenFault.{disk_cause, is_session_fault, refusal_is}
 use Rattle.alarm_server.proofs.OnFile.{told_more}
 use Rattle.alarm_server.proofs.on_file.play_site.Goals as goal
 
@@ -19,8 +24,9 @@ pub returns-in-Err-clause-ends : goal.returns-in-Err-clause-ends
 returns-in-Err-clause-ends g c = λ history stood.
     let old = g.G.Ground.told c.args.device in
     let new = g.G.Ground.told c.in-Err.device in
-    in_any (λ t. Ends Emits piece_text c.in-Err.status (report_of c.args.site.now history t) old new) (g.T.Source.left c.args.script.now)
-    (λ t. ends_refused piece_text c.in-Err.status (report_of c.args.site.now history t) old new c.in-Err.ensures.fault c.in-Err.ensures.quiet)
+    rw c.from.ensures
+    (in_any (λ t. Ends Emits piece_text (of_open_fault c.in-Err.fault) (report_of c.args.site.now history t) old new) (g.T.Source.left c.args.script.now)
+    (λ t. ends_refused piece_text c.in-Err.fault (report_of c.args.site.now history t) old new c.in-Err.ensures.quiet))
 
 pub returns-in-Err-clause-keeps : goal.returns-in-Err-clause-keeps
 returns-in-Err-clause-keeps g c = λ history stood.
@@ -31,7 +37,21 @@ returns-in-Err-clause-keeps g c = λ history stood.
     (λ t. opening_kept journal c.args.site.now history (spelled_in Session 0 (lines_of t)) 1 old new stood c.in-Err.ensures.reopens)
 
 pub returns-in-Err-clause-stands : goal.returns-in-Err-clause-stands
-returns-in-Err-clause-stands g c = λ history fault stood same. c.in-Err.ensures.stands history fault stood cc
+returns-in-Err-clause-stands g c = λ history fault stood same.
+    let came : of_open_fault c.in-Err.fault ≡ JournalRefused fault = cc in
+    c.in-Err.ensures.stands history stood (refusal_is c.in-Err.fault fault came).0
+
+pub returns-in-Err-clause-refuses_journal : goal.returns-in-Err-clause-refuses_journal
+returns-in-Err-clause-refuses_journal g c = λ fault same.
+    let came : of_open_fault c.in-Err.fault ≡ JournalRefused fault = cc in
+    let is = refusal_is c.in-Err.fault fault came in
+    (subst (λ f. IsRefusedFor c.args.site.now c.args.text.now (g.G.Ground.told c.args.device) (g.G.Ground.told c.in-Err.device) f) is.1 (c.in-Err.ensures.refused is.0), c.in-Err.ensures.quiet)
+
+pub returns-in-Err-clause-fault : goal.returns-in-Err-clause-fault
+returns-in-Err-clause-fault g c = rw c.from.ensures (is_session_fault c.in-Err.fault)
+
+pub returns-in-Err-clause-disk_cause : goal.returns-in-Err-clause-disk_cause
+returns-in-Err-clause-disk_cause g c = rw c.from.ensures (disk_cause c.in-Err.fault _ _ c.in-Err.ensures.cause)
 
 pub returns-in-Ok-played-clause-ends : goal.returns-in-Ok-played-clause-ends
 returns-in-Ok-played-clause-ends g c = λ history stood.

@@ -4,8 +4,10 @@ use Rattle.script_lines.specs.declared.line.Grammar.TheVariants.{Session}
 use Rattle.script_lines.specs.Script.{lines_of}
 use Rattle.site_config.specs.Sites.{site_of}
 use Rattle.alarm_server.specs.declared.status.Status.TheVariants.{SiteRefused}
-use Rattle.alarm_server.specs.Emission.{Emits, Ends}
-use Rattle.alarm_server.specs.Keeping.{KeepsOpened, StoodFor, journal_of}
+use Rattle.floor_desk.specs.Emission.{Emits}
+use Rattle.alarm_server.specs.Emission.{Ends}
+use Rattle.floor_desk.specs.Keeping.{StoodFor, journal_of}
+use Rattle.alarm_server.specs.Keeping.{KeepsOpened}
 use Rattle.alarm_server.specs.OnFile.{AcceptsOnFile, EndsOnSite, KeepsOnSite, StopsInScript}
 use Rattle.alarm_server.specs.OpeningSteps.{RefusesOnSite}
 use Rattle.alarm_server.specs.Pieces.{piece_text}

@@ -8,9 +8,10 @@ use Rattle.alarm_journal.specs.Journal.{Site as Journal}
 use Rattle.alarm_core.specs.declared.event.Event.{Event}
 use Rattle.alarm_core.specs.declared.site.Site.{Site}
 use Rattle.alarm_core.specs.Allowed.{Represents}
-use Rattle.alarm_server.specs.Keeping.{HoldsHistory, KeepsLines, KeepsReport}
+use Rattle.floor_desk.specs.Keeping.{HoldsHistory}
+use Rattle.alarm_server.specs.Keeping.{KeepsLines, KeepsReport}
 use Rattle.alarm_server.specs.Pieces.{end_piece, open_piece, piece_of, piece_text}
-use Rattle.alarm_server.specs.Emission.{Emits}
+use Rattle.floor_desk.specs.Emission.{Emits}
 use Rattle.alarm_server.specs.Script.{spelled_in}
 use Rattle.alarm_server.specs.SessionSteps.{session_over}
 use Rattle.alarm_server.specs.Status.{of_line_fault}

@@ -4,7 +4,8 @@ use Rattle.alarm_core.specs.declared.event.StepFault.TheVariants.{Full}
 use Rattle.alarm_core.specs.History.{moved_by, raised}
 use Rattle.alarm_core.specs.CoreSteps.{next_sends, next_transitions}
 use Rattle.alarm_core.specs.Verdicts.{step_verdict}
-use Rattle.alarm_server.specs.Pieces.{reply_lines, send_line}
+use Rattle.service_desk.specs.Answers.{if_owed}
+use Rattle.alarm_server.specs.Pieces.{send_line}
 use Rattle.alarm_server.proofs.Entering.{entered, not_entered}
 use Rattle.alarm_server.proofs.PieceLines.{fits_is}
 use Rattle.alarm_server.proofs.taken.enter.Goals as goal
@@ -25,8 +26,8 @@ returns-clause-piece c =
     let first : c.in_ok-piece.piece.items ≡ Entered number c.events-2.result moment ∷ [] = c.in_ok-piece.ensures.single in
     let changes : c.add_changes.new.piece.items ≡ c.in_ok-piece.piece.items ++ map (λ moved. Change number moved) moved = c.in_ok-add_changes.ensures.changes in
     let sends : c.add_sends.new.piece.items ≡ c.add_changes.new.piece.items ++ map (send_line number) gone = c.in_ok-add_sends.ensures.sends in
-    let reply : c.add_reply.new.piece.items ≡ c.add_sends.new.piece.items ++ reply_lines number c.args.reply = c.in_ok-add_reply.ensures.reply in
-    let lines : c.add_reply.new.piece.items ≡ (((Entered number c.events-2.result moment ∷ []) ++ map (λ moved. Change number moved) moved) ++ map (send_line number) gone) ++ reply_lines number c.args.reply = cc in
+    let reply : c.add_reply.new.piece.items ≡ c.add_sends.new.piece.items ++ map (send_line number) (if_owed c.args.reply) = c.in_ok-add_reply.ensures.reply in
+    let lines : c.add_reply.new.piece.items ≡ (((Entered number c.events-2.result moment ∷ []) ++ map (λ moved. Change number moved) moved) ++ map (send_line number) gone) ++ map (send_line number) (if_owed c.args.reply) = cc in
     lines ∙ fits_is number state event c.args.reply c.args.full (step_verdict event state) moved gone c.events-2.result moment fits same_events same_moment same_moves same_sends
 
 pub returns-in-Err-Full-clause-represents : goal.returns-in-Err-Full-clause-represents
@@ -34,13 +35,13 @@ returns-in-Err-Full-clause-represents c = λ history stands.
     let state = c.args.core.now in
     let event = raised state.last_moment c.args.event in
     let verdict : step_verdict event state ≡ Err (Full c.in-Err-Full.would c.in-Err-Full.limit) = search rules in
-    not_entered event history (step_verdict event state) c.in-Err-Full.would c.in-Err-Full.limit state c.counted.new.core verdict c.in-Err-Full.ensures.same stands
+    not_entered event c.args.reply c.args.full history (step_verdict event state) c.in-Err-Full.would c.in-Err-Full.limit state c.counted.new.core verdict c.in-Err-Full.ensures.same stands
 
 pub returns-clause-represents : goal.returns-clause-represents
 returns-clause-represents c = λ history stands.
     let state = c.args.core.now in
     let event = raised state.last_moment c.args.event in
-    entered event history (step_verdict event state) c.counted.new.core c.in-Ok.ensures.verdict (c.in-Ok.ensures.represents history stands)
+    entered event c.args.reply c.args.full history (step_verdict event state) c.counted.new.core c.in-Ok.ensures.verdict (c.in-Ok.ensures.represents history stands)
 
 pub moved_to-requires-clause-allowed : goal.moved_to-requires-clause-allowed
 moved_to-requires-clause-allowed c = (c.args.core.now, c.requires.allowed)

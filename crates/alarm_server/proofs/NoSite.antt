@@ -1,0 +1,33 @@
+-- A server whose site's text wasn't found, or is none.
+use Rattle.std.proofs.Common.{◌≡◌, ℕ, List, Option, Some, None, Err, refl, sym, subst, inl, inr}
+use Rattle.std.specs.Prelude.{◌⊎◌, IfSome}
+use Rattle.site_config.specs.declared.fault.SiteFault.{SiteFault}
+use Rattle.site_config.specs.Sites.{site_of}
+use Rattle.alarm_server.specs.declared.serve.Served.{Served}
+use Rattle.alarm_server.specs.declared.status.Status.{Status}
+use Rattle.alarm_server.specs.declared.status.Status.TheVariants.{Done, Usage, SiteRefused, ScriptRefused, ReadFault, EmitFault, DiskFault, JournalRefused, NoMemory, LinkFault}
+use Rattle.alarm_server.specs.OnFile.{RefusesFile}
+use Rattle.alarm_server.specs.ServedSites.{IsUnserved}
+use Rattle.alarm_server.specs.ServingSteps.{IsNoSite}
+use Rattle.alarm_server.specs.Status.{IsSiteFault}
+
+pub each_some : {A : Type 0} (o : Option A) (P : A → Type 0) → ((x : A) → P x) → IfSome o P
+each_some None P all = tt
+each_some (Some x) P all = all x
+
+refused_file : (file : Option (List ℕ)) (fault : SiteFault) (served : Served) → IsUnserved served (SiteRefused fault) → RefusesFile file fault → IfSome file (λ octets. IsNoSite octets (site_of octets) served)
+refused_file None fault served unserved refused = tt
+refused_file (Some octets) fault served unserved refused = subst (λ z. IsNoSite octets z served) (sym refused.1) (refused.0, unserved)
+
+pub no_site : (file : Option (List ℕ)) (status : Status) (served : Served) → IsUnserved served status → IsSiteFault status → ((fault : SiteFault) → status ≡ SiteRefused fault → RefusesFile file fault)
+    → IfSome file (λ octets. IsNoSite octets (site_of octets) served) ⊎ (IsUnserved served ReadFault ⊎ IsUnserved served NoMemory)
+no_site file (SiteRefused fault) served unserved is refused = inl (refused_file file fault served unserved (refused fault refl))
+no_site file ReadFault served unserved is refused = inr (inl unserved)
+no_site file NoMemory served unserved is refused = inr (inr unserved)
+no_site file Done served unserved is refused = absurd is
+no_site file Usage served unserved is refused = absurd is
+no_site file (ScriptRefused line) served unserved is refused = absurd is
+no_site file EmitFault served unserved is refused = absurd is
+no_site file DiskFault served unserved is refused = absurd is
+no_site file (JournalRefused fault) served unserved is refused = absurd is
+no_site file LinkFault served unserved is refused = absurd is

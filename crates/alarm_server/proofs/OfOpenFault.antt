@@ -1,0 +1,31 @@
+-- The status of a session whose journal isn't opened, and its counts of faults.
+use Rattle.std.proofs.Common.{◌≡◌, ℕ, Err, IsErrOf, refl}
+use Rattle.ground_io.specs.Counts.{HasCause}
+use Rattle.alarm_journal.specs.declared.open_fault.OpenFault.{OpenFault}
+use Rattle.alarm_journal.specs.declared.open_fault.OpenFault.TheVariants.{DiskFault, SmallDevice, Foreign, Damaged, NoMemory}
+use Rattle.floor_desk.specs.Keeping.{IsJournalRefusal}
+use Rattle.alarm_server.specs.declared.status.Status.TheVariants as status
+use Rattle.alarm_server.specs.Status.{IsSessionFault, of_open_fault}
+
+pub is_session_fault : (fault : OpenFault) → IsSessionFault (of_open_fault fault)
+is_session_fault DiskFault = tt
+is_session_fault (SmallDevice size need) = tt
+is_session_fault (Foreign at) = tt
+is_session_fault (Damaged at) = tt
+is_session_fault NoMemory = tt
+
+-- the journal is refused for what its octets are, and for nothing else
+pub refusal_is : (fault refusal : OpenFault) → of_open_fault fault ≡ status.JournalRefused refusal → IsJournalRefusal fault × (fault ≡ refusal)
+refusal_is DiskFault refusal same = absurd cc
+refusal_is (SmallDevice size need) refusal same = (tt, cc)
+refusal_is (Foreign at) refusal same = (tt, cc)
+refusal_is (Damaged at) refusal same = (tt, cc)
+refusal_is NoMemory refusal same = absurd cc
+
+-- its cause is that of the opening
+pub disk_cause : {T : Type 0} (fault : OpenFault) (before after : ℕ) → HasCause before after (fault ≡ DiskFault) → HasCause before after (IsErrOf {T = T} (Err (of_open_fault fault)) status.DiskFault)
+disk_cause DiskFault before after cause = record { later = cause.later; rose = λ same. cause.rose refl }
+disk_cause (SmallDevice size need) before after cause = record { later = cause.later; rose = λ same. absurd cc }
+disk_cause (Foreign at) before after cause = record { later = cause.later; rose = λ same. absurd cc }
+disk_cause (Damaged at) before after cause = record { later = cause.later; rose = λ same. absurd cc }
+disk_cause NoMemory before after cause = record { later = cause.later; rose = λ same. absurd cc }

@@ -1,0 +1,67 @@
+-- A server on a site: what it leaves of its journal, and what it did, or why no desk was opened.
+use Rattle.std.specs.Prelude.{◌≡◌, ◌⊎◌, ◌≤◌, ℕ, ⊤, List, [], ◌∷◌, map, take, Option, Some, None}
+use Rattle.ground_io.specs.Counts.{HasCause}
+use Rattle.ground_io.specs.Sent.{Along, emissions}
+use Rattle.ground_io.specs.Trace.{Told, Adds, disk_of}
+use Rattle.ground_io.specs.declared.entry.Entry.{Entry}
+use Rattle.ground_io.specs.declared.entry.Entry.TheVariants.{Synced}
+use Rattle.bac_values.specs.declared.note.Send.{Send}
+use Rattle.alarm_core.specs.Allowed.{Represents}
+use Rattle.alarm_core.specs.State.{CoreState}
+use Rattle.alarm_core.specs.declared.event.Event.{Event}
+use Rattle.alarm_core.specs.declared.site.Site.{Site}
+use Rattle.alarm_journal.specs.Journal.{Site as Journal}
+use Rattle.alarm_journal.specs.Press.{PressState}
+use Rattle.floor_desk.specs.Accounts.{Due, account}
+use Rattle.floor_desk.specs.Keeping.{StoodFor, journal_of}
+use Rattle.floor_desk.specs.Prefixes.{LeavesPrefix, Settle}
+use Rattle.floor_desk.specs.Serving.{Serves}
+use Rattle.floor_desk.specs.declared.serve.Closed.{Closed}
+use Rattle.floor_desk.specs.declared.serve.End.{End}
+use Rattle.floor_desk.specs.declared.serve.End.TheVariants as end
+use Rattle.alarm_server.specs.declared.serve.Served.{Served}
+use Rattle.alarm_server.specs.declared.status.Status.{Status}
+use Rattle.alarm_server.specs.declared.status.Status.TheVariants.{Done, LinkFault, NoMemory}
+use Rattle.alarm_server.specs.declared.status.Status.TheVariants as status
+
+-- From the opening's first sync on, at each moment each image that a crash may leave stands for the history and the first events of the order: of as many, at least, as what was sent until then rests on. Just the first of the dues were sent, so many, each once and in their order. Where it tells.
+abbrev pub KeepsServed : Journal → Site → List Event → List Event → List Due → ℕ → Option Told → Option Told → Type 0
+KeepsServed journal site history order dues sent old None = ⊤
+KeepsServed journal site history order dues sent None (Some new) = ⊥
+KeepsServed journal site history order dues sent (Some old) (Some new) =
+    (entries : List Entry) × Adds (Some old) (Some new) (Synced ∷ entries)
+    × Settle (map (λ due. due.send) (take sent dues)) (emissions entries)
+    × Along (LeavesPrefix journal site history order dues) [] (record { contents = (disk_of old).contents; loose = [] }) entries
+
+-- how a program ends whose server ended so
+abbrev pub of_end : End → Status
+of_end end.Done = Done
+of_end end.DiskFault = status.DiskFault
+of_end end.LinkFault = LinkFault
+of_end end.NoMemory = NoMemory
+
+abbrev pub served_of : Closed → Served
+served_of closed = record { status = of_end closed.end; received = closed.received; events = closed.events; durable = closed.durable; lost = closed.lost }
+
+-- LinkFault comes only where the link's count rose; where it rose, it comes, but for a disk that failed too
+pub record LeavesLink (before now : ℕ) (ended : Status) : Type 0 where
+  pub cause : HasCause before now (ended ≡ LinkFault)
+  pub counted : (ended ≡ LinkFault) ⊎ ((ended ≡ status.DiskFault) ⊎ (now ≡ before))
+
+-- no desk was opened: the four numbers are 0
+abbrev pub IsUnserved : Served → Status → Type 0
+IsUnserved served status = served ≡ record { status = status; received = 0; events = 0; durable = 0; lost = 0 }
+
+module _ {G : Type 0} (told : G → Option Told) (disk_faults : G → ℕ) where
+  -- A desk was opened and served, at most so many datagrams; Done, it was so many. Of each history that the octets of the device stood for, the desk began with it, and a crash leaves it with a prefix of the order.
+  pub record HasServedSite (shows : ℕ → Type 0) (site : Site) (text : List ℕ) (count : ℕ) (old new : Option (List Send)) (before after : G) (served : Served) : Type 0 where
+    pub origin : CoreState × PressState G
+    pub of_site : origin.0.site ≡ site
+    pub closed : Closed
+    pub is : served ≡ served_of closed
+    pub most : closed.received ≤ count
+    pub all : closed.end ≡ end.Done → closed.received ≡ count
+    pub serves : Serves told disk_faults shows old new origin after closed
+    pub begins : (history : List Event) → StoodFor (journal_of site text) site history (told before) (told after) → Represents origin.0 history
+    pub keeps : (history : List Event) → StoodFor (journal_of site text) site history (told before) (told after)
+        → KeepsServed (journal_of site text) site history (account origin serves.history).order (account origin serves.history).dues (account origin serves.history).back.dues (told before) (told after)
