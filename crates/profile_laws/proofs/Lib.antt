@@ -1,0 +1,7 @@
+mod NoErrors
+mod Identified
+mod Tests
+mod WriteTables
+mod ReadTables
+mod AcknowledgementTables
+mod InTurn

@@ -1,0 +1,5 @@
+pub mod ErrorTables
+pub mod PropertyRules
+pub mod PropertyErrors
+pub mod AcknowledgementErrors
+pub mod Laws
