@@ -5,3 +5,10 @@ mod WriteTables
 mod ReadTables
 mod AcknowledgementTables
 mod InTurn
+mod SoundValues
+mod FlagsBack
+mod PassedTests
+mod RowBack
+mod EnrollmentBack
+mod LogBack
+mod ReadingBack

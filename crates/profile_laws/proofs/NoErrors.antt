@@ -1,9 +1,9 @@
--- Acknowledgements and Aborts are no Errors.
+-- Acknowledgements and Aborts are no Errors and no Rejects.
 use Rattle.std.proofs.Common.{◌≡◌, ℕ, Bool, true, false, if◌then◌else◌, nat_lt, List, [], ◌∷◌, ◌++◌, length, drop, refl, sym, ap, ◌∙◌, arith}
 use Rattle.std.proofs.lemmas.List.{drop_at}
 use Rattle.bac_values.specs.Address.{PeerData}
 use Rattle.bac_values.specs.declared.note.Send.{Send}
-use Rattle.apdu_frame.specs.Writing.{written_abort, written_complex_ack, written_error, written_simple_ack}
+use Rattle.apdu_frame.specs.Writing.{written_abort, written_complex_ack, written_error, written_reject, written_simple_ack}
 use Rattle.bvlc_npdu.specs.Writing.{written_destination}
 use Rattle.service_desk.specs.Decisions.{requester_of}
 use Rattle.service_desk.specs.Replies.{reply_to, within_max_apdu}
@@ -25,17 +25,23 @@ same_apdu peer a b e =
     let behind : before ++ a ≡ before ++ b = ap (λ (send : Send). behind_six send.bytes) e in
     sym (drop_at before a (length before) refl) ∙ (ap (drop (length before)) behind ∙ drop_at before b (length before) refl)
 
-other_apdu : (asker : Asker) (service : ℕ) (apdu : List ℕ) → (first_of apdu ≡ 80 → ⊥) → IsNoError asker service (reply_to asker.peer apdu)
-other_apdu asker service apdu other error e = other (ap first_of (same_apdu asker.peer apdu (written_error asker.invoke service error.class error.code) e))
+other_apdu : (asker : Asker) (service : ℕ) (apdu : List ℕ) → (first_of apdu ≡ 80 → ⊥) → (first_of apdu ≡ 96 → ⊥) → IsNoError asker service (reply_to asker.peer apdu)
+other_apdu asker service apdu no_error no_reject = record {
+  error = λ error e. no_error (ap first_of (same_apdu asker.peer apdu (written_error asker.invoke service error.class error.code) e));
+  reject = λ reason e. no_reject (ap first_of (same_apdu asker.peer apdu (written_reject asker.invoke reason) e));
+}
 
 pub simple_ack_is_none : (asker : Asker) (service : ℕ) → IsNoError asker service (reply_to asker.peer (written_simple_ack asker.invoke service))
-simple_ack_is_none asker service = other_apdu asker service (written_simple_ack asker.invoke service) (λ (wrong : 32 ≡ 80). omega (arith, wrong))
+simple_ack_is_none asker service =
+    other_apdu asker service (written_simple_ack asker.invoke service) (λ (wrong : 32 ≡ 80). omega (arith, wrong)) (λ (wrong : 32 ≡ 96). omega (arith, wrong))
 
 pub abort_is_none : (asker : Asker) (service reason : ℕ) → IsNoError asker service (reply_to asker.peer (written_abort asker.invoke reason))
-abort_is_none asker service reason = other_apdu asker service (written_abort asker.invoke reason) (λ (wrong : 113 ≡ 80). omega (arith, wrong))
+abort_is_none asker service reason =
+    other_apdu asker service (written_abort asker.invoke reason) (λ (wrong : 113 ≡ 80). omega (arith, wrong)) (λ (wrong : 113 ≡ 96). omega (arith, wrong))
 
 complex_ack_is_none : (asker : Asker) (service : ℕ) (body : List ℕ) → IsNoError asker service (reply_to asker.peer (written_complex_ack asker.invoke service body))
-complex_ack_is_none asker service body = other_apdu asker service (written_complex_ack asker.invoke service body) (λ (wrong : 48 ≡ 80). omega (arith, wrong))
+complex_ack_is_none asker service body =
+    other_apdu asker service (written_complex_ack asker.invoke service body) (λ (wrong : 48 ≡ 80). omega (arith, wrong)) (λ (wrong : 48 ≡ 96). omega (arith, wrong))
 
 -- a result, or the Abort that it is too long
 pub result_is_none : (asker : Asker) (service : ℕ) (body : List ℕ) → IsNoError asker service (within_max_apdu (requester_of asker.peer asker.max_apdu asker.invoke service) (written_complex_ack asker.invoke service body))

@@ -8,21 +8,21 @@ use Rattle.bac_values.specs.declared.value.Value.TheVariants.{Opaque}
 use Rattle.object_table.specs.declared.faults.WriteFault.{WriteFault}
 use Rattle.object_table.specs.Verdicts.{and_then, content_verdict, error_of, index_verdict, invalid_array_index, invalid_data_type, tag_of, value_verdict}
 use Rattle.profile_laws.specs.ErrorTables.{first_error}
-use Rattle.profile_laws.specs.PropertyErrors.{is_beyond, is_in_other_characters, is_no_array, is_of_other_type, is_out_of_range, is_protected, is_too_long, is_unknown_property, size_in, tag_in}
+use Rattle.profile_laws.specs.PropertyErrors.{is_above_length, is_in_other_characters, is_indexed_without_array, is_of_other_type, is_out_of_range, is_read_only, is_too_long, is_unknown_property, size_in, tag_in}
 use Rattle.profile_laws.specs.PropertyRules.{PropertyRules}
 
 abbrev pub Table : Type 0
 Table = List (Bool × ServiceError)
 
 abbrev pub index_rows : Option ℕ → Option ℕ → Table → Table
-index_rows size index later = (is_no_array size index, property_is_not_an_array_error) ∷ (is_beyond size index, invalid_array_index_error) ∷ later
+index_rows size index later = (is_indexed_without_array size index, property_is_not_an_array_error) ∷ (is_above_length size index, invalid_array_index_error) ∷ later
 
 abbrev content_rows : Bool → Value → Table
 content_rows possible value =
     (is_in_other_characters value, character_set_not_supported_error) ∷ (is_too_long value, no_space_to_write_property_error) ∷ (not possible, value_out_of_range_error) ∷ []
 
 abbrev value_rows : Option ℕ → Bool → Value → Table
-value_rows tag possible value = (is_protected tag, write_access_denied_error) ∷ (is_of_other_type tag value, invalid_data_type_error) ∷ content_rows possible value
+value_rows tag possible value = (is_read_only tag, write_access_denied_error) ∷ (is_of_other_type tag value, invalid_data_type_error) ∷ content_rows possible value
 
 -- the rows of a read, with more behind them
 abbrev pub table : Bool → Option PropertyRules → Option ℕ → Table → Table
@@ -31,7 +31,7 @@ table unknown rules index later = (unknown, unknown_object_error) ∷ (is_unknow
 -- those of a value
 abbrev pub written : Option PropertyRules → Value → Table
 written rules value =
-    (is_protected (tag_in rules), write_access_denied_error)
+    (is_read_only (tag_in rules), write_access_denied_error)
     ∷ (is_of_other_type (tag_in rules) value, invalid_data_type_error)
     ∷ (is_in_other_characters value, character_set_not_supported_error)
     ∷ (is_too_long value, no_space_to_write_property_error)

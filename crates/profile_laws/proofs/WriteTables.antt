@@ -45,7 +45,7 @@ use Rattle.alarm_core.specs.Logs.{SiteLogState}
 use Rattle.alarm_core.specs.Reading.{denied, denied_by, write_by}
 use Rattle.alarm_core.specs.State.{CoreState}
 use Rattle.profile_laws.specs.ErrorTables.{first_error}
-use Rattle.profile_laws.specs.PropertyRules.{PropertyRules, class_rules, class_size, device_rules, device_size, enrollment_rules, log_rules, object_rules, read_only, rules_by}
+use Rattle.profile_laws.specs.PropertyRules.{PropertyRules, class_rules, class_size, device_rules, device_size, enrollment_rules, log_rules, object_rules, read_only_rules, rules_by}
 use Rattle.profile_laws.proofs.Tests.{VerdictSays, rules_say, table, written}
 
 -- an answer is the error, or a change
@@ -96,7 +96,7 @@ log_says site log number (Some property) index value change =
 
 -- ---- what can't be written
 
-denied_says : (size index : Option ℕ) (value : Value) → WriteSays (first_of false (Some (read_only size)) index value) (denied_by (index_verdict size index))
+denied_says : (size index : Option ℕ) (value : Value) → WriteSays (first_of false (Some (read_only_rules size)) index value) (denied_by (index_verdict size index))
 denied_says None None value = refl
 denied_says (Some size) None value = refl
 denied_says None (Some index) value = refl
@@ -106,9 +106,9 @@ denied_says (Some size) (Some index) value = by_length (nat_lt size index)
     by_length true = refl
     by_length false = refl
 
-content_denied : (content : Content) (size : Option ℕ) (index : Option ℕ) (value : Value) → size_of content ≡ size → WriteSays (first_of false (Some (read_only size)) index value) (denied (Ok content) index)
+content_denied : (content : Content) (size : Option ℕ) (index : Option ℕ) (value : Value) → size_of content ≡ size → WriteSays (first_of false (Some (read_only_rules size)) index value) (denied (Ok content) index)
 content_denied content size index value e =
-    subst (λ (s : Option ℕ). WriteSays (first_of false (Some (read_only s)) index value) (denied (Ok content) index)) e (denied_says (size_of content) index value)
+    subst (λ (s : Option ℕ). WriteSays (first_of false (Some (read_only_rules s)) index value) (denied (Ok content) index)) e (denied_says (size_of content) index value)
 
 pub device_sizes : (site : Site) (property : DeviceProperty) → size_of (of_devices.device_property site.device (identifiers_of site) property) ≡ device_size site property
 device_sizes site ObjectList = ap (λ (n : ℕ). Some n) (length-map (of_devices.object_list (identifiers_of site)) (written_object None))
@@ -124,7 +124,7 @@ device_says site None index value = refl
 device_says site (Some property) index value = content_denied (of_devices.device_property site.device (identifiers_of site) property) (device_size site property) index value (device_sizes site property)
 
 abbrev pub rules_of_class : ClassSite → Option ClassProperty → Option PropertyRules
-rules_of_class listed property = option_map (λ p. read_only (class_size listed p)) property
+rules_of_class listed property = option_map (λ p. read_only_rules (class_size listed p)) property
 
 class_says : (listed : ClassSite) (recipients : List DestinationData) (property : Option ClassProperty) (index : Option ℕ) (value : Value) →
     WriteSays (first_of false (rules_of_class listed property) index value) (denied (of_classes.known_class_content listed recipients property) index)

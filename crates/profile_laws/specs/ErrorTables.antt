@@ -3,7 +3,7 @@ use Rattle.std.specs.Prelude.{◌≡◌, ◌≢◌, ◌<◌, ℕ, Bool, if◌the
 use Rattle.bac_values.specs.Address.{PeerData}
 use Rattle.bac_values.specs.declared.note.Send.{Send}
 use Rattle.bac_values.specs.declared.service_error.ServiceError.{ServiceError}
-use Rattle.apdu_frame.specs.Writing.{written_error}
+use Rattle.apdu_frame.specs.Writing.{written_error, written_reject}
 use Rattle.alarm_core.specs.State.{CoreState}
 use Rattle.service_desk.specs.declared.decision.Decision.{Decision}
 use Rattle.service_desk.specs.declared.decision.Decision.TheVariants.{Enter, Reply}
@@ -33,11 +33,12 @@ AreOctets octets = (place : ℕ) → slice_index octets place < 256
 abbrev pub error_to : Asker → ℕ → ServiceError → Send
 error_to asker service error = reply_to asker.peer (written_error asker.invoke service error.class error.code)
 
--- an answer that is no Error, of whatever class and code
-abbrev pub IsNoError : Asker → ℕ → Send → Type 0
-IsNoError asker service send = (error : ServiceError) → send ≢ error_to asker service error
+-- an answer that is no Error, of whatever class and code, and no Reject (20.1.8) either
+pub record IsNoError (asker : Asker) (service : ℕ) (send : Send) : Type 0 where
+  pub error : (error : ServiceError) → send ≢ error_to asker service error
+  pub reject : (reason : ℕ) → send ≢ reply_to asker.peer (written_reject asker.invoke reason)
 
--- there is an answer, at once or to the event that the request is, and it is no Error; nor is the one where the event's notifications don't fit the outbox
+-- there is an answer, at once or to the event that the request is, and it is none; nor is the one where the event's notifications don't fit the outbox
 abbrev pub HasNoError : Asker → ℕ → Decision → Type 0
 HasNoError asker service (Reply send) = IsNoError asker service send
 HasNoError asker service (Enter event reply full) = IsSomeAnd reply (IsNoError asker service) × IsSomeAnd full (IsNoError asker service)

@@ -3,3 +3,4 @@ pub mod PropertyRules
 pub mod PropertyErrors
 pub mod AcknowledgementErrors
 pub mod Laws
+pub mod ReadBack

@@ -31,21 +31,21 @@ size_in (Some rules) = rules.size
 size_in None = None
 
 -- an index is given, and the property is no array
-abbrev pub is_no_array : Option ℕ → Option ℕ → Bool
-is_no_array size index = is_some index && is_none size
+abbrev pub is_indexed_without_array : Option ℕ → Option ℕ → Bool
+is_indexed_without_array size index = is_some index && is_none size
 
 -- the index is above the length of the array
-abbrev pub is_beyond : Option ℕ → Option ℕ → Bool
-is_beyond (Some size) (Some index) = nat_lt size index
-is_beyond size index = false
+abbrev pub is_above_length : Option ℕ → Option ℕ → Bool
+is_above_length (Some size) (Some index) = nat_lt size index
+is_above_length size index = false
 
 abbrev pub tag_in : Option PropertyRules → Option ℕ
 tag_in (Some rules) = rules.tag
 tag_in None = None
 
 -- the property can't be written
-abbrev pub is_protected : Option ℕ → Bool
-is_protected tag = is_none tag
+abbrev pub is_read_only : Option ℕ → Bool
+is_read_only tag = is_none tag
 
 -- the value's application tag is another one than the property's
 abbrev pub is_of_other_type : Option ℕ → Value → Bool
@@ -75,8 +75,8 @@ read_errors state request =
     let rules = rules_of state request.object request.property.0 in
     (is_unknown_object state request.object, unknown_object_error)
     ∷ (is_unknown_property rules, unknown_property_error)
-    ∷ (is_no_array (size_in rules) request.index, property_is_not_an_array_error)
-    ∷ (is_beyond (size_in rules) request.index, invalid_array_index_error)
+    ∷ (is_indexed_without_array (size_in rules) request.index, property_is_not_an_array_error)
+    ∷ (is_above_length (size_in rules) request.index, invalid_array_index_error)
     ∷ []
 
 -- WriteProperty (15.9): those of a read of the same property, and behind them
@@ -84,7 +84,7 @@ abbrev pub write_errors : CoreState → WriteRequest → List (Bool × ServiceEr
 write_errors state request =
     let rules = rules_of state request.object request.property.0 in
     read_errors state (reference_in request)
-    ++ ((is_protected (tag_in rules), write_access_denied_error)
+    ++ ((is_read_only (tag_in rules), write_access_denied_error)
     ∷ (is_of_other_type (tag_in rules) request.value, invalid_data_type_error)
     ∷ (is_in_other_characters request.value, character_set_not_supported_error)
     ∷ (is_too_long request.value, no_space_to_write_property_error)

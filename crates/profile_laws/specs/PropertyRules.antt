@@ -36,8 +36,8 @@ pub record PropertyRules : Type 0 where
   pub can_be : Value → Bool
 
 -- one that can't be written
-abbrev pub read_only : Option ℕ → PropertyRules
-read_only size = record { size = size; tag = None; can_be = λ value. false }
+abbrev pub read_only_rules : Option ℕ → PropertyRules
+read_only_rules size = record { size = size; tag = None; can_be = λ value. false }
 
 -- a property of a value object, where the object has it
 abbrev pub object_rules : ObjectSite → Option ObjectProperty → Option PropertyRules
@@ -70,11 +70,11 @@ class_size listed _ = None
 
 abbrev pub device_rules : Site → Option DeviceProperty → Option PropertyRules
 device_rules site None = None
-device_rules site (Some property) = Some (read_only (device_size site property))
+device_rules site (Some property) = Some (read_only_rules (device_size site property))
 
 abbrev pub class_rules : Option ClassSite → ℕ → Option PropertyRules
 class_rules None number = None
-class_rules (Some listed) number = option_map (λ property. read_only (class_size listed property)) (of_classes.property_of number)
+class_rules (Some listed) number = option_map (λ property. read_only_rules (class_size listed property)) (of_classes.property_of number)
 
 -- the device or a notification class
 abbrev pub other_rules : Site → ObjectIdData → ℕ → Option PropertyRules

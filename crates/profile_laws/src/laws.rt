@@ -1,10 +1,18 @@
 ghost use Rattle.profile_laws.specs.Laws.{AnswersAcknowledgementsInTurn, AnswersReadsInTurn, AnswersWritesInTurn};
+ghost use Rattle.profile_laws.specs.ReadBack.{ReadsBackWrites};
 
 /// No error is answered where an earlier one of its service's table applies: a write of a property, a read of one and an
-/// acknowledgement are answered with the first error of the table whose condition holds, and with no error exactly where none
-/// of them holds.
+/// acknowledgement are answered with the first error of the table whose condition holds, and with none, and no Reject, exactly
+/// where none of them holds.
 pub fn no_error_before_its_turn()
     ensures write { AnswersWritesInTurn }
     ensures read { AnswersReadsInTurn }
     ensures acknowledge { AnswersAcknowledgementsInTurn }
+{}
+
+/// Where a write of a property is entered, a read of the same property and index is answered, in the state behind it, by the
+/// value that was written. Record_Count of an event log is the one exception: a write of 0 clears the log, and what is read is
+/// how many records it has then, which is 0 where the write comes with no transition.
+pub fn what_is_written_is_read_back()
+    ensures back { ReadsBackWrites }
 {}

@@ -3,4 +3,4 @@
 
 mod laws;
 
-pub use laws::no_error_before_its_turn;
+pub use laws::{no_error_before_its_turn, what_is_written_is_read_back};
