@@ -1,5 +1,6 @@
 mod NoErrors
 mod Identified
+mod PropertyRules
 mod Tests
 mod WriteTables
 mod ReadTables

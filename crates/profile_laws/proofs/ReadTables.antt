@@ -48,9 +48,10 @@ use Rattle.alarm_core.specs.Found.{alarm_in, is_other_object}
 use Rattle.alarm_core.specs.Logs.{SiteLogState}
 use Rattle.alarm_core.specs.State.{CoreState}
 use Rattle.profile_laws.specs.ErrorTables.{first_error}
-use Rattle.profile_laws.specs.PropertyRules.{PropertyRules, class_rules, device_rules, enrollment_rules, log_rules, object_rules, rules_by}
+use Rattle.profile_laws.specs.PropertyTables.{PropertyRow, class_properties, device_properties, enrollment_properties, log_properties, object_properties, properties_by, properties_of_class, property_in}
+use Rattle.profile_laws.proofs.PropertyRules.{class_found, class_rules, device_found, device_rules, enrollment_found, enrollment_rules, log_found, log_rules, object_found, object_rule, object_rules}
 use Rattle.profile_laws.proofs.Tests.{index_rows, table}
-use Rattle.profile_laws.proofs.WriteTables.{class_sizes, device_sizes, object_rule, or_true, rules_of_class}
+use Rattle.profile_laws.proofs.WriteTables.{class_sizes, device_sizes, or_true}
 
 -- an answer is the error, or octets
 abbrev pub ReadSays : Option ServiceError → Result (List ℕ) ReadFault → Type 0
@@ -58,7 +59,7 @@ ReadSays (Some error) answer = answer ≡ Err (reading.error_of error)
 ReadSays None answer = (octets : List ℕ) × (answer ≡ Ok octets)
 
 -- the first error of the table of a read
-abbrev pub first_of : Bool → Option PropertyRules → Option ℕ → Option ServiceError
+abbrev pub first_of : Bool → Option PropertyRow → Option ℕ → Option ServiceError
 first_of unknown rules index = first_error (table unknown rules index [])
 
 -- ---- an index
@@ -92,7 +93,7 @@ part_says (Whole octets) (Some index) = refl
 part_says (Elements elements) None = (flat_map (λ (octets : List ℕ). octets) elements, refl)
 part_says (Elements elements) (Some index) = element_says elements index
 
-content_says : (content : Content) (rules : PropertyRules) (index : Option ℕ) → size_of content ≡ rules.size → ReadSays (first_of false (Some rules) index) (part_of content index)
+content_says : (content : Content) (rules : PropertyRow) (index : Option ℕ) → size_of content ≡ rules.size → ReadSays (first_of false (Some rules) index) (part_of content index)
 content_says content rules index e = subst (λ (s : Option ℕ). ReadSays (first_error (index_rows s index [])) (part_of content index)) e (part_says content index)
 
 -- ---- value objects, enrollments and logs
@@ -107,7 +108,7 @@ row_sizes kind alarm row FaultValues h = values_sizes kind row.site.fault_values
 row_sizes kind alarm row EventTimeStamps h = ap (λ (n : ℕ). Some n) (length-map alarm.stamps reading.written_time_stamp ∙ h)
 row_sizes kind alarm row _ h = refl
 
-where_there : (content : Content) (rules : PropertyRules) (index : Option ℕ) (there : Bool) → size_of content ≡ rules.size →
+where_there : (content : Content) (rules : PropertyRow) (index : Option ℕ) (there : Bool) → size_of content ≡ rules.size →
     ReadSays (first_of false (if there then Some rules else None) index) (part_in (if there then Ok content else Err reading.unknown_property) index)
 where_there content rules index true e = content_says content rules index e
 where_there content rules index false e = refl
@@ -152,30 +153,38 @@ device_says site (Some property) index =
     (device_sizes site property) (part_says (of_devices.device_property site.device (identifiers_of site) property) index)
 
 class_says : (listed : ClassSite) (recipients : List DestinationData) (property : Option ClassProperty) (index : Option ℕ) →
-    ReadSays (first_of false (rules_of_class listed property) index) (part_in (of_classes.known_class_content listed recipients property) index)
+    ReadSays (first_of false (class_rules listed property) index) (part_in (of_classes.known_class_content listed recipients property) index)
 class_says listed recipients None index = refl
 class_says listed recipients (Some property) index =
     subst (λ (s : Option ℕ). ReadSays (first_error (index_rows s index [])) (part_of (of_classes.class_property listed recipients property) index))
     (class_sizes listed recipients property) (part_says (of_classes.class_property listed recipients property) index)
 
 module _ (state : CoreState) (object : ObjectIdData) (number : ℕ) (index : Option ℕ) where
-  as_known : (known : Bool) (rules : Option PropertyRules) (answer : Result (List ℕ) ReadFault) → known ≡ true → ReadSays (first_of false rules index) answer → ReadSays (first_of (not known) rules index) answer
+  as_known : (known : Bool) (rules : Option PropertyRow) (answer : Result (List ℕ) ReadFault) → known ≡ true → ReadSays (first_of false rules index) answer → ReadSays (first_of (not known) rules index) answer
   as_known known rules answer e h = subst (λ (k : Bool). ReadSays (first_of (not k) rules index) answer) (sym e) h
 
-  abbrev device_or_class : Bool → Option ClassSite → Option PropertyRules
-  device_or_class device listed = if device then device_rules state.site (of_devices.property_of number) else class_rules listed number
+  abbrev table_of : Bool → Option ClassSite → List PropertyRow
+  table_of device listed = if device then device_properties state.site else properties_of_class listed
 
   abbrev other : Bool → Option ClassSite → Result Content ReadFault
   other device listed =
       if device then of_devices.device_content state.site.device (identifiers_of state.site) number
       else class_or_other state.site state.classes object number listed
 
+  -- by the rules of the table
+  found_says : (table : List PropertyRow) (rules : Option PropertyRow) (known : Bool) (answer : Result (List ℕ) ReadFault) → property_in number table ≡ rules → known ≡ true →
+      ReadSays (first_of false rules index) answer → ReadSays (first_of (not known) (property_in number table) index) answer
+  found_says table rules known answer found e h =
+      as_known known (property_in number table) answer e (subst (λ (r : Option PropertyRow). ReadSays (first_of false r index) answer) (sym found) h)
+
   others_say : (device : Bool) (listed : Option ClassSite) (known : Bool) →
       known ≡ (device || (is_some listed || false)) → is_other_object state.site object ≡ (device || (is_some listed || false)) →
-      ReadSays (first_of (not known) (device_or_class device listed) index) (part_in (other device listed) index)
-  others_say true listed known e o = as_known known (device_rules state.site (of_devices.property_of number)) (part_in (other true listed) index) e (device_says state.site (of_devices.property_of number) index)
+      ReadSays (first_of (not known) (property_in number (table_of device listed)) index) (part_in (other device listed) index)
+  others_say true listed known e o =
+      found_says (device_properties state.site) (device_rules state.site (of_devices.property_of number)) known (part_in (other true listed) index) (device_found state.site number) e
+      (device_says state.site (of_devices.property_of number) index)
   others_say false (Some listed) known e o =
-      as_known known (class_rules (Some listed) number) (part_in (other false (Some listed)) index) e
+      found_says (class_properties listed) (class_rules listed (of_classes.property_of number)) known (part_in (other false (Some listed)) index) (class_found listed number) e
       (class_says listed (recipients_of (class_in listed.class.instance state.classes)) (of_classes.property_of number) index)
   others_say false None known e o =
       subst (λ (k : Bool). ReadSays (first_of (not k) None index) (part_in (other false None) index)) (sym e)
@@ -184,20 +193,20 @@ module _ (state : CoreState) (object : ObjectIdData) (number : ℕ) (index : Opt
   pub read_says : (enrollment : Option EnrollmentSite) (row : Option Row) (kept : Option SiteLogState) (known : Bool) → length (alarm_in state object).stamps ≡ 3 →
       known ≡ (is_object object (device_object state.site) || (is_some row || (is_some (listed_class object state.site.classes) || (is_some enrollment || is_some kept)))) →
       is_other_object state.site object ≡ (is_object object (device_object state.site) || (is_some (listed_class object state.site.classes) || (is_some enrollment || is_some kept))) →
-      ReadSays (first_of (not known) (rules_by state.site object number enrollment row kept) index) (part_in (content_by state object number enrollment row kept) index)
+      ReadSays (first_of (not known) (property_in number (properties_by state.site object enrollment row kept)) index) (part_in (content_by state object number enrollment row kept) index)
   read_says (Some enrollment) row kept known h e o =
       let device = is_object object (device_object state.site) in
       let listed = is_some (listed_class object state.site.classes) in
-      as_known known (enrollment_rules (of_enrollments.property_of number)) (part_in (content_by state object number (Some enrollment) row kept) index)
+      found_says enrollment_properties (enrollment_rules (of_enrollments.property_of number)) known (part_in (content_by state object number (Some enrollment) row kept) index) (enrollment_found number)
       (e ∙ (ap (λ b. device || (is_some row || b)) (or_true listed) ∙ (ap (λ b. device || b) (or_true (is_some row)) ∙ or_true device)))
       (enrollment_says (alarm_in state object) (reliability_of_enrollment enrollment state.values.rows) enrollment (of_enrollments.property_of number) index h)
   read_says None (Some row) kept known h e o =
-      as_known known (object_rules row.site (of_objects.property_of number)) (part_in (content_by state object number None (Some row) kept) index)
+      found_says (object_properties row.site) (object_rules row.site (of_objects.property_of number)) known (part_in (content_by state object number None (Some row) kept) index) (object_found row.site number)
       (e ∙ or_true (is_object object (device_object state.site)))
       (row_says (alarm_in state object) row (of_objects.property_of number) index h)
   read_says None None (Some kept) known h e o =
       let device = is_object object (device_object state.site) in
-      as_known known (log_rules number (of_logs.property_of number)) (part_in (content_by state object number None None (Some kept)) index)
+      found_says log_properties (log_rules number (of_logs.property_of number)) known (part_in (content_by state object number None None (Some kept)) index) (log_found number)
       (e ∙ (ap (λ b. device || b) (or_true (is_some (listed_class object state.site.classes))) ∙ or_true device))
       (log_says kept.site kept.log number (of_logs.property_of number) index)
   read_says None None None known h e o = others_say (is_object object (device_object state.site)) (listed_class object state.site.classes) known e o

@@ -9,7 +9,7 @@ use Rattle.object_table.specs.declared.faults.WriteFault.{WriteFault}
 use Rattle.object_table.specs.Verdicts.{and_then, content_verdict, error_of, index_verdict, invalid_array_index, invalid_data_type, tag_of, value_verdict}
 use Rattle.profile_laws.specs.ErrorTables.{first_error}
 use Rattle.profile_laws.specs.PropertyErrors.{is_above_length, is_in_other_characters, is_indexed_without_array, is_of_other_type, is_out_of_range, is_read_only, is_too_long, is_unknown_property, size_in, tag_in}
-use Rattle.profile_laws.specs.PropertyRules.{PropertyRules}
+use Rattle.profile_laws.specs.PropertyTables.{PropertyRow}
 
 abbrev pub Table : Type 0
 Table = List (Bool × ServiceError)
@@ -25,11 +25,11 @@ abbrev value_rows : Option ℕ → Bool → Value → Table
 value_rows tag possible value = (is_read_only tag, write_access_denied_error) ∷ (is_of_other_type tag value, invalid_data_type_error) ∷ content_rows possible value
 
 -- the rows of a read, with more behind them
-abbrev pub table : Bool → Option PropertyRules → Option ℕ → Table → Table
+abbrev pub table : Bool → Option PropertyRow → Option ℕ → Table → Table
 table unknown rules index later = (unknown, unknown_object_error) ∷ (is_unknown_property rules, unknown_property_error) ∷ index_rows (size_in rules) index later
 
 -- those of a value
-abbrev pub written : Option PropertyRules → Value → Table
+abbrev pub written : Option PropertyRow → Value → Table
 written rules value =
     (is_read_only (tag_in rules), write_access_denied_error)
     ∷ (is_of_other_type (tag_in rules) value, invalid_data_type_error)
@@ -77,7 +77,7 @@ value_says None possible value = refl
 value_says (Some tag) possible value = type_says possible value (tag_of value == tag)
 
 -- a property with its rules
-pub rules_say : (rules : PropertyRules) (index : Option ℕ) (value : Value) →
+pub rules_say : (rules : PropertyRow) (index : Option ℕ) (value : Value) →
     VerdictSays (first_error (table false (Some rules) index (written (Some rules) value))) (and_then (index_verdict rules.size index) (value_verdict rules.tag (rules.can_be value) value))
 rules_say rules index value =
     index_says rules.size index (value_rows rules.tag (rules.can_be value) value) (value_verdict rules.tag (rules.can_be value) value) (value_says rules.tag (rules.can_be value) value)

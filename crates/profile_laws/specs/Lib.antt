@@ -1,5 +1,5 @@
 pub mod ErrorTables
-pub mod PropertyRules
+pub mod PropertyTables
 pub mod PropertyErrors
 pub mod AcknowledgementErrors
 pub mod Laws

@@ -14,7 +14,7 @@ use Rattle.object_table.specs.Rows.{is_object}
 use Rattle.object_table.specs.Verdicts.{tag_of}
 use Rattle.alarm_core.specs.Devices.{identifiers_of}
 use Rattle.alarm_core.specs.State.{CoreState}
-use Rattle.profile_laws.specs.PropertyRules.{PropertyRules, rules_of}
+use Rattle.profile_laws.specs.PropertyTables.{PropertyRow, property_of}
 
 -- ---- conditions
 
@@ -23,11 +23,11 @@ abbrev pub is_unknown_object : CoreState → ObjectIdData → Bool
 is_unknown_object state object = not (list_any (is_object object) (identifiers_of state.site))
 
 -- the object doesn't have the property
-abbrev pub is_unknown_property : Option PropertyRules → Bool
-is_unknown_property rules = is_none rules
+abbrev pub is_unknown_property : Option PropertyRow → Bool
+is_unknown_property property = is_none property
 
-abbrev pub size_in : Option PropertyRules → Option ℕ
-size_in (Some rules) = rules.size
+abbrev pub size_in : Option PropertyRow → Option ℕ
+size_in (Some property) = property.size
 size_in None = None
 
 -- an index is given, and the property is no array
@@ -39,8 +39,8 @@ abbrev pub is_above_length : Option ℕ → Option ℕ → Bool
 is_above_length (Some size) (Some index) = nat_lt size index
 is_above_length size index = false
 
-abbrev pub tag_in : Option PropertyRules → Option ℕ
-tag_in (Some rules) = rules.tag
+abbrev pub tag_in : Option PropertyRow → Option ℕ
+tag_in (Some property) = property.tag
 tag_in None = None
 
 -- the property can't be written
@@ -63,8 +63,8 @@ is_too_long (Opaque tag TooLong) = true
 is_too_long value = false
 
 -- the property can't be the value
-abbrev pub is_out_of_range : Option PropertyRules → Value → Bool
-is_out_of_range (Some rules) value = not (rules.can_be value)
+abbrev pub is_out_of_range : Option PropertyRow → Value → Bool
+is_out_of_range (Some property) value = not (property.can_be value)
 is_out_of_range None value = false
 
 -- ---- tables
@@ -72,21 +72,21 @@ is_out_of_range None value = false
 -- ReadProperty (15.5)
 abbrev pub read_errors : CoreState → ReadRequest → List (Bool × ServiceError)
 read_errors state request =
-    let rules = rules_of state request.object request.property.0 in
+    let property = property_of state request.object request.property.0 in
     (is_unknown_object state request.object, unknown_object_error)
-    ∷ (is_unknown_property rules, unknown_property_error)
-    ∷ (is_indexed_without_array (size_in rules) request.index, property_is_not_an_array_error)
-    ∷ (is_above_length (size_in rules) request.index, invalid_array_index_error)
+    ∷ (is_unknown_property property, unknown_property_error)
+    ∷ (is_indexed_without_array (size_in property) request.index, property_is_not_an_array_error)
+    ∷ (is_above_length (size_in property) request.index, invalid_array_index_error)
     ∷ []
 
 -- WriteProperty (15.9): those of a read of the same property, and behind them
 abbrev pub write_errors : CoreState → WriteRequest → List (Bool × ServiceError)
 write_errors state request =
-    let rules = rules_of state request.object request.property.0 in
+    let property = property_of state request.object request.property.0 in
     read_errors state (reference_in request)
-    ++ ((is_read_only (tag_in rules), write_access_denied_error)
-    ∷ (is_of_other_type (tag_in rules) request.value, invalid_data_type_error)
+    ++ ((is_read_only (tag_in property), write_access_denied_error)
+    ∷ (is_of_other_type (tag_in property) request.value, invalid_data_type_error)
     ∷ (is_in_other_characters request.value, character_set_not_supported_error)
     ∷ (is_too_long request.value, no_space_to_write_property_error)
-    ∷ (is_out_of_range rules request.value, value_out_of_range_error)
+    ∷ (is_out_of_range property request.value, value_out_of_range_error)
     ∷ [])
