@@ -47,7 +47,7 @@ pub record ReadsBackWrites : Type 0 where
   -- where the request spelled the value so, its very octets
   pub octets : (state : CoreState) (request : WriteRequest) (event : Event) (written : IsWritten state request event) → request.property.0 ≢ record_count_property →
       written.spelled.value.inside ≡ written_value request.value → IsReadAs (next_state event state) (reference_in request) written.spelled.value.inside
-  -- Record_Count of an event log (12.27) is the one exception: a write of 0 clears the log, and it is read as the number of records that the log has then
+  -- Record_Count of an event log (12.27) is the one exception: a write of 0 clears the log, the transitions of the write's second point are recorded behind that, and it is read as the number of records that the log has then
   pub record_count : (state : CoreState) (request : WriteRequest) (event : Event) → IsWritten state request event → request.property.0 ≡ record_count_property →
       (log : EventLogState) × (log_in request.object (next_state event state).logs ≡ Some log) × IsReadAs (next_state event state) (reference_in request) (written_value (Unsigned (length log.records)))
   -- it is read back as 0 too where the write comes with no transition that the log could record
