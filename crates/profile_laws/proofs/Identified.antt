@@ -180,6 +180,7 @@ pub record Identifies (state : CoreState) (object : ObjectIdData) : Type 0 where
   pub other : is_other_object state.site object
       ≡ (is_object object (device_object state.site) || (is_some (listed_class object state.site.classes)
       || (is_some (site_of object state.values.enrollments) || is_some (kept_log object state.logs))))
+  pub logged : list_any (λ (log : LogSite). is_object object log.object) state.site.logs ≡ is_some (kept_log object state.logs)
   pub detection : has_event_detection state.site object ≡ is_some (detected_object_in object state.alarms)
   pub there : has_event_detection state.site object ≡ true → list_any (is_object object) (identifiers_of state.site) ≡ true
   pub stamps : length (alarm_in state object).stamps ≡ 3
@@ -188,6 +189,7 @@ pub identifies : (site : Site) (history : List Event) (object : ObjectIdData) �
 identifies site history object = record {
   known = known site history object;
   other = other site history object;
+  logged = sym (any_map (is_object object) (λ (log : LogSite). log.object) site.logs) ∙ logs_known site history object;
   detection = detection site history object;
   there = there site history object;
   stamps = stamps site history object;

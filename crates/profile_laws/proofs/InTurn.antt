@@ -1,6 +1,8 @@
 -- The answers to requests, by the tables of their errors.
 use Rattle.std.proofs.Common.{◌≡◌, ℕ, Bool, true, false, ◌||◌, Option, Some, None, is_some, Result, List, refl, sym, ap, ◌∙◌, subst}
 use Rattle.std.specs.List.{list_any}
+use Rattle.std.specs.Option.{option_map}
+use Rattle.event_log.specs.declared.log_site.LogSite.{LogSite}
 use Rattle.bac_values.specs.Identifier.{ObjectIdData}
 use Rattle.bac_values.specs.declared.service_error.ServiceError.{ServiceError}
 use Rattle.bac_tags.proofs.Standing.{IsBytes}
@@ -11,6 +13,8 @@ use Rattle.event_services.proofs.AckLaws.{acknowledges}
 use Rattle.property_services.specs.declared.requests.ReadRequest.{ReadRequest}
 use Rattle.property_services.specs.declared.requests.WriteRequest.{WriteRequest}
 use Rattle.property_services.specs.Writing.{written_read_ack}
+use Rattle.property_services.specs.declared.requests.RangeRequest.{RangeRequest}
+use Rattle.property_services.proofs.RangeLaws.{read_range_answers}
 use Rattle.property_services.proofs.References.{read_property_answers}
 use Rattle.property_services.proofs.Writes.{write_property_answers}
 use Rattle.ack_alarm.specs.declared.verdict.Verdict.{Verdict}
@@ -25,15 +29,18 @@ use Rattle.alarm_core.specs.Allowed.{Represents}
 use Rattle.alarm_core.specs.declared.event.Event.{Event}
 use Rattle.alarm_core.specs.Devices.{device_object, identifiers_of, listed_class}
 use Rattle.alarm_core.specs.Found.{detected_object_in, found_in, has_object}
-use Rattle.alarm_core.specs.Logs.{kept_log}
+use Rattle.alarm_core.specs.Logs.{SiteLogState, kept_log, log_in, log_of}
 use Rattle.alarm_core.specs.Reading.{read_of, write_of}
 use Rattle.alarm_core.specs.State.{CoreState}
 use Rattle.service_desk.specs.Decisions.{acknowledge_with, change_decision, read_reply, read_with, requester_of, verdict_decision, write_with}
 use Rattle.service_desk.specs.declared.decision.Decision.TheVariants.{Reply}
 use Rattle.profile_laws.specs.AcknowledgementErrors.{acknowledgement_errors, has_event_detection}
 use Rattle.profile_laws.specs.ErrorTables.{AreOctets, Asker, IsAnsweredBy, first_error}
-use Rattle.profile_laws.specs.Laws.{AnswersAcknowledgementsInTurn, AnswersReadsInTurn, AnswersWritesInTurn}
+use Rattle.profile_laws.specs.Laws.{AnswersAcknowledgementsInTurn, AnswersRangesInTurn, AnswersReadsInTurn, AnswersWritesInTurn}
 use Rattle.profile_laws.specs.PropertyErrors.{read_errors, write_errors}
+use Rattle.profile_laws.specs.RangeErrors.{range_errors}
+use Rattle.profile_laws.proofs.RangeTables.{range_says}
+use Rattle.service_desk.specs.Ranges.{range_with, rule_zone_of}
 use Rattle.profile_laws.proofs.AcknowledgementTables.{VerdictSays, verdict_says}
 use Rattle.profile_laws.proofs.Identified.{Identifies, identifies}
 use Rattle.profile_laws.proofs.NoErrors.{abort_is_none, result_is_none, simple_ack_is_none}
@@ -84,6 +91,39 @@ reads_in_turn state history represents moment asker parameters request octets sp
     subst (λ (r : Result ReadRequest Malformed). IsAnsweredBy asker 12 first (read_with state (requester_of asker.peer asker.max_apdu asker.invoke 12) r)) (sym read)
     (read_answered asker request first (read_of state request.object request.property.0 request.index) says)
 
+-- ---- the identifier
+
+in_turn : (device row later : Bool) → (device || (row || later)) ≡ (row || (device || later))
+in_turn true true later = refl
+in_turn true false later = refl
+in_turn false true later = refl
+in_turn false false later = refl
+
+-- the device has the object
+has_it : (state : CoreState) (object : ObjectIdData) → Identifies state object → list_any (is_object object) (identifiers_of state.site) ≡ has_object state object
+has_it state object is =
+    let row = is_some (row_of object state.values.rows) in
+    is.known
+    ∙ (in_turn (is_object object (device_object state.site)) row
+    (is_some (listed_class object state.site.classes) || (is_some (site_of object state.values.enrollments) || is_some (kept_log object state.logs)))
+    ∙ ap (λ b. row || b) (sym is.other))
+
+-- ---- ReadRange
+
+log_found : (found : Option SiteLogState) → is_some found ≡ is_some (option_map log_of found)
+log_found None = refl
+log_found (Some kept) = refl
+
+pub ranges_in_turn : AnswersRangesInTurn
+ranges_in_turn state history represents moment asker parameters request octets spelled =
+    let read = (read_range_answers parameters (bytes parameters octets)).only request spelled in
+    let is = identified state history represents request.object in
+    let first = first_error (range_errors state request) in
+    subst (λ (r : Result RangeRequest Malformed). IsAnsweredBy asker 26 first (Reply (range_with (requester_of asker.peer asker.max_apdu asker.invoke 26) (rule_zone_of state.site) (has_object state) (λ object. log_in object state.logs) r))) (sym read)
+    (range_says asker state.site request (list_any (is_object request.object) (identifiers_of state.site)) (has_object state request.object)
+    (list_any (λ (log : LogSite). is_object request.object log.object) state.site.logs) (log_in request.object state.logs)
+    (has_it state request.object is) (is.logged ∙ log_found (kept_log request.object state.logs)))
+
 -- ---- AcknowledgeAlarm
 
 verdict_answered : (moment : ℕ) (asker : Asker) (object : ObjectIdData) (first : Option ServiceError) (verdict : Verdict) → VerdictSays first verdict →
@@ -93,24 +133,12 @@ verdict_answered moment asker object None (Accept transition named) h = (simple_
 verdict_answered moment asker object None Already h = simple_ack_is_none asker 0
 verdict_answered moment asker object None (Error class code) h = absurd h
 
-in_turn : (device row later : Bool) → (device || (row || later)) ≡ (row || (device || later))
-in_turn true true later = refl
-in_turn true false later = refl
-in_turn false true later = refl
-in_turn false false later = refl
-
 pub acknowledgements_in_turn : AnswersAcknowledgementsInTurn
 acknowledgements_in_turn state history represents moment asker parameters request octets spelled =
     let read = (acknowledges parameters (acknowledge_request_of parameters) (bytes parameters octets) refl).only request spelled in
     let is = identified state history represents request.object in
-    let row = is_some (row_of request.object state.values.rows) in
-    let has : list_any (is_object request.object) (identifiers_of state.site) ≡ has_object state request.object =
-    is.known
-    ∙ (in_turn (is_object request.object (device_object state.site)) row
-    (is_some (listed_class request.object state.site.classes) || (is_some (site_of request.object state.values.enrollments) || is_some (kept_log request.object state.logs)))
-    ∙ ap (λ b. row || b) (sym is.other)) in
     let first = first_error (acknowledgement_errors state request) in
     let says = verdict_says request (detected_object_in request.object state.alarms) (list_any (is_object request.object) (identifiers_of state.site)) (has_event_detection state.site request.object)
-    (has_object state request.object) is.detection is.there has in
+    (has_object state request.object) is.detection is.there (has_it state request.object is) in
     subst (λ (r : Result AckRequest Malformed). IsAnsweredBy asker 0 first (acknowledge_with state moment (requester_of asker.peer asker.max_apdu asker.invoke 0) r)) (sym read)
     (verdict_answered moment asker request.object first (acknowledgement_verdict (found_in state request.object) request) says)

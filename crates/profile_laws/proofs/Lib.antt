@@ -5,6 +5,7 @@ mod Tests
 mod WriteTables
 mod ReadTables
 mod AcknowledgementTables
+mod RangeTables
 mod InTurn
 mod SoundValues
 mod FlagsBack

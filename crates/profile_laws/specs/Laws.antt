@@ -1,19 +1,21 @@
 -- Laws above the decisions on requests.
 use Rattle.std.specs.Prelude.{ℕ, List}
-use Rattle.bac_values.specs.Services.{acknowledge_alarm_service, read_property_service, write_property_service}
+use Rattle.bac_values.specs.Services.{acknowledge_alarm_service, read_property_service, read_range_service, write_property_service}
 use Rattle.event_services.specs.declared.acknowledge.AckRequest.{AckRequest}
 use Rattle.event_services.specs.Acknowledgements.{SpellsAcknowledgement}
+use Rattle.property_services.specs.declared.requests.RangeRequest.{RangeRequest}
 use Rattle.property_services.specs.declared.requests.ReadRequest.{ReadRequest}
 use Rattle.property_services.specs.declared.requests.WriteRequest.{WriteRequest}
-use Rattle.property_services.specs.Requests.{SpellsReadProperty, SpellsWriteProperty}
+use Rattle.property_services.specs.Requests.{SpellsReadProperty, SpellsReadRange, SpellsWriteProperty}
 use Rattle.alarm_core.specs.Allowed.{Represents}
 use Rattle.alarm_core.specs.declared.event.Event.{Event}
 use Rattle.alarm_core.specs.State.{CoreState}
 use Rattle.profile_laws.specs.AcknowledgementErrors.{acknowledgement_errors}
 use Rattle.profile_laws.specs.ErrorTables.{AreOctets, Asker, IsAnsweredBy, decision_for, first_error}
 use Rattle.profile_laws.specs.PropertyErrors.{read_errors, write_errors}
+use Rattle.profile_laws.specs.RangeErrors.{range_errors}
 
--- In a state that stands for a history: whatever octets are a request of WriteProperty (15.9), it is answered by the table of its errors; and so of ReadProperty (15.5), and of AcknowledgeAlarm (13.5).
+-- In a state that stands for a history: whatever octets are a request of WriteProperty (15.9), it is answered by the table of its errors; and so of ReadProperty (15.5), of ReadRange (15.8), and of AcknowledgeAlarm (13.5).
 abbrev pub AnswersWritesInTurn : Type 0
 AnswersWritesInTurn =
     (state : CoreState) (history : List Event) → Represents state history →
@@ -25,6 +27,12 @@ AnswersReadsInTurn =
     (state : CoreState) (history : List Event) → Represents state history →
     (moment : ℕ) (asker : Asker) (parameters : List ℕ) (request : ReadRequest) → AreOctets parameters → SpellsReadProperty parameters request →
     IsAnsweredBy asker read_property_service (first_error (read_errors state request)) (decision_for state moment asker read_property_service parameters)
+
+abbrev pub AnswersRangesInTurn : Type 0
+AnswersRangesInTurn =
+    (state : CoreState) (history : List Event) → Represents state history →
+    (moment : ℕ) (asker : Asker) (parameters : List ℕ) (request : RangeRequest) → AreOctets parameters → SpellsReadRange parameters request →
+    IsAnsweredBy asker read_range_service (first_error (range_errors state request)) (decision_for state moment asker read_range_service parameters)
 
 abbrev pub AnswersAcknowledgementsInTurn : Type 0
 AnswersAcknowledgementsInTurn =
