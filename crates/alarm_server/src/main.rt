@@ -32,8 +32,9 @@ use ending_link::{EndingLink, NotingGround, SharedFlag};
 use ground_io::{FileGround, Ground, Link, Source, StdSource, SystemClock, UdpLink};
 use site_config::{SiteFault, line_of_refusal};
 use std::alloc::Global;
+use std::env::VarError;
 use std::fs::{File, OpenOptions};
-use std::io::Read;
+use std::io::{ErrorKind, Read};
 use std::net::UdpSocket;
 use std::process::ExitCode;
 use std::sync::Wait;
@@ -155,8 +156,11 @@ fn ends_on_file(rt: &HostRuntime, path: &str, status: Status) -> io::Result<Exit
     Ok(code)
 }
 
-// Says that a file can't be opened.
-fn cannot_open(rt: &HostRuntime) -> io::Result<ExitCode> {
+// Says that a file can't be opened, or that there is no memory for it.
+fn cannot_open(rt: &HostRuntime, error: &io::Error) -> io::Result<ExitCode> {
+    if error.kind() == ErrorKind::OutOfMemory {
+        return ends_with(rt, Status::NoMemory);
+    }
     eprintln!(rt; "cannot open")?;
     Ok(ExitCode::from(1))
 }
@@ -168,11 +172,13 @@ fn run_on_files(
     path: &str,
     journal: &str,
 ) -> io::Result<ExitCode> {
-    let Ok(file) = File::open(rt, path) else {
-        return cannot_open(rt);
+    let file = match File::open(rt, path) {
+        Ok(file) => file,
+        Err(error) => return cannot_open(rt, &error),
     };
-    let Ok(journal) = open_journal_file(rt, journal) else {
-        return cannot_open(rt);
+    let journal = match open_journal_file(rt, journal) {
+        Ok(journal) => journal,
+        Err(error) => return cannot_open(rt, &error),
     };
     let status = run_with(rt, words, file, Some(journal))?;
     ends_on_file(rt, path, status)
@@ -184,11 +190,13 @@ const REST: u64 = 5;
 /// So many milliseconds a call for a datagram waits for one.
 const PATIENCE: u64 = 200;
 
-// What the environment has under a name, or this.
+// What the environment has under a name, or this where it has nothing there.
 fn set_or(rt: &HostRuntime, name: &str, other: &str) -> io::Result<String> {
     match env::var(rt, name) {
         Ok(text) => Ok(text),
-        Err(_) => Ok(String::from_str(rt.alloc(), other)?),
+        Err(VarError::NotPresent) => Ok(String::from_str(rt.alloc(), other)?),
+        Err(VarError::OutOfMemory) => Err(io::Error::from(ErrorKind::OutOfMemory)),
+        Err(VarError::NotUnicode) => Err(io::Error::from(ErrorKind::InvalidData)),
     }
 }
 
@@ -252,7 +260,13 @@ fn ends_serving(rt: &HostRuntime, path: &str, served: Served) -> io::Result<Exit
 }
 
 fn main(rt: HostRuntime) -> io::Result<ExitCode> {
-    let words = words_given(&rt)?;
+    let words = match words_given(&rt) {
+        Ok(words) => words,
+        Err(error) if error.kind() == ErrorKind::OutOfMemory => {
+            return ends_with(&rt, Status::NoMemory);
+        }
+        Err(error) => return Err(error),
+    };
     if let Some(notice) = notice_for(&words) {
         println!(rt; "{notice}")?;
         return Ok(ExitCode::SUCCESS);
@@ -264,8 +278,9 @@ fn main(rt: HostRuntime) -> io::Result<ExitCode> {
     let journal = paths.journal.and_then(|place| words.get(place));
     match (site, journal) {
         (Some(site), Some(journal)) if paths.serves => {
-            let Ok(places) = open_places(&rt, site.as_str(), journal.as_str()) else {
-                return cannot_open(&rt);
+            let places = match open_places(&rt, site.as_str(), journal.as_str()) {
+                Ok(places) => places,
+                Err(error) => return cannot_open(&rt, &error),
             };
             let mut source = StdSource::new(places.site);
             let link = UdpLink::new(&places.socket, Duration::from_millis(PATIENCE))?;
