@@ -85,12 +85,21 @@ written), 7 (the journal can't be written), 8 (the journal is refused), 9 (no
 memory) or 10 (the link failed).
 docs/SITE.md, docs/SCRIPT.md and docs/JOURNAL.md describe the files.";
 
-fn words_given(rt: &HostRuntime) -> io::Result<Vec<String>> {
+fn words_in(rt: &HostRuntime) -> io::Result<Vec<String>> {
     let mut words = Vec::new(rt.alloc());
     for word in env::args(rt)?.skip(1) {
         words.push(word)?;
     }
     Ok(words)
+}
+
+// The words of the command, or nothing where there is no memory for them.
+fn words_given(rt: &HostRuntime) -> io::Result<Option<Vec<String>>> {
+    match words_in(rt) {
+        Ok(words) => Ok(Some(words)),
+        Err(error) if error.kind() == ErrorKind::OutOfMemory => Ok(None),
+        Err(error) => Err(error),
+    }
 }
 
 // What is printed in place of a run.
@@ -260,12 +269,8 @@ fn ends_serving(rt: &HostRuntime, path: &str, served: Served) -> io::Result<Exit
 }
 
 fn main(rt: HostRuntime) -> io::Result<ExitCode> {
-    let words = match words_given(&rt) {
-        Ok(words) => words,
-        Err(error) if error.kind() == ErrorKind::OutOfMemory => {
-            return ends_with(&rt, Status::NoMemory);
-        }
-        Err(error) => return Err(error),
+    let Some(words) = words_given(&rt)? else {
+        return ends_with(&rt, Status::NoMemory);
     };
     if let Some(notice) = notice_for(&words) {
         println!(rt; "{notice}")?;
