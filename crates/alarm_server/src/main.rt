@@ -28,6 +28,7 @@ use crate::serve::{Served, serve};
 use crate::status::Status;
 use crate::text::read_text;
 use crate::waking_gate::WakingGate;
+use ending_link::{EndingLink, NotingGround, SharedFlag};
 use ground_io::{FileGround, Ground, Link, Source, StdSource, SystemClock, UdpLink};
 use site_config::{SiteFault, line_of_refusal};
 use std::alloc::Global;
@@ -202,18 +203,22 @@ fn bound(rt: &HostRuntime) -> io::Result<UdpSocket> {
     Ok(socket)
 }
 
-// Serves over a ground and a link, by the system's clock.
-fn serve_over<R: Threads + Wait + Sync + Clock, S: Source, G: Ground + Send, L: Link + Send + Drop>(
-    rt: &R,
-    alloc: Global,
-    words: &[String],
-    site: &mut S,
-    device: G,
-    link: L,
-) -> (G, L, Served) {
+// Serves over a ground and a link, by the system's clock. The link fails once the disk has, so that the server ends.
+fn serve_over<
+    R: Threads + Wait + Sync + Clock,
+    S: Source,
+    G: Ground + Send + Drop,
+    L: Link + Send + Drop,
+>(rt: &R, alloc: Global, words: &[String], site: &mut S, device: G, link: L) -> Served {
     let clock = SystemClock::new(rt);
     let gate = WakingGate::new(rt, Duration::from_millis(REST));
-    serve(rt, alloc, words, site, device, link, &clock, &gate)
+    let flag = SharedFlag::new();
+    let device = NotingGround::new(device, &flag);
+    let link = EndingLink::new(link, &flag);
+    let (device, link, served) = serve(rt, alloc, words, site, device, link, &clock, &gate);
+    drop(device);
+    drop(link);
+    served
 }
 
 // The files of a server, and its socket.
@@ -269,16 +274,7 @@ fn main(rt: HostRuntime) -> io::Result<ExitCode> {
                 io::writer(&rt),
                 Some(places.socket),
             )?;
-            let (device, link, served) = serve_over(
-                &rt,
-                rt.alloc(),
-                &words,
-                &mut source,
-                device,
-                link,
-            );
-            drop(device);
-            drop(link);
+            let served = serve_over(&rt, rt.alloc(), &words, &mut source, device, link);
             ends_serving(&rt, site.as_str(), served)
         }
         (Some(site), Some(journal)) => run_on_files(&rt, &words, site.as_str(), journal.as_str()),

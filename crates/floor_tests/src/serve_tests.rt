@@ -6,9 +6,10 @@ use crate::desk_tests::{TEXT, blank, site_of};
 use crate::plant::START;
 use alarm_core::Site;
 use bac_values::{Items, Peer, Send as Message};
+use ending_link::{EndingLink, NotingGround, SharedFlag};
 use floor_desk::{Closed, Desk, End, serve_desk};
 use ground_io::{
-    Entry, FreeGate, Gate, Ground, HeldGround, MemoryGround, MemoryLink, StillClock, Worker,
+    Entry, FreeGate, Gate, Ground, HeldGround, Link, MemoryGround, MemoryLink, StillClock, Worker,
 };
 use std::alloc::Global;
 use std::hint;
@@ -60,15 +61,12 @@ fn expect_served<R: Abort>(rt: &R, closed: &Closed, received: u64, events: u64) 
 }
 
 /// A desk on a blank ground serves so many datagrams of a link, at the site's start.
-fn serve_on<R: Threads + Wait + Sync + Abort, G: Ground + Send + Drop, W: Gate + Sync>(
-    rt: &R,
-    alloc: Global,
-    site: &Site,
-    device: G,
-    link: MemoryLink,
-    count: u32,
-    gate: &W,
-) -> (G, Closed)
+fn serve_on<
+    R: Threads + Wait + Sync + Abort,
+    G: Ground + Send + Drop,
+    L: Link + Send + Drop,
+    W: Gate + Sync,
+>(rt: &R, alloc: Global, site: &Site, device: G, link: L, count: u32, gate: &W) -> (G, Closed)
     requires site { IsSite site.now }
     requires limits { KeepsLimits site.now }
 {
@@ -111,6 +109,26 @@ fn who_is_is_answered(rt: HostRuntime) -> Result<(), Fail> {
     let (device, closed) = serve_on(&rt, alloc, &site, device, link, 1, &FreeGate);
     expect_served(&rt, &closed, 1, 0);
     holds(&rt, sent_alone(&device, &I_AM));
+    Ok(())
+}
+
+#[test]
+fn a_server_ends_by_itself_once_its_disk_has_failed(rt: HostRuntime) -> Result<(), Fail> {
+    let alloc = rt.alloc();
+    let site = site_of(alloc)?;
+    let flag = SharedFlag::new();
+    let link = MemoryLink::new(vec![in alloc; datagram(alloc, &INHIBIT)?]?, Vec::new(alloc));
+    let link = EndingLink::new(link, &flag);
+    let device = NotingGround::new(blank(alloc, &site, &[9])?, &flag);
+    let (_device, closed) = serve_on(&rt, alloc, &site, device, link, 1_000, &FreeGate);
+    let wanted = Closed {
+        end: End::DiskFault,
+        received: 1,
+        events: 1,
+        durable: 0,
+        lost: 0,
+    };
+    same(&rt, &closed, &wanted);
     Ok(())
 }
 

@@ -8,6 +8,8 @@ mod alarm_journal_tests;
 #[cfg(test)]
 mod comparing;
 #[cfg(test)]
+mod ending_link_tests;
+#[cfg(test)]
 mod ground_io_tests;
 #[cfg(test)]
 mod recover_tests;
