@@ -15,6 +15,7 @@ pub mod LineFaults
 pub mod NoSite
 pub mod OfOpenFault
 pub mod OfWorkload
+pub mod Numbered
 pub mod OnFile
 pub mod OneEmission
 pub mod PieceLines

@@ -5,6 +5,7 @@ pub mod Faults
 pub mod GeneratedSite
 pub mod Keeping
 pub mod Looks
+pub mod Numbering
 pub mod OnFile
 pub mod OpeningSteps
 pub mod Outcomes

@@ -12,6 +12,7 @@ use Rattle.alarm_server.specs.declared.command.Command.TheVariants.{Trial, Sessi
 use Rattle.alarm_server.specs.declared.status.Status.{Status}
 use Rattle.floor_desk.specs.Emission.{Emits}
 use Rattle.alarm_server.specs.Emission.{Ends}
+use Rattle.alarm_server.specs.Numbering.{NumbersOnFile}
 use Rattle.alarm_server.specs.OnFile.{AcceptsOnFile, EndsOnFile, KeepsOnFile, RefusesFile, StopsOnFile}
 use Rattle.alarm_server.specs.Script.{refused_line}
 use Rattle.alarm_server.specs.Stopping.{StopsReading}
@@ -88,3 +89,10 @@ KeepsAs (Some Session) site script old new = KeepsOnFile site script old new
 KeepsAs (Some (Trial settings)) site script old new = ⊤
 KeepsAs (Some (Workload seed count)) site script old new = ⊤
 KeepsAs None site script old new = ⊤
+
+-- Of what a session tells, the events are numbered without a gap. The others tell of none as entered.
+abbrev pub NumbersAs : Option Command → Option (List ℕ) → Option (List ℕ) → Option Told → Option Told → Type 0
+NumbersAs (Some Session) site script old new = NumbersOnFile Emits site script old new
+NumbersAs (Some (Trial settings)) site script old new = ⊤
+NumbersAs (Some (Workload seed count)) site script old new = ⊤
+NumbersAs None site script old new = ⊤

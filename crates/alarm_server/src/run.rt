@@ -5,7 +5,7 @@ ghost use Rattle.site_config.specs.declared.fault.SiteFault.{SiteFault};
 ghost use Rattle.alarm_server.specs.OpeningSteps.{RefusesJournalAs};
 ghost use Rattle.alarm_server.specs.Causes.{HasCauseInEither};
 ghost use Rattle.alarm_server.specs.Commands.{command_of};
-ghost use Rattle.alarm_server.specs.Outcomes.{AcceptsAs, EndsAs, KeepsAs, LeavesDiskAs, LeavesScript, LeavesSite, ReadsToEnd, RefusesAs, RefusesSiteAs, StopsAs};
+ghost use Rattle.alarm_server.specs.Outcomes.{AcceptsAs, EndsAs, KeepsAs, LeavesDiskAs, LeavesScript, LeavesSite, NumbersAs, ReadsToEnd, RefusesAs, RefusesSiteAs, StopsAs};
 ghost use Rattle.alarm_server.specs.Status.{IsFault, status_of};
 
 use crate::command::{Command, read_command};
@@ -64,6 +64,7 @@ fn carry_out<S: Source, T: Source, G: Ground>(
 /// and plays the script; each event is on the disk before the piece of its line is emitted. `workload SEED COUNT` plays a
 /// generated script to a generated site, in memory, and emits one line, which sums the report up. Only a session touches the
 /// disk and reads the site's source, and a workload reads nothing.
+#[tactic(auto, using(crate::proofs::Numbered::numbers_as))]
 pub fn run<S: Source, T: Source, G: Ground>(
     alloc: Global,
     words: &[String],
@@ -81,6 +82,9 @@ pub fn run<S: Source, T: Source, G: Ground>(
 
     // What went out: the whole report, or a front of it, as the status says.
     ensures ends { EndsAs (command_of (map string_bytes words.now)) result.1 (S.left site.old) (T.left script.old) (G.told device) (G.told result.0) }
+
+    // The events that were told of are numbered without a gap, behind the number that the first line tells.
+    ensures numbered { NumbersAs (command_of (map string_bytes words.now)) (S.left site.old) (T.left script.old) (G.told device) (G.told result.0) }
 
     // With Done the script was read to its end, the site's text is a site, and each line is in the grammar.
     ensures to_end { result.1 ≡ Status.Done → ReadsToEnd (command_of (map string_bytes words.now)) (T.left script.new) }
