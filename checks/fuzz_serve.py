@@ -109,11 +109,14 @@ def unsigned_at(octets, at, number):
 
 def answered_by(octets):
     """The station to which a datagram of the server goes, if it names one, and its APDU."""
-    want(octets[:2] == b"\x81\x0a" and int.from_bytes(octets[2:4], "big") == len(octets) <= LONGEST, f"no datagram came: {octets.hex()}")
+    whole = len(octets) >= 8 and octets[:2] == b"\x81\x0a" and int.from_bytes(octets[2:4], "big") == len(octets) <= LONGEST
+    want(whole, f"no datagram came: {octets.hex()}")
     want(octets[4:5] == b"\x01" and octets[5] in (0, 4, 0x20, 0x24), f"another head came: {octets.hex()}")
     station, at = address_at(octets, 6) if octets[5] & 0x20 else (None, 6)
-    want(station is None or octets[at] == 255, f"another hop count came: {octets.hex()}")
-    return station, octets[at + (1 if station else 0) :]
+    want(station is None or octets[at : at + 1] == b"\xff", f"another hop count came: {octets.hex()}")
+    apdu = octets[at + (1 if station else 0) :]
+    want(len(apdu) >= 3, f"an APDU came that is cut: {octets.hex()}")
+    return station, apdu
 
 
 def is_note(apdu):
@@ -344,7 +347,7 @@ def play(draws, peers, server):
     windows = 0
     while peers.left >= 2 * FEW:
         windows += 1
-        if windows % BUSY or peers.left < MANY:
+        if windows % BUSY or peers.left < MANY + 2 * len(draws.objects):
             send_window(draws, peers, VALID)
         else:
             see_resting(draws, peers)
