@@ -64,7 +64,6 @@ fn carry_out<S: Source, T: Source, G: Ground>(
 /// and plays the script; each event is on the disk before the piece of its line is emitted. `workload SEED COUNT` plays a
 /// generated script to a generated site, in memory, and emits one line, which sums the report up. Only a session touches the
 /// disk and reads the site's source, and a workload reads nothing.
-#[tactic(auto, using(crate::proofs::Numbered::numbers_as))]
 pub fn run<S: Source, T: Source, G: Ground>(
     alloc: Global,
     words: &[String],
