@@ -4,6 +4,7 @@
 //! program does; `main` hands it the real ones.
 #![tactic(auto)]
 
+mod announcing_link;
 mod command;
 mod emission;
 mod on_file;
@@ -22,6 +23,7 @@ mod waking_gate;
 mod watch;
 mod workload;
 
+use crate::announcing_link::AnnouncingLink;
 use crate::paths::paths_of;
 use crate::run::run;
 use crate::serve::{Served, serve};
@@ -209,15 +211,14 @@ fn set_or(rt: &HostRuntime, name: &str, other: &str) -> io::Result<String> {
     }
 }
 
-// The socket of a server, bound to the address and the port that the environment names.
-fn bound(rt: &HostRuntime) -> io::Result<UdpSocket> {
+// The socket of a server, bound to the address and the port that the environment names, and these.
+fn bound(rt: &HostRuntime) -> io::Result<(UdpSocket, String)> {
     let mut place = set_or(rt, "ALARM_SERVER_ADDRESS", "0.0.0.0")?;
     let port = set_or(rt, "ALARM_SERVER_PORT", "47808")?;
     place.push(':')?;
     place.push_str(port.as_str())?;
     let socket = UdpSocket::bind(rt, place.as_str())?;
-    eprintln!(rt; "listening on {place}")?;
-    Ok(socket)
+    Ok((socket, place))
 }
 
 // Serves over a ground and a link, by the system's clock. The link fails once the disk has, so that the server ends.
@@ -238,20 +239,25 @@ fn serve_over<
     served
 }
 
-// The files of a server, and its socket.
+// The files of a server, its socket, and where that is bound.
 #[derive(Drop)]
 struct Places {
     site: File,
     journal: File,
     socket: UdpSocket,
+    place: String,
 }
 
 // Opens them, if they are all there.
 fn open_places(rt: &HostRuntime, path: &str, journal: &str) -> io::Result<Places> {
+    let site = File::open(rt, path)?;
+    let journal = open_journal_file(rt, journal)?;
+    let (socket, place) = bound(rt)?;
     Ok(Places {
-        site: File::open(rt, path)?,
-        journal: open_journal_file(rt, journal)?,
-        socket: bound(rt)?,
+        site,
+        journal,
+        socket,
+        place,
     })
 }
 
@@ -289,6 +295,7 @@ fn main(rt: HostRuntime) -> io::Result<ExitCode> {
             };
             let mut source = StdSource::new(places.site);
             let link = UdpLink::new(&places.socket, Duration::from_millis(PATIENCE))?;
+            let link = AnnouncingLink::new(link, &rt, places.place);
             let device = FileGround::new(
                 Some(places.journal),
                 io::writer(&rt),

@@ -4,7 +4,7 @@ ghost use Rattle.alarm_journal.specs.Opened.{EndsOnDevice, sum_of};
 
 use crate::missed::Missed;
 use crate::report::{DISK_FAULT, Text, say};
-use alarm_core::Site;
+use alarm_core::{Core, Site};
 use alarm_journal::{Job, OpenFault, Opened, Press};
 use ground_io::{Filling, MemoryGround};
 use state_codec::{RecoverFault, recover};
@@ -69,6 +69,11 @@ fn with_record(alloc: Global, device: Device, octets: &[u8]) -> Result<(Device, 
     }
 }
 
+// How many events a core that is given up has had.
+fn events_of(core: Core) -> u64 {
+    core.events()
+}
+
 // How many events are recovered of what was opened.
 fn recovered(alloc: Global, site: &Site, opened: &Opened) -> Result<u64, Missed>
     requires site { IsSite site.now }
@@ -80,7 +85,7 @@ fn recovered(alloc: Global, site: &Site, opened: &Opened) -> Result<u64, Missed>
         core => core,
     };
     match core {
-        Ok(core) => Ok(core.events()),
+        Ok(core) => Ok(events_of(core)),
         Err(RecoverFault::NoMemory) => Err(Missed::Twice),
         Err(_) => Err(Missed::Other),
     }

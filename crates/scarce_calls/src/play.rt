@@ -230,14 +230,22 @@ fn play_lines(
     Err(Missed::Other)
 }
 
+// The report of the lines that a core takes, and the snapshot at the end. The core is only borrowed: what owns one, and has a
+// `?` behind it, is dear to prove.
+fn told(alloc: Global, core: &mut Core, site: &Site, script: &[u8]) -> Result<Text, Missed>
+    requires site { IsSite site.now }
+{
+    let mut text = Vec::new(alloc);
+    play_lines(alloc, core, script, &mut text)?;
+    say_state(alloc, &mut text, site, core)?;
+    Ok(text)
+}
+
 /// The report of a session, from the site's start on, with the record of each event behind its line, and the snapshot at the
 /// end.
 pub(crate) fn played(alloc: Global, site: &Site, script: &[u8]) -> Result<Text, Missed>
     requires site { IsSite site.now }
 {
-    let mut text = Vec::new(alloc);
     let mut core = started(alloc, site)?;
-    play_lines(alloc, &mut core, script, &mut text)?;
-    say_state(alloc, &mut text, site, &core)?;
-    Ok(text)
+    told(alloc, &mut core, site, script)
 }

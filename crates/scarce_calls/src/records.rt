@@ -61,12 +61,16 @@ fn core_of(alloc: Global, site: &Site, octets: &[u8]) -> Result<Core, Missed>
     }
 }
 
+// The snapshot of a core that is given up. It has one way out, since what owns a core is dear to prove at each.
+fn last_snapshot_of(alloc: Global, core: Core) -> Result<Vec<u8>, Missed> {
+    snapshot_of(alloc, &core)
+}
+
 // The snapshot of the core that is read of a snapshot.
 fn written_again(alloc: Global, site: &Site, octets: &[u8]) -> Result<Vec<u8>, Missed>
     requires site { IsSite site.now }
 {
-    let core = core_of(alloc, site, octets)?;
-    snapshot_of(alloc, &core)
+    last_snapshot_of(alloc, core_of(alloc, site, octets)?)
 }
 
 /// How long the snapshot of a core is, and whether what is read of it has the same.

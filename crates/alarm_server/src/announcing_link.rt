@@ -1,0 +1,44 @@
+ghost use Rattle.std.specs.Prelude.{◌≡◌, IfOk, IsErr, OnOk};
+ghost use Rattle.ground_io.specs.Counts.{HasCause};
+ghost use Rattle.ground_io.specs.Link.{FitsInto, Receives};
+
+use ground_io::{Failed, Link, Received};
+
+/// A link that says where it listens when it is first asked for a datagram: by then the site has been read, and the journal
+/// opened. Else it is its inner link, call for call.
+#[derive(Drop)]
+pub struct AnnouncingLink<'a, L: Link> {
+    inner: L,
+    rt: &'a HostRuntime,
+    place: Option<String>,
+}
+
+impl<'a, L: Link> AnnouncingLink<'a, L> {
+    /// The inner link, which listens at this place.
+    pub fn new(inner: L, rt: &'a HostRuntime, place: String) -> AnnouncingLink<'a, L> {
+        AnnouncingLink {
+            inner,
+            rt,
+            place: Some(place),
+        }
+    }
+}
+
+impl<'a, L: Link> Link for AnnouncingLink<'a, L> {
+    ghost left = { λ link. L.left link.inner };
+
+    ghost faults = { λ link. L.faults link.inner };
+
+    fn receive(&mut self, into: &mut [u8]) -> Result<Received, Failed>
+        ensures bound { IfOk result (λ received. FitsInto received into.new) }
+        ensures datagrams { Receives (L.left self.old.inner) (L.left self.new.inner) result into.old into.new }
+        ensures cause { HasCause (L.faults self.old.inner) (L.faults self.new.inner) (IsErr result) }
+        ensures uncounted { OnOk result (L.faults self.new.inner ≡ L.faults self.old.inner) }
+    {
+        if let Some(place) = self.place.take() {
+            // Whether anybody reads it changes nothing.
+            let _ = eprintln!(self.rt; "listening on {place}");
+        }
+        self.inner.receive(into)
+    }
+}
