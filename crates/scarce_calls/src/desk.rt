@@ -13,6 +13,7 @@ use floor_desk::{CommitFault, Desk, DeskPass, EnterFault, Floor, Kind, Standing,
 use ground_io::MemoryGround;
 use state_codec::need;
 use std::alloc::Global;
+use std::fmt::Debug;
 use std::sync::Wait;
 
 type Shared = Desk<MemoryGround>;
@@ -324,6 +325,11 @@ fn has_failed(committed: &Committed) -> bool {
     matches!(committed, Err(CommitFault::DiskFault))
 }
 
+// A line that tells one thing.
+fn tell<T: Debug>(alloc: Global, text: &mut Text, what: &str, it: &T) -> Result<(), Missed> {
+    say(text, format!(in alloc; "{what}: {it:?}")?.as_str())
+}
+
 // What is told of a desk that was filled, and whether its disk held.
 fn say_filled(alloc: Global, text: &mut Text, filled: &Filled) -> Result<bool, Missed> {
     let Filled {
@@ -334,15 +340,15 @@ fn say_filled(alloc: Global, text: &mut Text, filled: &Filled) -> Result<bool, M
         last,
         nothing,
     } = *filled;
-    say(text, format!(in alloc; "entered: {entered}")?.as_str())?;
-    say(text, format!(in alloc; "one more: {behind:?}")?.as_str())?;
-    say(text, format!(in alloc; "event 1: {first:?}")?.as_str())?;
+    tell(alloc, text, "entered", &entered)?;
+    tell(alloc, text, "one more", &behind)?;
+    tell(alloc, text, "event 1", &first)?;
     if has_failed(&committed) {
         return Ok(false);
     }
-    say(text, format!(in alloc; "commit: {committed:?}")?.as_str())?;
-    say(text, format!(in alloc; "event 1024: {last:?}")?.as_str())?;
-    say(text, format!(in alloc; "commit: {nothing:?}")?.as_str())?;
+    tell(alloc, text, "commit", &committed)?;
+    tell(alloc, text, "event 1024", &last)?;
+    tell(alloc, text, "commit", &nothing)?;
     Ok(true)
 }
 
@@ -354,13 +360,13 @@ fn say_answered(alloc: Global, text: &mut Text, answered: &Answered) -> Result<b
         read,
         committed,
     } = *answered;
-    say(text, format!(in alloc; "alarm: {alarm:?}")?.as_str())?;
-    say(text, format!(in alloc; "pump: {pump:?}")?.as_str())?;
-    say(text, format!(in alloc; "read: {read:?}")?.as_str())?;
+    tell(alloc, text, "alarm", &alarm)?;
+    tell(alloc, text, "pump", &pump)?;
+    tell(alloc, text, "read", &read)?;
     if has_failed(&committed) {
         return Ok(false);
     }
-    say(text, format!(in alloc; "commit: {committed:?}")?.as_str())?;
+    tell(alloc, text, "commit", &committed)?;
     Ok(true)
 }
 
@@ -373,19 +379,14 @@ fn say_left(alloc: Global, text: &mut Text, left: &Left) -> Result<bool, Missed>
         durable,
         lost,
     } = *left;
-    say(
-        text,
-        format!(in alloc; "end of the alarm: {entered:?}")?.as_str(),
-    )?;
+    tell(alloc, text, "end of the alarm", &entered)?;
     if has_failed(&settled) {
         return Ok(false);
     }
-    say(text, format!(in alloc; "settled: {settled:?}")?.as_str())?;
-    say(
-        text,
-        format!(in alloc; "events: {events}, written: {durable}")?.as_str(),
-    )?;
-    say(text, format!(in alloc; "datagrams lost: {lost}")?.as_str())?;
+    tell(alloc, text, "settled", &settled)?;
+    tell(alloc, text, "events", &events)?;
+    tell(alloc, text, "of these written", &durable)?;
+    tell(alloc, text, "datagrams lost", &lost)?;
     Ok(true)
 }
 
@@ -434,25 +435,32 @@ fn opened(
     }
 }
 
+// What a device that isn't opened leaves: no answers where its disk has failed.
+fn not_opened(fault: OpenFault) -> Result<Option<Answers>, Missed> {
+    match fault {
+        OpenFault::DiskFault => Ok(None),
+        OpenFault::NoMemory => Err(Missed::Twice),
+        _ => Err(Missed::Other),
+    }
+}
+
 // The answers of a desk on a device; none where its disk fails as it is opened.
 fn answers_on<R: Wait>(
     rt: &R,
     alloc: Global,
     site: &Site,
     device: MemoryGround,
-    question: Twice,
+    tank: (ObjectId, Twice),
 ) -> Result<Option<Answers>, Missed>
     requires site { IsSite site.now }
     requires limits { KeepsLimits site.now }
 {
-    let Ok(object) = ObjectId::of_kind(ObjectKind::IntegerValue, 1) else {
-        return Err(Missed::Other);
-    };
     match opened(alloc, site, device) {
-        Ok((desk, pass)) => Ok(Some(play(rt, alloc, desk, pass, object, question))),
-        Err((_, OpenFault::DiskFault)) => Ok(None),
-        Err((_, OpenFault::NoMemory)) => Err(Missed::Twice),
-        Err(_) => Err(Missed::Other),
+        Ok((desk, pass)) => {
+            let (object, question) = tank;
+            Ok(Some(play(rt, alloc, desk, pass, object, question)))
+        }
+        Err((_, fault)) => not_opened(fault),
     }
 }
 
@@ -461,8 +469,11 @@ pub(crate) fn shared<R: Wait>(rt: &R, alloc: Global, site: &Site) -> Result<Text
     requires site { IsSite site.now }
     requires limits { KeepsLimits site.now }
 {
+    let Ok(object) = ObjectId::of_kind(ObjectKind::IntegerValue, 1) else {
+        return Err(Missed::Other);
+    };
     let question = read_twice(alloc)?;
     let device = blank(alloc, site)?;
-    let answers = answers_on(rt, alloc, site, device, question)?;
+    let answers = answers_on(rt, alloc, site, device, (object, question))?;
     text_of(alloc, answers)
 }
