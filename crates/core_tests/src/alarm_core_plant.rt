@@ -98,6 +98,16 @@ pub(crate) trait Play {
     fn play(&self, rt: &impl Abort, alloc: Global, core: &mut Core) -> Result<(), Fail>;
 }
 
+/// Plays to a core, and gives it up. What owns a core has one way out.
+pub(crate) fn play_to(
+    rt: &impl Abort,
+    alloc: Global,
+    mut core: Core,
+    play: &impl Play,
+) -> Result<(), Fail> {
+    play.play(rt, alloc, &mut core)
+}
+
 /// Plays to the core of a site, from its start on.
 pub(crate) fn play_on(
     rt: &impl Abort,
@@ -107,8 +117,7 @@ pub(crate) fn play_on(
 ) -> Result<(), Fail>
     requires site { IsSite site.now }
 {
-    let mut core = Core::start(alloc, site)?;
-    play.play(rt, alloc, &mut core)
+    play_to(rt, alloc, Core::start(alloc, site)?, play)
 }
 
 /// Plays to the core of a site with one tank and an outbox of so many notes, from its start on.

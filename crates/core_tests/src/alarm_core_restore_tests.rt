@@ -2,7 +2,7 @@ ghost use Rattle.std.specs.Prelude.{◌≡◌, [], IfOk, length};
 ghost use Rattle.outbox.specs.Outboxes.{IsOutbox};
 ghost use Rattle.alarm_core.specs.Sites.{IsSite};
 
-use crate::alarm_core_plant::{Play, START, device, is_sent, operator, take};
+use crate::alarm_core_plant::{Play, START, device, is_sent, operator, play_to, take};
 use crate::comparing::holds;
 use alarm_core::*;
 use bac_values::{Items, Note};
@@ -66,21 +66,38 @@ fn in_flight(alloc: Global) -> Result<Outbox, Fail>
     Ok(Outbox::restore(alloc, posts, notes, 64, 3000, 3)?)
 }
 
-/// Plays to the core that is made of an outbox, five events after the start.
-fn play_on_restored(rt: &impl Abort, alloc: Global, play: &impl Play) -> Result<(), Fail> {
-    let site = bare(alloc)?;
+/// The core that is made of an outbox, five events after the start of a device alone.
+fn restored(alloc: Global, site: &Site) -> Result<Core, Fail>
+    requires site { IsSite site.now }
+    requires classes { site.now.classes ≡ [] }
+    requires objects { site.now.objects ≡ [] }
+    requires enrollments { site.now.enrollments ≡ [] }
+    requires logs { site.now.logs ≡ [] }
+    requires start { site.now.device.start ≡ 1700000000000 }
+    requires limit { site.now.device.outbox ≡ 64 }
+    requires timeout { site.now.device.apdu_timeout ≡ 3000 }
+    requires retries { site.now.device.retries ≡ 3 }
+{
+    let outbox = in_flight(alloc)?;
+    let table = Table::new(alloc, Vec::new(alloc))?;
+    let enrollments = Enrollments::new(alloc, Vec::new(alloc))?;
     let parts = Parts {
         events: 5,
         last_moment: START + 7,
-        table: Table::new(alloc, Vec::new(alloc))?,
-        enrollments: Enrollments::new(alloc, Vec::new(alloc))?,
+        table,
+        enrollments,
         alarms: Items::of(Vec::new(alloc)),
         classes: Items::of(Vec::new(alloc)),
         logs: Items::of(Vec::new(alloc)),
-        outbox: in_flight(alloc)?,
+        outbox,
     };
-    let mut core = Core::restore(alloc, &site, parts)?;
-    play.play(rt, alloc, &mut core)
+    Ok(Core::restore(alloc, site, parts)?)
+}
+
+/// Plays to that core.
+fn play_on_restored(rt: &impl Abort, alloc: Global, play: &impl Play) -> Result<(), Fail> {
+    let site = bare(alloc)?;
+    play_to(rt, alloc, restored(alloc, &site)?, play)
 }
 
 /// What was told is there.

@@ -2,7 +2,7 @@ ghost use Rattle.std.specs.Prelude.{◌≡◌, IfOk};
 ghost use Rattle.object_table.specs.Objects.{IsObject};
 ghost use Rattle.alarm_core.specs.Sites.{IsSite};
 
-use crate::alarm_core_plant::{Play, operator, plant, play_on, set, take};
+use crate::alarm_core_plant::{Play, operator, plant, play_on, play_to, set, take};
 use crate::comparing::holds;
 use alarm_core::*;
 use bac_values::{Items, ObjectId, ObjectKind, Text, Value};
@@ -132,21 +132,30 @@ fn first_octets(alloc: Global) -> Result<Vec<u8>, Fail> {
     Ok(octets)
 }
 
-/// Whether octets are read, and written again as they were.
-fn is_written_again(alloc: Global, site: &Site, octets: &[u8]) -> Result<bool, Fail>
+/// The core is written as the octets of the start.
+struct Again;
+
+impl Play for Again {
+    fn play(&self, rt: &impl Abort, alloc: Global, core: &mut Core) -> Result<(), Fail> {
+        let octets = first_octets(alloc)?;
+        let again = write_state(alloc, core)?;
+        holds(rt, again == octets);
+        Ok(())
+    }
+}
+
+/// The core that is read of the octets of the start.
+fn read_again(alloc: Global, site: &Site) -> Result<Core, Fail>
     requires site { IsSite site.now }
 {
-    let core = read_state(alloc, site, octets)?;
-    let again = write_state(alloc, &core)?;
-    Ok(again.as_slice() == octets)
+    let octets = first_octets(alloc)?;
+    Ok(read_state(alloc, site, &octets)?)
 }
 
 #[test]
 fn a_snapshot_is_read_and_written_again(rt: HostRuntime) -> Result<(), Fail> {
     let site = plant(rt.alloc(), tank(rt.alloc(), 10)?, 256)?;
-    let octets = first_octets(rt.alloc())?;
-    holds(&rt, is_written_again(rt.alloc(), &site, &octets)?);
-    Ok(())
+    play_to(&rt, rt.alloc(), read_again(rt.alloc(), &site)?, &Again)
 }
 
 /// A place, and an octet with which no state of the site has the snapshot.
@@ -210,13 +219,26 @@ fn with_octet(alloc: Global, octets: &[u8], place: usize, octet: u8) -> Result<V
     Ok(damaged)
 }
 
-/// Whether octets are refused with each of the damages.
-fn are_refused(alloc: Global, site: &Site, octets: &[u8]) -> Result<bool, Fail>
+/// Whether octets are refused with an octet at a place.
+fn is_refused_with(
+    alloc: Global,
+    site: &Site,
+    octets: &[u8],
+    damage: (usize, u8),
+) -> Result<bool, Fail>
     requires site { IsSite site.now }
 {
-    for (place, octet) in &DAMAGED {
-        let damaged = with_octet(alloc, octets, *place, *octet)?;
-        if !is_refused(alloc, site, &damaged) {
+    let damaged = with_octet(alloc, octets, damage.0, damage.1)?;
+    Ok(is_refused(alloc, site, &damaged))
+}
+
+/// Whether the octets of the start are refused with each of the damages.
+fn are_refused(alloc: Global, site: &Site) -> Result<bool, Fail>
+    requires site { IsSite site.now }
+{
+    let octets = first_octets(alloc)?;
+    for damage in DAMAGED {
+        if !is_refused_with(alloc, site, &octets, damage)? {
             return Ok(false);
         }
     }
@@ -226,19 +248,32 @@ fn are_refused(alloc: Global, site: &Site, octets: &[u8]) -> Result<bool, Fail>
 #[test]
 fn each_damaged_snapshot_is_refused(rt: HostRuntime) -> Result<(), Fail> {
     let site = plant(rt.alloc(), tank(rt.alloc(), 10)?, 256)?;
-    let octets = first_octets(rt.alloc())?;
-    holds(&rt, are_refused(rt.alloc(), &site, &octets)?);
+    holds(&rt, are_refused(rt.alloc(), &site)?);
     Ok(())
+}
+
+/// Whether the octets of the start are refused without their last one.
+fn is_refused_when_cut(alloc: Global, site: &Site) -> Result<bool, Fail>
+    requires site { IsSite site.now }
+{
+    let mut cut = first_octets(alloc)?;
+    let _last = cut.pop();
+    Ok(is_refused(alloc, site, &cut))
+}
+
+/// Whether the octets of the start are refused with one more.
+fn is_refused_when_longer(alloc: Global, site: &Site) -> Result<bool, Fail>
+    requires site { IsSite site.now }
+{
+    let mut longer = first_octets(alloc)?;
+    longer.push(0)?;
+    Ok(is_refused(alloc, site, &longer))
 }
 
 #[test]
 fn a_snapshot_ends_where_it_ends(rt: HostRuntime) -> Result<(), Fail> {
     let site = plant(rt.alloc(), tank(rt.alloc(), 10)?, 256)?;
-    let mut cut = first_octets(rt.alloc())?;
-    let _last = cut.pop();
-    holds(&rt, is_refused(rt.alloc(), &site, &cut));
-    let mut longer = first_octets(rt.alloc())?;
-    longer.push(0)?;
-    holds(&rt, is_refused(rt.alloc(), &site, &longer));
+    holds(&rt, is_refused_when_cut(rt.alloc(), &site)?);
+    holds(&rt, is_refused_when_longer(rt.alloc(), &site)?);
     Ok(())
 }
