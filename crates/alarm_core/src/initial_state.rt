@@ -9,6 +9,7 @@ ghost use Rattle.alarm_core.specs.Subjects.{ack_required_of, detecting_subjects,
 ghost use Rattle.alarm_core.specs.Values.{first_values};
 
 use crate::detection::DetectedObject;
+use crate::detections::Detections;
 use crate::{ClassSite, Site};
 use bac_values::{NoMemory, push};
 use civil_stamp::LocalMoment;
@@ -104,4 +105,20 @@ pub(crate) fn first_alarms(
 {
     let subjects = subjects_of(alloc, site.objects.as_slice(), site.enrollments.as_slice())?;
     alarms_of(alloc, site, objects, &subjects, at)
+}
+
+/// The values of a site's objects at its start, and what is detected then.
+pub(crate) fn first_detections(
+    alloc: Global,
+    site: &Site,
+    at: &LocalMoment,
+) -> Result<Detections, NoMemory>
+    requires site { IsSite site.now }
+    ensures values { IfOk result (λ first. first.values ≡ first_values site.now) }
+    ensures alarms { IfOk result (λ first. first.alarms ≡ map (λ subject. first_with at.now (ack_required_of site.now subject) (first_values site.now) subject) (detecting_subjects site.now)) }
+{
+    let objects = first_objects(alloc, site)?;
+    let alarms = first_alarms(alloc, site, &objects, at)?;
+    let detections = Detections::new(alloc, objects, alarms, at)?;
+    Ok(detections)
 }

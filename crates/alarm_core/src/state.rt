@@ -1,10 +1,11 @@
 ghost use Rattle.std.specs.Prelude.{◌≡◌, ◌↔◌, [], All, IfOk, IsTrue, max};
 ghost use Rattle.std.specs.Option.{option_copied};
 ghost use Rattle.bac_values.specs.Moments.{IsMoment};
-ghost use Rattle.bac_values.specs.Orders.{IsAscending};
+ghost use Rattle.bac_values.specs.Orders.{IsAscending, peers_with};
 ghost use Rattle.outbox.specs.Outboxes.{has_in_flight, is_idle, new_outbox, peers_of as peers_of_posts, pumped, sends_of};
 ghost use Rattle.event_machine.specs.Finding.{as_finding};
 ghost use Rattle.alarm_core.specs.Allowed.{Represents};
+ghost use Rattle.alarm_core.specs.Classes.{peers_in};
 ghost use Rattle.alarm_core.specs.CoreSteps.{first_state, states_of};
 ghost use Rattle.alarm_core.specs.Evaluations.{site_zone};
 ghost use Rattle.alarm_core.specs.Found.{alarm_in, device_object, found_in, has_object, is_other_object};
@@ -16,7 +17,7 @@ use crate::classes::classes_of;
 use crate::detection::detected_object;
 use crate::detections::Detections;
 use crate::identifiers::device_object;
-use crate::initial_state::{first_alarms, first_objects};
+use crate::initial_state::first_detections;
 use crate::logs::{SiteLog, first_logs, kept_log};
 use crate::recipients::peers_in;
 use crate::site::{copy_of_site, is_other_object};
@@ -109,6 +110,22 @@ fn first_outbox(alloc: Global, site: &Site, peers: &[Peer]) -> Result<Outbox, No
     )
 }
 
+// The peers of some classes, for whom nothing waits.
+fn first_queues(
+    alloc: Global,
+    site: &Site,
+    classes: &[Class],
+) -> Result<(PeerList, Outbox), NoMemory>
+    requires site { IsSite site.now }
+    ensures peers { IfOk result (λ first. first.0 ≡ peers_with (peers_in classes.now) []) }
+    ensures outbox { IfOk result (λ first. first.1 ≡ new_outbox first.0 site.now.device.outbox site.now.device.apdu_timeout site.now.device.retries) }
+{
+    let listed = peers_in(alloc, classes)?;
+    let peers = PeerList::new(alloc).with(alloc, &listed)?;
+    let outbox = first_outbox(alloc, site, peers.as_slice())?;
+    Ok((peers, outbox))
+}
+
 impl Core {
     /// The core of a site, with no event yet.
     pub fn start(alloc: Global, site: &Site) -> Result<Core, NoMemory>
@@ -119,18 +136,15 @@ impl Core {
         let zone = site_zone(site);
         let start = site.device.start;
         let at = LocalMoment::new(start, &zone);
-        let objects = first_objects(alloc, site)?;
-        let alarms = first_alarms(alloc, site, &objects, &at)?;
-        let detections = Detections::new(alloc, objects, alarms, &at)?;
         let classes = classes_of(alloc, site.classes.as_slice())?;
-        let listed = peers_in(alloc, &classes)?;
-        let peers = PeerList::new(alloc).with(alloc, &listed)?;
-        let outbox = first_outbox(alloc, site, peers.as_slice())?;
+        let queues = first_queues(alloc, site, &classes)?;
         let logs = first_logs(alloc, site)?;
-        let site = copy_of_site(alloc, site)?;
+        let kept = copy_of_site(alloc, site)?;
+        let detections = first_detections(alloc, site, &at)?;
+        let (peers, outbox) = queues;
         Ok(Core {
             alloc,
-            site,
+            site: kept,
             zone,
             events: 0,
             last_moment: start,

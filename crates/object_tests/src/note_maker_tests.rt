@@ -1,16 +1,18 @@
 ghost use Rattle.std.specs.Prelude.{◌≡◌, IfOk};
 ghost use Rattle.bac_values.specs.Moments.{IsMoment};
 ghost use Rattle.algorithm_rules.specs.declared.table.Algorithm.TheVariants.{SignedOutOfRange};
+ghost use Rattle.event_services.specs.Notifications.{IsTold};
 ghost use Rattle.notify_class.specs.Recipients.{IsListedRecipient};
 
 use crate::comparing::same;
 use algorithm_rules::Algorithm;
-use bac_values::{EventState, Items, ObjectId, Peer, Stamp, Transition};
+use bac_values::{EventState, Items, Note, ObjectId, Peer, Stamp, Transition};
 use civil_stamp::{LocalMoment, Zone};
-use event_services::read_notification;
+use event_services::{Notification, read_notification};
 use note_maker::*;
 use notify_class::{Class, Destination};
 use std::alloc::Global;
+use std::process::Abort;
 use std::test::Fail;
 
 /// Tuesday, the 14th of November 2023, 22:13:30, in UTC.
@@ -85,52 +87,84 @@ fn class_of_six(alloc: Global) -> Result<Class, Fail> {
     Ok(class(Vec::from_array(alloc, destinations)?))
 }
 
-/// The processes that are told of each kind of transition at a moment, in a zone, one list behind the other with a 0
-/// between them.
-fn processes_told(alloc: Global, moment: u64, minutes: i16) -> Result<Vec<u32>, Fail>
-    requires { IsMoment moment }
+/// The process that a note names.
+fn process_of(alloc: Global, note: &Note) -> Result<u32, Fail> {
+    match read_notification(alloc, note.body.as_slice()) {
+        Ok(told) => Ok(told.process),
+        Err(_) => Err(Fail::new("not read back")),
+    }
+}
+
+/// Appends the processes that notes name, and a 0.
+fn add_processes(alloc: Global, notes: &[Note], processes: &mut Vec<u32>) -> Result<(), Fail> {
+    for note in notes {
+        processes.push(process_of(alloc, note)?)?;
+    }
+    Ok(processes.push(0)?)
+}
+
+/// The processes of a class that are told of each kind of transition, one list behind the other with a 0 between them.
+fn processes_of(
+    alloc: Global,
+    facts: &Notification,
+    class: &Class,
+    at: &LocalMoment,
+) -> Result<Vec<u32>, Fail>
+    requires told { IsTold facts.now.event_type facts.now.values }
 {
-    let class = class_of_six(alloc)?;
-    let at = LocalMoment::new(moment, &Zone::fixed(minutes)?);
-    let facts = acknowledgement_notification(&source()?, &class, EventState::Normal, LATER);
     let mut processes = Vec::new(alloc);
     for transition in Transition::ALL {
-        let notes = notes_of(alloc, &facts, &class, transition, &at)
-            .ok()
-            .ok_or("no memory")?;
-        for note in notes.as_slice() {
-            let told = read_notification(alloc, note.body.as_slice())
-                .ok()
-                .ok_or("not read back")?;
-            processes.push(told.process)?;
-        }
-        processes.push(0)?;
+        let notes = notes_of(alloc, facts, class, transition, at)?;
+        add_processes(alloc, notes.as_slice(), &mut processes)?;
     }
     Ok(processes)
 }
 
-#[test]
-fn recipients_are_told_in_their_windows(rt: HostRuntime) -> Result<(), Fail> {
-    // Each wanted answer was computed by Python's datetime.
-    let told = processes_told(rt.alloc(), RAISED_AT, 0)?;
-    same(&rt, &told.as_slice(), &[1, 4, 0, 1, 3, 0, 1, 0].as_slice());
-    let told = processes_told(rt.alloc(), RAISED_AT + 9, 0)?;
-    same(&rt, &told.as_slice(), &[1, 4, 0, 1, 3, 0, 1, 0].as_slice());
-    let told = processes_told(rt.alloc(), RAISED_AT + 10, 0)?;
-    same(&rt, &told.as_slice(), &[1, 0, 1, 3, 0, 1, 0].as_slice());
-    let told = processes_told(rt.alloc(), RAISED_AT, -1)?;
-    same(&rt, &told.as_slice(), &[1, 0, 1, 3, 0, 1, 0].as_slice());
-    // Monday, the 13th of November 2023, at 08:00 in UTC, and a minute earlier west of it.
-    let told = processes_told(rt.alloc(), 1_699_862_400_000, 0)?;
-    same(
-        &rt,
-        &told.as_slice(),
-        &[1, 2, 0, 1, 2, 3, 0, 1, 2, 0].as_slice(),
-    );
-    let told = processes_told(rt.alloc(), 1_699_862_400_000, -1)?;
-    same(&rt, &told.as_slice(), &[1, 0, 1, 3, 0, 1, 0].as_slice());
-    // Saturday, the 18th.
-    let told = processes_told(rt.alloc(), 1_700_345_600_000, 120)?;
-    same(&rt, &told.as_slice(), &[1, 5, 0, 1, 0, 1, 5, 0].as_slice());
+/// Those of the six at a moment, in a zone.
+fn processes_told(alloc: Global, moment: u64, minutes: i16) -> Result<Vec<u32>, Fail>
+    requires { IsMoment moment }
+{
+    let at = LocalMoment::new(moment, &Zone::fixed(minutes)?);
+    let source = source()?;
+    let class = class_of_six(alloc)?;
+    let facts = acknowledgement_notification(&source, &class, EventState::Normal, LATER);
+    processes_of(alloc, &facts, &class, &at)
+}
+
+/// Those of the six that are told at a moment, in a zone, are these.
+fn expect_told(
+    rt: &impl Abort,
+    alloc: Global,
+    moment: u64,
+    minutes: i16,
+    processes: &[u32],
+) -> Result<(), Fail>
+    requires { IsMoment moment }
+{
+    let told = processes_told(alloc, moment, minutes)?;
+    same(rt, &told.as_slice(), &processes);
     Ok(())
+}
+
+// Each wanted answer was computed by Python's datetime.
+
+#[test]
+fn recipients_are_told_up_to_the_end_of_their_windows(rt: HostRuntime) -> Result<(), Fail> {
+    let (alloc, within) = (rt.alloc(), [1, 4, 0, 1, 3, 0, 1, 0]);
+    expect_told(&rt, alloc, RAISED_AT, 0, &within)?;
+    expect_told(&rt, alloc, RAISED_AT + 9, 0, &within)?;
+    expect_told(&rt, alloc, RAISED_AT + 10, 0, &[1, 0, 1, 3, 0, 1, 0])
+}
+
+#[test]
+fn recipients_are_told_by_the_day_and_the_time_of_the_zone(rt: HostRuntime) -> Result<(), Fail> {
+    let (alloc, beside) = (rt.alloc(), [1, 0, 1, 3, 0, 1, 0]);
+    expect_told(&rt, alloc, RAISED_AT, -1, &beside)?;
+    // Monday, the 13th of November 2023, at 08:00 in UTC, and a minute earlier west of it.
+    let monday = [1, 2, 0, 1, 2, 3, 0, 1, 2, 0];
+    expect_told(&rt, alloc, 1_699_862_400_000, 0, &monday)?;
+    expect_told(&rt, alloc, 1_699_862_400_000, -1, &beside)?;
+    // Saturday, the 18th.
+    let saturday = [1, 5, 0, 1, 0, 1, 5, 0];
+    expect_told(&rt, alloc, 1_700_345_600_000, 120, &saturday)
 }

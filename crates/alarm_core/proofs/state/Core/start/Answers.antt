@@ -21,22 +21,21 @@ use Rattle.alarm_core.proofs.state.Core.start.Goals as goal
 pub invariant_of-result : goal.invariant_of-result
 invariant_of-result c =
     let site = c.args.site.now in
-    let same : c.in_ok-site.site ≡ site = search rules in
+    let same : c.in_ok-kept.kept ≡ site = search rules in
     let sites : c.as_slice.result.now ≡ site.classes = c.as_slice.ensures.same in
     let classes : c.in_ok-classes.classes.items ≡ first_classes site = c.in_ok-classes.ensures.classes ∙ ap (map (λ (listed : ClassSite). listed.class)) sites in
-    let listed : c.in_ok-listed.listed.items ≡ peers_in c.in_ok-classes.classes.items = search rules in
-    let peers : c.in_ok-peers.peers ≡ peers_with c.in_ok-listed.listed.items [] = search rules in
-    let known : c.in_ok-peers.peers ≡ known_peers_of site [] = peers ∙ ap (λ ps. peers_with ps []) (listed ∙ ap peers_in classes) in
-    let outbox : c.in_ok-outbox.outbox ≡ new_outbox c.in_ok-peers.peers site.device.outbox site.device.apdu_timeout site.device.retries = search rules in
-    let values : c.in_ok-objects.objects ≡ first_values site = search rules in
+    let lent : c.deref.result.now ≡ c.in_ok-classes.classes.items = search rules in
+    let queue = c.in_ok-queues.queues in
+    let known : queue.0 ≡ known_peers_of site [] = c.in_ok-queues.ensures.peers ∙ ap (λ cs. peers_with (peers_in cs) []) (lent ∙ classes) in
+    let outbox : queue.1 ≡ new_outbox queue.0 site.device.outbox site.device.apdu_timeout site.device.retries = c.in_ok-queues.ensures.outbox in
     record {
       site = subst IsSite (sym same) c.requires.site;
       zone = c.site_zone-zone.ensures.zone ∙ sym (ap site_zone same);
       moment = c.requires.site.start;
       limit = ap (λ o. o.limit) outbox ∙ sym (ap (λ s. s.device.outbox) same);
-      peers = sym (ap (λ o. peers_of o.posts) outbox ∙ peers_empty c.in_ok-peers.peers);
-      known = first_known site c.in_ok-peers.peers c.in_ok-classes.classes.items known classes;
-      apart = first_apart site c.requires.site c.in_ok-detections.detections.values (ap (λ (d : DetectionsState). d.values) c.in_ok-detections.ensures.detections ∙ values);
+      peers = sym (ap (λ o. peers_of o.posts) outbox ∙ peers_empty queue.0);
+      known = first_known site queue.0 c.in_ok-classes.classes.items known classes;
+      apart = first_apart site c.requires.site c.in_ok-detections.detections.values c.in_ok-detections.ensures.values;
     }
 
 pub returns-clause-starts : goal.returns-clause-starts
@@ -44,25 +43,21 @@ returns-clause-starts c =
     let site = c.args.site.now in
     let start = site.device.start in
     let detected = λ (at : LocalMomentData) (values : ObjectsState). map (λ subject. first_with at (ack_required_of site subject) values subject) (detecting_subjects site) in
-    let same : c.in_ok-site.site ≡ site = search rules in
-    let values : c.in_ok-objects.objects ≡ first_values site = search rules in
+    let same : c.in_ok-kept.kept ≡ site = search rules in
     let at = c.new-at.result in
     let moment : at.moment ≡ start = search rules in
     let zone : at.zone ≡ site_zone site = search rules in
     let here : at ≡ site_moment site start = λ k. record { zone = zone k; moment = moment k } in
-    let alarms = c.in_ok-alarms.ensures.alarms ∙ (ap (detected at) values ∙ ap (λ a. detected a (first_values site)) here) in
+    let shown = c.in_ok-detections.ensures.alarms ∙ ap (λ a. detected a (first_values site)) here in
     let sites : c.as_slice.result.now ≡ site.classes = c.as_slice.ensures.same in
     let classes : c.in_ok-classes.classes.items ≡ first_classes site = c.in_ok-classes.ensures.classes ∙ ap (map (λ (listed : ClassSite). listed.class)) sites in
-    let listed : c.in_ok-listed.listed.items ≡ peers_in c.in_ok-classes.classes.items = search rules in
-    let peers : c.in_ok-peers.peers ≡ peers_with c.in_ok-listed.listed.items [] = search rules in
-    let known : c.in_ok-peers.peers ≡ known_peers_of site [] = peers ∙ ap (λ ps. peers_with ps []) (listed ∙ ap peers_in classes) in
-    let outbox : c.in_ok-outbox.outbox ≡ new_outbox c.in_ok-peers.peers site.device.outbox site.device.apdu_timeout site.device.retries = search rules in
+    let lent : c.deref.result.now ≡ c.in_ok-classes.classes.items = search rules in
+    let queue = c.in_ok-queues.queues in
+    let known : queue.0 ≡ known_peers_of site [] = c.in_ok-queues.ensures.peers ∙ ap (λ cs. peers_with (peers_in cs) []) (lent ∙ classes) in
+    let outbox : queue.1 ≡ new_outbox queue.0 site.device.outbox site.device.apdu_timeout site.device.retries = c.in_ok-queues.ensures.outbox in
     let logs : c.in_ok-logs.logs.items ≡ map first_kept site.logs = search rules in
-    let detections = c.in_ok-detections.ensures.detections in
-    let seen = ap (λ (d : DetectionsState). d.values) detections ∙ values in
-    let shown = ap (λ (d : DetectionsState). d.alarms) detections ∙ alarms in
-    started site c.in_ok-site.site c.in_ok-detections.detections.values c.in_ok-detections.detections.alarms c.in_ok-classes.classes.items c.in_ok-outbox.outbox c.in_ok-logs.logs.items
-    same seen shown classes (outbox ∙ ap (λ ps. new_outbox ps site.device.outbox site.device.apdu_timeout site.device.retries) known) logs
+    started site c.in_ok-kept.kept c.in_ok-detections.detections.values c.in_ok-detections.detections.alarms c.in_ok-classes.classes.items queue.1 c.in_ok-logs.logs.items
+    same c.in_ok-detections.ensures.values shown classes (outbox ∙ ap (λ ps. new_outbox ps site.device.outbox site.device.apdu_timeout site.device.retries) known) logs
 
 pub returns-clause-represents : goal.returns-clause-represents
 returns-clause-represents c = represents_first c.args.site.now _ (returns-clause-starts c)
