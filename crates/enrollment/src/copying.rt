@@ -7,7 +7,8 @@ use std::alloc::Global;
 fn copy_of_enrollment(site: &EnrollmentSite) -> Result<EnrollmentSite, NoMemory>
     ensures same { IfOk result (λ copy. copy ≡ site.now) }
 {
-    Ok(site.clone()?)
+    let name = site.name.clone()?;
+    Ok(EnrollmentSite { name, ..*site })
 }
 
 /// The same enrollments once more.

@@ -3,7 +3,7 @@ use bac_values::{ObjectId, Text};
 
 /// An event enrollment of a site (ANSI/ASHRAE 135-2020, 12.12). Lists of three are for to-offnormal, to-fault and
 /// to-normal.
-#[derive(Clone, Debug, Drop)]
+#[derive(Debug, Drop)]
 pub struct EnrollmentSite {
     /// Its identifier.
     pub object: ObjectId,

@@ -1,7 +1,7 @@
 use bac_values::{Bits, EventState, ObjectId, Reliability, Stamp, StatusFlags, Text, Value};
 
 /// A notification of an event (ANSI/ASHRAE 135-2020, 13.8 and 13.9).
-#[derive(Clone, Debug, Drop, PartialEq)]
+#[derive(Debug, Drop, PartialEq)]
 pub struct Notification {
     /// The recipient's process.
     pub process: u32,
@@ -32,7 +32,7 @@ pub struct Notification {
 }
 
 /// What a notification tells of an event, by the event's type (BACnetNotificationParameters).
-#[derive(Clone, Debug, Drop, PartialEq)]
+#[derive(Debug, Drop, PartialEq)]
 pub enum EventValues {
     /// Of a change of bits.
     Bitstring {

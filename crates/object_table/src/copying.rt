@@ -17,6 +17,12 @@ fn copy_of_value(value: &Value) -> Result<Value, NoMemory>
     Ok(value.clone()?)
 }
 
+fn copy_of_optional(value: &Option<Value>) -> Result<Option<Value>, NoMemory>
+    ensures same { IfOk result (λ copy. copy ≡ value.now) }
+{
+    Ok(value.clone()?)
+}
+
 fn copy_of_values(alloc: Global, values: &[Value]) -> Result<Items<Value>, NoMemory>
     ensures same { IfOk result (λ copy. copy ≡ values.now) }
 {
@@ -33,7 +39,7 @@ fn copy_of_object(alloc: Global, site: &ObjectSite) -> Result<ObjectSite, NoMemo
     let name = site.name.clone()?;
     let value = copy_of_value(&site.value)?;
     let fault_values = copy_of_values(alloc, site.fault_values.as_slice())?;
-    let alarm_value = site.alarm_value.clone()?;
+    let alarm_value = copy_of_optional(&site.alarm_value)?;
     let alarm_values = copy_of_values(alloc, site.alarm_values.as_slice())?;
     Ok(ObjectSite {
         object: site.object,

@@ -2,7 +2,7 @@ use bac_values::{Bits, Items, ObjectId, Text, Value};
 
 /// A value object as a site describes it. A key that its kind doesn't have, or that only an object with a class has, is
 /// none, an empty list, false or 0 where the object lacks it.
-#[derive(Clone, Debug, Drop)]
+#[derive(Debug, Drop)]
 pub struct ObjectSite {
     /// Object_Identifier.
     pub object: ObjectId,

@@ -1,7 +1,7 @@
 use crate::ObjectSite;
 
 /// A value object as the writes have left it.
-#[derive(Clone, Debug, Drop)]
+#[derive(Debug, Drop)]
 pub struct Row {
     /// The object, with the values that were written last.
     pub site: ObjectSite,

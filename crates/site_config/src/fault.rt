@@ -18,7 +18,7 @@ pub enum Section {
 }
 
 /// Where in a site's text something is wrong.
-#[derive(Clone, Debug, Drop, PartialEq)]
+#[derive(Debug, Drop, PartialEq)]
 pub struct SitePlace {
     /// The section.
     pub section: Section,
@@ -40,7 +40,7 @@ pub enum Counted {
 }
 
 /// Why a text is no site.
-#[derive(Clone, Debug, Drop, PartialEq)]
+#[derive(Debug, Drop, PartialEq)]
 pub enum SiteFault {
     /// The text has more than 1,048,576 octets.
     TooLong,
