@@ -1,3 +1,4 @@
+pub mod Appended
 pub mod Ordered
 pub mod Watched
 pub mod Places

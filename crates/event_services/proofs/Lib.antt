@@ -1,3 +1,4 @@
+pub mod Appended
 pub mod StampReaders
 pub mod AckSteps
 pub mod AckLaws

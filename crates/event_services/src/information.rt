@@ -128,7 +128,6 @@ fn write_priorities(out: &mut Vec<u8>, priorities: &[u8]) -> Result<(), NoMemory
 }
 
 /// Appends an object and its state.
-#[tactic(auto, using(crate::proofs::SummaryLengths::state_part))]
 fn write_state(out: &mut Vec<u8>, summary: &EventSummary) -> Result<(), NoMemory>
     ensures written { OnOk result (out.new.items ≡ out.old.items ++ written_state summary.now) }
     ensures long { length (written_state summary.now) ≡ 10 }
@@ -139,7 +138,6 @@ fn write_state(out: &mut Vec<u8>, summary: &EventSummary) -> Result<(), NoMemory
 }
 
 /// Appends how an object notifies.
-#[tactic(auto, using(crate::proofs::SummaryLengths::notifying_part))]
 fn write_notifying(out: &mut Vec<u8>, summary: &EventSummary) -> Result<(), NoMemory>
     ensures written { OnOk result (out.new.items ≡ out.old.items ++ written_notifying summary.now) }
     ensures long { length (written_notifying summary.now) ≡ 5 }
@@ -149,7 +147,6 @@ fn write_notifying(out: &mut Vec<u8>, summary: &EventSummary) -> Result<(), NoMe
 }
 
 /// Appends a summary.
-#[tactic(auto, using(crate::proofs::SummaryLengths::summary_part))]
 fn write_summary(out: &mut Vec<u8>, summary: &EventSummary) -> Result<(), NoMemory>
     ensures written { OnOk result (out.new.items ≡ out.old.items ++ written_summary summary.now) }
     ensures long { OnOk result (length (written_summary summary.now) ≡ 61) }

@@ -8,7 +8,6 @@ use bac_values::{Bits, EventState, Stamp, StatusFlags, Text};
 use std::alloc::Global;
 
 /// The number of one octet with that number in a context, and the place after it.
-#[tactic(auto, unfolding(crate::specs::NoteReadingSteps::octet_number_at))]
 pub(crate) fn octet_number_at(input: &[u8], at: usize, number: u8) -> Result<(u8, usize), TagFault>
     requires { at ≤ length input.now }
     ensures exact { result ≡ octet_number_at number input.now at }

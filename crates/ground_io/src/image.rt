@@ -6,8 +6,8 @@ ghost use Rattle.ground_io.specs.Trace.{disk_of};
 use crate::{Entry, Filling};
 use std::alloc::{AllocError, Global};
 
-// Puts octets over those at their place.
-fn put(contents: &mut [u8], place: u64, octets: &[u8])
+/// Puts octets over those at their place.
+pub fn put(contents: &mut [u8], place: u64, octets: &[u8])
     requires { place + length octets.now ≤ length contents.old }
     ensures put { contents.new ≡ with_octets place octets.now contents.old }
 {

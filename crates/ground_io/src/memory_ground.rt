@@ -9,7 +9,7 @@ ghost use Rattle.ground_io.specs.declared.entry.Entry.{Entry};
 ghost use Rattle.ground_io.specs.declared.entry.Entry.TheVariants.{Wrote, Synced};
 
 use crate::failing::is_listed_next;
-use crate::image::image_of;
+use crate::image::{image_of, put};
 use crate::past::{Past, after_emission, after_failed_write, after_sync, after_write};
 use crate::{Entry, Failed, Filling, Ground};
 use bac_values::{NoMemory, Peer};
@@ -182,8 +182,7 @@ impl Ground for MemoryGround {
             self.disk_faults = self.disk_faults.saturating_add(1);
             return Err(Failed);
         }
-        let from = place as usize;
-        self.contents[from..from + octets.len()].copy_from_slice(octets);
+        put(&mut self.contents, place, octets);
         Ok(())
     }
 

@@ -4,9 +4,9 @@ ghost use Rattle.alarm_core.specs.Limits.{KeepsLimits};
 ghost use Rattle.alarm_core.specs.Room.{HasRoom};
 ghost use Rattle.alarm_core.specs.Sites.{IsSite};
 ghost use Rattle.toml_items.specs.Answers.{Gives};
-ghost use Rattle.site_config.specs.Identifiers.{identifiers, least_twice};
+ghost use Rattle.site_config.specs.Identifiers.{id_of_class, identifiers, least_twice};
 ghost use Rattle.site_config.specs.References.{least_dangling};
-ghost use Rattle.site_config.specs.Sites.{duplicate_of, dangling_of, notes_fit, verdict_on, destinations_of, with_destinations, site_of_draft, site_of_document, document_of, site_of};
+ghost use Rattle.site_config.specs.Sites.{duplicate_of, dangling_of, notes_fit, verdict_on, destinations_of, with_destinations, in_order, site_of_draft, site_of_document, document_of, site_of};
 
 use crate::class::ClassItem;
 use crate::destination::DestinationSite;
@@ -124,6 +124,18 @@ fn classes_of(
     Ok(Items::of(classes))
 }
 
+/// The classes in their order, with their destinations.
+fn classes_with(
+    alloc: Global,
+    items: Items<ClassItem>,
+    destinations: Items<DestinationSite>,
+) -> Result<Items<ClassSite>, NoMemory>
+    ensures classes { IfOk result (λ classes. classes ≡ map (with_destinations destinations) (in_order id_of_class items)) }
+{
+    let items = in_order(alloc, items)?;
+    classes_of(alloc, items.as_slice(), destinations.as_slice())
+}
+
 /// The site of what the sections say.
 fn site_of_draft(alloc: Global, draft: Draft) -> Result<Site, NoMemory>
     ensures site { IfOk result (λ site. site ≡ site_of_draft draft) }
@@ -136,8 +148,7 @@ fn site_of_draft(alloc: Global, draft: Draft) -> Result<Site, NoMemory>
         enrollments,
         logs,
     } = draft;
-    let classes = in_order(alloc, classes)?;
-    let classes = classes_of(alloc, classes.as_slice(), destinations.as_slice())?;
+    let classes = classes_with(alloc, classes, destinations)?;
     let objects = in_order(alloc, objects)?;
     let enrollments = in_order(alloc, enrollments)?;
     let logs = in_order(alloc, logs)?;
