@@ -1,7 +1,6 @@
-use crate::alarm_core_plant::{
-    HIGH_LIMIT, Play, START, guard, operator, play_at_tank, pump, rise, told,
-};
+use crate::alarm_core_plant::{HIGH_LIMIT, Play, play_at_tank, pump, rise};
 use crate::comparing::holds;
+use crate::sites::{START, guard, operator, told};
 use alarm_core::*;
 use bac_values::{
     EventState, Items, LAST_MOMENT, ObjectId, ObjectKind, Peer, PropertyId, Transition, Value,
@@ -122,7 +121,7 @@ impl Play for Acknowledgements {
     fn play(&self, rt: &impl Abort, _alloc: Global, core: &mut Core) -> Result<(), Fail> {
         let offnormal = Transition::ToOffnormal;
         expect_acknowledgements(rt, core, &[(offnormal, EventState::HighLimit, false)])?;
-        let _moved = rise(core)??;
+        rise(core)?;
         let rows = [
             (offnormal, EventState::HighLimit, true),
             (offnormal, EventState::Offnormal, true),
@@ -147,7 +146,7 @@ struct Answers;
 
 impl Play for Answers {
     fn play(&self, rt: &impl Abort, _alloc: Global, core: &mut Core) -> Result<(), Fail> {
-        let _moved = rise(core)??;
+        rise(core)?;
         holds(rt, !admits_answer(core, operator(), 0, 2));
         pump(rt, core, &HIGH_LIMIT)?;
         expect_answers(rt, core);

@@ -2,10 +2,9 @@ ghost use Rattle.std.specs.Prelude.{◌≡◌, IsSome, IsTrue};
 ghost use Rattle.alarm_core.specs.Allowed.{members_of, room_beside};
 ghost use Rattle.alarm_core.specs.Classes.{class_in};
 
-use crate::alarm_core_plant::{
-    HIGH_LIMIT, Play, START, guard, is_sent, operator, play_at_tank, rise, take, told,
-};
+use crate::alarm_core_plant::{HIGH_LIMIT, Play, is_sent, play_at_tank, rise, take};
 use crate::comparing::holds;
+use crate::sites::{START, guard, operator, told};
 use alarm_core::*;
 use bac_values::{Items, Mac, ObjectId, ObjectKind, Peer, PropertyId};
 use notify_class::{Destination, check_edit};
@@ -87,7 +86,7 @@ fn tells_both(outcome: &Outcome) -> bool {
 
 /// The recipients are told of the tank's rise.
 fn tell(rt: &impl Abort, core: &mut Core) -> Result<(), Fail> {
-    let _moved = rise(core)??;
+    rise(core)?;
     let outcome = take(core, START, Act::Pump)??;
     holds(rt, tells_both(&outcome));
     Ok(())

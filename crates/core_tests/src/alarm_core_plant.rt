@@ -1,95 +1,18 @@
-ghost use Rattle.std.specs.Prelude.{◌≡◌, ◌≤◌, ◌<◌, ◌^◌, IfOk, None, OnOk, length, pos};
-ghost use Rattle.notify_class.specs.Edits.{most_destinations};
+ghost use Rattle.std.specs.Prelude.{◌≡◌, ◌≤◌, ◌<◌, ◌^◌};
 ghost use Rattle.bac_values.specs.Moments.{IsMoment};
-ghost use Rattle.object_table.specs.Objects.{IsObject};
 ghost use Rattle.alarm_core.specs.Allowed.{IsAllowed};
-ghost use Rattle.alarm_core.specs.Limits.{KeepsLimits};
 ghost use Rattle.alarm_core.specs.Sites.{IsSite};
 
 use crate::comparing::holds;
+use crate::sites::{START, operator, plant};
 use alarm_core::*;
-use bac_values::{Items, ObjectId, ObjectKind, Peer, Send, Text, Value};
+use bac_values::{ObjectId, ObjectKind, Peer, Send, Value};
 use event_machine::Steps;
-use notify_class::{Class, Destination};
-use object_table::ObjectSite;
 use std::alloc::Global;
 use std::marker::Brand;
 use std::process::Abort;
 use std::sync::ledger::{Blank, Ledger};
 use std::test::Fail;
-
-/// When the site starts.
-pub(crate) const START: u64 = 1_700_000_000_000;
-
-pub(crate) fn operator() -> Peer {
-    Peer::local(167_772_165, 47808)
-}
-
-/// One that is told of everything at any time, and confirms it.
-pub(crate) fn told(peer: Peer, process: u32) -> Destination {
-    Destination {
-        days: 127,
-        from: 0,
-        to: 8_639_999,
-        peer,
-        process,
-        confirmed: true,
-        transitions: [true; 3],
-    }
-}
-
-pub(crate) fn operators(alloc: Global) -> Result<ClassSite, Fail>
-    ensures instance { IfOk result (λ site. site.class.instance ≡ 7) }
-    ensures few { IfOk result (λ site. length site.class.destinations ≤ most_destinations) }
-{
-    Ok(ClassSite {
-        name: Text::new(alloc, "Operators")?,
-        class: Class {
-            instance: 7,
-            priority: [100, 90, 200],
-            ack_required: [true, true, false],
-            destinations: Items::of(vec![in alloc; told(operator(), 1)]?),
-        },
-    })
-}
-
-pub(crate) fn device(alloc: Global, outbox: u32) -> Result<DeviceSite, Fail>
-    ensures instance { IfOk result (λ site. site.instance ≡ 1001) }
-    ensures start { IfOk result (λ site. site.start ≡ 1700000000000) }
-    ensures zone { IfOk result (λ site. site.zone_minutes ≡ pos 0) }
-    ensures rule { IfOk result (λ site. site.zone_rule ≡ None) }
-    ensures timeout { IfOk result (λ site. site.apdu_timeout ≡ 3000) }
-    ensures retries { IfOk result (λ site. site.retries ≡ 3) }
-    ensures outbox { IfOk result (λ site. site.outbox ≡ outbox) }
-{
-    Ok(DeviceSite {
-        instance: 1001,
-        name: Text::new(alloc, "Plant")?,
-        vendor: 999,
-        start: 1_700_000_000_000,
-        zone_minutes: 0,
-        zone_rule: None,
-        apdu_timeout: 3000,
-        retries: 3,
-        outbox,
-    })
-}
-
-/// One object, whose transitions one operator is told.
-pub(crate) fn plant(alloc: Global, object: ObjectSite, outbox: u32) -> Result<Site, Fail>
-    requires object { IsObject object }
-    requires outbox { outbox ≤ 16_384 }
-    ensures keeps { IfOk result (λ site. IsSite site) }
-    ensures limits { IfOk result (λ site. KeepsLimits site) }
-{
-    Ok(Site {
-        device: device(alloc, outbox)?,
-        classes: Items::of(vec![in alloc; operators(alloc)?]?),
-        objects: Items::of(vec![in alloc; object]?),
-        enrollments: Items::of(Vec::new(alloc)),
-        logs: Items::of(Vec::new(alloc)),
-    })
-}
 
 /// What happens to a core. Whoever plays it only borrows the core: a function that drops one, and goes on after each of
 /// several calls of it, takes minutes to prove.
@@ -129,7 +52,7 @@ pub(crate) fn play_at_tank(
 ) -> Result<(), Fail>
     requires outbox { outbox ≤ 16_384 }
 {
-    let site = plant(alloc, tank(alloc)?, outbox)?;
+    let site = plant(alloc, 0, outbox)?;
     play_on(rt, alloc, &site, play)
 }
 
@@ -163,15 +86,14 @@ pub(crate) fn take(
     Ok(counted::<Brand>(core, &event, Blank::new(1)))
 }
 
-/// The value of object 1 of a kind comes from the field, at the start.
-pub(crate) fn set(
-    core: &mut Core,
-    kind: ObjectKind,
-    value: Value,
-) -> Result<Result<Outcome, StepFault>, Fail> {
-    let object = ObjectId::of_kind(kind, 1)?;
-    let change = core.table().check_set(object, value)?;
-    take(core, START, Act::Write { change })
+/// The value of the tank comes from the field, at a moment.
+pub(crate) fn set(core: &mut Core, moment: u64, value: i32) -> Result<(), Fail>
+    requires moment { IsMoment moment }
+{
+    let object = ObjectId::of_kind(ObjectKind::IntegerValue, 1)?;
+    let change = core.table().check_set(object, Value::Signed(value))?;
+    let _outcome = take(core, moment, Act::Write { change })??;
+    Ok(())
 }
 
 /// Whether a datagram goes to a recipient with these octets.
@@ -202,42 +124,7 @@ pub(crate) const HIGH_LIMIT: [u8; 65] = [
     0xcf,
 ];
 
-/// Another recipient, whom the site doesn't list.
-pub(crate) fn guard() -> Peer {
-    Peer::local(167_772_166, 47808)
-}
-
-/// An integer value of 50 with limits 20 and 80.
-pub(crate) fn tank(alloc: Global) -> Result<ObjectSite, Fail>
-    ensures object { IfOk result (λ site. IsObject site) }
-{
-    Ok(ObjectSite {
-        object: ObjectId::of_kind(ObjectKind::IntegerValue, 1)?,
-        name: Text::new(alloc, "Tank")?,
-        value: Value::Signed(50),
-        out_of_service: false,
-        reliability_inhibit: false,
-        states: 0,
-        fault_low: None,
-        fault_high: None,
-        fault_values: Items::of(Vec::new(alloc)),
-        class: Some(7),
-        notify: 0,
-        enable: [true; 3],
-        time_delay: 0,
-        time_delay_normal: None,
-        detection: true,
-        inhibit: false,
-        low: 20,
-        high: 80,
-        deadband: 5,
-        limit_enable: [true; 2],
-        alarm_value: None,
-        alarm_values: Items::of(Vec::new(alloc)),
-        mask: None,
-    })
-}
-
-pub(crate) fn rise(core: &mut Core) -> Result<Result<Outcome, StepFault>, Fail> {
-    set(core, ObjectKind::IntegerValue, Value::Signed(90))
+/// The tank rises above its high limit, at the start.
+pub(crate) fn rise(core: &mut Core) -> Result<(), Fail> {
+    set(core, START, 90)
 }

@@ -2,8 +2,9 @@ ghost use Rattle.std.specs.Prelude.{◌≡◌, [], IfOk, length};
 ghost use Rattle.outbox.specs.Outboxes.{IsOutbox};
 ghost use Rattle.alarm_core.specs.Sites.{IsSite};
 
-use crate::alarm_core_plant::{Play, START, device, is_sent, operator, play_to, take};
+use crate::alarm_core_plant::{Play, is_sent, play_to, take};
 use crate::comparing::holds;
+use crate::sites::{START, device, operator};
 use alarm_core::*;
 use bac_values::{Items, Note};
 use enrollment::Enrollments;

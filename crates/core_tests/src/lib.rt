@@ -1,4 +1,4 @@
-//! Tests of the core, and of the octets in which its events and states stand.
+//! Tests of the core, of the octets in which its events and states stand, and of what a journal leaves of it.
 //!
 //! They ask only what anybody may ask of those crates, and nothing stands on them; so those crates are proved once.
 #![tactic(auto)]
@@ -13,6 +13,12 @@ mod alarm_core_plant;
 mod alarm_core_restore_tests;
 #[cfg(test)]
 mod comparing;
+#[cfg(test)]
+mod recover_tests;
+#[cfg(test)]
+mod sites;
+#[cfg(test)]
+mod snapshot_contents_tests;
 #[cfg(test)]
 mod state_codec_tests;
 #[cfg(test)]

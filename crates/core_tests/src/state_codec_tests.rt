@@ -234,15 +234,31 @@ fn what_is_no_value_is_refused(rt: HostRuntime) -> Result<(), Fail> {
     )
 }
 
+/// The record of a text, of which this stands before its octets.
+fn with_text(alloc: Global, front: &[u8], text: &[u8]) -> Result<Vec<u8>, Fail> {
+    let mut octets = at_moment(alloc, front)?;
+    octets.extend_from_slice(text)?;
+    Ok(octets)
+}
+
+/// Whether a text with this before its octets is what happens, in so many octets.
+fn is_text(alloc: Global, front: &[u8], text: &[u8], count: usize) -> Result<bool, Fail> {
+    let octets = with_text(alloc, front, text)?;
+    is_record(alloc, &octets, count)
+}
+
+/// Whether a text with this before its octets is refused.
+fn is_no_text(alloc: Global, front: &[u8], text: &[u8]) -> Result<bool, Fail> {
+    let octets = with_text(alloc, front, text)?;
+    Ok(is_refused(alloc, &octets, 0))
+}
+
 #[test]
 fn a_text_has_at_most_256_octets(rt: HostRuntime) -> Result<(), Fail> {
-    let alloc = rt.alloc();
-    let mut octets = at_moment(alloc, &[2, 0x0A, 0, 0, 1, 0, 0, 0, 85, 7, 1, 0])?;
-    octets.extend_from_slice(&[120; 256])?;
-    holds(&rt, is_record(alloc, &octets, 276)?);
-    let mut longer = at_moment(alloc, &[2, 0x0A, 0, 0, 1, 0, 0, 0, 85, 7, 1, 1])?;
-    longer.extend_from_slice(&[120; 257])?;
-    holds(&rt, is_refused(alloc, &longer, 0));
+    let longest = [2, 0x0A, 0, 0, 1, 0, 0, 0, 85, 7, 1, 0];
+    holds(&rt, is_text(rt.alloc(), &longest, &[120; 256], 276)?);
+    let longer = [2, 0x0A, 0, 0, 1, 0, 0, 0, 85, 7, 1, 1];
+    holds(&rt, is_no_text(rt.alloc(), &longer, &[120; 257])?);
     Ok(())
 }
 

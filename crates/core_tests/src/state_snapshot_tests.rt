@@ -1,47 +1,14 @@
-ghost use Rattle.std.specs.Prelude.{◌≡◌, IfOk};
-ghost use Rattle.object_table.specs.Objects.{IsObject};
+ghost use Rattle.alarm_core.specs.Limits.{KeepsLimits};
 ghost use Rattle.alarm_core.specs.Sites.{IsSite};
 
-use crate::alarm_core_plant::{Play, operator, plant, play_on, play_to, set, take};
+use crate::alarm_core_plant::{Play, play_on, play_to};
 use crate::comparing::holds;
-use alarm_core::*;
-use bac_values::{Items, ObjectId, ObjectKind, Text, Value};
-use object_table::ObjectSite;
+use crate::sites::{Question, ask_of_plant};
+use alarm_core::{Core, Site};
 use state_codec::{CodecFault, need, read_state, snapshot_bound, state_fits, write_state};
 use std::alloc::Global;
 use std::process::Abort;
 use std::test::Fail;
-
-/// An integer value of 50 with limits 20 and 80.
-fn tank(alloc: Global, time_delay: u32) -> Result<ObjectSite, Fail>
-    ensures object { IfOk result (λ site. IsObject site) }
-{
-    Ok(ObjectSite {
-        object: ObjectId::of_kind(ObjectKind::IntegerValue, 1)?,
-        name: Text::new(alloc, "Tank")?,
-        value: Value::Signed(50),
-        out_of_service: false,
-        reliability_inhibit: false,
-        states: 0,
-        fault_low: None,
-        fault_high: None,
-        fault_values: Items::of(Vec::new(alloc)),
-        class: Some(7),
-        notify: 0,
-        enable: [true; 3],
-        time_delay,
-        time_delay_normal: None,
-        detection: true,
-        inhibit: false,
-        low: 20,
-        high: 80,
-        deadband: 5,
-        limit_enable: [true; 2],
-        alarm_value: None,
-        alarm_values: Items::of(Vec::new(alloc)),
-        mask: None,
-    })
-}
 
 /// Version 1, no event yet, and the site's start: 1700000000000.
 const HEAD: [u8; 17] = [
@@ -107,18 +74,40 @@ impl Play for Begun {
     }
 }
 
+/// How the plant starts.
+struct Start;
+
+impl Question for Start {
+    fn ask(&self, rt: &impl Abort, alloc: Global, site: &Site) -> Result<(), Fail>
+        requires site { IsSite site.now }
+        requires limits { KeepsLimits site.now }
+    {
+        play_on(rt, alloc, site, &Begun)
+    }
+}
+
 #[test]
 fn the_start_has_184_octets(rt: HostRuntime) -> Result<(), Fail> {
-    let site = plant(rt.alloc(), tank(rt.alloc(), 10)?, 256)?;
-    play_on(&rt, rt.alloc(), &site, &Begun)
+    ask_of_plant(&rt, rt.alloc(), &Start)
+}
+
+/// How many octets the plant needs.
+struct Needs;
+
+impl Question for Needs {
+    fn ask(&self, rt: &impl Abort, _alloc: Global, site: &Site) -> Result<(), Fail>
+        requires site { IsSite site.now }
+        requires limits { KeepsLimits site.now }
+    {
+        holds(rt, snapshot_bound(site) == 493_748);
+        holds(rt, need(site, 100) == 22 + 100 + 2 * (60_010 + 493_748));
+        Ok(())
+    }
 }
 
 #[test]
 fn a_site_of_one_object_needs_493748_octets(rt: HostRuntime) -> Result<(), Fail> {
-    let site = plant(rt.alloc(), tank(rt.alloc(), 10)?, 256)?;
-    holds(&rt, snapshot_bound(&site) == 493_748);
-    holds(&rt, need(&site, 100) == 22 + 100 + 2 * (60_010 + 493_748));
-    Ok(())
+    ask_of_plant(&rt, rt.alloc(), &Needs)
 }
 
 /// The snapshot of the start.
@@ -152,10 +141,21 @@ fn read_again(alloc: Global, site: &Site) -> Result<Core, Fail>
     Ok(read_state(alloc, site, &octets)?)
 }
 
+/// What is read of the octets of the start is written as these.
+struct Reads;
+
+impl Question for Reads {
+    fn ask(&self, rt: &impl Abort, alloc: Global, site: &Site) -> Result<(), Fail>
+        requires site { IsSite site.now }
+        requires limits { KeepsLimits site.now }
+    {
+        play_to(rt, alloc, read_again(alloc, site)?, &Again)
+    }
+}
+
 #[test]
 fn a_snapshot_is_read_and_written_again(rt: HostRuntime) -> Result<(), Fail> {
-    let site = plant(rt.alloc(), tank(rt.alloc(), 10)?, 256)?;
-    play_to(&rt, rt.alloc(), read_again(rt.alloc(), &site)?, &Again)
+    ask_of_plant(&rt, rt.alloc(), &Reads)
 }
 
 /// A place, and an octet with which no state of the site has the snapshot.
@@ -204,10 +204,7 @@ const DAMAGED: [(usize, u8); 30] = [
 fn is_refused(alloc: Global, site: &Site, octets: &[u8]) -> bool
     requires site { IsSite site.now }
 {
-    match read_state(alloc, site, octets) {
-        Err(CodecFault::Malformed { at }) => at == 0,
-        _ => false,
-    }
+    read_state(alloc, site, octets).err() == Some(CodecFault::Malformed { at: 0 })
 }
 
 /// Octets with another one at a place.
@@ -245,11 +242,22 @@ fn are_refused(alloc: Global, site: &Site) -> Result<bool, Fail>
     Ok(true)
 }
 
+/// The octets of the start are refused with each of the damages.
+struct Damages;
+
+impl Question for Damages {
+    fn ask(&self, rt: &impl Abort, alloc: Global, site: &Site) -> Result<(), Fail>
+        requires site { IsSite site.now }
+        requires limits { KeepsLimits site.now }
+    {
+        holds(rt, are_refused(alloc, site)?);
+        Ok(())
+    }
+}
+
 #[test]
 fn each_damaged_snapshot_is_refused(rt: HostRuntime) -> Result<(), Fail> {
-    let site = plant(rt.alloc(), tank(rt.alloc(), 10)?, 256)?;
-    holds(&rt, are_refused(rt.alloc(), &site)?);
-    Ok(())
+    ask_of_plant(&rt, rt.alloc(), &Damages)
 }
 
 /// Whether the octets of the start are refused without their last one.
@@ -270,10 +278,21 @@ fn is_refused_when_longer(alloc: Global, site: &Site) -> Result<bool, Fail>
     Ok(is_refused(alloc, site, &longer))
 }
 
+/// The octets of the start are refused without their last one, and with one more.
+struct Ends;
+
+impl Question for Ends {
+    fn ask(&self, rt: &impl Abort, alloc: Global, site: &Site) -> Result<(), Fail>
+        requires site { IsSite site.now }
+        requires limits { KeepsLimits site.now }
+    {
+        holds(rt, is_refused_when_cut(alloc, site)?);
+        holds(rt, is_refused_when_longer(alloc, site)?);
+        Ok(())
+    }
+}
+
 #[test]
 fn a_snapshot_ends_where_it_ends(rt: HostRuntime) -> Result<(), Fail> {
-    let site = plant(rt.alloc(), tank(rt.alloc(), 10)?, 256)?;
-    holds(&rt, is_refused_when_cut(rt.alloc(), &site)?);
-    holds(&rt, is_refused_when_longer(rt.alloc(), &site)?);
-    Ok(())
+    ask_of_plant(&rt, rt.alloc(), &Ends)
 }

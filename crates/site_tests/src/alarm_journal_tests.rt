@@ -1,3 +1,5 @@
+ghost use Rattle.std.specs.Prelude.{◌≤◌, length};
+
 use crate::comparing::{holds, same};
 use alarm_journal::*;
 use bac_values::{Items, Peer, Send};
@@ -114,6 +116,28 @@ fn device_of(alloc: Global, size: usize, failing: &[u64]) -> Result<MemoryGround
     Ok(MemoryGround::new(alloc, contents, failing.to_vec(alloc)?))
 }
 
+// What the octets open to.
+fn opened(alloc: Global, octets: Vec<u8>) -> Option<Opened> {
+    let device = MemoryGround::new(alloc, octets, Vec::new(alloc));
+    match Press::open(alloc, device, SITE, NEED) {
+        Ok((_, opened)) => Some(opened),
+        Err(_) => None,
+    }
+}
+
+// Whether this snapshot and these batches are held.
+fn is_held(opened: &Opened, held: (&[u8], &[u8])) -> bool {
+    opened.snapshot.as_slice() == held.0 && opened.batches.as_slice() == held.1
+}
+
+// Whether one of the two is held.
+fn is_either(opened: &Option<Opened>, before: (&[u8], &[u8]), after: (&[u8], &[u8])) -> bool {
+    match opened {
+        Some(opened) => is_held(opened, before) || is_held(opened, after),
+        None => false,
+    }
+}
+
 // Whether the octets open to one of the two.
 fn opens_to_either(
     alloc: Global,
@@ -121,15 +145,7 @@ fn opens_to_either(
     before: (&[u8], &[u8]),
     after: (&[u8], &[u8]),
 ) -> bool {
-    let device = MemoryGround::new(alloc, octets, Vec::new(alloc));
-    match Press::open(alloc, device, SITE, NEED) {
-        Ok((_, opened)) => {
-            let found = (opened.snapshot.as_slice(), opened.batches.as_slice());
-            (found.0 == before.0 && found.1 == before.1)
-                || (found.0 == after.0 && found.1 == after.1)
-        }
-        Err(_) => false,
-    }
+    is_either(&opened(alloc, octets), before, after)
 }
 
 // Whether what a crash leaves behind so many entries opens to a state between two commits.
@@ -214,10 +230,9 @@ fn octets_lie_as_the_layout_says(rt: HostRuntime) -> Result<(), Fail> {
 }
 
 // Why the octets aren't opened.
-fn refused(alloc: Global, octets: Vec<u8>, site: &[u8]) -> Option<OpenFault> {
-    if site.len() > 10 {
-        return None;
-    }
+fn refused(alloc: Global, octets: Vec<u8>, site: &[u8]) -> Option<OpenFault>
+    requires few { length site.now ≤ 10 }
+{
     let device = MemoryGround::new(alloc, octets, Vec::new(alloc));
     match Press::open(alloc, device, site, NEED) {
         Ok(_) => None,
@@ -229,11 +244,13 @@ fn refused(alloc: Global, octets: Vec<u8>, site: &[u8]) -> Option<OpenFault> {
 fn refused_front(
     alloc: Global,
     octets: &[u8],
-    length: usize,
+    count: usize,
     site: &[u8],
-) -> Result<Option<OpenFault>, Fail> {
+) -> Result<Option<OpenFault>, Fail>
+    requires few { length site.now ≤ 10 }
+{
     let mut front = octets.to_vec(alloc)?;
-    front.truncate(length);
+    front.truncate(count);
     Ok(refused(alloc, front, site))
 }
 
@@ -251,7 +268,8 @@ fn refused_with(
     Ok(refused(alloc, changed, SITE))
 }
 
-fn expect_refusals(rt: &impl Abort, alloc: Global, octets: &[u8]) -> Result<(), Fail> {
+// Why a device that is too small, or another site's, isn't opened.
+fn expect_refused_fronts(rt: &impl Abort, alloc: Global, octets: &[u8]) -> Result<(), Fail> {
     let small = Some(OpenFault::SmallDevice { size: 59, need: 60 });
     same(rt, &refused_front(alloc, octets, 59, SITE)?, &small);
     let shortened = Some(OpenFault::SmallDevice { size: 90, need: 91 });
@@ -260,6 +278,11 @@ fn expect_refusals(rt: &impl Abort, alloc: Global, octets: &[u8]) -> Result<(), 
     same(rt, &refused_front(alloc, octets, 91, b"sits")?, &foreign);
     let foreign = Some(OpenFault::Foreign { at: 20 });
     same(rt, &refused_front(alloc, octets, 91, b"sit")?, &foreign);
+    Ok(())
+}
+
+// Why a device that is damaged isn't opened.
+fn expect_refused_damages(rt: &impl Abort, alloc: Global, octets: &[u8]) -> Result<(), Fail> {
     let formatted = Some(OpenFault::Damaged { at: 9 });
     same(rt, &refused_with(alloc, octets, 16, 59)?, &formatted);
     let snapshot = Some(OpenFault::Damaged { at: 26 });
@@ -273,7 +296,8 @@ fn expect_refusals(rt: &impl Abort, alloc: Global, octets: &[u8]) -> Result<(), 
 fn refusals_come_in_their_order(rt: HostRuntime) -> Result<(), Fail> {
     let (device, _) = run(rt.alloc(), device_of(rt.alloc(), 91, &[])?);
     same(&rt, &device.contents().len(), &91);
-    expect_refusals(&rt, rt.alloc(), device.contents())
+    expect_refused_fronts(&rt, rt.alloc(), device.contents())?;
+    expect_refused_damages(&rt, rt.alloc(), device.contents())
 }
 
 // A device of 91 octets, of which each area has 32, and the first one is selected and begins with these.
@@ -291,15 +315,6 @@ fn area_with(alloc: Global, length: u8, gate: u8) -> Result<Vec<u8>, AllocError>
     area.resize(9 + usize::from(length), 1)?;
     area.push(gate)?;
     Ok(area)
-}
-
-// What the octets open to.
-fn opened(alloc: Global, octets: Vec<u8>) -> Option<Opened> {
-    let device = MemoryGround::new(alloc, octets, Vec::new(alloc));
-    match Press::open(alloc, device, SITE, NEED) {
-        Ok((_, opened)) => Some(opened),
-        Err(_) => None,
-    }
 }
 
 // Whether it is the snapshot with this place, and these are the places and octets of the bodies.
@@ -332,36 +347,52 @@ fn opened_behind(alloc: Global, size: usize, count: usize) -> Result<Option<Open
     Ok(opened(alloc, device.contents().to_vec(alloc)?))
 }
 
+// The octets opened to the snapshot with this place, and to these places and octets of the bodies.
+fn expect_opened(
+    rt: &impl Abort,
+    opened: Option<Opened>,
+    place: u64,
+    snapshot: &[u8],
+    bodies: &[(u64, &[u8])],
+) {
+    holds(rt, lies(&opened, place, snapshot, bodies));
+}
+
 #[test]
 fn bodies_stand_apart_at_their_places(rt: HostRuntime) -> Result<(), Fail> {
     let alloc = rt.alloc();
     let bodies = [(35, b"one".as_slice()), (43, b"two")];
-    holds(&rt, lies(&opened_behind(alloc, 91, 2)?, 30, b"", &bodies));
+    expect_opened(&rt, opened_behind(alloc, 91, 2)?, 30, b"", &bodies);
     let body = [(72, [1, 0, 0, 0, 1, 1].as_slice())];
-    holds(
-        &rt,
-        lies(&opened_behind(alloc, 91, 4)?, 62, b"state", &body),
-    );
-    let blank = opened(alloc, vec![in alloc; 0u8; 91]?);
-    holds(&rt, lies(&blank, 30, b"", &[]));
+    expect_opened(&rt, opened_behind(alloc, 91, 4)?, 62, b"state", &body);
+    let blank = vec![in alloc; 0u8; 91]?;
+    expect_opened(&rt, opened(alloc, blank), 30, b"", &[]);
     Ok(())
+}
+
+// A device with a batch that has a body of so many octets, and a gate behind it.
+fn image_of_batch(alloc: Global, length: u8, gate: u8) -> Result<Vec<u8>, AllocError> {
+    let area = area_with(alloc, length, gate)?;
+    image_with(alloc, &area)
 }
 
 // A batch with a body of so many octets, and an open gate behind it, is damaged at the place.
 fn expect_damaged(rt: &impl Abort, alloc: Global, length: u8, at: u64) -> Result<(), Fail> {
-    let image = image_with(alloc, &area_with(alloc, length, 1)?)?;
-    same(
-        rt,
-        &refused(alloc, image, SITE),
-        &Some(OpenFault::Damaged { at }),
-    );
+    let found = refused(alloc, image_of_batch(alloc, length, 1)?, SITE);
+    same(rt, &found, &Some(OpenFault::Damaged { at }));
     Ok(())
+}
+
+// Whether the octets open to this body alone.
+fn opens_to_body(alloc: Global, octets: Vec<u8>, body: &[u8]) -> bool {
+    lies(&opened(alloc, octets), 30, b"", &[(35, body)])
 }
 
 // A batch with a body of so many octets, and a gate behind it, is read.
 fn expect_body(rt: &impl Abort, alloc: Global, body: &[u8], gate: u8) -> Result<(), Fail> {
-    let image = image_with(alloc, &area_with(alloc, body.len().min(255) as u8, gate)?)?;
-    holds(rt, lies(&opened(alloc, image), 30, b"", &[(35, body)]));
+    let length = body.len().min(255) as u8;
+    let image = image_of_batch(alloc, length, gate)?;
+    holds(rt, opens_to_body(alloc, image, body));
     Ok(())
 }
 
@@ -378,7 +409,7 @@ fn an_open_gate_without_room_for_its_length_is_damage(rt: HostRuntime) -> Result
 fn a_large_area_is_read_as_far_as_it_is_used(rt: HostRuntime) -> Result<(), Fail> {
     let large = opened_behind(rt.alloc(), 4_194_304, 4)?;
     let body = [(2_097_179, [1, 0, 0, 0, 1, 1].as_slice())];
-    holds(&rt, lies(&large, 2_097_169, b"state", &body));
+    expect_opened(&rt, large, 2_097_169, b"state", &body);
     Ok(())
 }
 
@@ -394,16 +425,33 @@ fn three_lines(alloc: Global) -> Result<Vec<Send>, Fail> {
     Ok(sends)
 }
 
+// Two of three emissions go out, and all three are told.
+fn expect_emitted(rt: &impl Abort, mut press: Press<MemoryGround>, sends: &[Send]) {
+    same(rt, &press.emit_all(sends), &Emits { sent: 2, lost: 1 });
+    let device = press.into_ground();
+    same(rt, &device.trace().map(|trace| trace.len()), &Some(8));
+}
+
+// The same from a blank device, which is opened first.
+fn expect_opened_and_emitted(
+    rt: &impl Abort,
+    alloc: Global,
+    device: MemoryGround,
+    sends: &[Send],
+) -> Result<(), Fail> {
+    match Press::open(alloc, device, SITE, NEED) {
+        Ok((press, opened)) => {
+            holds(rt, opened.fresh);
+            expect_emitted(rt, press, sends);
+            Ok(())
+        }
+        Err(_) => Err("not opened".into()),
+    }
+}
+
 #[test]
 fn emissions_are_tried_in_order(rt: HostRuntime) -> Result<(), Fail> {
     let alloc = rt.alloc();
     let sends = three_lines(alloc)?;
-    let Ok((mut press, opened)) = Press::open(alloc, device_of(alloc, 91, &[9])?, SITE, NEED) else {
-        return Err("not opened".into());
-    };
-    holds(&rt, opened.fresh);
-    same(&rt, &press.emit_all(&sends), &Emits { sent: 2, lost: 1 });
-    let device = press.into_ground();
-    same(&rt, &device.trace().map(|trace| trace.len()), &Some(8));
-    Ok(())
+    expect_opened_and_emitted(&rt, alloc, device_of(alloc, 91, &[9])?, &sends)
 }

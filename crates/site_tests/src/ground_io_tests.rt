@@ -160,6 +160,19 @@ fn expect_kept<G: Ground>(rt: &impl Abort, device: &mut G, port: u16) {
     same(rt, &device.emit(peer, b"note"), &Ok(()));
 }
 
+/// The same of a file and a socket, which are then closed.
+fn expect_kept_by(
+    rt: &impl Abort,
+    file: File,
+    socket: UdpSocket,
+    console: &mut Vec<u8>,
+    port: u16,
+) -> Result<(), Fail> {
+    let mut device = FileGround::new(Some(file), console, Some(socket))?;
+    expect_kept(rt, &mut device, port);
+    Ok(())
+}
+
 /// What the socket hears next is the note.
 fn expect_heard(rt: &impl Abort, peer: &UdpSocket) -> Result<(), Fail> {
     peer.set_read_timeout(Some(Duration::from_secs(5)))?;
@@ -176,10 +189,7 @@ fn file_ground_keeps_a_file_and_sends_to_peers(rt: HostRuntime) -> Result<(), Fa
     let port = peer.local_addr()?.port();
     let socket = UdpSocket::bind(&rt, "127.0.0.1:0")?;
     let mut console = Vec::new(rt.alloc());
-    let file = file_at(&rt, path)?;
-    let mut device = FileGround::new(Some(file), &mut console, Some(socket))?;
-    expect_kept(&rt, &mut device, port);
-    drop(device);
+    expect_kept_by(&rt, file_at(&rt, path)?, socket, &mut console, port)?;
     same(&rt, &console.as_slice(), &b"line\n".as_slice());
     expect_heard(&rt, &peer)?;
     fs::remove_file(&rt, path)?;

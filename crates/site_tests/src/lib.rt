@@ -12,10 +12,6 @@ mod ending_link_tests;
 #[cfg(test)]
 mod ground_io_tests;
 #[cfg(test)]
-mod recover_tests;
-#[cfg(test)]
 mod script_lines_tests;
-#[cfg(test)]
-mod state_snapshot_tests;
 #[cfg(test)]
 mod work_load_tests;

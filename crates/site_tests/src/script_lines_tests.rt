@@ -73,58 +73,97 @@ fn expect_set(
     Ok(())
 }
 
+/// There is no line any more.
+pub(crate) fn expect_end(
+    rt: &impl Abort,
+    lines: &mut Lines,
+    source: &mut Pieces<'_>,
+) -> Result<(), Fail> {
+    holds(rt, lines.next_line(source)?.is_none());
+    Ok(())
+}
+
 /// There are two lines that set in this script, however large the pieces are in which it comes.
-fn expect_two(rt: &impl Abort, alloc: Global, size: usize) -> Result<(), Fail> {
+fn expect_two(rt: &impl Abort, lines: &mut Lines, size: usize) -> Result<(), Fail> {
     let script = b"# a comment\n\nset 946684800000 -7\n#\nset 946684801000 0";
     let mut source = Pieces::of(script, size);
+    expect_set(rt, lines, &mut source, (3, 946_684_800_000, -7))?;
+    expect_set(rt, lines, &mut source, (5, 946_684_801_000, 0))?;
+    expect_end(rt, lines, &mut source)
+}
+
+/// The same for lines that begin anew.
+fn expect_two_anew(rt: &impl Abort, alloc: Global, size: usize) -> Result<(), Fail> {
     let mut lines = Lines::trial(alloc)?;
-    expect_set(rt, &mut lines, &mut source, (3, 946_684_800_000, -7))?;
-    expect_set(rt, &mut lines, &mut source, (5, 946_684_801_000, 0))?;
-    holds(rt, lines.next_line(&mut source)?.is_none());
-    Ok(())
+    expect_two(rt, &mut lines, size)
 }
 
 #[test]
 fn skipped_lines_count_and_the_last_may_lack_its_line_feed(rt: HostRuntime) -> Result<(), Fail> {
     for size in 1..20 {
-        expect_two(&rt, rt.alloc(), size)?;
+        expect_two_anew(&rt, rt.alloc(), size)?;
     }
     Ok(())
+}
+
+/// Whether an empty line with a number is skipped.
+fn is_skipped(alloc: Global, grammar: Grammar, number: u64) -> bool {
+    matches!(
+        &LineSays::read(alloc, grammar, number, b""),
+        Ok(LineSays::Skipped)
+    )
+}
+
+/// Whether it is refused.
+fn is_outside(alloc: Global, grammar: Grammar, number: u64) -> bool {
+    matches!(
+        &LineSays::read(alloc, grammar, number, b""),
+        Ok(LineSays::Outside)
+    )
 }
 
 #[test]
 fn a_line_beyond_the_last_is_refused_also_where_it_would_be_skipped(rt: HostRuntime) {
     for grammar in [Grammar::Trial, Grammar::Session] {
-        let last = LineSays::read(rt.alloc(), grammar, 1_000_000, b"");
-        holds(&rt, matches!(&last, Ok(LineSays::Skipped)));
-        let beyond = LineSays::read(rt.alloc(), grammar, 1_000_001, b"");
-        holds(&rt, matches!(&beyond, Ok(LineSays::Outside)));
+        holds(&rt, is_skipped(rt.alloc(), grammar, 1_000_000));
+        holds(&rt, is_outside(rt.alloc(), grammar, 1_000_001));
     }
+}
+
+/// Reading fails where the source does, and one line was read then.
+fn expect_failed_read(rt: &impl Abort, lines: &mut Lines, source: &mut Pieces<'_>) {
+    holds(rt, matches!(&lines.next_line(source), Err(LineFault::Read)));
+    same(rt, &lines.count(), &1);
+}
+
+/// The next line is a tick at a moment.
+fn expect_tick(
+    rt: &impl Abort,
+    lines: &mut Lines,
+    source: &mut Pieces<'_>,
+    moment: u64,
+) -> Result<(), Fail> {
+    let line = lines.next_line(source)?.ok_or("no line")?;
+    holds(rt, matches!(&line.input, Input::Tick));
+    same(rt, &line.moment, &moment);
+    Ok(())
+}
+
+/// A line that sets, and a tick, come after a failed read, and behind them nothing is read.
+fn expect_after_failed_read(rt: &impl Abort, lines: &mut Lines) -> Result<(), Fail> {
+    let mut source = Pieces::of(b"#\nset 946684800000 12\ntick 946684800001", 9);
+    source.failing = 3;
+    expect_failed_read(rt, lines, &mut source);
+    expect_set(rt, lines, &mut source, (2, 946_684_800_000, 12))?;
+    expect_tick(rt, lines, &mut source, 946_684_800_001)?;
+    source.failing = source.calls.saturating_add(1);
+    expect_end(rt, lines, &mut source)
 }
 
 #[test]
 fn lines_are_the_same_after_a_failed_read(rt: HostRuntime) -> Result<(), Fail> {
-    let mut source = Pieces::of(b"#\nset 946684800000 12\ntick 946684800001", 9);
-    source.failing = 3;
-    let mut lines = Lines::trial(rt.alloc()).map_err(|_| "memory")?;
-    let failed = lines.next_line(&mut source);
-    holds(&rt, matches!(&failed, Err(LineFault::Read)));
-    same(&rt, &lines.count(), &1);
-    let line = lines
-        .next_line(&mut source)
-        .map_err(|_| "fault")?
-        .ok_or("no line")?;
-    same(&rt, &set_of(&line), &Some((2, 946_684_800_000, 12)));
-    let line = lines
-        .next_line(&mut source)
-        .map_err(|_| "fault")?
-        .ok_or("no line")?;
-    holds(&rt, matches!(&line.input, Input::Tick));
-    same(&rt, &line.moment, &946_684_800_001);
-    source.failing = source.calls.saturating_add(1);
-    let end = lines.next_line(&mut source).map_err(|_| "fault")?;
-    holds(&rt, end.is_none());
-    Ok(())
+    let mut lines = Lines::trial(rt.alloc())?;
+    expect_after_failed_read(&rt, &mut lines)
 }
 
 // Whether a line of a report is written as this text.

@@ -1,6 +1,7 @@
 use crate::comparing::{holds, same};
-use crate::script_lines_tests::Pieces;
+use crate::script_lines_tests::{Pieces, expect_end};
 use script_lines::Lines;
+use std::process::Abort;
 use std::test::Fail;
 use work_load::make_script;
 
@@ -32,15 +33,19 @@ fn a_script_is_drawn_from_its_seed(rt: HostRuntime) -> Result<(), Fail> {
     Ok(())
 }
 
-#[test]
-fn each_line_of_a_script_is_one_of_a_session(rt: HostRuntime) -> Result<(), Fail> {
-    let script = make_script(rt.alloc(), 18_446_744_073_709_551_615, 400)?;
-    let mut source = Pieces::of(&script, 8192);
-    let mut lines = Lines::new(rt.alloc())?;
+/// A script has 400 lines.
+fn expect_400_lines(rt: &impl Abort, lines: &mut Lines, script: &[u8]) -> Result<(), Fail> {
+    let mut source = Pieces::of(script, 8192);
     for _ in 0..400 {
         lines.next_line(&mut source)?;
     }
-    same(&rt, &lines.count(), &400);
-    holds(&rt, lines.next_line(&mut source)?.is_none());
-    Ok(())
+    same(rt, &lines.count(), &400);
+    expect_end(rt, lines, &mut source)
+}
+
+#[test]
+fn each_line_of_a_script_is_one_of_a_session(rt: HostRuntime) -> Result<(), Fail> {
+    let script = make_script(rt.alloc(), 18_446_744_073_709_551_615, 400)?;
+    let mut lines = Lines::new(rt.alloc())?;
+    expect_400_lines(&rt, &mut lines, &script)
 }

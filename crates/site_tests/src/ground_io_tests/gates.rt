@@ -143,16 +143,22 @@ fn goes_to_a_thread<T: Send>(_it: &T) {}
 fn is_shared_by_threads<T: Sync>(_it: &T) {}
 
 #[test]
-fn links_and_grounds_go_to_threads_and_clocks_and_gates_are_shared(
-    rt: HostRuntime,
-) -> Result<(), Fail> {
-    let alloc = rt.alloc();
+fn grounds_go_to_threads(rt: HostRuntime) {
     let gate = Counting::new();
-    let inner = MemoryGround::new(alloc, Vec::new(alloc), Vec::new(alloc));
+    let inner = MemoryGround::new(rt.alloc(), Vec::new(rt.alloc()), Vec::new(rt.alloc()));
     goes_to_a_thread(&HeldGround::new(inner, &gate));
-    goes_to_a_thread(&MemoryLink::new(Vec::new(alloc), Vec::new(alloc)));
+}
+
+#[test]
+fn links_go_to_threads(rt: HostRuntime) -> Result<(), Fail> {
+    goes_to_a_thread(&MemoryLink::new(Vec::new(rt.alloc()), Vec::new(rt.alloc())));
     let socket = UdpSocket::bind(&rt, "127.0.0.1:0")?;
     goes_to_a_thread(&UdpLink::new(&socket, Duration::from_secs(1))?);
+    Ok(())
+}
+
+#[test]
+fn clocks_and_gates_are_shared(rt: HostRuntime) -> Result<(), Fail> {
     is_shared_by_threads(&StillClock::new(1_700_000_000_000));
     is_shared_by_threads(&SystemClock::new(rt.clone()?));
     is_shared_by_threads(&RestingGate::new(rt.clone()?, Duration::ZERO));

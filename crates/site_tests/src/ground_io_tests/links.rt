@@ -27,21 +27,27 @@ fn from_port(port: u16, length: usize) -> Result<Received, Failed> {
     Ok(Received::Datagram { peer, length })
 }
 
+/// A link gives two datagrams, and its second and its fourth call fail.
+fn expect_two_datagrams<L: Link>(rt: &impl Abort, link: &mut L) {
+    let mut into = *b"....";
+    same(rt, &link.receive(&mut into), &from_port(1, 4));
+    same(rt, &into, &*b"alar");
+    same(rt, &link.receive(&mut into), &Err(Failed));
+    same(rt, &link.receive(&mut into), &from_port(2, 1));
+    same(rt, &into, &*b"xlar");
+    same(rt, &link.receive(&mut into), &Err(Failed));
+    same(rt, &link.receive(&mut into), &Ok(Received::Nothing));
+    same(rt, &into, &*b"xlar");
+}
+
 #[test]
 fn memory_link_gives_its_datagrams_and_fails_at_the_listed_calls(
     rt: HostRuntime,
 ) -> Result<(), Fail> {
     let alloc = rt.alloc();
-    let mut link = MemoryLink::new(two_datagrams(alloc)?, vec![in alloc; 2u64, 4]?);
-    let mut into = *b"....";
-    same(&rt, &link.receive(&mut into), &from_port(1, 4));
-    same(&rt, &into, &*b"alar");
-    same(&rt, &link.receive(&mut into), &Err(Failed));
-    same(&rt, &link.receive(&mut into), &from_port(2, 1));
-    same(&rt, &into, &*b"xlar");
-    same(&rt, &link.receive(&mut into), &Err(Failed));
-    same(&rt, &link.receive(&mut into), &Ok(Received::Nothing));
-    same(&rt, &into, &*b"xlar");
+    let failing = vec![in alloc; 2u64, 4]?;
+    let mut link = MemoryLink::new(two_datagrams(alloc)?, failing);
+    expect_two_datagrams(&rt, &mut link);
     Ok(())
 }
 
@@ -67,28 +73,47 @@ fn expect_heard<L: Link>(rt: &impl Abort, link: &mut L, port: u16) {
     same(rt, &into, &*b"who-");
 }
 
+/// The link hears what a socket asks of its port, and nothing before it and behind it.
+fn expect_asked<L: Link>(
+    rt: &impl Abort,
+    link: &mut L,
+    asker: &(UdpSocket, u16),
+    port: u16,
+) -> Result<(), Fail> {
+    expect_nothing(rt, link);
+    asker.0.send_to(b"who-is", at_port(port))?;
+    expect_heard(rt, link, asker.1);
+    expect_nothing(rt, link);
+    Ok(())
+}
+
 #[test]
 fn udp_link_hears_a_socket_and_finds_nothing_when_its_time_is_up(
     rt: HostRuntime,
 ) -> Result<(), Fail> {
     let (socket, port) = local_socket(&rt)?;
-    let (asker, asker_port) = local_socket(&rt)?;
+    let asker = local_socket(&rt)?;
     let mut link = UdpLink::new(&socket, Duration::from_millis(20))?;
-    expect_nothing(&rt, &mut link);
-    asker.send_to(b"who-is", at_port(port))?;
-    expect_heard(&rt, &mut link, asker_port);
-    expect_nothing(&rt, &mut link);
+    expect_asked(&rt, &mut link, &asker, port)
+}
+
+/// A port on which nobody listens.
+fn closed_port(rt: &HostRuntime) -> io::Result<u16> {
+    let (_, port) = local_socket(rt)?;
+    Ok(port)
+}
+
+/// A socket that was told that nobody listens where it sent to fails.
+fn expect_failing(rt: &impl Abort, socket: &UdpSocket, port: u16) -> Result<(), Fail> {
+    let mut link = UdpLink::new(socket, Duration::from_secs(5))?;
+    socket.connect(at_port(port))?;
+    socket.send(b"who-is")?;
+    same(rt, &link.receive(&mut [0u8; 4]), &Err(Failed));
     Ok(())
 }
 
 #[test]
 fn udp_link_fails_where_its_socket_does(rt: HostRuntime) -> Result<(), Fail> {
     let (socket, _) = local_socket(&rt)?;
-    let (closed, closed_port) = local_socket(&rt)?;
-    drop(closed);
-    let mut link = UdpLink::new(&socket, Duration::from_secs(5))?;
-    socket.connect(at_port(closed_port))?;
-    socket.send(b"who-is")?;
-    same(&rt, &link.receive(&mut [0u8; 4]), &Err(Failed));
-    Ok(())
+    expect_failing(&rt, &socket, closed_port(&rt)?)
 }

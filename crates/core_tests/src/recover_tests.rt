@@ -1,30 +1,17 @@
-ghost use Rattle.std.specs.Prelude.{◌≡◌, All, IfOk, length};
+ghost use Rattle.std.specs.Prelude.{◌≡◌, ◌<◌, ◌≤◌, All, length};
+ghost use Rattle.alarm_core.specs.Limits.{KeepsLimits};
 ghost use Rattle.alarm_core.specs.Sites.{IsSite};
 ghost use Rattle.alarm_journal.specs.Opened.{EndsOnDevice, sum_of};
 
-use crate::comparing::same;
-use alarm_core::Site;
+use crate::comparing::holds;
+use crate::sites::{Question, ask_of_plant};
+use alarm_core::{Core, Site};
 use alarm_journal::{Job, Opened, Press};
 use ground_io::MemoryGround;
-use site_config::read_site;
 use state_codec::{RecoverFault, recover};
 use std::alloc::Global;
 use std::process::Abort;
 use std::test::Fail;
-
-/// One tank of which nobody is told.
-const TANK: &str = "[device]
-instance = 1001
-name = \"Plant\"
-vendor = 999
-start = 1700000000000
-
-[[object]]
-kind = \"integer-value\"
-instance = 1
-name = \"Tank\"
-value = 50
-";
 
 /// The records of three events: 90 is written at the site's start, 50 a millisecond later, and 90 again a millisecond later.
 const FIRST: &[u8] = b"\0\0\x01\x8B\xCF\xE5\x68\0\x02\x0B\x40\0\x01\0\0\0\x55\x03\0\0\0\x5A";
@@ -58,12 +45,6 @@ enum Left {
     Refused,
 }
 
-fn tank(alloc: Global) -> Result<Site, Fail>
-    ensures keeps { IfOk result IsSite }
-{
-    Ok(read_site(alloc, TANK.as_bytes())?)
-}
-
 /// A device with a journal of these batches, if there was memory for it.
 fn committed(alloc: Global, bodies: &[&'static [u8]]) -> Result<MemoryGround, Fail> {
     let contents = vec![in alloc; 0u8; 400]?;
@@ -74,21 +55,40 @@ fn committed(alloc: Global, bodies: &[&'static [u8]]) -> Result<MemoryGround, Fa
     Ok(device)
 }
 
-/// The device with one batch more.
+/// The device with one batch more, where there is room for it.
 fn with_batch(alloc: Global, device: MemoryGround, body: &[u8]) -> Result<MemoryGround, Fail> {
+    if body.is_empty() || body.len() >= 60_000 {
+        return Ok(device);
+    }
+    let job = Job::batch(alloc, body)?;
+    Ok(with_job(alloc, device, &job))
+}
+
+fn with_job(alloc: Global, device: MemoryGround, job: &Job) -> MemoryGround
+    requires some { 0 < length job.now }
+{
     match Press::open(alloc, device, b"site", 60) {
-        Ok((press, _)) => {
-            let fits = body.len() as u64 <= press.room() && body.len() < 60_000;
-            if body.is_empty() || !fits {
-                return Ok(press.into_ground());
-            }
-            let job = Job::batch(alloc, body)?;
-            match press.commit_batch(&job) {
-                Ok(press) => Ok(press.into_ground()),
-                Err(device) => Ok(device),
-            }
-        }
-        Err((device, _)) => Ok(device),
+        Ok((press, _)) => pressed(press, job),
+        Err((device, _)) => device,
+    }
+}
+
+fn pressed(press: Press<MemoryGround>, job: &Job) -> MemoryGround
+    requires some { 0 < length job.now }
+{
+    if job.length() > press.room() {
+        return press.into_ground();
+    }
+    match press.commit_batch(job) {
+        Ok(press) => press.into_ground(),
+        Err(device) => device,
+    }
+}
+
+/// What is left where there is a core, which is given up.
+fn left_in(core: Core) -> Left {
+    Left::Core {
+        events: core.events(),
     }
 }
 
@@ -98,9 +98,7 @@ fn left_of(alloc: Global, site: &Site, opened: &Opened) -> Left
     requires places { All EndsOnDevice opened.now.bodies }
 {
     match recover(alloc, site, opened) {
-        Ok(core) => Left::Core {
-            events: core.events(),
-        },
+        Ok(core) => left_in(core),
         Err(RecoverFault::Damaged { at }) => Left::Damaged { at },
         Err(RecoverFault::NoMemory) => Left::Refused,
     }
@@ -115,21 +113,31 @@ fn left_on(alloc: Global, site: &Site, device: MemoryGround) -> Left
     }
 }
 
-/// What a journal of these batches leaves of the tank's site.
-fn recovered(alloc: Global, bodies: &[&'static [u8]]) -> Result<Left, Fail> {
-    let site = tank(alloc)?;
-    Ok(left_on(alloc, &site, committed(alloc, bodies)?))
+/// That a journal of these batches leaves this of the plant.
+#[derive(Clone, Copy)]
+struct LeftOfBatches<'a> {
+    bodies: &'a [&'static [u8]],
+    wanted: Left,
 }
 
-/// That such a journal leaves this.
+impl Question for LeftOfBatches<'_> {
+    fn ask(&self, rt: &impl Abort, alloc: Global, site: &Site) -> Result<(), Fail>
+        requires site { IsSite site.now }
+        requires limits { KeepsLimits site.now }
+    {
+        let device = committed(alloc, self.bodies)?;
+        holds(rt, left_on(alloc, site, device) == self.wanted);
+        Ok(())
+    }
+}
+
 fn leaves(
     rt: &impl Abort,
     alloc: Global,
     bodies: &[&'static [u8]],
     wanted: Left,
 ) -> Result<(), Fail> {
-    same(rt, &recovered(alloc, bodies)?, &wanted);
-    Ok(())
+    ask_of_plant(rt, alloc, &LeftOfBatches { bodies, wanted })
 }
 
 #[test]
@@ -170,31 +178,53 @@ fn no_record_runs_on_in_the_next_batch(rt: HostRuntime) -> Result<(), Fail> {
     leaves(&rt, rt.alloc(), &[HALF, REST], Left::Damaged { at })
 }
 
-/// A device whose journal holds these octets as a snapshot.
-fn with_snapshot(alloc: Global, octets: &[u8]) -> Result<MemoryGround, Fail> {
-    match Press::open(alloc, committed(alloc, &[])?, b"site", 60) {
-        Ok((press, _)) => {
-            let fits = octets.len() as u64 + 5 <= press.area() && octets.len() < 60_000;
-            if octets.is_empty() || !fits {
-                return Ok(press.into_ground());
-            }
-            let job = Job::snapshot(alloc, octets)?;
-            match press.commit_snapshot(&job) {
-                Ok(press) => Ok(press.into_ground()),
-                Err(device) => Ok(device),
-            }
-        }
-        Err((device, _)) => Ok(device),
+/// A device whose journal holds this octet as a snapshot, where there is room for it.
+fn with_snapshot(alloc: Global, octet: u8) -> Result<MemoryGround, Fail> {
+    let job = Job::snapshot(alloc, &[octet])?;
+    Ok(with_snapshot_job(alloc, committed(alloc, &[])?, &job))
+}
+
+fn with_snapshot_job(alloc: Global, device: MemoryGround, job: &Job) -> MemoryGround
+    requires few { length job.now ≤ 1 }
+{
+    match Press::open(alloc, device, b"site", 60) {
+        Ok((press, _)) => snapshot_pressed(press, job),
+        Err((device, _)) => device,
+    }
+}
+
+fn snapshot_pressed(press: Press<MemoryGround>, job: &Job) -> MemoryGround
+    requires few { length job.now ≤ 1 }
+{
+    if job.length() + 5 > press.area() {
+        return press.into_ground();
+    }
+    match press.commit_snapshot(job) {
+        Ok(press) => press.into_ground(),
+        Err(device) => device,
+    }
+}
+
+/// A journal whose snapshot is that of no state, and a batch behind it, leave this of the plant.
+#[derive(Clone, Copy)]
+struct LeftOfSnapshot {
+    wanted: Left,
+}
+
+impl Question for LeftOfSnapshot {
+    fn ask(&self, rt: &impl Abort, alloc: Global, site: &Site) -> Result<(), Fail>
+        requires site { IsSite site.now }
+        requires limits { KeepsLimits site.now }
+    {
+        let device = with_batch(alloc, with_snapshot(alloc, 9)?, FIRST)?;
+        holds(rt, left_on(alloc, site, device) == self.wanted);
+        Ok(())
     }
 }
 
 #[test]
 fn a_snapshot_of_no_state_is_damaged_at_its_first_octet(rt: HostRuntime) -> Result<(), Fail> {
-    let alloc = rt.alloc();
-    let site = tank(alloc)?;
-    let device = with_batch(alloc, with_snapshot(alloc, &[9])?, FIRST)?;
     // The second area begins behind the header, of 26 octets, and the first one, of 187; the snapshot behind its length.
-    let at = 217;
-    same(&rt, &left_on(alloc, &site, device), &Left::Damaged { at });
-    Ok(())
+    let wanted = Left::Damaged { at: 217 };
+    ask_of_plant(&rt, rt.alloc(), &LeftOfSnapshot { wanted })
 }
