@@ -7,6 +7,7 @@ use algorithm_rules::Waiting::*;
 use algorithm_rules::*;
 use bac_values::EventState::{self, Fault, HighLimit, LowLimit, Normal, Offnormal};
 use bac_values::{Bits, Text, Value};
+use std::alloc::Global;
 use std::process::Abort;
 use std::test::Fail;
 
@@ -149,74 +150,109 @@ fn a_range_leads_up_down_and_back(rt: HostRuntime) {
     expect_rules(&rt, algorithm, Offnormal, &[]);
 }
 
+/// A text matches the alarm value at this place, or none.
+fn expect_text<'a>(rt: &impl Abort, alarms: &'a [Value], value: &'a Value, place: Option<u32>)
+    requires few { length alarms.now ≤ 32 }
+{
+    let snapshot = object(ChangeOfCharacterstring, value, alarms);
+    same(rt, &matched(&snapshot), &place);
+    same(rt, &is_met(SomeMatch, &snapshot), &place.is_some());
+    same(rt, &is_met(NoMatch, &snapshot), &place.is_none());
+}
+
+fn text(alloc: Global, text: &str) -> Result<Value, Fail> {
+    Ok(Value::Text(Text::new(alloc, text)?))
+}
+
+/// Where the empty text and "fire" are alarm values, a text matches the one at this place, or none.
+fn expect_fire(
+    rt: &impl Abort,
+    alloc: Global,
+    octets: &str,
+    place: Option<u32>,
+) -> Result<(), Fail> {
+    let alarms = [text(alloc, "")?, text(alloc, "fire")?];
+    expect_text(rt, &alarms, &text(alloc, octets)?, place);
+    Ok(())
+}
+
 #[test]
 fn texts_match_the_empty_text_or_what_occurs_in_them(rt: HostRuntime) -> Result<(), Fail> {
-    let alarms = [
-        Value::Text(Text::new(rt.alloc(), "")?),
-        Value::Text(Text::new(rt.alloc(), "fire")?),
-    ];
-    for (text, place) in [("", Some(0)), ("no fire here", Some(1)), ("calm", None)] {
-        let value = Value::Text(Text::new(rt.alloc(), text)?);
-        let snapshot = object(ChangeOfCharacterstring, &value, &alarms);
-        same(&rt, &(text, matched(&snapshot)), &(text, place));
-        same(
-            &rt,
-            &(text, is_met(SomeMatch, &snapshot)),
-            &(text, place.is_some()),
-        );
-        same(
-            &rt,
-            &(text, is_met(NoMatch, &snapshot)),
-            &(text, place.is_none()),
-        );
-    }
+    expect_fire(&rt, rt.alloc(), "", Some(0))?;
+    expect_fire(&rt, rt.alloc(), "no fire here", Some(1))?;
+    expect_fire(&rt, rt.alloc(), "calm", None)
+}
+
+/// Four bits match the alarm value at this place under a mask that leaves the third and the fourth bit, and the one at
+/// that place without a mask, or none.
+fn expect_bits(
+    rt: &impl Abort,
+    alarms: &[Value],
+    bits: u64,
+    masked: Option<u32>,
+    plainly: Option<u32>,
+) -> Result<(), Fail>
+    requires few { length alarms.now ≤ 32 }
+{
+    let mask = Some(Bits::new(4, 0b1100)?);
+    let value = Value::Bits(Bits::new(4, bits)?);
+    let plain = object(ChangeOfBitstring, &value, alarms);
+    same(rt, &(bits, matched(&plain)), &(bits, plainly));
+    let seen = Snapshot { mask, ..plain };
+    same(rt, &(bits, matched(&seen)), &(bits, masked));
     Ok(())
+}
+
+/// The alarm values are 10.. and 01.. under the mask, and one is shorter.
+fn expect_all_bits(rt: &impl Abort, alarms: &[Value]) -> Result<(), Fail>
+    requires few { length alarms.now ≤ 32 }
+{
+    expect_bits(rt, alarms, 0b1011, Some(0), None)?;
+    expect_bits(rt, alarms, 0b0110, Some(1), Some(1))?;
+    expect_bits(rt, alarms, 0b1100, None, None)?;
+    expect_bits(rt, alarms, 0b0011, None, None)
 }
 
 #[test]
 fn bit_strings_match_where_the_mask_has_bits(rt: HostRuntime) -> Result<(), Fail> {
-    let alarms = [
-        Value::Bits(Bits::new(4, 0b1001)?),
-        Value::Bits(Bits::new(4, 0b0110)?),
-        Value::Bits(Bits::new(3, 0b100)?),
-    ];
-    // The mask leaves the third and the fourth bit of both: the alarm values are 10.. and 01.. there.
-    let mask = Some(Bits::new(4, 0b1100)?);
-    for (bits, place, plainly) in [
-        (0b1011, Some(0), None),
-        (0b0110, Some(1), Some(1)),
-        (0b1100, None, None),
-        (0b0011, None, None),
-    ] {
-        let value = Value::Bits(Bits::new(4, bits)?);
-        let plain = object(ChangeOfBitstring, &value, &alarms);
-        let masked = Snapshot { mask, ..plain };
-        same(&rt, &(bits, matched(&masked)), &(bits, place));
-        same(&rt, &(bits, matched(&plain)), &(bits, plainly));
-    }
-    Ok(())
+    let (first, second) = (Bits::new(4, 0b1001)?, Bits::new(4, 0b0110)?);
+    let third = Bits::new(3, 0b100)?;
+    let alarms = [Value::Bits(first), Value::Bits(second), Value::Bits(third)];
+    expect_all_bits(&rt, &alarms)
+}
+
+/// Where 2 and 3 are alarm values, a state matches the one at this place, or none.
+fn expect_state(rt: &impl Abort, state: u32, place: Option<u32>) {
+    let alarms = [Value::Unsigned(2), Value::Unsigned(3)];
+    let value = Value::Unsigned(state);
+    let snapshot = object(ChangeOfState, &value, &alarms);
+    let other = Rule {
+        target: Offnormal,
+        test: OtherMatch,
+        wait: TimeDelay,
+    };
+    same(rt, &matched(&snapshot), &place);
+    same(rt, &key(&other, &snapshot), &place);
 }
 
 #[test]
 fn states_match_where_they_are_equal(rt: HostRuntime) {
-    let alarms = [Value::Unsigned(2), Value::Unsigned(3)];
-    for (state, place) in [(1, None), (2, Some(0)), (3, Some(1))] {
-        let value = Value::Unsigned(state);
-        let snapshot = object(ChangeOfState, &value, &alarms);
-        let other = Rule {
-            target: Offnormal,
-            test: OtherMatch,
-            wait: TimeDelay,
-        };
-        same(&rt, &matched(&snapshot), &place);
-        same(&rt, &key(&other, &snapshot), &place);
-    }
-    let active = Value::Enumerated(1);
-    let inactive = Value::Enumerated(0);
-    let alarmed = with_feedback(ChangeOfState, &active, &[], Some(&active), None);
-    same(&rt, &matched(&alarmed), &Some(0));
-    let quiet = with_feedback(ChangeOfState, &inactive, &[], Some(&active), None);
-    same(&rt, &matched(&quiet), &None);
+    expect_state(&rt, 1, None);
+    expect_state(&rt, 2, Some(0));
+    expect_state(&rt, 3, Some(1));
+}
+
+/// Where the alarm value is this one alone, a value matches it, or doesn't.
+fn expect_only<'a>(rt: &impl Abort, alarm: &'a Value, value: &'a Value, place: Option<u32>) {
+    let seen = with_feedback(ChangeOfState, value, &[], Some(alarm), None);
+    same(rt, &matched(&seen), &place);
+}
+
+#[test]
+fn a_state_matches_the_only_alarm_value_where_it_is_equal(rt: HostRuntime) {
+    let (active, inactive) = (Value::Enumerated(1), Value::Enumerated(0));
+    expect_only(&rt, &active, &active, Some(0));
+    expect_only(&rt, &active, &inactive, None);
 }
 
 /// Which tests an integer value meets: above and below a limit that is enabled, back from each by the deadband, above
@@ -271,9 +307,23 @@ fn limits_are_strict_and_the_deadband_lies_within(rt: HostRuntime) {
     expect_met(&rt, 19, [false, true], [true, false], false);
 }
 
+/// The greatest number isn't back from the low limit, which would need a value above 2,147,483,648.
+fn expect_highest(rt: &impl Abort, highest: &Snapshot<'_>)
+    requires few { length highest.now.alarm_values.now ≤ 32 }
+{
+    same(rt, &is_met(AboveLowPlusDeadband, highest), &false);
+    same(rt, &is_met(AboveEnabledHigh, highest), &false);
+    let narrow = Snapshot {
+        low: i64::MAX,
+        high: i64::MIN,
+        ..*highest
+    };
+    same(rt, &is_met(AboveLowPlusDeadband, &narrow), &false);
+    same(rt, &is_met(BelowHighLessDeadband, &narrow), &false);
+}
+
 #[test]
 fn sums_have_no_bounds(rt: HostRuntime) {
-    // The return from the low limit would need a value above 2,147,483,648.
     let (least, greatest) = (Value::Signed(-2_147_483_648), Value::Signed(2_147_483_647));
     let lowest = Snapshot {
         low: -2_147_483_647,
@@ -286,45 +336,57 @@ fn sums_have_no_bounds(rt: HostRuntime) {
         value: &greatest,
         ..lowest
     };
-    same(&rt, &is_met(AboveLowPlusDeadband, &highest), &false);
-    same(&rt, &is_met(AboveEnabledHigh, &highest), &false);
-    let narrow = Snapshot {
-        low: i64::MAX,
-        high: i64::MIN,
-        ..highest
-    };
-    same(&rt, &is_met(AboveLowPlusDeadband, &narrow), &false);
-    same(&rt, &is_met(BelowHighLessDeadband, &narrow), &false);
+    expect_highest(&rt, &highest);
+}
+
+/// Whether a command of 50 equals this feedback, and differs from it.
+fn feedback_met(feedback: i32) -> [bool; 2] {
+    let (value, feedback) = (Value::Signed(50), Value::Signed(feedback));
+    let seen = with_feedback(CommandFailure, &value, &[], None, Some(&feedback));
+    [
+        is_met(FeedbackEquals, &seen),
+        is_met(FeedbackDiffers, &seen),
+    ]
 }
 
 #[test]
-fn feedback_is_compared_and_delays_are_chosen(rt: HostRuntime) {
-    let (value, other) = (Value::Signed(50), Value::Signed(51));
-    let equal = with_feedback(CommandFailure, &value, &[], None, Some(&value));
-    let differs = with_feedback(CommandFailure, &value, &[], None, Some(&other));
-    same(&rt, &is_met(FeedbackEquals, &equal), &true);
-    same(&rt, &is_met(FeedbackDiffers, &equal), &false);
-    same(&rt, &is_met(FeedbackEquals, &differs), &false);
-    same(&rt, &is_met(FeedbackDiffers, &differs), &true);
+fn feedback_is_compared(rt: HostRuntime) {
+    same(&rt, &feedback_met(50), &[true, false]);
+    same(&rt, &feedback_met(51), &[false, true]);
+}
+
+/// The delay of a rule with this test that waits so.
+fn delay_of(seen: &Snapshot<'_>, test: Test, wait: Waiting) -> u32
+    requires few { length seen.now.alarm_values.now ≤ 32 }
+{
     let rule = Rule {
         target: Normal,
-        test: FeedbackEquals,
-        wait: NormalDelay,
+        test,
+        wait,
     };
-    same(&rt, &delay(&rule, &equal), &10);
+    delay(&rule, seen)
+}
+
+/// An object has a delay of 10 seconds, and of none to normal.
+fn expect_quick(rt: &impl Abort, seen: &Snapshot<'_>)
+    requires few { length seen.now.alarm_values.now ≤ 32 }
+{
+    same(rt, &delay_of(seen, FeedbackEquals, NormalDelay), &0);
+    same(rt, &delay_of(seen, Within, TimeDelay), &10);
+    same(rt, &delay_of(seen, Within, NormalDelay), &0);
+    same(rt, &delay_of(seen, Within, AtOnce), &0);
+}
+
+#[test]
+fn delays_are_chosen(rt: HostRuntime) {
+    let value = Value::Signed(50);
+    let seen = with_feedback(CommandFailure, &value, &[], None, Some(&value));
+    same(&rt, &delay_of(&seen, FeedbackEquals, NormalDelay), &10);
     let quick = Snapshot {
         time_delay_normal: Some(0),
-        ..equal
+        ..seen
     };
-    same(&rt, &delay(&rule, &quick), &0);
-    for (wait, seconds) in [(TimeDelay, 10), (NormalDelay, 0), (AtOnce, 0)] {
-        let rule = Rule {
-            target: Normal,
-            test: Within,
-            wait,
-        };
-        same(&rt, &delay(&rule, &quick), &seconds);
-    }
+    expect_quick(&rt, &quick);
 }
 
 #[test]

@@ -1,14 +1,21 @@
 use crate::comparing::{counts, holds, same};
 use bac_values::*;
+use std::alloc::Global;
+use std::process::Abort;
 use std::test::Fail;
 
 #[test]
-fn identifiers_keep_their_ranges_and_order(rt: HostRuntime) -> Result<(), Fail> {
+fn identifiers_keep_their_ranges(rt: HostRuntime) -> Result<(), Fail> {
     let last = ObjectId::new(1023, 4_194_303)?;
     same(&rt, &last.number(), &1023);
     same(&rt, &last.instance(), &4_194_303);
     same(&rt, &ObjectId::new(1024, 0), &Err(InstanceRange));
     same(&rt, &ObjectId::new(0, 4_194_304), &Err(InstanceRange));
+    Ok(())
+}
+
+#[test]
+fn identifiers_are_ordered_and_have_kinds(rt: HostRuntime) -> Result<(), Fail> {
     holds(&rt, ObjectId::new(5, 9)? < ObjectId::new(8, 1)?);
     holds(&rt, ObjectId::new(8, 1)? < ObjectId::new(8, 2)?);
     let tank = ObjectId::of_kind(ObjectKind::IntegerValue, 1)?;
@@ -29,25 +36,39 @@ fn bit_strings_have_no_bit_past_their_length(rt: HostRuntime) -> Result<(), Fail
     Ok(())
 }
 
+fn expect_fan(rt: &impl Abort, text: &Text) -> Result<(), Fail> {
+    counts(rt, text.octets().len(), 7);
+    same(rt, &text.as_str(), &"Lüfter");
+    holds(rt, *text == text.clone()?);
+    Ok(())
+}
+
 #[test]
-fn texts_have_at_most_256_octets(rt: HostRuntime) -> Result<(), Fail> {
-    let text = Text::new(rt.alloc(), "Lüfter")?;
-    counts(&rt, text.octets().len(), 7);
-    same(&rt, &text.as_str(), &"Lüfter");
-    holds(&rt, text == text.clone()?);
-    let long = String::from_str(rt.alloc(), "0123456789abcdef")?.repeat(rt.alloc(), 16)?;
-    same(
-        &rt,
-        &Text::new(rt.alloc(), long.as_str())?.octets().len(),
-        &256,
-    );
-    let longer = format!(in rt.alloc(); "{long}!")?;
-    let refused = Text::new(rt.alloc(), longer.as_str());
+fn a_text_has_the_octets_of_its_letters(rt: HostRuntime) -> Result<(), Fail> {
+    expect_fan(&rt, &Text::new(rt.alloc(), "Lüfter")?)
+}
+
+/// What a text of these letters comes to: the number of its octets, or the fault that it is.
+fn octets_of(alloc: Global, letters: &str) -> Result<usize, TextFault> {
+    Ok(Text::new(alloc, letters)?.octets().len())
+}
+
+/// Text of 256 letters is the longest.
+fn expect_longest(rt: &impl Abort, alloc: Global, long: &str) -> Result<(), Fail> {
+    same(rt, &octets_of(alloc, long)?, &256);
+    let longer = format!(in alloc; "{long}!")?;
+    let refused = octets_of(alloc, longer.as_str());
     holds(
-        &rt,
-        matches!(&refused, Err(TextFault::TooLong { octets: 257 })),
+        rt,
+        matches!(refused, Err(TextFault::TooLong { octets: 257 })),
     );
     Ok(())
+}
+
+#[test]
+fn texts_have_at_most_256_octets(rt: HostRuntime) -> Result<(), Fail> {
+    let long = String::from_str(rt.alloc(), "0123456789abcdef")?.repeat(rt.alloc(), 16)?;
+    expect_longest(&rt, rt.alloc(), long.as_str())
 }
 
 #[test]
@@ -97,28 +118,51 @@ fn stations_have_at_most_seven_octets(rt: HostRuntime) -> Result<(), Fail> {
     Ok(())
 }
 
-#[test]
-fn a_list_of_peers_ascends_and_has_each_once(rt: HostRuntime) -> Result<(), Fail> {
-    let mut list = PeerList::new(rt.alloc());
+/// Four peers, ascending.
+fn four() -> [Peer; 4] {
+    [
+        Peer::console(),
+        Peer::local(7, 47_808),
+        Peer::local(7, 47_809),
+        Peer::local(8, 47_808),
+    ]
+}
+
+/// The last two of the four, of which one is put twice.
+fn two(alloc: Global) -> Result<PeerList, Fail> {
+    let mut list = PeerList::new(alloc);
     list.insert(Peer::local(8, 47_808))?;
     list.insert(Peer::local(7, 47_809))?;
     list.insert(Peer::local(8, 47_808))?;
+    Ok(list)
+}
+
+/// A list of the last two with two more has all four, and is itself as it was.
+fn expect_four(rt: &impl Abort, alloc: Global, list: &PeerList) -> Result<(), Fail> {
     let seven = Peer::local(7, 47_808);
-    holds(&rt, !list.contains(&seven));
-    let more = list.with(rt.alloc(), &[seven, Peer::console(), seven])?;
-    let wanted = [
-        Peer::console(),
-        seven,
-        Peer::local(7, 47_809),
-        Peer::local(8, 47_808),
-    ];
-    same(&rt, &more.as_slice(), &wanted.as_slice());
-    holds(&rt, more.contains(&seven));
+    holds(rt, !list.contains(&seven));
+    let more = list.with(alloc, &[seven, Peer::console(), seven])?;
+    same(rt, &more.as_slice(), &four().as_slice());
+    holds(rt, more.contains(&seven));
     let two = [Peer::local(7, 47_809), Peer::local(8, 47_808)];
-    same(&rt, &list.as_slice(), &two.as_slice());
-    list.extend(&wanted)?;
-    same(&rt, &list.as_slice(), &wanted.as_slice());
+    same(rt, &list.as_slice(), &two.as_slice());
     Ok(())
+}
+
+#[test]
+fn a_list_of_peers_ascends_and_has_each_once(rt: HostRuntime) -> Result<(), Fail> {
+    expect_four(&rt, rt.alloc(), &two(rt.alloc())?)
+}
+
+fn expect_extended(rt: &impl Abort, list: &mut PeerList) -> Result<(), Fail> {
+    list.extend(&four())?;
+    same(rt, &list.as_slice(), &four().as_slice());
+    Ok(())
+}
+
+#[test]
+fn a_list_is_extended_by_those_that_it_has_not(rt: HostRuntime) -> Result<(), Fail> {
+    expect_extended(&rt, &mut two(rt.alloc())?)
 }
 
 #[test]

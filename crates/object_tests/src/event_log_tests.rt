@@ -59,9 +59,8 @@ fn a_full_log_that_stops_takes_nothing(rt: HostRuntime) -> Result<(), Fail> {
     Ok(())
 }
 
-#[test]
-fn a_restored_log_answers_as_before(rt: HostRuntime) -> Result<(), Fail> {
-    let alloc = rt.alloc();
+/// A log of two that has the second and the third record.
+fn restored(alloc: Global) -> Result<EventLog, Fail> {
     let mut records = Vec::new(alloc);
     records.push(LogRecord {
         stamp: second(2),
@@ -75,61 +74,111 @@ fn a_restored_log_answers_as_before(rt: HostRuntime) -> Result<(), Fail> {
         sequence: 3,
         body: Items::of(vec![in alloc; 3u8]?),
     })?;
-    let mut log = EventLog::restore(alloc, 2, false, true, 3, records)?;
+    Ok(EventLog::restore(alloc, 2, false, true, 3, records)?)
+}
+
+#[test]
+fn a_restored_log_answers_as_before(rt: HostRuntime) -> Result<(), Fail> {
+    let log = restored(rt.alloc())?;
     answers_for_three_in_two(&rt, &log);
     same(&rt, &log.item(0).map(|entry| entry.stamp), &Some(second(2)));
     holds(&rt, log.enabled());
+    Ok(())
+}
+
+/// A log that isn't enabled takes no record, and the next one once it is again.
+fn expect_enabled_and_not(rt: &impl Abort, alloc: Global, log: &mut EventLog) -> Result<(), Fail> {
     log.set_enabled(false);
-    put(alloc, &mut log, 4)?;
-    same(&rt, &log.item(1).map(|entry| entry.sequence), &Some(3));
+    put(alloc, log, 4)?;
+    same(rt, &log.item(1).map(|entry| entry.sequence), &Some(3));
     log.set_enabled(true);
-    put(alloc, &mut log, 5)?;
-    same(&rt, &log.item(1).map(|entry| entry.sequence), &Some(4));
+    put(alloc, log, 5)?;
+    same(rt, &log.item(1).map(|entry| entry.sequence), &Some(4));
     Ok(())
 }
 
 #[test]
-fn numbers_go_on_with_1(rt: HostRuntime) -> Result<(), Fail> {
-    let alloc = rt.alloc();
-    let mut records = Vec::new(alloc);
-    records.push(LogRecord {
+fn a_restored_log_takes_records_while_it_is_enabled(rt: HostRuntime) -> Result<(), Fail> {
+    expect_enabled_and_not(&rt, rt.alloc(), &mut restored(rt.alloc())?)
+}
+
+/// A log whose first record has the last number there is, and which took two more.
+fn of_the_last_number(alloc: Global) -> Result<EventLog, Fail> {
+    let record = LogRecord {
         stamp: second(1),
         hundredths: hundredths(1),
         sequence: u32::MAX,
         body: Items::of(Vec::new(alloc)),
-    })?;
+    };
+    let records = vec![in alloc; record]?;
     let mut log = EventLog::restore(alloc, 4, false, true, u32::MAX, records)?;
     put(alloc, &mut log, 2)?;
     put(alloc, &mut log, 3)?;
-    same(&rt, &log.total(), &2);
-    same(&rt, &log.range_by_sequence(u32::MAX, 3), &range(0, 3));
-    same(&rt, &log.range_by_sequence(1, 5), &range(1, 2));
-    same(&rt, &log.range_by_sequence(2, -2), &range(1, 2));
-    same(&rt, &log.range_by_sequence(3, 1), &range(0, 0));
-    same(&rt, &log.range_by_sequence(0, 1), &range(0, 0));
+    Ok(log)
+}
+
+fn expect_numbers_from_1(rt: &impl Abort, log: &EventLog) {
+    same(rt, &log.total(), &2);
+    same(rt, &log.range_by_sequence(u32::MAX, 3), &range(0, 3));
+    same(rt, &log.range_by_sequence(1, 5), &range(1, 2));
+    same(rt, &log.range_by_sequence(2, -2), &range(1, 2));
+    same(rt, &log.range_by_sequence(3, 1), &range(0, 0));
+    same(rt, &log.range_by_sequence(0, 1), &range(0, 0));
+}
+
+#[test]
+fn numbers_go_on_with_1(rt: HostRuntime) -> Result<(), Fail> {
+    expect_numbers_from_1(&rt, &of_the_last_number(rt.alloc())?);
     Ok(())
+}
+
+/// A log of four records, of which two have the same time.
+fn of_four(alloc: Global) -> Result<EventLog, Fail> {
+    let mut log = EventLog::new(alloc, 8, false, true)?;
+    put(alloc, &mut log, 1)?;
+    put(alloc, &mut log, 3)?;
+    put(alloc, &mut log, 3)?;
+    put(alloc, &mut log, 5)?;
+    Ok(log)
+}
+
+fn expect_positions(rt: &impl Abort, log: &EventLog) {
+    same(rt, &log.range_by_position(0, 1), &range(0, 0));
+    same(rt, &log.range_by_position(5, -1), &range(0, 0));
+    same(rt, &log.range_by_position(1, 9), &range(0, 4));
+    same(rt, &log.range_by_position(3, -2), &range(1, 2));
+    same(rt, &log.range_by_position(2, -9), &range(0, 2));
+    same(rt, &log.range_by_position(2, 0), &range(0, 0));
+    same(rt, &log.range_by_position(4, i32::MIN), &range(0, 4));
+}
+
+fn expect_times(rt: &impl Abort, log: &EventLog) {
+    same(rt, &log.range_by_time(&second(3), 9), &range(3, 1));
+    same(rt, &log.range_by_time(&second(3), -9), &range(0, 1));
+    same(rt, &log.range_by_time(&second(0), 2), &range(0, 2));
+    same(rt, &log.range_by_time(&second(9), -3), &range(1, 3));
+    same(rt, &log.range_by_time(&second(5), 1), &range(0, 0));
+    same(rt, &log.range_by_time(&second(1), -1), &range(0, 0));
 }
 
 #[test]
 fn ranges_end_at_the_edges(rt: HostRuntime) -> Result<(), Fail> {
-    let alloc = rt.alloc();
-    let mut log = EventLog::new(alloc, 8, false, true)?;
-    for at in [1u8, 3, 3, 5] {
-        put(alloc, &mut log, at)?;
-    }
-    same(&rt, &log.range_by_position(0, 1), &range(0, 0));
-    same(&rt, &log.range_by_position(5, -1), &range(0, 0));
-    same(&rt, &log.range_by_position(1, 9), &range(0, 4));
-    same(&rt, &log.range_by_position(3, -2), &range(1, 2));
-    same(&rt, &log.range_by_position(2, -9), &range(0, 2));
-    same(&rt, &log.range_by_position(2, 0), &range(0, 0));
-    same(&rt, &log.range_by_position(4, i32::MIN), &range(0, 4));
-    same(&rt, &log.range_by_time(&second(3), 9), &range(3, 1));
-    same(&rt, &log.range_by_time(&second(3), -9), &range(0, 1));
-    same(&rt, &log.range_by_time(&second(0), 2), &range(0, 2));
-    same(&rt, &log.range_by_time(&second(9), -3), &range(1, 3));
-    same(&rt, &log.range_by_time(&second(5), 1), &range(0, 0));
-    same(&rt, &log.range_by_time(&second(1), -1), &range(0, 0));
+    let log = of_four(rt.alloc())?;
+    expect_positions(&rt, &log);
+    expect_times(&rt, &log);
+    Ok(())
+}
+
+/// A log of which two records were cleared has the total, and goes on from it once it is enabled.
+fn expect_cleared(rt: &impl Abort, alloc: Global, log: &mut EventLog) -> Result<(), Fail> {
+    same(rt, &log.len(), &0);
+    same(rt, &log.total(), &3);
+    log.set_enabled(false);
+    put(alloc, log, 4)?;
+    same(rt, &log.total(), &3);
+    log.set_enabled(true);
+    put(alloc, log, 5)?;
+    same(rt, &log.item(0).map(|entry| entry.sequence), &Some(4));
     Ok(())
 }
 
@@ -138,15 +187,7 @@ fn a_cleared_log_keeps_its_total(rt: HostRuntime) -> Result<(), Fail> {
     let alloc = rt.alloc();
     let mut log = three_in_two(alloc, false)?;
     log.clear();
-    same(&rt, &log.len(), &0);
-    same(&rt, &log.total(), &3);
-    log.set_enabled(false);
-    put(alloc, &mut log, 4)?;
-    same(&rt, &log.total(), &3);
-    log.set_enabled(true);
-    put(alloc, &mut log, 5)?;
-    same(&rt, &log.item(0).map(|entry| entry.sequence), &Some(4));
-    Ok(())
+    expect_cleared(&rt, alloc, &mut log)
 }
 
 // A log with one record of a Tuesday, one of the same time and an unknown weekday, and one of the next day.
@@ -214,25 +255,38 @@ fn in_the_fold(minute: u8) -> Stamp {
     }
 }
 
-#[test]
-fn hundredths_tell_times_in_a_fold_apart(rt: HostRuntime) -> Result<(), Fail> {
-    let log = of_a_fold(rt.alloc())?;
+fn expect_records_in_the_fold(rt: &impl Abort, log: &EventLog) {
     let by = |reference: i64, count: i32| log.range_by_hundredths(reference, count);
-    same(&rt, &by(172_998_990_000, 9), &range(2, 1));
-    same(&rt, &by(172_998_990_000, -9), &range(0, 1));
-    same(&rt, &by(172_998_899_999, 9), &range(0, 3));
-    same(&rt, &by(172_999_260_001, -2), &range(1, 2));
-    same(&rt, &by(172_999_260_000, 1), &range(0, 0));
-    same(&rt, &by(172_998_900_000, -1), &range(0, 0));
-    same(&rt, &by(-1, 2), &range(0, 2));
-    same(&rt, &by(i64::MAX, -1), &range(2, 1));
-    same(&rt, &by(172_998_990_000, 0), &range(0, 0));
-    // By the local time the second record is behind the third one.
-    same(&rt, &log.range_by_time(&in_the_fold(30), 9), &range(1, 2));
+    same(rt, &by(172_998_990_000, 9), &range(2, 1));
+    same(rt, &by(172_998_990_000, -9), &range(0, 1));
+    same(rt, &by(172_999_260_000, 1), &range(0, 0));
+    same(rt, &by(172_998_900_000, -1), &range(0, 0));
+    same(rt, &by(172_998_990_000, 0), &range(0, 0));
+}
+
+fn expect_times_beside_the_fold(rt: &impl Abort, log: &EventLog) {
+    let by = |reference: i64, count: i32| log.range_by_hundredths(reference, count);
+    same(rt, &by(172_998_899_999, 9), &range(0, 3));
+    same(rt, &by(172_999_260_001, -2), &range(1, 2));
+    same(rt, &by(-1, 2), &range(0, 2));
+    same(rt, &by(i64::MAX, -1), &range(2, 1));
+}
+
+/// By the local time the second record is behind the third one.
+fn expect_local_time(rt: &impl Abort, log: &EventLog) {
+    same(rt, &log.range_by_time(&in_the_fold(30), 9), &range(1, 2));
     same(
-        &rt,
+        rt,
         &log.item(2).map(|entry| entry.hundredths),
         &Some(172_999_260_000),
     );
+}
+
+#[test]
+fn hundredths_tell_times_in_a_fold_apart(rt: HostRuntime) -> Result<(), Fail> {
+    let log = of_a_fold(rt.alloc())?;
+    expect_records_in_the_fold(&rt, &log);
+    expect_times_beside_the_fold(&rt, &log);
+    expect_local_time(&rt, &log);
     Ok(())
 }

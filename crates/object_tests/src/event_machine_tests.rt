@@ -7,6 +7,7 @@ use bac_values::EventState::{self, HighLimit, Normal, Offnormal};
 use bac_values::{Reliability, Stamp, Value};
 use event_machine::*;
 use std::marker::Brand;
+use std::process::Abort;
 use std::sync::ledger::{Blank, Ledger};
 
 const START: u64 = 1_700_000_000_000;
@@ -118,58 +119,70 @@ fn a_new_alarm_is_normal_and_acknowledged(rt: HostRuntime) {
     holds(&rt, matches!(Found::Has(&alarm), Found::Has(_)));
 }
 
+/// A value within its limits, and one above them which was looked at twice: of a run from 3,000 on.
+fn run_of(rt: &impl Abort, within: &Value, above: &Value) -> Alarm {
+    let mut alarm = begun(&limits(within, 10), &point(0));
+    same(rt, &alarm.runs(), &[None; 3]);
+    same(rt, &next_due(&alarm, &limits(within, 10)), &None);
+    let _first = looked(&mut alarm, &limits(above, 10), &point(3_000));
+    let _second = looked(&mut alarm, &limits(above, 10), &point(7_000));
+    alarm
+}
+
+/// The rule of a run from 3,000 on is due by the delay that it has now.
+fn expect_due(rt: &impl Abort, alarm: &Alarm, above: &Value) {
+    let due = next_due(alarm, &limits(above, 10));
+    same(rt, &due, &Some(START + 13_000));
+    let due = next_due(alarm, &limits(above, 12));
+    same(rt, &due, &Some(START + 15_000));
+    holds(rt, is_still(alarm, &limits(above, 10), &point(12_999)));
+    holds(rt, !is_still(alarm, &limits(above, 10), &point(13_000)));
+}
+
 #[test]
 fn a_run_starts_with_its_condition_and_tells_when_its_rule_is_due(rt: HostRuntime) {
     let (within, above) = (Value::Signed(50), Value::Signed(90));
-    let mut alarm = begun(&limits(&within, 10), &point(0));
-    same(&rt, &alarm.runs(), &[None; 3]);
-    same(&rt, &next_due(&alarm, &limits(&within, 10)), &None);
-    let _first = looked(&mut alarm, &limits(&above, 10), &point(3_000));
-    let _second = looked(&mut alarm, &limits(&above, 10), &point(7_000));
+    let alarm = run_of(&rt, &within, &above);
     let run = Run {
         start: START + 3_000,
         key: 0,
     };
     same(&rt, &alarm.runs(), &[Some(run), None, None]);
-    let due = next_due(&alarm, &limits(&above, 10));
-    same(&rt, &due, &Some(START + 13_000));
-    let due = next_due(&alarm, &limits(&above, 12));
-    same(&rt, &due, &Some(START + 15_000));
-    holds(&rt, is_still(&alarm, &limits(&above, 10), &point(12_999)));
-    holds(&rt, !is_still(&alarm, &limits(&above, 10), &point(13_000)));
+    expect_due(&rt, &alarm, &above);
+}
+
+fn expect_settled(rt: &impl Abort, within: &Value, above: &Value) {
+    let mut alarm = begun(&limits(within, 10), &point(0));
+    holds(rt, is_settled(&alarm, &limits(within, 10), &point(5_000)));
+    holds(rt, !is_settled(&alarm, &limits(above, 10), &point(5_000)));
+    holds(rt, !is_settled(&alarm, &limits(within, 10), &faulty(5_000)));
+    let _seen = looked(&mut alarm, &limits(above, 10), &point(5_000));
+    holds(rt, is_settled(&alarm, &limits(above, 10), &point(6_000)));
+    holds(rt, !is_settled(&alarm, &limits(within, 10), &point(6_000)));
 }
 
 #[test]
 fn an_object_is_settled_until_what_it_sees_changes(rt: HostRuntime) {
-    let (within, above) = (Value::Signed(50), Value::Signed(90));
-    let mut alarm = begun(&limits(&within, 10), &point(0));
-    holds(&rt, is_settled(&alarm, &limits(&within, 10), &point(5_000)));
-    holds(&rt, !is_settled(&alarm, &limits(&above, 10), &point(5_000)));
-    holds(
-        &rt,
-        !is_settled(&alarm, &limits(&within, 10), &faulty(5_000)),
-    );
-    let _seen = looked(&mut alarm, &limits(&above, 10), &point(5_000));
-    holds(&rt, is_settled(&alarm, &limits(&above, 10), &point(6_000)));
-    holds(
-        &rt,
-        !is_settled(&alarm, &limits(&within, 10), &point(6_000)),
-    );
+    expect_settled(&rt, &Value::Signed(50), &Value::Signed(90));
+}
+
+fn expect_due_at_10_000(rt: &impl Abort, snapshot: &Snapshot<'_>)
+    requires few { length snapshot.now.alarm_values.now ≤ 32 }
+{
+    let mut alarm = begun(snapshot, &point(0));
+    same(rt, &next_due(&alarm, snapshot), &Some(START + 10_000));
+    holds(rt, is_settled(&alarm, snapshot, &point(9_999)));
+    let changed = looked(&mut alarm, snapshot, &point(9_999));
+    same(rt, &changed, &NOTHING);
+    holds(rt, is_settled(&alarm, snapshot, &point(10_000)));
+    let changed = looked(&mut alarm, snapshot, &point(10_000));
+    same(rt, &changed.second, &moves(Normal, HighLimit));
+    holds(rt, is_settled(&alarm, snapshot, &point(10_000)));
 }
 
 #[test]
 fn a_settled_object_stays_until_it_is_due_and_then_moves(rt: HostRuntime) {
-    let above = Value::Signed(90);
-    let snapshot = limits(&above, 10);
-    let mut alarm = begun(&snapshot, &point(0));
-    same(&rt, &next_due(&alarm, &snapshot), &Some(START + 10_000));
-    holds(&rt, is_settled(&alarm, &snapshot, &point(9_999)));
-    let changed = looked(&mut alarm, &snapshot, &point(9_999));
-    same(&rt, &changed, &NOTHING);
-    holds(&rt, is_settled(&alarm, &snapshot, &point(10_000)));
-    let changed = looked(&mut alarm, &snapshot, &point(10_000));
-    same(&rt, &changed.second, &moves(Normal, HighLimit));
-    holds(&rt, is_settled(&alarm, &snapshot, &point(10_000)));
+    expect_due_at_10_000(&rt, &limits(&Value::Signed(90), 10));
 }
 
 #[test]

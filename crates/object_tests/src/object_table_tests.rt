@@ -1,10 +1,12 @@
 ghost use Rattle.std.specs.Prelude.{IfOk};
 ghost use Rattle.object_table.specs.Objects.{IsObject};
+ghost use Rattle.object_table.specs.Writes.{IsTaken};
 
 use crate::comparing::holds;
 use bac_values::{Items, ObjectId, ObjectKind, PropertyId, Text, Value};
 use object_table::*;
 use std::alloc::Global;
+use std::process::Abort;
 use std::test::Fail;
 
 /// A character string value without a class.
@@ -38,20 +40,38 @@ fn label(alloc: Global) -> Result<ObjectSite, Fail>
     })
 }
 
+fn label_id() -> Result<ObjectId, Fail> {
+    Ok(ObjectId::of_kind(ObjectKind::CharacterStringValue, 1)?)
+}
+
+/// Writes a text to the label, and answers what takes it back.
+fn write(alloc: Global, table: &mut Table, text: &str) -> Result<Change, Fail>
+    ensures taken { IfOk result (λ change. IsTaken change table.new) }
+{
+    let text = Value::Text(Text::new(alloc, text)?);
+    let change = table.check_write(label_id()?, PropertyId::PRESENT_VALUE, None, &text)?;
+    Ok(table.apply(change))
+}
+
+/// The label has this text.
+fn expect_text(rt: &impl Abort, alloc: Global, table: &Table, text: &str) -> Result<(), Fail> {
+    let text = Value::Text(Text::new(alloc, text)?);
+    holds(rt, table.value_of(label_id()?) == Some(&text));
+    Ok(())
+}
+
+fn expect_taken_back(rt: &impl Abort, alloc: Global, table: &mut Table) -> Result<(), Fail> {
+    let back = write(alloc, table, "hi")?;
+    expect_text(rt, alloc, table, "hi")?;
+    let _ = table.apply(back);
+    expect_text(rt, alloc, table, "ok")
+}
+
 #[test]
 fn a_text_is_written_and_taken_back(rt: HostRuntime) -> Result<(), Fail> {
     let alloc = rt.alloc();
-    let label_id = ObjectId::of_kind(ObjectKind::CharacterStringValue, 1)?;
     let mut table = Table::new(alloc, vec![in alloc; label(alloc)?]?)?;
-    let text = Value::Text(Text::new(alloc, "hi")?);
-    let change = table.check_write(label_id, PropertyId::PRESENT_VALUE, None, &text)?;
-    let back = table.apply(change);
-    holds(&rt, table.value_of(label_id) == Some(&text));
-    let again = table.apply(back);
-    let before = Value::Text(Text::new(alloc, "ok")?);
-    holds(&rt, table.value_of(label_id) == Some(&before));
-    let _ = again;
-    Ok(())
+    expect_taken_back(&rt, alloc, &mut table)
 }
 
 fn has_field_fault(table: &Table, reliability: u8) -> bool {

@@ -47,17 +47,25 @@ fn an_acknowledgement_expects_no_reply(rt: HostRuntime) -> Result<(), Fail> {
     Ok(())
 }
 
+/// A datagram from station 7778 of network 0105, by way of a router.
+const ROUTED: [u8; 13] = [
+    0x81, 0x0a, 0x00, 0x0d, 0x01, 0x08, 0x01, 0x05, 0x02, 0x77, 0x78, 0x10, 0x08,
+];
+
 #[test]
-fn a_station_behind_a_router_is_answered_through_it(rt: HostRuntime) -> Result<(), Fail> {
-    let datagram = [
-        0x81, 0x0a, 0x00, 0x0d, 0x01, 0x08, 0x01, 0x05, 0x02, 0x77, 0x78, 0x10, 0x08,
-    ];
-    let found = unwrap(sender(), &datagram).ok_or("ignored")?;
+fn a_station_behind_a_router_is_found(rt: HostRuntime) -> Result<(), Fail> {
+    let found = unwrap(sender(), &ROUTED).ok_or("ignored")?;
     same(&rt, &found.start, &11);
     same(&rt, &found.peer.ip, &0x0a00_0009);
     same(&rt, &found.peer.port, &47808);
     same(&rt, &found.peer.net, &0x0105);
     same(&rt, &found.peer.mac.octets(), &[0x77, 0x78].as_slice());
+    Ok(())
+}
+
+#[test]
+fn a_station_behind_a_router_is_answered_through_it(rt: HostRuntime) -> Result<(), Fail> {
+    let found = unwrap(sender(), &ROUTED).ok_or("ignored")?;
     let written = wrap(rt.alloc(), &found.peer, true, &[0x00, 0x05])
         .ok()
         .ok_or("no memory")?;

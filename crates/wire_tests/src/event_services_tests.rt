@@ -1,8 +1,8 @@
-ghost use Rattle.std.specs.Prelude.{IfOk};
+ghost use Rattle.std.specs.Prelude.{◌≡◌, IfOk};
 ghost use Rattle.event_services.specs.Notifications.{IsTold};
 
 use crate::comparing::same;
-use bac_values::{EventState, ObjectId, Reliability, Stamp, StatusFlags, Value};
+use bac_values::{EventState, ObjectId, ObjectKind, Reliability, Stamp, StatusFlags, Text, Value};
 use event_services::*;
 use std::alloc::Global;
 use std::process::Abort;
@@ -145,49 +145,79 @@ const INFORMATION: [u8; 65] = [
     0x01,
 ];
 
-/// The notification of `HIGH`.
-pub(crate) fn high() -> Result<Notification, Fail>
-    ensures told { IfOk result (λ note. IsTold note.event_type note.values) }
+/// Device 1001, and object 1 of a kind.
+pub(crate) fn device_and(kind: ObjectKind) -> Result<[ObjectId; 2], Fail> {
+    Ok([ObjectId::new(8, 1001)?, ObjectId::of_kind(kind, 1)?])
+}
+
+/// What an object of a device tells of its way from NORMAL to a state.
+pub(crate) fn note_of(
+    objects: [ObjectId; 2],
+    event_type: u8,
+    to: EventState,
+    values: Option<EventValues>,
+    text: Option<Text>,
+) -> Notification
+    ensures event_type { result.event_type ≡ event_type }
+    ensures values { result.values ≡ values }
 {
-    Ok(Notification {
+    let [device, object] = objects;
+    Notification {
         process: 1,
-        device: ObjectId::new(8, 1001)?,
-        object: ObjectId::new(45, 1)?,
+        device,
+        object,
         stamp: RAISED,
         class: 7,
         priority: 100,
-        event_type: 15,
-        text: None,
+        event_type,
+        text,
         notify: 0,
         ack_required: Some(true),
         from: Some(EventState::Normal),
-        to: EventState::HighLimit,
-        values: Some(EventValues::SignedOutOfRange {
-            value: 90,
-            flags: StatusFlags {
-                in_alarm: true,
-                fault: false,
-                overridden: false,
-                out_of_service: false,
-            },
-            deadband: 5,
-            limit: 80,
-        }),
-    })
+        to,
+        values,
+    }
+}
+
+/// Status_Flags of an object in an alarm state.
+pub(crate) const IN_ALARM: StatusFlags = StatusFlags {
+    in_alarm: true,
+    fault: false,
+    overridden: false,
+    out_of_service: false,
+};
+
+/// The notification of `HIGH`, with a message text or without one.
+pub(crate) fn high_with(objects: [ObjectId; 2], text: Option<Text>) -> Notification
+    ensures told { IsTold result.event_type result.values }
+{
+    let values = EventValues::SignedOutOfRange {
+        value: 90,
+        flags: IN_ALARM,
+        deadband: 5,
+        limit: 80,
+    };
+    note_of(objects, 15, EventState::HighLimit, Some(values), text)
+}
+
+/// The notification of `HIGH`.
+fn high() -> Result<Notification, Fail>
+    ensures told { IfOk result (λ note. IsTold note.event_type note.values) }
+{
+    Ok(high_with(device_and(ObjectKind::IntegerValue)?, None))
 }
 
 /// The notification of `ACKNOWLEDGED`.
 fn acknowledged() -> Result<Notification, Fail>
     ensures told { IfOk result (λ note. IsTold note.event_type note.values) }
 {
+    let objects = device_and(ObjectKind::IntegerValue)?;
     Ok(Notification {
         stamp: LATER,
         notify: 2,
         ack_required: None,
         from: None,
-        to: EventState::Offnormal,
-        values: None,
-        ..high()?
+        ..note_of(objects, 15, EventState::Offnormal, None, None)
     })
 }
 
@@ -195,23 +225,21 @@ fn acknowledged() -> Result<Notification, Fail>
 fn faulty() -> Result<Notification, Fail>
     ensures told { IfOk result (λ note. IsTold note.event_type note.values) }
 {
+    let objects = device_and(ObjectKind::IntegerValue)?;
+    let flags = StatusFlags {
+        fault: true,
+        ..IN_ALARM
+    };
+    let values = EventValues::Reliability {
+        reliability: Reliability::UnreliableOther,
+        flags,
+        property: Some(Value::Signed(90)),
+    };
     Ok(Notification {
         stamp: LATER,
         priority: 90,
-        event_type: 19,
         from: Some(EventState::HighLimit),
-        to: EventState::Fault,
-        values: Some(EventValues::Reliability {
-            reliability: Reliability::UnreliableOther,
-            flags: StatusFlags {
-                in_alarm: true,
-                fault: true,
-                overridden: false,
-                out_of_service: false,
-            },
-            property: Some(Value::Signed(90)),
-        }),
-        ..high()?
+        ..note_of(objects, 19, EventState::Fault, Some(values), None)
     })
 }
 
@@ -308,15 +336,15 @@ fn information_is_written(rt: HostRuntime) -> Result<(), Fail> {
 }
 
 /// The octets are the notification.
-fn expect_read(rt: &impl Abort, alloc: Global, octets: &[u8], note: Notification) {
-    same(rt, &read_notification(alloc, octets), &Ok(note));
+pub(crate) fn expect_read(rt: &impl Abort, alloc: Global, octets: &[u8], note: &Notification) {
+    same(rt, &read_notification(alloc, octets).as_ref(), &Ok(note));
 }
 
 #[test]
 fn notifications_are_read(rt: HostRuntime) -> Result<(), Fail> {
-    expect_read(&rt, rt.alloc(), &HIGH, high()?);
-    expect_read(&rt, rt.alloc(), &ACKNOWLEDGED, acknowledged()?);
-    expect_read(&rt, rt.alloc(), &FAULTY, faulty()?);
+    expect_read(&rt, rt.alloc(), &HIGH, &high()?);
+    expect_read(&rt, rt.alloc(), &ACKNOWLEDGED, &acknowledged()?);
+    expect_read(&rt, rt.alloc(), &FAULTY, &faulty()?);
     Ok(())
 }
 
@@ -330,8 +358,8 @@ pub(crate) fn expect_no_notification(
 ) {
     same(
         rt,
-        &read_notification(alloc, octets),
-        &Err(NoteFault::Malformed { reject, at }),
+        &read_notification(alloc, octets).err(),
+        &Some(NoteFault::Malformed { reject, at }),
     );
 }
 

@@ -1,9 +1,11 @@
 ghost use Rattle.std.specs.Prelude.{Some, IfOk};
 ghost use Rattle.event_services.specs.Notifications.{IsOneOrNone, IsTold};
 
-use crate::comparing::same;
-use crate::event_services_tests::{HIGH, expect_no_notification, expect_written, high};
-use bac_values::{Bits, EventState, ObjectId, ObjectKind, Reliability, StatusFlags, Text, Value};
+use crate::event_services_tests::{
+    HIGH, IN_ALARM, device_and, expect_no_notification, expect_read, expect_written, high_with,
+    note_of,
+};
+use bac_values::{Bits, EventState, ObjectKind, Reliability, StatusFlags, Text, Value};
 use event_services::*;
 use std::alloc::Global;
 use std::process::Abort;
@@ -109,14 +111,6 @@ const WORDED: [u8; 64] = [
     0x03, 0xce, 0xfe, 0x0f, 0x09, 0x5a, 0x1a, 0x04, 0x80, 0x29, 0x05, 0x39, 0x50, 0xff, 0x0f, 0xcf,
 ];
 
-/// Status_Flags of an object in an alarm state.
-const IN_ALARM: StatusFlags = StatusFlags {
-    in_alarm: true,
-    fault: false,
-    overridden: false,
-    out_of_service: false,
-};
-
 /// What object 1 of a kind tells on its way from NORMAL to a state.
 fn alarm(
     kind: ObjectKind,
@@ -127,13 +121,8 @@ fn alarm(
     requires told { IsTold event_type (Some values) }
     ensures told { IfOk result (λ note. IsTold note.event_type note.values) }
 {
-    Ok(Notification {
-        object: ObjectId::of_kind(kind, 1)?,
-        event_type,
-        to,
-        values: Some(values),
-        ..high()?
-    })
+    let objects = device_and(kind)?;
+    Ok(note_of(objects, event_type, to, Some(values), None))
 }
 
 /// What object 1 of a kind tells on its way from NORMAL to FAULT.
@@ -170,7 +159,7 @@ fn expect_both_ways(
     requires told { IsTold note.event_type note.values }
 {
     expect_written(rt, alloc, &note, octets)?;
-    same(rt, &read_notification(alloc, octets), &Ok(note));
+    expect_read(rt, alloc, octets, &note);
     Ok(())
 }
 
@@ -304,11 +293,9 @@ fn a_fault_of_a_text_is_told(rt: HostRuntime) -> Result<(), Fail> {
 
 #[test]
 fn a_message_text_is_told(rt: HostRuntime) -> Result<(), Fail> {
-    let note = Notification {
-        text: Some(Text::new(rt.alloc(), "Kälte")?),
-        ..high()?
-    };
-    expect_both_ways(&rt, rt.alloc(), note, &WORDED)
+    let objects = device_and(ObjectKind::IntegerValue)?;
+    let text = Text::new(rt.alloc(), "Kälte")?;
+    expect_both_ways(&rt, rt.alloc(), high_with(objects, Some(text)), &WORDED)
 }
 
 /// With these octets at a place of a notification, in the place of some of its own, it is refused, at another place.
