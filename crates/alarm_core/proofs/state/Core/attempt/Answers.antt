@@ -1,12 +1,49 @@
-use Rattle.std.proofs.Common.{◌≡◌, List, OnOk, sym, subst, rules}
+use Rattle.std.proofs.Common.{◌≡◌, ◌+◌, ◌≤◌, List, OnOk, map, sym, subst, rules}
+use Rattle.std.specs.Prelude.{IfOk}
 use Rattle.notify_class.specs.declared.destination.Destination.{Destination}
 use Rattle.outbox.specs.Outboxes.{pumped}
+use Rattle.alarm_core.specs.declared.event.Act.{Act}
 use Rattle.alarm_core.specs.declared.event.Act.TheVariants.{Edit, Pump}
-use Rattle.alarm_core.specs.History.{event_at}
-use Rattle.alarm_core.specs.CoreSteps.{acted}
+use Rattle.alarm_core.specs.declared.step.Done.{Done}
+use Rattle.alarm_core.specs.DueSteps.{detections_of, due_steps}
+use Rattle.alarm_core.specs.History.{event_at, moved_by}
+use Rattle.alarm_core.specs.CoreSteps.{acted, next_transitions, sends_with}
+use Rattle.alarm_core.specs.Verdicts.{Answers, step_verdict}
 use Rattle.alarm_core.proofs.Undoing.{same_leads_back}
 use Rattle.alarm_core.proofs.Written.{answered_state, edited_state, on_ok, pumped_state}
 use Rattle.alarm_core.proofs.state.Core.attempt.Goals as goal
+
+pub returns-in-Tick : goal.returns-in-Tick
+returns-in-Tick g c =
+    let old = c.args.self.now in
+    let at = c.args.at.now in
+    let is = sym c.in-Tick.is in
+    let did = c.tick.ensures in
+    record {
+      state = subst (λ (act : Act). OnOk c.tick.result (c.tick.new.self ≡ acted (event_at at.moment act) old)) is did.state;
+      moves = subst (λ (act : Act). IfOk c.tick.result (λ (done : Done). done.moves.items ≡ map moved_by (next_transitions (event_at at.moment act) old))) is did.moves;
+      sends = subst (λ (act : Act). IfOk c.tick.result (λ (done : Done). done.sends.items ≡ sends_with at.moment act old.outbox)) is did.sends;
+      rest = did.rest;
+      undoes = did.undoes;
+      verdict = subst (λ (act : Act). Answers c.tick.result (step_verdict (event_at at.moment act) old)) is did.verdict;
+      steps = subst (λ (act : Act). c.tick.new.steps ≤ c.args.steps.now + due_steps at act (detections_of old)) is did.steps;
+    }
+
+pub returns-in-Write : goal.returns-in-Write
+returns-in-Write g c =
+    let old = c.args.self.now in
+    let at = c.args.at.now in
+    let is = sym c.in-Write.is in
+    let did = c.write.ensures in
+    record {
+      state = subst (λ (act : Act). OnOk c.write.result (c.write.new.self ≡ acted (event_at at.moment act) old)) is did.state;
+      moves = subst (λ (act : Act). IfOk c.write.result (λ (done : Done). done.moves.items ≡ map moved_by (next_transitions (event_at at.moment act) old))) is did.moves;
+      sends = subst (λ (act : Act). IfOk c.write.result (λ (done : Done). done.sends.items ≡ sends_with at.moment act old.outbox)) is did.sends;
+      rest = did.rest;
+      undoes = did.undoes;
+      verdict = subst (λ (act : Act). Answers c.write.result (step_verdict (event_at at.moment act) old)) is did.verdict;
+      steps = subst (λ (act : Act). c.write.new.steps ≤ c.args.steps.now + due_steps at act (detections_of old)) is did.steps;
+    }
 
 pub returns-in-Pump-clause-state : goal.returns-in-Pump-clause-state
 returns-in-Pump-clause-state g c =

@@ -1,7 +1,10 @@
-use Rattle.std.proofs.Common.{rules, ◌≡◌, ℕ, ◌+◌, ◌-◌, ◌<◌, length, Bool, true, false, if◌then◌else◌, nat_lt, List, [], ◌∷◌, ◌++◌, suc, map, take, drop, filter, get_or, refl, sym, ap, ◌∙◌, arith}
+use Rattle.std.proofs.Common.{◌≡◌, ℕ, zero, ◌+◌, ◌-◌, ◌<◌, length, Bool, true, false, if◌then◌else◌, nat_lt, List, [], ◌∷◌, ◌++◌, suc, map, take, drop, filter, get_or, refl, sym, ap, subst, ◌∙◌, arith}
 use Rattle.std.proofs.lemmas.Bool.{ltb-false, ltb-true}
-use Rattle.std.proofs.lemmas.List.{append_assoc, at_drop_more}
+use Rattle.std.proofs.lemmas.List.{append_assoc, append-nil, at_drop_more, drop_all}
+use Rattle.std.proofs.lemmas.Result.{IfOk-from_err}
+use Rattle.event_services.specs.declared.information.EventSummary.{EventSummary}
 use Rattle.alarm_core.specs.Information.{is_told, summary_of}
+use Rattle.alarm_core.specs.State.{CoreState, DetectedObjectState}
 use Rattle.alarm_core.proofs.state.Core.event_information.Goals as goal
 
 -- what is kept of the elements from a place on, where the one at the place is kept
@@ -10,6 +13,32 @@ kept_here : {X : Type 0} (p : X → Bool) (xs : List X) (i : ℕ) (x : X) → i 
 kept_here p xs i x h e t =
     at_drop_more (filter p) xs i x h ∙ (ap (λ y. filter p (y ∷ drop (i + 1) xs)) (sym e)
     ∙ ap (λ b. if b then x ∷ filter p (drop (i + 1) xs) else filter p (drop (i + 1) xs)) t)
+
+-- and where it isn't
+passed_here : {X : Type 0} (p : X → Bool) (xs : List X) (i : ℕ) (x : X) → i < length xs → x ≡ get_or xs i x → p x ≡ false →
+    filter p (drop i xs) ≡ filter p (drop (i + 1) xs)
+passed_here p xs i x h e t =
+    at_drop_more (filter p) xs i x h ∙ (ap (λ y. filter p (y ∷ drop (i + 1) xs)) (sym e)
+    ∙ ap (λ b. if b then x ∷ filter p (drop (i + 1) xs) else filter p (drop (i + 1) xs)) t)
+
+-- none is told where none is left, or where there is no room
+none_left : {X Y : Type 0} (f : X → Y) (left : ℕ) (done : List Y) → done ++ map f (take left []) ≡ done
+none_left f zero done = append-nil done
+none_left f (suc left) done = append-nil done
+
+no_more : (left : ℕ) → nat_lt left 0 ≡ false
+no_more left = by_test (nat_lt left 0) refl
+  where
+    by_test : (b : Bool) → nat_lt left 0 ≡ b → b ≡ false
+    by_test false f = refl
+    by_test true f = let below = ltb-true left 0 f in absurd (omega (arith, below))
+
+some_more : (n : ℕ) → nat_lt 0 (suc n) ≡ true
+some_more n = by_test (nat_lt 0 (suc n)) refl
+  where
+    by_test : (b : Bool) → nat_lt 0 (suc n) ≡ b → b ≡ true
+    by_test true f = refl
+    by_test false f = let above = ltb-false 0 (suc n) f in absurd (omega (arith, above))
 
 -- one that is told goes behind the others, and takes a place
 told_one : {X Y : Type 0} (f : X → Y) (left : ℕ) (x : X) (rest : List X) (done : List Y) →
@@ -31,27 +60,82 @@ more_than left x rest = by_tests (nat_lt left (length rest)) (nat_lt (suc left) 
         let below = ltb-true (suc left) (length (x ∷ rest)) g in
         absurd (omega (arith, below, above))
 
--- src/informing.rt:109:9
+pub loop-detected-preserved-then-not-is_told : goal.loop-detected-preserved-then-not-is_told
+loop-detected-preserved-then-not-is_told c =
+    let alarms = c.args.self.now.alarms in
+    let index = c.loop-detected.detected-index in
+    let told = is_told c.args.last in
+    let same : c.alarms-detected-items.result.now ≡ alarms = c.alarms-detected-items.ensures.alarms ∙ ap (λ (s : CoreState). s.alarms) c.self.view_is in
+    let item = c.detected-item.result in
+    let within : index < length alarms = subst (λ (ds : List DetectedObjectState). index < length ds) same c.loop-detected-test.true in
+    let is : item ≡ get_or alarms index item = subst (λ (ds : List DetectedObjectState). item ≡ get_or ds index item) same c.detected-item.is in
+    let left = c.loop-detected.left in
+    let active : told item ≡ false = ap (λ last. is_told last item) (sym c.as_ref-last.ensures.value) ∙ sym c.is_told.ensures.told ∙ c.if-not-is_told.true in
+    let rest : filter told (drop index alarms) ≡ filter told (drop (index + 1) alarms) = passed_here told alarms index item within is active in (
+      ap (λ items. c.loop-detected.summaries.items ++ map (summary_of c.args.self.now) (take left items)) (sym rest) ∙ c.loop-detected.invariant.0,
+      ap (λ items. nat_lt left (length items)) (sym rest) ∙ c.loop-detected.invariant.1,
+    )
+
 pub loop-detected-preserved : goal.loop-detected-preserved
 loop-detected-preserved c =
     let alarms = c.args.self.now.alarms in
-    let item = c.detected-item.result in
     let index = c.loop-detected.detected-index in
-    let left = c.loop-detected.left in
     let told = is_told c.args.last in
+    let same : c.alarms-detected-items.result.now ≡ alarms = c.alarms-detected-items.ensures.alarms ∙ ap (λ (s : CoreState). s.alarms) c.self.view_is in
+    let item = c.detected-item.result in
+    let within : index < length alarms = subst (λ (ds : List DetectedObjectState). index < length ds) same c.loop-detected-test.true in
+    let is : item ≡ get_or alarms index item = subst (λ (ds : List DetectedObjectState). item ≡ get_or ds index item) same c.detected-item.is in
+    let left = c.loop-detected.left in
+    let now = c.loop-detected.summaries.items in
     let tell = summary_of c.args.self.now in
     let rest = filter told (drop (index + 1) alarms) in
-    let within : index < length alarms = search rules in
-    let is : item ≡ get_or alarms index item = search rules in
-    let active : told item ≡ true = search rules in
+    let active : told item ≡ true = ap (λ last. is_told last item) (sym c.as_ref-last.ensures.value) ∙ sym c.is_told.ensures.told ∙ c.if-not-is_told.false in
     let room : left ≡ suc (left - 1) = omega arith in
     let here : filter told (drop index alarms) ≡ item ∷ rest = kept_here told alarms index item within is active in
-    let added : c.push.new.items.items ≡ c.loop-detected.summaries.items ++ tell item ∷ [] = search rules in (
+    let added : c.push.new.items.items ≡ now ++ tell item ∷ [] = c.in_ok-push.ensures.added ∙ ap (λ (summary : EventSummary). now ++ summary ∷ []) c.summary_of.ensures.summary in (
       ap (λ items. items ++ map tell (take (left - 1) rest)) added
-          ∙ (told_one tell (left - 1) item rest c.loop-detected.summaries.items
-          ∙ (ap (λ n. c.loop-detected.summaries.items ++ map tell (take n (item ∷ rest))) (sym room)
-          ∙ (ap (λ items. c.loop-detected.summaries.items ++ map tell (take left items)) (sym here)
+          ∙ (told_one tell (left - 1) item rest now
+          ∙ (ap (λ n. now ++ map tell (take n (item ∷ rest))) (sym room)
+          ∙ (ap (λ items. now ++ map tell (take left items)) (sym here)
           ∙ c.loop-detected.invariant.0))),
       more_than (left - 1) item rest ∙ (ap (λ n. nat_lt n (length (item ∷ rest))) (sym room)
           ∙ (ap (λ items. nat_lt left (length items)) (sym here) ∙ c.loop-detected.invariant.1)),
     )
+
+pub returns-then-left-eq0 : goal.returns-then-left-eq0
+returns-then-left-eq0 c =
+    let alarms = c.args.self.now.alarms in
+    let index = c.loop-detected.detected-index in
+    let told = is_told c.args.last in
+    let same : c.alarms-detected-items.result.now ≡ alarms = c.alarms-detected-items.ensures.alarms ∙ ap (λ (s : CoreState). s.alarms) c.self.view_is in
+    let item = c.detected-item.result in
+    let within : index < length alarms = subst (λ (ds : List DetectedObjectState). index < length ds) same c.loop-detected-test.true in
+    let is : item ≡ get_or alarms index item = subst (λ (ds : List DetectedObjectState). item ≡ get_or ds index item) same c.detected-item.is in
+    let now = c.loop-detected.summaries.items in
+    let active : told item ≡ true = ap (λ last. is_told last item) (sym c.as_ref-last.ensures.value) ∙ sym c.is_told.ensures.told ∙ c.if-not-is_told.false in
+    let here : filter told (drop index alarms) ≡ item ∷ filter told (drop (index + 1) alarms) = kept_here told alarms index item within is active in
+    record {
+      summaries = sym (append-nil now) ∙ ap (λ n. now ++ map (summary_of c.args.self.now) (take n (filter told (drop index alarms)))) (sym c.if-left-eq0.true) ∙ c.loop-detected.invariant.0;
+      more = sym (some_more (length (filter told (drop (index + 1) alarms)))) ∙ ap (λ items. nat_lt 0 (length items)) (sym here) ∙ ap (λ n. nat_lt n (length (filter told (drop index alarms)))) (sym c.if-left-eq0.true) ∙ c.loop-detected.invariant.1;
+    }
+
+pub returns-in_err-push : goal.returns-in_err-push
+returns-in_err-push c = record {
+  summaries = IfOk-from_err c.from_residual.result _ c.from_residual.ensures.0;
+  more = IfOk-from_err c.from_residual.result _ c.from_residual.ensures.0;
+}
+
+pub returns : goal.returns
+returns c =
+    let alarms = c.args.self.now.alarms in
+    let index = c.loop-detected.detected-index in
+    let told = is_told c.args.last in
+    let same : c.alarms-detected-items.result.now ≡ alarms = c.alarms-detected-items.ensures.alarms ∙ ap (λ (s : CoreState). s.alarms) c.self.view_is in
+    let left = c.loop-detected.left in
+    let now = c.loop-detected.summaries.items in
+    let tell = summary_of c.args.self.now in
+    let none : drop index alarms ≡ [] = subst (λ (ds : List DetectedObjectState). drop index ds ≡ []) same (drop_all index c.alarms-detected-items.result.now c.loop-detected-test.false) in
+    record {
+      summaries = sym (none_left tell left now) ∙ ap (λ items. now ++ map tell (take left (filter told items))) (sym none) ∙ c.loop-detected.invariant.0;
+      more = sym (no_more left) ∙ ap (λ items. nat_lt left (length (filter told items))) (sym none) ∙ c.loop-detected.invariant.1;
+    }

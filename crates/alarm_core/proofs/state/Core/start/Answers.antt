@@ -7,7 +7,6 @@ use Rattle.notify_class.specs.declared.class_site.ClassSite.{ClassSite}
 use Rattle.enrollment.specs.Objects.{ObjectsState}
 use Rattle.alarm_core.specs.Classes.{first_classes, known_peers_of, peers_in}
 use Rattle.alarm_core.specs.CoreSteps.{first_kept, first_with}
-use Rattle.alarm_core.specs.DueSteps.{DetectionsState}
 use Rattle.alarm_core.specs.Evaluations.{site_moment, site_zone}
 use Rattle.alarm_core.specs.Sites.{IsSite}
 use Rattle.alarm_core.specs.Subjects.{ack_required_of, detecting_subjects}
