@@ -1,6 +1,7 @@
 //! The floor, and what it stands for.
 
-ghost use Rattle.std.specs.Prelude.{◌≡◌, ◌≢◌, ◌<◌, ◌≤◌, ◌+◌, ◌-◌, ◌^◌, ℕ, List, [], ◌∷◌, ◌++◌, IfOk, IfErr, IfSome, IsNone, MatchBool, OnErr, OnOk, Some, None, Option, Ok, Err, length, max, min, Result};
+ghost use Rattle.std.specs.Prelude.{◌≡◌, ◌≢◌, ◌<◌, ◌≤◌, ◌+◌, ◌-◌, ◌^◌, ℕ, List, [], ◌∷◌, ◌++◌, IfOk, IfErr, IfSome, IsNone, MatchBool, OnErr, OnOk, Some, None, Option, Ok, Err, is_some, length, max, min, Result, vec_len, vec_capacity};
+ghost use Rattle.std.specs.VecDeque.{deque_len, deque_capacity};
 ghost use Rattle.bac_values.specs.Moments.{IsMoment};
 ghost use Rattle.bac_values.specs.declared.input.Input.{Input as Entered};
 ghost use Rattle.bac_values.specs.declared.note.Send.{Send as Datagram};
@@ -208,6 +209,41 @@ fn readied(
     })
 }
 
+// An event's record, what it sends and its reply come to what is pending.
+fn add_entered(pending: &mut Pending, parts: Parts, outcome: Outcome)
+    requires few { pending.old.calls < 2 ^ 63 }
+    requires records { vec_len pending.old.records + length parts.octets.items ≤ vec_capacity pending.old.records }
+    requires sends { deque_len pending.old.sends + 2 ≤ deque_capacity pending.old.sends }
+    ensures records { pending.new.records.items ≡ pending.old.records.items ++ parts.octets.items }
+    ensures sends { pending.new.sends.items ≡ (pending.old.sends.items ++ outcome.sends ∷ []) ++ parts.reply ∷ [] }
+    ensures calls { pending.new.calls ≡ pending.old.calls + 1 }
+{
+    pending.add_event(parts.octets, outcome.sends, parts.reply);
+}
+
+// The answer to an event that doesn't fit comes to what is pending.
+fn add_full(pending: &mut Pending, parts: Parts)
+    requires few { pending.old.calls < 2 ^ 63 }
+    requires sends { deque_len pending.old.sends + 2 ≤ deque_capacity pending.old.sends }
+    ensures records { pending.new.records.items ≡ pending.old.records.items }
+    ensures sends { pending.new.sends.items ≡ pending.old.sends.items ++ parts.full ∷ [] }
+    ensures calls { pending.new.calls ≡ pending.old.calls + 1 }
+{
+    pending.add_reply(parts.full);
+}
+
+// The ground of a press that isn't out.
+fn ground_of<G: Ground>(spot: Spot<G>) -> G
+    requires home { IsNotOut spot }
+    ensures device { IsGroundOf spot result }
+{
+    match spot {
+        Spot::Home(press) => press.into_ground(),
+        Spot::Broken { device, .. } => device,
+        Spot::Out { .. } => unreachable!(),
+    }
+}
+
 impl<G: Ground> Floor<G> {
     /// A floor with the press at home and nothing pending.
     pub(crate) fn new(alloc: Global, core: Core, press: Press<G>) -> Floor<G>
@@ -255,12 +291,7 @@ impl<G: Ground> Floor<G> {
         requires home { IsNotOut self.spot }
         ensures device { IsGroundOf self.spot result }
     {
-        let Floor { spot, .. } = self;
-        match spot {
-            Spot::Home(press) => press.into_ground(),
-            Spot::Broken { device, .. } => device,
-            Spot::Out { .. } => unreachable!(),
-        }
+        ground_of(self.spot)
     }
 
     // Whether the press is out.
@@ -299,6 +330,37 @@ impl<G: Ground> Floor<G> {
         Ok(self.ticket(Kind::Replied))
     }
 
+    // An event comes next with what it adds, which is ready. Whether it fits or not, its requester is told where one is.
+    fn enter_with(&mut self, event: &Event, parts: Parts, told: bool) -> Result<Ticket, EnterFault>
+        requires moment { IsMoment event.now.moment }
+        requires not_before { self.old.core.last_moment ≤ event.now.moment }
+        requires allowed { IsAllowed self.old.core event.now.act }
+        requires record { HasRecord event.now }
+        requires fits { FitsEvent event.now }
+        requires events { self.old.core.events < 2 ^ 63 }
+        requires few { self.old.calls < 1024 }
+        requires short { length self.old.records + length parts.octets.items ≤ 60000 }
+        requires written { parts.octets.items ≡ written_event event.now }
+        ensures comes { (reply full : Option Datagram) → parts.reply ≡ if_owed reply → parts.full ≡ if_owed full → told ≡ is_some full → CameOf self.old self.new (entering event.now reply full (step_verdict event.now self.old.core)) result }
+    {
+        if self.pending.make_room(parts.octets.len()).is_err() {
+            return Err(EnterFault::NoMemory);
+        }
+        match counted::<Brand>(&mut self.core, event, Blank::new(1)) {
+            Ok(outcome) => {
+                add_entered(&mut self.pending, parts, outcome);
+                Ok(self.ticket(Kind::Entered))
+            }
+            Err(StepFault::Full { would, limit }) => {
+                if told {
+                    add_full(&mut self.pending, parts);
+                }
+                Err(EnterFault::Full { would, limit })
+            }
+            Err(StepFault::NoMemory) => Err(EnterFault::NoMemory),
+        }
+    }
+
     // An event that comes next.
     fn enter(
         &mut self,
@@ -322,24 +384,7 @@ impl<G: Ground> Floor<G> {
             Ok(parts) => parts,
             Err(NoMemory) => return Err(EnterFault::NoMemory),
         };
-        if self.pending.make_room(parts.octets.len()).is_err() {
-            return Err(EnterFault::NoMemory);
-        }
-        match counted::<Brand>(&mut self.core, &event, Blank::new(1)) {
-            Ok(outcome) => {
-                self.pending
-                    .add_event(parts.octets, outcome.sends, parts.reply);
-                Ok(self.ticket(Kind::Entered))
-            }
-            Err(StepFault::Full { would, limit }) => {
-                if !told {
-                    return Err(EnterFault::Full { would, limit });
-                }
-                self.pending.add_reply(parts.full);
-                Err(EnterFault::Full { would, limit })
-            }
-            Err(StepFault::NoMemory) => Err(EnterFault::NoMemory),
-        }
+        self.enter_with(&event, parts, told)
     }
 
     // An input that is looked at.
