@@ -90,6 +90,7 @@ fn play_site<T: Source, G: Ground>(
         Err((device, fault)) => return (device, Err(Status::from(fault))),
     };
     let (device, played) = play_session(alloc, press, &mut core, script);
+    drop(core);
     match played {
         Ok(_tally) => (device, Ok(())),
         Err(status) => (device, Err(status)),

@@ -1,7 +1,7 @@
 ghost use Rattle.std.specs.Prelude.{◌≡◌, [], ◌-◌, ◌^◌, map, string_bytes};
 ghost use Rattle.algorithm_rules.specs.Facts.{facts_of};
 ghost use Rattle.script_lines.specs.Number.{signed_of, unsigned_of};
-ghost use Rattle.alarm_server.specs.Settings.{settings_of, facts_with};
+ghost use Rattle.alarm_server.specs.Settings.{settings_from, settings_of, facts_with};
 
 use algorithm_rules::{Algorithm, Snapshot};
 use bac_values::Value;
@@ -34,6 +34,25 @@ fn unsigned_word(word: &String) -> Option<u32>
     Some(unsigned(word.as_bytes(), u64::from(u32::MAX))? as u32)
 }
 
+// The settings that these words give, if each of them is the number that it has to be.
+fn settings_in(
+    low: &String,
+    high: &String,
+    deadband: &String,
+    delay: &String,
+    normal: &String,
+) -> Option<Settings>
+    ensures settings { result ≡ settings_from (string_bytes low.now) (string_bytes high.now) (string_bytes deadband.now) (string_bytes delay.now) (string_bytes normal.now) }
+{
+    Some(Settings {
+        low: signed_word(low)?,
+        high: signed_word(high)?,
+        deadband: unsigned_word(deadband)?,
+        delay: unsigned_word(delay)?,
+        normal: unsigned_word(normal)?,
+    })
+}
+
 impl Settings {
     /// The settings that the words `trial LOW HIGH DEADBAND DELAY NORMAL` give, and none exactly where the words are
     /// none of this form.
@@ -46,13 +65,7 @@ impl Settings {
         if trial.as_str() != "trial" {
             return None;
         }
-        Some(Settings {
-            low: signed_word(low)?,
-            high: signed_word(high)?,
-            deadband: unsigned_word(deadband)?,
-            delay: unsigned_word(delay)?,
-            normal: unsigned_word(normal)?,
-        })
+        settings_in(low, high, deadband, delay, normal)
     }
 
     /// What the rules see of the object with a value.

@@ -122,6 +122,28 @@ fn moved_to(moment: u64, event: Event) -> Event
     moved
 }
 
+// The piece of a line whose event was entered, and has that number.
+fn entered_piece(
+    alloc: Global,
+    number: u64,
+    event: u64,
+    outcome: Outcome,
+    reply: Option<Send>,
+) -> Result<Vec<ReportLine>, NoMemory>
+    ensures piece { IfOk result (λ piece. piece.items ≡ (((ReportLine.Entered number event outcome.moment ∷ []) ++ map (λ moved. ReportLine.Change number moved) outcome.moves) ++ map (send_line number) outcome.sends) ++ map (send_line number) (if_owed reply)) }
+{
+    let entered = ReportLine::Entered {
+        line: number,
+        event,
+        moment: outcome.moment,
+    };
+    let mut piece = single(alloc, entered)?;
+    add_changes(&mut piece, number, outcome.moves.as_slice())?;
+    add_sends(&mut piece, number, outcome.sends.into_vec())?;
+    add_reply(&mut piece, number, reply)?;
+    Ok(piece)
+}
+
 // Enters an event, and gives the piece of its line.
 fn enter(
     alloc: Global,
@@ -151,15 +173,7 @@ fn enter(
         }
         Err(StepFault::NoMemory) => return Err(NoMemory),
     };
-    let entered = ReportLine::Entered {
-        line: number,
-        event: core.events(),
-        moment: outcome.moment,
-    };
-    let mut piece = single(alloc, entered)?;
-    add_changes(&mut piece, number, outcome.moves.as_slice())?;
-    add_sends(&mut piece, number, outcome.sends.into_vec())?;
-    add_reply(&mut piece, number, reply)?;
+    let piece = entered_piece(alloc, number, core.events(), outcome, reply)?;
     let event = Some(moved_to(core.last_moment(), event));
     Ok(Taken { piece, event })
 }

@@ -76,6 +76,32 @@ fn of_memory(status: Status) -> Status
     }
 }
 
+// How many lines of each kind the report of a site has, by a script in memory, over a press that is blank and whose ground
+// fails for want of memory alone. Nothing comes before it.
+fn tally_on<G: Ground + Drop>(
+    alloc: Global,
+    press: Press<G>,
+    site: &Site,
+    script: &mut MemorySource,
+) -> Result<Tally, Status>
+    requires site { IsSite site.now }
+    requires limits { KeepsLimits site.now }
+    ensures tally { IfOk result (λ tally. tally ≡ tally_over (report_of site.now [] script.old.left)) }
+    ensures accepted { OnOk result (refused_line Session script.old.left ≡ None) }
+    ensures refused { (line : ℕ) → result ≡ Err (Status.ScriptRefused line) → refused_line Session script.old.left ≡ Some line }
+    ensures takes_site { (fault : SiteFault) → result ≢ Err (Status.SiteRefused fault) }
+    ensures fault { IfErr result IsInnerFault }
+{
+    let mut core = Core::start(alloc, site)?;
+    let (device, played) = play_session(alloc, press, &mut core, script);
+    drop(core);
+    drop(device);
+    match played {
+        Ok(tally) => Ok(tally),
+        Err(status) => Err(of_memory(status)),
+    }
+}
+
 // How many lines of each kind the report of a site has, by a script in memory. Nothing comes before it.
 fn tally_by(
     alloc: Global,
@@ -92,13 +118,8 @@ fn tally_by(
     ensures takes_site { (fault : SiteFault) → result ≢ Err (Status.SiteRefused fault) }
     ensures fault { IfErr result IsInnerFault }
 {
-    let mut core = Core::start(alloc, site)?;
     let press = blank_press(alloc, site, text)?;
-    let (_device, played) = play_session(alloc, press, &mut core, script);
-    match played {
-        Ok(tally) => Ok(tally),
-        Err(status) => Err(of_memory(status)),
-    }
+    tally_on(alloc, press, site, script)
 }
 
 // How many lines of each kind the report of the generated site has, by the script that is drawn from a seed.

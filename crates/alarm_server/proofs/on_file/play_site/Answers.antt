@@ -73,8 +73,8 @@ returns-in-Ok-played-clause-keeps g c = λ history stood.
     let opened = c.in-Ok.ensures in
     keeps_session (journal_of c.args.site.now c.args.text.now) c.args.site.now c.requires.site core opened.site press.layout history Done old mid new stood opened.quiet (opened.represents history) (g.T.Source.left c.args.script.now) opened.reopens (opened.holds history) (rw c.in-Ok-played.is at c.play_session-device.ensures.ends) (c.play_session-device.ensures.keeps (journal_of c.args.site.now c.args.text.now) history)
 
-pub returns-clause-ends : goal.returns-clause-ends
-returns-clause-ends g c = λ history stood.
+pub returns-in-Err-played-clause-ends : goal.returns-in-Err-played-clause-ends
+returns-in-Err-played-clause-ends g c = λ history stood.
     let old = g.G.Ground.told c.args.device in
     let press = c.in-Ok.opened.0 in
     let core = c.in-Ok.opened.1 in
@@ -83,8 +83,8 @@ returns-clause-ends g c = λ history stood.
     let opened = c.in-Ok.ensures in
     ends_session (journal_of c.args.site.now c.args.text.now) c.args.site.now c.requires.site core opened.site press.layout history c.in-Err-played.status old mid new stood opened.quiet (opened.represents history) (g.T.Source.left c.args.script.now) (rw c.in-Err-played.is at c.play_session-device.ensures.ends)
 
-pub returns-clause-keeps : goal.returns-clause-keeps
-returns-clause-keeps g c = λ history stood.
+pub returns-in-Err-played-clause-keeps : goal.returns-in-Err-played-clause-keeps
+returns-in-Err-played-clause-keeps g c = λ history stood.
     let old = g.G.Ground.told c.args.device in
     let press = c.in-Ok.opened.0 in
     let core = c.in-Ok.opened.1 in
@@ -93,8 +93,8 @@ returns-clause-keeps g c = λ history stood.
     let opened = c.in-Ok.ensures in
     keeps_session (journal_of c.args.site.now c.args.text.now) c.args.site.now c.requires.site core opened.site press.layout history c.in-Err-played.status old mid new stood opened.quiet (opened.represents history) (g.T.Source.left c.args.script.now) opened.reopens (opened.holds history) (rw c.in-Err-played.is at c.play_session-device.ensures.ends) (c.play_session-device.ensures.keeps (journal_of c.args.site.now c.args.text.now) history)
 
-pub returns-clause-stops : goal.returns-clause-stops
-returns-clause-stops g c = λ history stood e.
+pub returns-in-Err-played-clause-stops : goal.returns-in-Err-played-clause-stops
+returns-in-Err-played-clause-stops g c = λ history stood e.
     let same : c.in-Err-played.status ≡ ReadFault = cc in
     let old = g.G.Ground.told c.args.device in
     let press = c.in-Ok.opened.0 in
@@ -104,8 +104,8 @@ returns-clause-stops g c = λ history stood e.
     let opened = c.in-Ok.ensures in
     stops_session (journal_of c.args.site.now c.args.text.now) c.args.site.now c.requires.site core opened.site press.layout history c.in-Err-played.status old mid new stood opened.quiet (opened.represents history) (g.T.Source.left c.args.script.now) (g.T.Source.left c.play_session-device.new.script) (c.play_session-device.ensures.stops (c.in-Err-played.is ∙ ap Err same))
 
-pub returns-clause-script_told : goal.returns-clause-script_told
-returns-clause-script_told g c = λ e.
+pub returns-in-Err-played-clause-script_told : goal.returns-in-Err-played-clause-script_told
+returns-in-Err-played-clause-script_told g c = λ e.
     let same : c.in-Err-played.status ≡ ReadFault = cc in
     let old = g.G.Ground.told c.in-Ok.opened.0.device in
     let new = g.G.Ground.told c.play_session-device.result.0 in

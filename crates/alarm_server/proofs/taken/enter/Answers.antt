@@ -1,11 +1,7 @@
-use Rattle.std.proofs.Common.{◌≡◌, ◌+◌, ◌++◌, ◌∷◌, [], Ok, Err, map, ◌∙◌, rules}
-use Rattle.bac_values.specs.declared.report.ReportLine.TheVariants.{Entered, Change}
+use Rattle.std.proofs.Common.{◌≡◌, ◌+◌, Ok, Err, ◌∙◌, rules}
 use Rattle.alarm_core.specs.declared.event.StepFault.TheVariants.{Full}
-use Rattle.alarm_core.specs.History.{moved_by, raised}
-use Rattle.alarm_core.specs.CoreSteps.{next_sends, next_transitions}
+use Rattle.alarm_core.specs.History.{raised}
 use Rattle.alarm_core.specs.Verdicts.{step_verdict}
-use Rattle.service_desk.specs.Answers.{if_owed}
-use Rattle.alarm_server.specs.Pieces.{send_line}
 use Rattle.alarm_server.proofs.Entering.{entered, not_entered}
 use Rattle.alarm_server.proofs.PieceLines.{fits_is}
 use Rattle.alarm_server.proofs.taken.enter.Goals as goal
@@ -14,21 +10,12 @@ pub returns-clause-piece : goal.returns-clause-piece
 returns-clause-piece c =
     let state = c.args.core.now in
     let event = raised state.last_moment c.args.event in
-    let moment = c.in-Ok.outcome.moment in
-    let moved = c.as_slice.result.now in
-    let gone = c.into_vec.result.items in
-    let number = c.args.number in
+    let outcome = c.in-Ok.outcome in
     let same_events : c.events-2.result ≡ state.events + 1 = search rules in
-    let same_moment : moment ≡ event.moment = search rules in
-    let same_moves : moved ≡ map moved_by (next_transitions event state) = search rules in
-    let same_sends : gone ≡ next_sends event state = search rules in
+    let same_moment : outcome.moment ≡ event.moment = search rules in
     let fits : step_verdict event state ≡ Ok tt = search rules in
-    let first : c.in_ok-piece.piece.items ≡ Entered number c.events-2.result moment ∷ [] = c.in_ok-piece.ensures.single in
-    let changes : c.add_changes.new.piece.items ≡ c.in_ok-piece.piece.items ++ map (λ moved. Change number moved) moved = c.in_ok-add_changes.ensures.changes in
-    let sends : c.add_sends.new.piece.items ≡ c.add_changes.new.piece.items ++ map (send_line number) gone = c.in_ok-add_sends.ensures.sends in
-    let reply : c.add_reply.new.piece.items ≡ c.add_sends.new.piece.items ++ map (send_line number) (if_owed c.args.reply) = c.in_ok-add_reply.ensures.reply in
-    let lines : c.add_reply.new.piece.items ≡ (((Entered number c.events-2.result moment ∷ []) ++ map (λ moved. Change number moved) moved) ++ map (send_line number) gone) ++ map (send_line number) (if_owed c.args.reply) = cc in
-    lines ∙ fits_is number state event c.args.reply c.args.full (step_verdict event state) moved gone c.events-2.result moment fits same_events same_moment same_moves same_sends
+    c.in_ok-piece.ensures.piece
+    ∙ fits_is c.args.number state event c.args.reply c.args.full (step_verdict event state) outcome.moves outcome.sends c.events-2.result outcome.moment fits same_events same_moment c.in-Ok.ensures.moves c.in-Ok.ensures.sends
 
 pub returns-in-Err-Full-clause-represents : goal.returns-in-Err-Full-clause-represents
 returns-in-Err-Full-clause-represents c = λ history stands.

@@ -1,28 +1,7 @@
-use Rattle.std.proofs.Common.{ap, sym, subst, Err, ◌∙◌}
-use Rattle.alarm_core.specs.State.{CoreState}
 use Rattle.std.proofs.lemmas.Result.{err_from_is_err_and}
-use Rattle.alarm_server.specs.Status.{IsInnerFault}
-use Rattle.alarm_server.proofs.OfWorkload.{ends_inner, refuses_line, reported, takes_site}
 use Rattle.alarm_server.proofs.workload.tally_by.Goals as goal
-
-pub returns-in-Ok-clause-tally : goal.returns-in-Ok-clause-tally
-returns-in-Ok-clause-tally c =
-    let own = ap (λ (s : CoreState). s.site) c.in_ok-core.ensures.starts in
-    reported c.args.site.now c.in_ok-core.core c.args.script.now.left c.in-Ok.tally c.requires.site c.in_ok-core.ensures.represents own (rw c.in-Ok.is at c.play_session-device.ensures.tally)
-
-pub returns-in-Ok-clause-accepted : goal.returns-in-Ok-clause-accepted
-returns-in-Ok-clause-accepted c = rw c.in-Ok.is at c.play_session-device.ensures.accepted
-
-pub returns-clause-fault : goal.returns-clause-fault
-returns-clause-fault c = subst IsInnerFault (sym c.of_memory.ensures.status) (ends_inner c.in-Err.status (rw c.in-Err.is at c.play_session-device.ensures.fault))
-
-pub returns-clause-takes_site : goal.returns-clause-takes_site
-returns-clause-takes_site c = λ why same. takes_site c.in-Err.status c.of_memory.result why c.of_memory.ensures.status (rw c.in-Err.is at c.play_session-device.ensures.fault) same
-
-pub returns-clause-refused : goal.returns-clause-refused
-returns-clause-refused c = λ line same. c.play_session-device.ensures.refused line (c.in-Err.is ∙ ap Err (refuses_line c.in-Err.status c.of_memory.result line c.of_memory.ensures.status same))
 
 pub returns-in_err-press-clause-fault : goal.returns-in_err-press-clause-fault
 returns-in_err-press-clause-fault c =
-    let p = err_from_is_err_and c.from_residual-in_err-press.result c.from_residual-in_err-press.ensures.1 in
+    let p = err_from_is_err_and c.from_residual.result c.from_residual.ensures.1 in
     rw (p.1, p.2) c.in_err-press.ensures.fault
