@@ -21,14 +21,17 @@ pub(crate) trait Play {
     fn play(&self, rt: &impl Abort, alloc: Global, core: &mut Core) -> Result<(), Fail>;
 }
 
-/// Plays to a core, and gives it up. What owns a core has one way out.
+/// Plays to a core, and gives it up. What owns a core has one way out, and drops it by a call: it is dear to drop where it
+/// stands.
 pub(crate) fn play_to(
     rt: &impl Abort,
     alloc: Global,
     mut core: Core,
     play: &impl Play,
 ) -> Result<(), Fail> {
-    play.play(rt, alloc, &mut core)
+    let played = play.play(rt, alloc, &mut core);
+    drop(core);
+    played
 }
 
 /// Plays to the core of a site, from its start on.
@@ -53,7 +56,9 @@ pub(crate) fn play_at_tank(
     requires outbox { outbox ≤ 16_384 }
 {
     let site = plant(alloc, 0, outbox)?;
-    play_on(rt, alloc, &site, play)
+    let played = play_on(rt, alloc, &site, play);
+    drop(site);
+    played
 }
 
 pub(crate) fn counted<L: Ledger>(

@@ -98,7 +98,9 @@ fn restored(alloc: Global, site: &Site) -> Result<Core, Fail>
 /// Plays to that core.
 fn play_on_restored(rt: &impl Abort, alloc: Global, play: &impl Play) -> Result<(), Fail> {
     let site = bare(alloc)?;
-    play_to(rt, alloc, restored(alloc, &site)?, play)
+    let core = restored(alloc, &site);
+    drop(site);
+    play_to(rt, alloc, core?, play)
 }
 
 /// What was told is there.

@@ -87,9 +87,9 @@ fn pressed(press: Press<MemoryGround>, job: &Job) -> MemoryGround
 
 /// What is left where there is a core, which is given up.
 fn left_in(core: Core) -> Left {
-    Left::Core {
-        events: core.events(),
-    }
+    let events = core.events();
+    drop(core);
+    Left::Core { events }
 }
 
 fn left_of(alloc: Global, site: &Site, opened: &Opened) -> Left

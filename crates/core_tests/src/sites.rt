@@ -176,5 +176,7 @@ pub(crate) fn ask_of_plant(
     question: &impl Question,
 ) -> Result<(), Fail> {
     let site = plant(alloc, 10, 256)?;
-    question.ask(rt, alloc, &site)
+    let asked = question.ask(rt, alloc, &site);
+    drop(site);
+    asked
 }

@@ -86,7 +86,9 @@ impl Play for RisesAndFalls {
 #[test]
 fn sixty_three_notes_make_a_snapshot_of_4062_octets(rt: HostRuntime) -> Result<(), Fail> {
     let site = tanks_of_two_classes(rt.alloc())?;
-    play_on(&rt, rt.alloc(), &site, &RisesAndFalls)
+    let played = play_on(&rt, rt.alloc(), &site, &RisesAndFalls);
+    drop(site);
+    played
 }
 
 /// The rule of central Europe, by which clocks are put forward and back.
@@ -188,5 +190,7 @@ impl Play for IsLogged {
 #[test]
 fn with_a_zone_rule_records_have_their_hundredths(rt: HostRuntime) -> Result<(), Fail> {
     let site = tank_in_summer_time(rt.alloc())?;
-    play_on(&rt, rt.alloc(), &site, &IsLogged)
+    let played = play_on(&rt, rt.alloc(), &site, &IsLogged);
+    drop(site);
+    played
 }

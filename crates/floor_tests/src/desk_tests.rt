@@ -82,7 +82,23 @@ fn desk_on(
     }
 }
 
-// A desk on a blank ground, of whose calls these fail.
+// A desk of a site on a blank ground, of whose calls these fail.
+fn desk_at(
+    rt: &impl Abort,
+    alloc: Global,
+    site: &Site,
+    failing: &[u64],
+) -> Result<(Shared, Caller), Fail>
+    requires site { IsSite site.now }
+    requires limits { KeepsLimits site.now }
+    ensures here { IfOk result (λ opened. IsOf opened.0 opened.1) }
+{
+    let device = blank(alloc, site, failing)?;
+    Ok(desk_on(rt, alloc, site, device, 0))
+}
+
+// A desk on a blank ground, of whose calls these fail. A site, as a desk, is dropped by a call, since it is dear to drop where
+// it stands.
 pub(crate) fn desk_of(
     rt: &impl Abort,
     alloc: Global,
@@ -91,8 +107,9 @@ pub(crate) fn desk_of(
     ensures here { IfOk result (λ opened. IsOf opened.0 opened.1) }
 {
     let site = site_of(alloc)?;
-    let device = blank(alloc, &site, failing)?;
-    Ok(desk_on(rt, alloc, &site, device, 0))
+    let opened = desk_at(rt, alloc, &site, failing);
+    drop(site);
+    opened
 }
 
 // One value is entered, with this answer.
@@ -187,7 +204,7 @@ fn fill<R: Wait + Abort>(
 fn close<R: Wait>(rt: &R, desk: Shared, pass: Caller) -> bool
     requires here { IsOf desk pass }
 {
-    let _floor = desk.close(rt, pass);
+    drop(desk.close(rt, pass));
     true
 }
 
@@ -296,29 +313,38 @@ fn opens_with<R: Wait + Abort>(
     close(rt, desk, pass)
 }
 
+// A desk opens on a ground at the site, with so many events.
+fn expect_opens<R: Wait + Abort>(
+    rt: &R,
+    alloc: Global,
+    device: MemoryGround,
+    events: u64,
+) -> Result<(), Fail> {
+    let site = site_of(alloc)?;
+    holds(rt, opens_with(rt, alloc, &site, device, events));
+    drop(site);
+    Ok(())
+}
+
 #[test]
 fn what_is_pending_at_the_close_is_settled(rt: HostRuntime) -> Result<(), Fail> {
     let alloc = rt.alloc();
     let object = ObjectId::of_kind(ObjectKind::IntegerValue, 1)?;
-    let site = site_of(alloc)?;
     let (desk, pass) = desk_of(&rt, alloc, &[])?;
     let pass = enter(&rt, alloc, &desk, pass, set(object, 51), &Ok(entered(1)));
     let device = settle(&rt, alloc, desk, pass);
-    holds(&rt, opens_with(&rt, alloc, &site, device, 1));
-    Ok(())
+    expect_opens(&rt, alloc, device, 1)
 }
 
 #[test]
 fn a_second_desk_has_the_events_of_the_first(rt: HostRuntime) -> Result<(), Fail> {
     let alloc = rt.alloc();
     let object = ObjectId::of_kind(ObjectKind::IntegerValue, 1)?;
-    let site = site_of(alloc)?;
     let (desk, pass) = desk_of(&rt, alloc, &[])?;
     let pass = set_all(&rt, alloc, &desk, pass, object, 3);
     let pass = commit(&rt, alloc, &desk, pass, &Ok(3));
     let device = ground_of(&rt, desk, pass);
-    holds(&rt, opens_with(&rt, alloc, &site, device, 3));
-    Ok(())
+    expect_opens(&rt, alloc, device, 3)
 }
 
 // ReadProperty of the tank's present value.
@@ -365,5 +391,6 @@ fn a_value_that_was_set_is_read(rt: HostRuntime) -> Result<(), Fail> {
     let pass = commit(&rt, alloc, &desk, pass, &Ok(1));
     let device = ground_of(&rt, desk, pass);
     holds(&rt, has_answered(&device));
+    drop(device);
     Ok(())
 }

@@ -75,10 +75,13 @@ pub(crate) fn plant(alloc: Global, object: ObjectSite, outbox: u32) -> Result<Si
     ensures keeps { IfOk result (λ site. IsSite site) }
     ensures limits { IfOk result (λ site. KeepsLimits site) }
 {
+    let objects = vec![in alloc; object]?;
+    let classes = vec![in alloc; operators(alloc)?]?;
+    let device = device(alloc, outbox)?;
     Ok(Site {
-        device: device(alloc, outbox)?,
-        classes: Items::of(vec![in alloc; operators(alloc)?]?),
-        objects: Items::of(vec![in alloc; object]?),
+        device,
+        classes: Items::of(classes),
+        objects: Items::of(objects),
         enrollments: Items::of(Vec::new(alloc)),
         logs: Items::of(Vec::new(alloc)),
     })

@@ -48,6 +48,12 @@ fn datagram(alloc: Global, octets: &[u8]) -> Result<Message, Fail> {
     })
 }
 
+/// A link on which a datagram with these octets comes.
+fn link_of(alloc: Global, octets: &[u8]) -> Result<MemoryLink, Fail> {
+    let datagrams = vec![in alloc; datagram(alloc, octets)?]?;
+    Ok(MemoryLink::new(datagrams, Vec::new(alloc)))
+}
+
 /// What is served is this.
 fn expect_served<R: Abort>(rt: &R, closed: &Closed, received: u64, events: u64) {
     let wanted = Closed {
@@ -75,7 +81,8 @@ fn serve_on<
         Err(_) => panic!(rt; "the journal doesn't open"),
     };
     let clock = StillClock::new(START);
-    let (device, _link, closed) = serve_desk(rt, alloc, desk, pass, count, link, &clock, gate);
+    let (device, link, closed) = serve_desk(rt, alloc, desk, pass, count, link, &clock, gate);
+    drop(link);
     (device, closed)
 }
 
@@ -100,27 +107,47 @@ fn sent_alone(device: &MemoryGround, wanted: &[u8]) -> bool {
     count == 1
 }
 
-#[test]
-fn who_is_is_answered(rt: HostRuntime) -> Result<(), Fail> {
-    let alloc = rt.alloc();
-    let link = MemoryLink::new(vec![in alloc; datagram(alloc, &WHO_IS)?]?, Vec::new(alloc));
-    let site = site_of(alloc)?;
-    let device = blank(alloc, &site, &[])?;
-    let (device, closed) = serve_on(&rt, alloc, &site, device, link, 1, &FreeGate);
-    expect_served(&rt, &closed, 1, 0);
-    holds(&rt, sent_alone(&device, &I_AM));
+/// The device answers a Who-Is.
+fn expect_i_am<R: Threads + Wait + Sync + Abort>(
+    rt: &R,
+    alloc: Global,
+    site: &Site,
+) -> Result<(), Fail>
+    requires site { IsSite site.now }
+    requires limits { KeepsLimits site.now }
+{
+    let device = blank(alloc, site, &[])?;
+    let link = link_of(alloc, &WHO_IS)?;
+    let (device, closed) = serve_on(rt, alloc, site, device, link, 1, &FreeGate);
+    expect_served(rt, &closed, 1, 0);
+    holds(rt, sent_alone(&device, &I_AM));
+    drop(device);
     Ok(())
 }
 
 #[test]
-fn a_server_ends_by_itself_once_its_disk_has_failed(rt: HostRuntime) -> Result<(), Fail> {
+fn who_is_is_answered(rt: HostRuntime) -> Result<(), Fail> {
     let alloc = rt.alloc();
     let site = site_of(alloc)?;
+    let answered = expect_i_am(&rt, alloc, &site);
+    drop(site);
+    answered
+}
+
+/// A server whose disk fails ends, though a thousand datagrams are awaited.
+fn expect_end<R: Threads + Wait + Sync + Abort>(
+    rt: &R,
+    alloc: Global,
+    site: &Site,
+) -> Result<(), Fail>
+    requires site { IsSite site.now }
+    requires limits { KeepsLimits site.now }
+{
     let flag = SharedFlag::new();
-    let link = MemoryLink::new(vec![in alloc; datagram(alloc, &INHIBIT)?]?, Vec::new(alloc));
-    let link = EndingLink::new(link, &flag);
-    let device = NotingGround::new(blank(alloc, &site, &[9])?, &flag);
-    let (_device, closed) = serve_on(&rt, alloc, &site, device, link, 1_000, &FreeGate);
+    let device = NotingGround::new(blank(alloc, site, &[9])?, &flag);
+    let link = EndingLink::new(link_of(alloc, &INHIBIT)?, &flag);
+    let (device, closed) = serve_on(rt, alloc, site, device, link, 1_000, &FreeGate);
+    drop(device);
     let wanted = Closed {
         end: End::DiskFault,
         received: 1,
@@ -128,8 +155,17 @@ fn a_server_ends_by_itself_once_its_disk_has_failed(rt: HostRuntime) -> Result<(
         durable: 0,
         lost: 0,
     };
-    same(&rt, &closed, &wanted);
+    same(rt, &closed, &wanted);
     Ok(())
+}
+
+#[test]
+fn a_server_ends_by_itself_once_its_disk_has_failed(rt: HostRuntime) -> Result<(), Fail> {
+    let alloc = rt.alloc();
+    let site = site_of(alloc)?;
+    let ended = expect_end(&rt, alloc, &site);
+    drop(site);
+    ended
 }
 
 /// A gate that holds the receiver's first turn until the ticker's third.
@@ -162,20 +198,35 @@ impl Gate for UntilTicked {
     }
 }
 
-#[test]
-fn the_ticker_goes_on_beside_the_receiver(rt: HostRuntime) -> Result<(), Fail> {
-    let alloc = rt.alloc();
-    let link = MemoryLink::new(vec![in alloc; datagram(alloc, &WHO_IS)?]?, Vec::new(alloc));
-    let site = site_of(alloc)?;
-    let device = blank(alloc, &site, &[])?;
+/// The ticker takes three turns before the receiver takes one.
+fn expect_ticks<R: Threads + Wait + Sync + Abort>(
+    rt: &R,
+    alloc: Global,
+    site: &Site,
+) -> Result<(), Fail>
+    requires site { IsSite site.now }
+    requires limits { KeepsLimits site.now }
+{
+    let device = blank(alloc, site, &[])?;
+    let link = link_of(alloc, &WHO_IS)?;
     let gate = UntilTicked {
         ticks: AtomicU64::new(0),
         gave_up: AtomicU64::new(0),
     };
-    let (_device, closed) = serve_on(&rt, alloc, &site, device, link, 1, &gate);
-    expect_served(&rt, &closed, 1, 0);
-    same(&rt, &gate.gave_up.load(Ordering::SeqCst), &0);
+    let (device, closed) = serve_on(rt, alloc, site, device, link, 1, &gate);
+    drop(device);
+    expect_served(rt, &closed, 1, 0);
+    same(rt, &gate.gave_up.load(Ordering::SeqCst), &0);
     Ok(())
+}
+
+#[test]
+fn the_ticker_goes_on_beside_the_receiver(rt: HostRuntime) -> Result<(), Fail> {
+    let alloc = rt.alloc();
+    let site = site_of(alloc)?;
+    let ticked = expect_ticks(&rt, alloc, &site);
+    drop(site);
+    ticked
 }
 
 /// A gate that holds the receiver's second turn until the ground's fourth sync: the first that writes an event, on a
@@ -210,19 +261,39 @@ impl<'a> Gate for Syncs<'a> {
     }
 }
 
-#[test]
-fn the_committer_writes_beside_the_receiver(rt: HostRuntime) -> Result<(), Fail> {
-    let alloc = rt.alloc();
+/// A link on which the inhibition comes, and a Who-Is behind it.
+fn link_of_two(alloc: Global) -> Result<MemoryLink, Fail> {
     let datagrams = vec![in alloc; datagram(alloc, &INHIBIT)?, datagram(alloc, &WHO_IS)?]?;
-    let link = MemoryLink::new(datagrams, Vec::new(alloc));
-    let site = site_of(alloc)?;
+    Ok(MemoryLink::new(datagrams, Vec::new(alloc)))
+}
+
+/// The first event is written before the receiver takes its second turn.
+fn expect_written<R: Threads + Wait + Sync + Abort>(
+    rt: &R,
+    alloc: Global,
+    site: &Site,
+) -> Result<(), Fail>
+    requires site { IsSite site.now }
+    requires limits { KeepsLimits site.now }
+{
     let gate = UntilSynced {
         syncs: AtomicU64::new(0),
         gave_up: AtomicU64::new(0),
     };
-    let device = HeldGround::new(blank(alloc, &site, &[])?, Syncs { gate: &gate });
-    let (_device, closed) = serve_on(&rt, alloc, &site, device, link, 2, &gate);
-    expect_served(&rt, &closed, 2, 1);
-    same(&rt, &gate.gave_up.load(Ordering::SeqCst), &0);
+    let device = HeldGround::new(blank(alloc, site, &[])?, Syncs { gate: &gate });
+    let link = link_of_two(alloc)?;
+    let (device, closed) = serve_on(rt, alloc, site, device, link, 2, &gate);
+    drop(device);
+    expect_served(rt, &closed, 2, 1);
+    same(rt, &gate.gave_up.load(Ordering::SeqCst), &0);
     Ok(())
+}
+
+#[test]
+fn the_committer_writes_beside_the_receiver(rt: HostRuntime) -> Result<(), Fail> {
+    let alloc = rt.alloc();
+    let site = site_of(alloc)?;
+    let written = expect_written(&rt, alloc, &site);
+    drop(site);
+    written
 }

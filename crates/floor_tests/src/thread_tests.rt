@@ -107,6 +107,7 @@ fn eight_callers_enter_each_value_once_and_in_order(rt: HostRuntime) -> Result<(
     let pass = commit(&rt, alloc, &desk, pass, &Ok(128));
     let floor = desk.close(&rt, pass);
     same(&rt, &floor.events(), &128);
+    drop(floor);
     Ok(())
 }
 
@@ -212,6 +213,49 @@ fn commit_beside<R: Threads + Wait + Sync + Abort>(
     pass
 }
 
+// A desk on a ground whose fourth sync is held.
+fn held_desk<R: Abort>(
+    rt: &R,
+    alloc: Global,
+    site: &Site,
+    device: HeldGround<Held>,
+) -> (HeldDesk, HeldCaller)
+    requires site { IsSite site.now }
+    requires limits { KeepsLimits site.now }
+    ensures here { IsOf result.0 result.1 }
+{
+    match Desk::open(alloc, site, TEXT, device) {
+        Ok((desk, pass, _)) => (desk, pass),
+        Err(_) => panic!(rt; "the journal doesn't open"),
+    }
+}
+
+// A gate that counts by these.
+fn gate_of(came: &Arc<AtomicU64, Global>, opened: &Arc<AtomicU64, Global>) -> Result<Held, Fail> {
+    Ok(Held {
+        came: Arc::try_clone(came)?,
+        opened: Arc::try_clone(opened)?,
+    })
+}
+
+// Two events of a desk: a commit, beside which another asks.
+fn expect_two<R: Threads + Wait + Sync + Abort>(
+    rt: &R,
+    alloc: Global,
+    desk: HeldDesk,
+    pass: HeldCaller,
+    object: ObjectId,
+    counts: (&AtomicU64, &AtomicU64),
+)
+    requires here { IsOf desk pass }
+{
+    let (came, opened) = counts;
+    let pass = commit_beside(rt, alloc, &desk, pass, object, came, opened);
+    let floor = desk.close(rt, pass);
+    same(rt, &floor.events(), &2);
+    drop(floor);
+}
+
 // A desk on a blank ground whose fourth sync is held, a commit beside which another asks, and its end.
 fn hold<R: Threads + Wait + Sync + Abort>(
     rt: &R,
@@ -224,18 +268,10 @@ fn hold<R: Threads + Wait + Sync + Abort>(
 {
     let came = Arc::new(alloc, AtomicU64::new(0))?;
     let opened = Arc::new(alloc, AtomicU64::new(0))?;
-    let gate = Held {
-        came: Arc::try_clone(&came)?,
-        opened: Arc::try_clone(&opened)?,
-    };
+    let gate = gate_of(&came, &opened)?;
     let device = HeldGround::new(blank(alloc, site, &[])?, gate);
-    let (desk, pass) = match Desk::open(alloc, site, TEXT, device) {
-        Ok((desk, pass, _)) => (desk, pass),
-        Err(_) => panic!(rt; "the journal doesn't open"),
-    };
-    let pass = commit_beside(rt, alloc, &desk, pass, object, &came, &opened);
-    let floor = desk.close(rt, pass);
-    same(rt, &floor.events(), &2);
+    let (desk, pass) = held_desk(rt, alloc, site, device);
+    expect_two(rt, alloc, desk, pass, object, (&came, &opened));
     Ok(())
 }
 
@@ -244,5 +280,7 @@ fn a_held_sync_keeps_nobody_from_entering(rt: HostRuntime) -> Result<(), Fail> {
     let alloc = rt.alloc();
     let object = ObjectId::of_kind(ObjectKind::IntegerValue, 1)?;
     let site = site_of(alloc)?;
-    hold(&rt, alloc, &site, object)
+    let held = hold(&rt, alloc, &site, object);
+    drop(site);
+    held
 }

@@ -87,10 +87,17 @@ fn class_of_six(alloc: Global) -> Result<Class, Fail> {
     Ok(class(Vec::from_array(alloc, destinations)?))
 }
 
+/// The process of a notification, which is given up.
+fn process_given(told: Notification) -> u32 {
+    let process = told.process;
+    drop(told);
+    process
+}
+
 /// The process that a note names.
 fn process_of(alloc: Global, note: &Note) -> Result<u32, Fail> {
     match read_notification(alloc, note.body.as_slice()) {
-        Ok(told) => Ok(told.process),
+        Ok(told) => Ok(process_given(told)),
         Err(_) => Err(Fail::new("not read back")),
     }
 }
@@ -128,7 +135,10 @@ fn processes_told(alloc: Global, moment: u64, minutes: i16) -> Result<Vec<u32>, 
     let source = source()?;
     let class = class_of_six(alloc)?;
     let facts = acknowledgement_notification(&source, &class, EventState::Normal, LATER);
-    processes_of(alloc, &facts, &class, &at)
+    let processes = processes_of(alloc, &facts, &class, &at);
+    drop(facts);
+    drop(class);
+    processes
 }
 
 /// Those of the six that are told at a moment, in a zone, are these.

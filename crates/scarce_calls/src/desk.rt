@@ -267,13 +267,15 @@ fn leave<R: Wait>(rt: &R, alloc: Global, desk: Shared, pass: Caller, object: Obj
 {
     let (pass, entered) = enter(rt, alloc, &desk, pass, set_twice(object, 50));
     let (floor, settled) = settle(alloc, desk.close(rt, pass));
-    Left {
+    let left = Left {
         entered,
         settled,
         events: floor.events(),
         durable: floor.durable(),
         lost: floor.lost(),
-    }
+    };
+    drop(floor);
+    left
 }
 
 fn settle(alloc: Global, floor: Floor<MemoryGround>) -> (Floor<MemoryGround>, Committed)

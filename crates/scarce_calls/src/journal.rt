@@ -71,7 +71,9 @@ fn with_record(alloc: Global, device: Device, octets: &[u8]) -> Result<(Device, 
 
 // How many events a core that is given up has had.
 fn events_of(core: Core) -> u64 {
-    core.events()
+    let events = core.events();
+    drop(core);
+    events
 }
 
 // How many events are recovered of what was opened.

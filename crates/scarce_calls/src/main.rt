@@ -71,30 +71,42 @@ enum Part {
     Desk,
 }
 
+// A site is dropped by a call in each of these, since it is dear to drop where it stands.
+
 fn fault(alloc: Global) -> Result<Text, Missed> {
     let site = site_of(alloc, TANK)?;
-    played(alloc, &site, FAULT)
+    let text = played(alloc, &site, FAULT);
+    drop(site);
+    text
 }
 
 fn plant(alloc: Global) -> Result<Text, Missed> {
     let site = site_of(alloc, PLANT)?;
-    played(alloc, &site, ASKED)
+    let text = played(alloc, &site, ASKED);
+    drop(site);
+    text
 }
 
 fn full(alloc: Global) -> Result<Text, Missed> {
-    let site = site_of(alloc, FULL)?;
     let script = full_script(alloc)?;
-    played(alloc, &site, script.as_slice())
+    let site = site_of(alloc, FULL)?;
+    let text = played(alloc, &site, script.as_slice());
+    drop(site);
+    text
 }
 
 fn journal_of_three(alloc: Global) -> Result<Text, Missed> {
     let site = site_of(alloc, TANK)?;
-    kept(alloc, &site)
+    let text = kept(alloc, &site);
+    drop(site);
+    text
 }
 
 fn desk_of_two<R: Wait>(rt: &R, alloc: Global) -> Result<Text, Missed> {
     let site = site_of(alloc, TANK)?;
-    shared(rt, alloc, &site)
+    let text = shared(rt, alloc, &site);
+    drop(site);
+    text
 }
 
 impl Part {

@@ -164,6 +164,28 @@ fn enter(
     }
 }
 
+// An event that has a record is entered, with the answer that it gets, and its record told.
+fn play_recorded(
+    alloc: Global,
+    core: &mut Core,
+    number: u64,
+    event: &Event,
+    answers: (Option<Send>, Option<Send>),
+    text: &mut Text,
+) -> Result<(), Missed>
+    requires moment { IsMoment event.now.moment }
+    requires allowed { IsAllowed core.old event.now.act }
+    requires record { HasRecord event.now }
+{
+    let (reply, full) = answers;
+    if enter(alloc, core, number, event, text)? {
+        say_reply(alloc, text, number, reply)?;
+        say_record(alloc, text, event)
+    } else {
+        say_reply(alloc, text, number, full)
+    }
+}
+
 // An event is entered, with the answer that it gets, and its record told.
 fn play_event(
     alloc: Global,
@@ -176,14 +198,10 @@ fn play_event(
     requires moment { IsMoment event.moment }
     requires allowed { IsAllowed core.old event.act }
 {
-    let (reply, full) = answers;
     let event = recorded(event);
-    if enter(alloc, core, number, &event, text)? {
-        say_reply(alloc, text, number, reply)?;
-        say_record(alloc, text, &event)
-    } else {
-        say_reply(alloc, text, number, full)
-    }
+    let played = play_recorded(alloc, core, number, &event, answers, text);
+    drop(event);
+    played
 }
 
 // A line, as a session tells of it.
@@ -247,5 +265,7 @@ pub(crate) fn played(alloc: Global, site: &Site, script: &[u8]) -> Result<Text, 
     requires site { IsSite site.now }
 {
     let mut core = started(alloc, site)?;
-    told(alloc, &mut core, site, script)
+    let text = told(alloc, &mut core, site, script);
+    drop(core);
+    text
 }

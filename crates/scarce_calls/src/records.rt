@@ -63,7 +63,9 @@ fn core_of(alloc: Global, site: &Site, octets: &[u8]) -> Result<Core, Missed>
 
 // The snapshot of a core that is given up. It has one way out, since what owns a core is dear to prove at each.
 fn last_snapshot_of(alloc: Global, core: Core) -> Result<Vec<u8>, Missed> {
-    snapshot_of(alloc, &core)
+    let octets = snapshot_of(alloc, &core);
+    drop(core);
+    octets
 }
 
 // The snapshot of the core that is read of a snapshot.

@@ -347,19 +347,21 @@ fn expect_longest(rt: &impl Abort, alloc: Global, text: Value) -> Result<(), Fai
     requires { IsWritable text }
 {
     let mut octets = Vec::new(alloc);
-    write_value(&mut octets, &text)?;
+    let written = write_value(&mut octets, &text);
     counts(rt, octets.len(), 261);
     let front = [0x75, 0xfe, 0x01, 0x01, 0x00];
     holds(rt, octets.as_slice().starts_with(&front));
     expect_value(rt, alloc, octets.as_slice(), text);
-    Ok(())
+    drop(octets);
+    Ok(written?)
 }
 
 #[test]
 fn texts_of_256_octets_are_the_longest(rt: HostRuntime) -> Result<(), Fail> {
     let letters = longest(rt.alloc())?;
-    let text = Text::new(rt.alloc(), letters.as_str())?;
-    expect_longest(&rt, rt.alloc(), Value::Text(text))
+    let text = Text::new(rt.alloc(), letters.as_str());
+    drop(letters);
+    expect_longest(&rt, rt.alloc(), Value::Text(text?))
 }
 
 /// A text of these letters and one octet more, with a length of 258 octets.
@@ -393,17 +395,24 @@ fn write_front(out: &mut Vec<u8>) -> Result<(), Fail> {
     Ok(())
 }
 
+/// All elements of `NOTE`.
+fn write_note(out: &mut Vec<u8>) -> Result<(), Fail> {
+    write_front(out)?;
+    write_unsigned(out, Some(4), 7)?;
+    write_unsigned(out, Some(5), 100)?;
+    write_bool(out, Some(9), true)?;
+    write_unsigned(out, Some(10), 0)?;
+    write_bits(out, Some(1), Bits::new(4, 1)?)?;
+    Ok(())
+}
+
 #[test]
 fn elements_of_a_notification_are_written_in_turn(rt: HostRuntime) -> Result<(), Fail> {
     let mut out = Vec::new(rt.alloc());
-    write_front(&mut out)?;
-    write_unsigned(&mut out, Some(4), 7)?;
-    write_unsigned(&mut out, Some(5), 100)?;
-    write_bool(&mut out, Some(9), true)?;
-    write_unsigned(&mut out, Some(10), 0)?;
-    write_bits(&mut out, Some(1), Bits::new(4, 1)?)?;
+    let written = write_note(&mut out);
     same(&rt, &out.as_slice(), &NOTE.as_slice());
-    Ok(())
+    drop(out);
+    written
 }
 
 /// A tag and numbers, of which each has the fewest octets.
@@ -418,13 +427,14 @@ fn write_numbers(out: &mut Vec<u8>) -> Result<(), Fail> {
 #[test]
 fn the_shortest_spelling_of_numbers_is_written(rt: HostRuntime) -> Result<(), Fail> {
     let mut out = Vec::new(rt.alloc());
-    write_numbers(&mut out)?;
+    let written = write_numbers(&mut out);
     let expected = [
         0xff, 0x13, 0x31, 0x80, 0x32, 0xff, 0x7f, 0x34, 0x7f, 0xff, 0xff, 0xff, 0xfb, 0xc8, 0x01,
         0x00, 0x00,
     ];
     same(&rt, &out.as_slice(), &expected.as_slice());
-    Ok(())
+    drop(out);
+    written
 }
 
 /// A boolean, a number of a list, and strings of nine bits and of none.
@@ -438,10 +448,11 @@ fn write_others(out: &mut Vec<u8>) -> Result<(), Fail> {
 #[test]
 fn the_shortest_spelling_of_other_values_is_written(rt: HostRuntime) -> Result<(), Fail> {
     let mut out = Vec::new(rt.alloc());
-    write_others(&mut out)?;
+    let written = write_others(&mut out);
     let expected = [0x11, 0x91, 0x03, 0x83, 0x07, 0x00, 0x80, 0x81, 0x00];
     same(&rt, &out.as_slice(), &expected.as_slice());
-    Ok(())
+    drop(out);
+    written
 }
 
 /// The value is written as these octets, and nothing else is.
@@ -454,9 +465,11 @@ fn expect_value_written(
     requires { IsWritable value }
 {
     let mut out = Vec::new(alloc);
-    write_value(&mut out, &value)?;
+    let written = write_value(&mut out, &value);
+    drop(value);
     same(rt, &out.as_slice(), &octets);
-    Ok(())
+    drop(out);
+    Ok(written?)
 }
 
 #[test]

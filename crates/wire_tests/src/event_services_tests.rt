@@ -244,7 +244,7 @@ fn faulty() -> Result<Notification, Fail>
 }
 
 /// The notification is written as these octets.
-pub(crate) fn expect_written(
+fn expect_written(
     rt: &impl Abort,
     alloc: Global,
     note: &Notification,
@@ -257,8 +257,16 @@ pub(crate) fn expect_written(
     Ok(())
 }
 
-/// The same of a notification that is given away.
-fn expect_note(
+/// The octets are the notification.
+fn expect_read(rt: &impl Abort, alloc: Global, octets: &[u8], note: &Notification) {
+    let read = read_notification(alloc, octets);
+    same(rt, &read.as_ref(), &Ok(note));
+    drop(read);
+}
+
+/// The notification is written as these octets, and read back. What is as dear to drop is given away to this, which drops it by
+/// a call.
+pub(crate) fn expect_both_ways(
     rt: &impl Abort,
     alloc: Global,
     note: Notification,
@@ -266,14 +274,17 @@ fn expect_note(
 ) -> Result<(), Fail>
     requires told { IsTold note.event_type note.values }
 {
-    expect_written(rt, alloc, &note, octets)
+    let written = expect_written(rt, alloc, &note, octets);
+    expect_read(rt, alloc, octets, &note);
+    drop(note);
+    written
 }
 
 #[test]
-fn notifications_are_written(rt: HostRuntime) -> Result<(), Fail> {
-    expect_note(&rt, rt.alloc(), high()?, &HIGH)?;
-    expect_note(&rt, rt.alloc(), acknowledged()?, &ACKNOWLEDGED)?;
-    expect_note(&rt, rt.alloc(), faulty()?, &FAULTY)
+fn notifications_are_written_and_read(rt: HostRuntime) -> Result<(), Fail> {
+    expect_both_ways(&rt, rt.alloc(), high()?, &HIGH)?;
+    expect_both_ways(&rt, rt.alloc(), acknowledged()?, &ACKNOWLEDGED)?;
+    expect_both_ways(&rt, rt.alloc(), faulty()?, &FAULTY)
 }
 
 #[test]
@@ -333,19 +344,6 @@ fn information_is_written(rt: HostRuntime) -> Result<(), Fail> {
     };
     expect_information(&rt, rt.alloc(), &[summary], true, &INFORMATION)?;
     expect_information(&rt, rt.alloc(), &[], false, &[0x0e, 0x0f, 0x19, 0x00])
-}
-
-/// The octets are the notification.
-pub(crate) fn expect_read(rt: &impl Abort, alloc: Global, octets: &[u8], note: &Notification) {
-    same(rt, &read_notification(alloc, octets).as_ref(), &Ok(note));
-}
-
-#[test]
-fn notifications_are_read(rt: HostRuntime) -> Result<(), Fail> {
-    expect_read(&rt, rt.alloc(), &HIGH, &high()?);
-    expect_read(&rt, rt.alloc(), &ACKNOWLEDGED, &acknowledged()?);
-    expect_read(&rt, rt.alloc(), &FAULTY, &faulty()?);
-    Ok(())
 }
 
 /// The octets are no notification, for a reason and at a place.

@@ -1,11 +1,10 @@
-ghost use Rattle.std.specs.Prelude.{Some, IfOk};
+ghost use Rattle.std.specs.Prelude.{Some};
 ghost use Rattle.event_services.specs.Notifications.{IsOneOrNone, IsTold};
 
 use crate::event_services_tests::{
-    HIGH, IN_ALARM, device_and, expect_no_notification, expect_read, expect_written, high_with,
-    note_of,
+    HIGH, IN_ALARM, device_and, expect_both_ways, expect_no_notification, high_with, note_of,
 };
-use bac_values::{Bits, EventState, ObjectKind, Reliability, StatusFlags, Text, Value};
+use bac_values::{Bits, EventState, ObjectId, ObjectKind, Reliability, StatusFlags, Text, Value};
 use event_services::*;
 use std::alloc::Global;
 use std::process::Abort;
@@ -111,28 +110,23 @@ const WORDED: [u8; 64] = [
     0x03, 0xce, 0xfe, 0x0f, 0x09, 0x5a, 0x1a, 0x04, 0x80, 0x29, 0x05, 0x39, 0x50, 0xff, 0x0f, 0xcf,
 ];
 
-/// What object 1 of a kind tells on its way from NORMAL to a state.
+/// What an object of a device tells on its way from NORMAL to a state.
 fn alarm(
-    kind: ObjectKind,
+    objects: [ObjectId; 2],
     event_type: u8,
     to: EventState,
     values: EventValues,
-) -> Result<Notification, Fail>
+) -> Notification
     requires told { IsTold event_type (Some values) }
-    ensures told { IfOk result (λ note. IsTold note.event_type note.values) }
+    ensures told { IsTold result.event_type result.values }
 {
-    let objects = device_and(kind)?;
-    Ok(note_of(objects, event_type, to, Some(values), None))
+    note_of(objects, event_type, to, Some(values), None)
 }
 
-/// What object 1 of a kind tells on its way from NORMAL to FAULT.
-fn fault(
-    kind: ObjectKind,
-    reliability: Reliability,
-    property: Option<Value>,
-) -> Result<Notification, Fail>
+/// What an object of a device tells on its way from NORMAL to FAULT.
+fn fault(objects: [ObjectId; 2], reliability: Reliability, property: Option<Value>) -> Notification
     requires one { IsOneOrNone property }
-    ensures told { IfOk result (λ note. IsTold note.event_type note.values) }
+    ensures told { IsTold result.event_type result.values }
 {
     let flags = StatusFlags {
         fault: true,
@@ -143,24 +137,10 @@ fn fault(
         flags,
         property,
     };
-    Ok(Notification {
+    Notification {
         priority: 90,
-        ..alarm(kind, 19, EventState::Fault, values)?
-    })
-}
-
-/// The notification is written as these octets, and read back.
-fn expect_both_ways(
-    rt: &impl Abort,
-    alloc: Global,
-    note: Notification,
-    octets: &[u8],
-) -> Result<(), Fail>
-    requires told { IsTold note.event_type note.values }
-{
-    expect_written(rt, alloc, &note, octets)?;
-    expect_read(rt, alloc, octets, &note);
-    Ok(())
+        ..alarm(objects, 19, EventState::Fault, values)
+    }
 }
 
 #[test]
@@ -169,7 +149,8 @@ fn a_change_of_bits_is_told(rt: HostRuntime) -> Result<(), Fail> {
         referenced: Bits::new(4, 0b1100)?,
         flags: IN_ALARM,
     };
-    let note = alarm(ObjectKind::BitStringValue, 0, EventState::Offnormal, values)?;
+    let objects = device_and(ObjectKind::BitStringValue)?;
+    let note = alarm(objects, 0, EventState::Offnormal, values);
     expect_both_ways(&rt, rt.alloc(), note, &BITS)
 }
 
@@ -186,7 +167,7 @@ fn expect_state(
         number,
         flags: IN_ALARM,
     };
-    let note = alarm(kind, 1, EventState::Offnormal, values)?;
+    let note = alarm(device_and(kind)?, 1, EventState::Offnormal, values);
     expect_both_ways(rt, alloc, note, octets)
 }
 
@@ -199,95 +180,90 @@ fn a_change_of_state_is_told(rt: HostRuntime) -> Result<(), Fail> {
 
 #[test]
 fn a_command_that_fails_is_told(rt: HostRuntime) -> Result<(), Fail> {
+    let objects = device_and(ObjectKind::EventEnrollment)?;
     let values = EventValues::Command {
         command: Value::Signed(50),
         flags: IN_ALARM,
         feedback: Value::Signed(51),
     };
-    let kind = ObjectKind::EventEnrollment;
-    let note = alarm(kind, 3, EventState::Offnormal, values)?;
+    let note = alarm(objects, 3, EventState::Offnormal, values);
     expect_both_ways(&rt, rt.alloc(), note, &COMMANDED)
 }
 
 #[test]
 fn a_command_of_texts_that_fails_is_told(rt: HostRuntime) -> Result<(), Fail> {
+    let objects = device_and(ObjectKind::EventEnrollment)?;
     let values = EventValues::Command {
         command: Value::Text(Text::new(rt.alloc(), "on")?),
         flags: IN_ALARM,
         feedback: Value::Text(Text::new(rt.alloc(), "off")?),
     };
-    let kind = ObjectKind::EventEnrollment;
-    let note = alarm(kind, 3, EventState::Offnormal, values)?;
+    let note = alarm(objects, 3, EventState::Offnormal, values);
     expect_both_ways(&rt, rt.alloc(), note, &COMMANDED_TEXTS)
 }
 
 #[test]
 fn a_number_out_of_its_range_is_told(rt: HostRuntime) -> Result<(), Fail> {
+    let objects = device_and(ObjectKind::EventEnrollment)?;
     let values = EventValues::UnsignedRange {
         value: 90,
         flags: IN_ALARM,
         limit: 80,
     };
-    let kind = ObjectKind::EventEnrollment;
-    let note = alarm(kind, 11, EventState::HighLimit, values)?;
+    let note = alarm(objects, 11, EventState::HighLimit, values);
     expect_both_ways(&rt, rt.alloc(), note, &RANGE)
 }
 
 #[test]
 fn a_signed_number_below_its_limit_is_told(rt: HostRuntime) -> Result<(), Fail> {
+    let objects = device_and(ObjectKind::IntegerValue)?;
     let values = EventValues::SignedOutOfRange {
         value: -129,
         flags: IN_ALARM,
         deadband: 5,
         limit: -100,
     };
-    let note = alarm(ObjectKind::IntegerValue, 15, EventState::LowLimit, values)?;
+    let note = alarm(objects, 15, EventState::LowLimit, values);
     expect_both_ways(&rt, rt.alloc(), note, &BELOW)
 }
 
 #[test]
 fn an_unsigned_number_above_its_limit_is_told(rt: HostRuntime) -> Result<(), Fail> {
+    let objects = device_and(ObjectKind::PositiveIntegerValue)?;
     let values = EventValues::UnsignedOutOfRange {
         value: 90,
         flags: IN_ALARM,
         deadband: 5,
         limit: 80,
     };
-    let kind = ObjectKind::PositiveIntegerValue;
-    let note = alarm(kind, 16, EventState::HighLimit, values)?;
+    let note = alarm(objects, 16, EventState::HighLimit, values);
     expect_both_ways(&rt, rt.alloc(), note, &ABOVE)
 }
 
 #[test]
 fn a_change_of_text_is_told(rt: HostRuntime) -> Result<(), Fail> {
+    let objects = device_and(ObjectKind::CharacterStringValue)?;
     let values = EventValues::Characterstring {
         changed: Text::new(rt.alloc(), "fire here")?,
         flags: IN_ALARM,
         alarm: Text::new(rt.alloc(), "fire")?,
     };
-    let kind = ObjectKind::CharacterStringValue;
-    let note = alarm(kind, 17, EventState::Offnormal, values)?;
+    let note = alarm(objects, 17, EventState::Offnormal, values);
     expect_both_ways(&rt, rt.alloc(), note, &FIRE)
 }
 
 #[test]
 fn a_fault_without_a_present_value_is_told(rt: HostRuntime) -> Result<(), Fail> {
-    let (kind, why) = (
-        ObjectKind::EventEnrollment,
-        Reliability::MonitoredObjectFault,
-    );
-    let note = fault(kind, why, None)?;
+    let objects = device_and(ObjectKind::EventEnrollment)?;
+    let note = fault(objects, Reliability::MonitoredObjectFault, None);
     expect_both_ways(&rt, rt.alloc(), note, &FAULT_OF_ANOTHER)
 }
 
 #[test]
 fn a_fault_of_a_text_is_told(rt: HostRuntime) -> Result<(), Fail> {
-    let (kind, why) = (
-        ObjectKind::CharacterStringValue,
-        Reliability::MultiStateFault,
-    );
+    let objects = device_and(ObjectKind::CharacterStringValue)?;
     let leak = Value::Text(Text::new(rt.alloc(), "leak")?);
-    let note = fault(kind, why, Some(leak))?;
+    let note = fault(objects, Reliability::MultiStateFault, Some(leak));
     expect_both_ways(&rt, rt.alloc(), note, &LEAK)
 }
 
