@@ -3,8 +3,8 @@ use Rattle.std.proofs.Common.{◌≡◌, ◌↔◌, ℕ, ◌+◌, ◌<◌, ◌�
 use Rattle.std.proofs.lemmas.Bool.{cases_Bool}
 use Rattle.bac_values.specs.declared.note.Note.{Note}
 use Rattle.bac_values.specs.Orders.{IsAscending}
-use Rattle.notify_class.specs.Edits.{peers_of}
-use Rattle.outbox.specs.Outboxes.{AreKnown, OutboxState, answered_by, peers_of as peers_of_posts, timing_of, unfinished_in}
+use Rattle.notify_class.specs.Edits.{recipient_peers}
+use Rattle.outbox.specs.Outboxes.{AreKnown, OutboxState, answered_by, peers_of, timing_of, unfinished_in}
 use Rattle.outbox.specs.Posts.{post_pumped}
 use Rattle.outbox.proofs.Keeping.{answered_fewer, fewer_in_all, pumped_fewer}
 use Rattle.outbox.proofs.Learning.{unfinished_with_all}
@@ -35,7 +35,7 @@ module _ (moment : ℕ) (notes : List Note) (outbox : OutboxState) where
   now_unfinished : Act → ℕ
   now_unfinished act = unfinished_in (outbox_with moment act notes outbox).posts
 
-  adds_all : (act : Act) → IsTrue (may_notify act) → IsAscending (peers_of_posts outbox.posts) → AreKnown notes outbox.posts → now_unfinished act ≡ unfinished_in outbox.posts + length notes
+  adds_all : (act : Act) → IsTrue (may_notify act) → IsAscending (peers_of outbox.posts) → AreKnown notes outbox.posts → now_unfinished act ≡ unfinished_in outbox.posts + length notes
   unfolding now_unfinished
   adds_all Tick may ascending known = all_longer notes outbox.posts ascending known
   adds_all (Write change) may ascending known = all_longer notes outbox.posts ascending known
@@ -52,7 +52,7 @@ module _ (moment : ℕ) (notes : List Note) (outbox : OutboxState) where
   adds_none (Ack object transition named) not = absurd (true≢false not)
   adds_none Pump not = fewer_in_all (post_pumped (timing_of outbox) moment) (pumped_fewer (timing_of outbox) moment) outbox.posts
   adds_none (Answer peer invoke kind) not = fewer_in_all (answered_by peer invoke) (answered_fewer peer invoke) outbox.posts
-  adds_none (Edit number recipients) not = let same = unfinished_with_all (peers_of recipients) outbox.posts in omega (arith, same)
+  adds_none (Edit number recipients) not = let same = unfinished_with_all (recipient_peers recipients) outbox.posts in omega (arith, same)
 
 -- ---- over a history
 
@@ -61,7 +61,7 @@ abbrev unfinished : Site → List Event → ℕ
 unfinished site history = unfinished_in (outbox_after site history).posts
 
 module _ (site : Site) (event : Event) (history : List Event) where
-  ascending : IsAscending (peers_of_posts (outbox_after site history).posts)
+  ascending : IsAscending (peers_of (outbox_after site history).posts)
   ascending = subst IsAscending (sym (peers_kept site history (known_peers_of site history))) (known_ascend site history)
 
   known : AreKnown (event_notes site event history) (outbox_after site history).posts

@@ -6,10 +6,10 @@ use Rattle.std.proofs.lemmas.List.Elements.{All-weaker}
 use Rattle.bac_values.specs.Address.{PeerData}
 use Rattle.bac_values.specs.Orders.{is_among, peers_with}
 use Rattle.bac_values.specs.declared.note.Note.{Note}
-use Rattle.notify_class.specs.Edits.{peers_of}
+use Rattle.notify_class.specs.Edits.{recipient_peers}
 use Rattle.outbox.specs.Delivery.{delivery_after, sent_at}
 use Rattle.outbox.specs.Following.{StandsFor, no_operations}
-use Rattle.outbox.specs.Outboxes.{OutboxState, AreKnown, new_outbox, peers_of as peers_of_posts, sends_of}
+use Rattle.outbox.specs.Outboxes.{OutboxState, AreKnown, new_outbox, peers_of, sends_of}
 use Rattle.outbox.specs.Posts.{post_after, MailboxState}
 use Rattle.outbox.proofs.Learning.{learn_learns, known_addresses, with_all}
 use Rattle.outbox.proofs.Standing.{answer_follows, are_sent, new_stands, nothing_kept, pump_follows, queue_follows}
@@ -27,7 +27,7 @@ use Rattle.alarm_core.proofs.NotesGo.{notes_known}
 abbrev pub kept : Site → List Event → PeerData → MailboxState
 kept site history peer = post_after (timing_at site) peer (operations_of site history peer)
 
-pub peers_kept : (site : Site) (history : List Event) (peers : List PeerData) → peers_of_posts (map (kept site history) peers) ≡ peers
+pub peers_kept : (site : Site) (history : List Event) (peers : List PeerData) → peers_of (map (kept site history) peers) ≡ peers
 peers_kept site history [] = refl
 peers_kept site history (peer ∷ peers) = ap (λ ps. peer ∷ ps) (peers_kept site history peers)
 
@@ -43,12 +43,12 @@ are_known site history notes known =
 
 -- after an act the posts are those of the peers known then, and stand for what was done
 record Goes (site : Site) (older : List Event) (moment : ℕ) (act : Act) (notes : List Note) : Type 0 where
-  peers : peers_of_posts (outbox_with moment act notes (outbox_after site older)).posts ≡ learned_with act (known_peers_of site older)
+  peers : peers_of (outbox_with moment act notes (outbox_after site older)).posts ≡ learned_with act (known_peers_of site older)
   stands : StandsFor (outbox_with moment act notes (outbox_after site older)) (operations_with moment act notes (operations_of site older))
   shape : outbox_with moment act notes (outbox_after site older) ≡ as_outbox site (outbox_with moment act notes (outbox_after site older)).posts
 
 module _ (site : Site) (older : List Event) (stands : StandsFor (outbox_after site older) (operations_of site older)) where
-  same_peers : peers_of_posts (outbox_after site older).posts ≡ known_peers_of site older
+  same_peers : peers_of (outbox_after site older).posts ≡ known_peers_of site older
   same_peers = peers_kept site older (known_peers_of site older)
 
   goes : (moment : ℕ) (act : Act) (notes : List Note) → AreKnown notes (outbox_after site older).posts → Goes site older moment act notes
@@ -65,8 +65,8 @@ module _ (site : Site) (older : List Event) (stands : StandsFor (outbox_after si
       record { peers = f.peers ∙ same_peers; stands = f.after (operations_of site older) stands; shape = refl }
   goes moment (Edit number recipients) notes known =
       record {
-        peers = with_all (peers_of recipients) (outbox_after site older).posts ∙ ap (peers_with (peers_of recipients)) same_peers;
-        stands = (learn_learns (peers_of recipients) (outbox_after site older)).after (operations_of site older) stands;
+        peers = with_all (recipient_peers recipients) (outbox_after site older).posts ∙ ap (peers_with (recipient_peers recipients)) same_peers;
+        stands = (learn_learns (recipient_peers recipients) (outbox_after site older)).after (operations_of site older) stands;
         shape = refl;
       }
 
@@ -75,7 +75,7 @@ module _ (site : Site) (older : List Event) (stands : StandsFor (outbox_after si
   more event =
       let notes = event_notes site event older in
       let g = goes event.moment event.act notes (are_known site older notes (notes_known site event older)) in
-      g.shape ∙ ap (as_outbox site) (g.stands.posts ∙ (ap (λ o. map (λ peer. post_after (record { timeout = o.timeout; retries = o.retries }) peer (operations_of site (event ∷ older) peer)) (peers_of_posts o.posts)) g.shape ∙ ap (map (kept site (event ∷ older))) g.peers))
+      g.shape ∙ ap (as_outbox site) (g.stands.posts ∙ (ap (λ o. map (λ peer. post_after (record { timeout = o.timeout; retries = o.retries }) peer (operations_of site (event ∷ older) peer)) (peers_of o.posts)) g.shape ∙ ap (map (kept site (event ∷ older))) g.peers))
 
   still_stands : (event : Event) → StandsFor (outbox_after site (event ∷ older)) (operations_of site (event ∷ older))
   still_stands event =

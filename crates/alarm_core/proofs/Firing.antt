@@ -9,7 +9,8 @@ use Rattle.algorithm_rules.specs.declared.table.Algorithm.{Algorithm}
 use Rattle.algorithm_rules.specs.declared.table.Rule.{Rule}
 use Rattle.civil_stamp.specs.LocalTime.{LocalMomentData}
 use Rattle.event_machine.specs.AlarmSteps.{acknowledged, and_then, begun, entered, enters, fault_by, goes_on, later_change, next_look, relied_on, rule_by, rule_lasting, stays}
-use Rattle.event_machine.specs.Detection.{fault_target, is_fault, is_normal}
+use Rattle.bac_values.specs.EventStates.{is_fault, is_normal}
+use Rattle.event_machine.specs.Detection.{fault_target}
 use Rattle.event_machine.specs.Points.{Point}
 use Rattle.event_machine.specs.Due.{next_due_of}
 use Rattle.event_machine.specs.SettledSteps.{is_settled}

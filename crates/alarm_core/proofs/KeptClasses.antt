@@ -1,4 +1,5 @@
 -- The notification classes of a site keep to what it says of them, and so few peers are known as may be, whatever edits are allowed.
+use Rattle.bac_values.specs.Limits.{most_destinations, most_peers}
 use Rattle.std.proofs.Common.{◌≡◌, ℕ, ◌==◌, ◌+◌, ◌*◌, ◌≤◌, Bool, true, false, ◌||◌, nat_lt, if◌then◌else◌, Result, Ok, Err, List, [], ◌∷◌, ◌++◌, length, map, refl, sym, ap, ◌∙◌, subst, arith, length-append, inl, inr}
 use Rattle.std.specs.List.{All, AllZip}
 use Rattle.std.proofs.lemmas.Bool.{cases_Bool, ltb-false}
@@ -8,13 +9,13 @@ use Rattle.std.proofs.lemmas.List.Folds.{list_any-append}
 use Rattle.std.proofs.lemmas.List.Sorted.{length_permutation}
 use Rattle.bac_values.specs.Address.{PeerData}
 use Rattle.bac_values.specs.Orders.{is_among, is_same, peer_with, peers_with}
-use Rattle.notify_class.specs.Edits.{edit_verdict, known_with, most_destinations, most_peers, peers_of}
+use Rattle.notify_class.specs.Edits.{edit_verdict, known_with, recipient_peers}
 use Rattle.notify_class.specs.Recipients.{DestinationData}
 use Rattle.notify_class.specs.declared.class.Class.{Class}
 use Rattle.notify_class.specs.declared.class_site.ClassSite.{ClassSite}
 use Rattle.notify_class.specs.declared.edit.EditFault.{EditFault}
 use Rattle.notify_class.specs.declared.edit.EditFault.TheVariants.{TooMany, TooManyPeers, TooManyNotes}
-use Rattle.outbox.specs.Outboxes.{is_known, peers_of as peers_of_posts, with_peer}
+use Rattle.outbox.specs.Outboxes.{is_known, peers_of, mailboxes_with}
 use Rattle.outbox.specs.Posts.{MailboxState, empty_post}
 use Rattle.outbox.proofs.Learning.{known_addresses, known_same, shuffled, with_all}
 use Rattle.outbox.proofs.Making.{peers_empty}
@@ -43,11 +44,11 @@ few_by false true notes count known all e = absurd cc
 few_by false false notes count known all e = (refl, refl)
 
 module _ (known : List PeerData) (recipients : List DestinationData) (members room : ℕ) (e : edit_verdict known recipients members room ≡ Ok tt) where
-  few_both : (length recipients ≤ most_destinations) × (length (known_with known (peers_of recipients)) ≤ most_peers)
+  few_both : (length recipients ≤ most_destinations) × (length (known_with known (recipient_peers recipients)) ≤ most_peers)
   unfolding verdict_by
   few_both =
       let count = length recipients in
-      let peers = length (known_with known (peers_of recipients)) in
+      let peers = length (known_with known (recipient_peers recipients)) in
       let notes = members * count in
       let tests = few_by (nat_lt most_destinations count) (nat_lt most_peers peers) (nat_lt room notes) count peers notes e in
       (ltb-false most_destinations count tests.0, ltb-false most_peers peers tests.1)
@@ -75,7 +76,7 @@ classes_by : (site : Site) (act : Act) (older : List Event) → IsAllowed (state
     AllZip IsClassOf site.classes (classes_with act (classes_after site older))
 classes_by site (Edit number recipients) older allowed zip =
     edited_all site.classes (classes_after site older) number recipients
-    (few_both (peers_of_posts (outbox_after site older).posts) recipients (members_of (state_of site older) number) (room_beside (state_of site older) number) allowed.1).0 zip
+    (few_both (peers_of (outbox_after site older).posts) recipients (members_of (state_of site older) number) (room_beside (state_of site older) number) allowed.1).0 zip
 classes_by site Tick older allowed zip = zip
 classes_by site (Write change) older allowed zip = zip
 classes_by site (Ack object transition named) older allowed zip = zip
@@ -89,23 +90,23 @@ classes_kept site limits (event ∷ older) h = classes_by site event.act older h
 -- ---- how many peers are known
 
 -- a peer that is new is one more
-with_longer : (peer : PeerData) (posts : List MailboxState) → length (with_peer peer posts) ≡ (if is_known peer posts then length posts else length posts + 1)
+with_longer : (peer : PeerData) (posts : List MailboxState) → length (mailboxes_with peer posts) ≡ (if is_known peer posts then length posts else length posts + 1)
 with_longer peer posts = elim (cases_Bool (is_known peer posts)) [
   | inl known ↦ ap length (known_same peer posts known) ∙ ap (λ b. if b then length posts else length posts + 1) (sym known)
   | inr unknown ↦
-      let longer = length_permutation (empty_post peer ∷ posts) (with_peer peer posts) (shuffled peer posts unknown) in
-      let more : length (with_peer peer posts) ≡ length posts + 1 = omega (arith, longer) in
+      let longer = length_permutation (empty_post peer ∷ posts) (mailboxes_with peer posts) (shuffled peer posts unknown) in
+      let more : length (mailboxes_with peer posts) ≡ length posts + 1 = omega (arith, longer) in
       more ∙ ap (λ b. if b then length posts else length posts + 1) (sym unknown)
 ]
 
 one_longer : (peer : PeerData) (known : List PeerData) → length (peer_with peer known) ≡ (if is_among known peer then length known else length known + 1)
 one_longer peer known =
     let posts = map empty_post known in
-    let same : peers_of_posts posts ≡ known = peers_empty known in
+    let same : peers_of posts ≡ known = peers_empty known in
     let size : length posts ≡ length known = length-map known empty_post in
     ap (λ ps. length (peer_with peer ps)) (sym same)
     ∙ (ap length (sym (with_all (peer ∷ []) posts))
-    ∙ (length-map (with_peer peer posts) (λ (post : MailboxState). post.peer)
+    ∙ (length-map (mailboxes_with peer posts) (λ (post : MailboxState). post.peer)
     ∙ (with_longer peer posts
     ∙ (ap (λ n. if is_known peer posts then n else n + 1) size
     ∙ ap (λ b. if b then length known else length known + 1) (known_addresses peer posts ∙ ap (λ ps. is_among ps peer) same)))))
@@ -156,7 +157,7 @@ listed_few (listed ∷ sites) few =
     let later = peers_in (map (λ (one : ClassSite). one.class) sites) in
     omega (
       arith,
-      length-append (peers_of listed.class.destinations) later,
+      length-append (recipient_peers listed.class.destinations) later,
       length-map listed.class.destinations (λ (recipient : DestinationData). recipient.peer),
       All-head HasFewDestinations listed sites few,
       listed_few sites (All-tail HasFewDestinations listed sites few),
@@ -165,10 +166,10 @@ listed_few (listed ∷ sites) few =
 peers_by : (site : Site) (act : Act) (older : List Event) → IsAllowed (state_of site older) act → length (known_peers_of site older) ≤ most_peers → length (learned_with act (known_peers_of site older)) ≤ most_peers
 peers_by site (Edit number recipients) older allowed few =
     let known = known_peers_of site older in
-    let same : peers_of_posts (outbox_after site older).posts ≡ known = peers_kept site older known in
-    let fits = (few_both (peers_of_posts (outbox_after site older).posts) recipients (members_of (state_of site older) number) (room_beside (state_of site older) number) allowed.1).1 in
-    let fits_known : length (known_with known (peers_of recipients)) ≤ most_peers = subst (λ ps. length (known_with ps (peers_of recipients)) ≤ most_peers) same fits in
-    subst (λ n. n ≤ most_peers) (sym (same_count (peers_of recipients) known known (record { size = refl; same = λ other. refl }))) fits_known
+    let same : peers_of (outbox_after site older).posts ≡ known = peers_kept site older known in
+    let fits = (few_both (peers_of (outbox_after site older).posts) recipients (members_of (state_of site older) number) (room_beside (state_of site older) number) allowed.1).1 in
+    let fits_known : length (known_with known (recipient_peers recipients)) ≤ most_peers = subst (λ ps. length (known_with ps (recipient_peers recipients)) ≤ most_peers) same fits in
+    subst (λ n. n ≤ most_peers) (sym (same_count (recipient_peers recipients) known known (record { size = refl; same = λ other. refl }))) fits_known
 peers_by site Tick older allowed few = few
 peers_by site (Write change) older allowed few = few
 peers_by site (Ack object transition named) older allowed few = few

@@ -19,7 +19,8 @@ use Rattle.algorithm_rules.specs.Matches.{matched_in}
 use Rattle.algorithm_rules.specs.Rules.{rules_of}
 use Rattle.event_machine.specs.Points.{Point, Incident, Looked, Acknowledged}
 use Rattle.event_machine.specs.Held.{is_held, is_held_by, key_despite, key_in_detection, other_than}
-use Rattle.event_machine.specs.Detection.{Detection, and_then, cause_on, detection_at, enters, fault_by, fault_target, inhibited_step, is_fault, is_normal, later_step, rule_by, rule_held, sees, stays}
+use Rattle.bac_values.specs.EventStates.{is_fault, is_normal}
+use Rattle.event_machine.specs.Detection.{Detection, and_then, cause_on, detection_at, enters, fault_by, fault_target, inhibited_step, later_step, rule_by, rule_held, sees, stays}
 use Rattle.alarm_core.specs.SiteStates.{is_state_of}
 
 -- ---- what is known of a detection

@@ -4,8 +4,8 @@ use Rattle.std.specs.List.{All}
 use Rattle.bac_values.specs.Address.{PeerData}
 use Rattle.bac_values.specs.Moments.{IsMoment}
 use Rattle.bac_values.specs.declared.note.Note.{Note}
-use Rattle.notify_class.specs.Edits.{peers_of}
-use Rattle.outbox.specs.Outboxes.{AreKnown, IsOutbox, OutboxState, peers_of as peers_of_posts, unfinished_in}
+use Rattle.notify_class.specs.Edits.{recipient_peers}
+use Rattle.outbox.specs.Outboxes.{AreKnown, IsOutbox, OutboxState, peers_of, unfinished_in}
 use Rattle.outbox.proofs.Keeping.{answer_keeps, pump_keeps}
 use Rattle.outbox.proofs.Learning.{learn_keeps}
 use Rattle.outbox.proofs.Making.{new_is}
@@ -40,7 +40,7 @@ act_kept moment (Write change) notes outbox range is known short fits = queued_k
 act_kept moment (Ack object transition named) notes outbox range is known short fits = queued_kept notes outbox is known short fits
 act_kept moment Pump notes outbox range is known short fits = pump_keeps moment outbox range is
 act_kept moment (Answer peer invoke kind) notes outbox range is known short fits = answer_keeps peer invoke outbox is
-act_kept moment (Edit number recipients) notes outbox range is known short fits = learn_keeps (peers_of recipients) outbox is
+act_kept moment (Edit number recipients) notes outbox range is known short fits = learn_keeps (recipient_peers recipients) outbox is
 
 pub outbox_kept : (site : Site) → IsSite site → (history : List Event) → IsHistory site history → All IsShort (notifications_of site history) → IsOutbox (outbox_after site history)
 outbox_kept site is [] h short =
@@ -55,6 +55,6 @@ outbox_kept site is (event ∷ older) h short =
     (are_known site older notes (notes_known site event older)) (back_all IsShort (notifications_of site older) notes short) fits)
 
 -- each recipient of a class has a post
-pub recipients_known : (site : Site) (history : List Event) → All (KnowsClass (peers_of_posts (outbox_after site history).posts)) (classes_after site history)
+pub recipients_known : (site : Site) (history : List Event) → All (KnowsClass (peers_of (outbox_after site history).posts)) (classes_after site history)
 recipients_known site history =
     subst (λ (peers : List PeerData). All (KnowsClass peers) (classes_after site history)) (sym (peers_kept site history (known_peers_of site history))) (classes_known site history)

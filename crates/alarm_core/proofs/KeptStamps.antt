@@ -1,6 +1,6 @@
 -- What a clock that always stands the same ahead of UTC shows at a moment tells the moment's hundredths of a second.
 use Rattle.std.proofs.Common.{◌≡◌, ℕ, zero, suc, ◌+◌, ◌-◌, ◌*◌, ◌/◌, ◌%◌, ◌<◌, ◌≤◌, Bool, true, false, nat_lt, ℤ, pos, negsuc, ◌+ℤ◌, ◌*ℤ◌, ◌≤ℤ◌, Some, [], ◌∷◌, refl, sym, ap, ◌∙◌, subst, arith}
-use Rattle.std.proofs.lemmas.Bool.{ltb-true, ltb-false, le-leb, lt-ltb}
+use Rattle.std.proofs.lemmas.Bool.{ltb-true, ltb-false}
 use Rattle.jiff_core.specs.Calendar.{IsCivilDate, day_count, days_from_civil, days_in_month, days_of_months, days_of_years, weekday_number}
 use Rattle.jiff_core.specs.declared.civil.date.Date.{Date}
 use Rattle.jiff_core.proofs.CalendarLemmas.{days_in_month_bounds}
@@ -8,8 +8,9 @@ use Rattle.jiff_core.proofs.DateLemmas.{days_from_civil-day, days_from_civil-nex
 use Rattle.jiff_core.proofs.SignedLemmas.{signed_arith}
 use Rattle.bac_values.specs.Moments.{IsMoment}
 use Rattle.bac_values.specs.declared.stamp.Stamp.{Stamp}
-use Rattle.civil_stamp.specs.LocalTime.{IsLocalStamp, IsZone, fixed_zone, hundredths_in, is_civil_time, local_hundredths, local_stamp, stamp_day, stamp_hour, stamp_hundredth, stamp_minute, stamp_month, stamp_second, stamp_year, utc_hundredths}
-use Rattle.civil_stamp.specs.ZoneRules.{seconds_ahead, seconds_shown}
+use Rattle.civil_stamp.specs.LocalTime.{IsLocalStamp, IsZone, fixed_zone, hundredths_in, local_hundredths, local_stamp}
+use Rattle.civil_stamp.specs.ZoneRules.{seconds_ahead}
+use Rattle.civil_stamp.proofs.HundredthsLemmas.{hundredths-some, utc_hundredths-fixed}
 use Rattle.civil_stamp.proofs.StampLemmas.{stamp_is, year_high}
 
 -- ---- each day has a date
@@ -126,26 +127,8 @@ module _ (minutes : ℤ) (moment : ℕ) (zone : IsZone minutes) (range : IsMomen
       let shows = stamp_shows n time d (omega arith) (found.1 ∙ ap pos parts) in
       subst (IsLocalStamp (fixed_zone minutes) moment) (stamp_is (fixed_zone minutes) moment (stamp_of n time d) shows) shows
 
-  civil_told : (stamp : Stamp) → IsLocalStamp (fixed_zone minutes) moment stamp → is_civil_time stamp ≡ true
-  civil_told stamp is =
-      rw (
-        le-leb 1 (stamp_month stamp) is.date.1.0,
-        le-leb (stamp_month stamp) 12 is.date.1.1,
-        le-leb 1 (stamp_day stamp) is.date.2.0,
-        le-leb (stamp_day stamp) (days_in_month (stamp_year stamp) (stamp_month stamp)) is.date.2.1,
-        lt-ltb (stamp_hour stamp) 24 is.time.hour,
-        lt-ltb (stamp_minute stamp) 60 is.time.minute,
-        lt-ltb (stamp_second stamp) 60 is.time.second,
-        lt-ltb (stamp_hundredth stamp) 100 is.time.hundredth,
-      ) refl
-
-  utc_told : (stamp : Stamp) → IsLocalStamp (fixed_zone minutes) moment stamp → utc_hundredths (fixed_zone minutes) stamp ≡ pos (moment / 10)
-  unfolding seconds_ahead seconds_shown
-  utc_told stamp is =
-      let count = is.count in
-      omega (arith, signed_arith)
-
   pub fixed_hundredths : hundredths_in (fixed_zone minutes) (local_stamp (fixed_zone minutes) moment) ≡ Some (pos (moment / 10))
   fixed_hundredths =
       let stamp = local_stamp (fixed_zone minutes) moment in
-      rw (civil_told stamp local_shows) (ap Some (utc_told stamp local_shows))
+      hundredths-some (fixed_zone minutes) stamp (record { date = local_shows.date; time = local_shows.time })
+      ∙ ap Some (utc_hundredths-fixed minutes moment stamp local_shows)

@@ -6,9 +6,9 @@ use Rattle.bac_values.specs.Address.{PeerData}
 use Rattle.bac_values.specs.Orders.{is_among, is_same, peers_with}
 use Rattle.bac_values.proofs.OrderLemmas.{same_is_equivalence}
 use Rattle.notify_class.specs.declared.class.Class.{Class}
-use Rattle.notify_class.specs.Edits.{peers_of}
+use Rattle.notify_class.specs.Edits.{recipient_peers}
 use Rattle.notify_class.specs.Recipients.{DestinationData}
-use Rattle.outbox.specs.Outboxes.{with_peers}
+use Rattle.outbox.specs.Outboxes.{mailboxes_with_all}
 use Rattle.outbox.specs.Posts.{empty_post}
 use Rattle.outbox.proofs.Learning.{known_addresses, known_with_all, with_all}
 use Rattle.outbox.proofs.Making.{peers_empty}
@@ -26,7 +26,7 @@ known_more others known peer =
     let posts = map empty_post known in
     ap (λ ps. is_among (peers_with others ps) peer) (sym (peers_empty known))
     ∙ (ap (λ ps. is_among ps peer) (sym (with_all others posts))
-    ∙ (sym (known_addresses peer (with_peers others posts))
+    ∙ (sym (known_addresses peer (mailboxes_with_all others posts))
     ∙ (known_with_all others posts peer
     ∙ ap (λ b. b || is_among others peer) (known_addresses peer posts ∙ ap (λ ps. is_among ps peer) (peers_empty known)))))
 
@@ -62,13 +62,13 @@ all_parts P f [] h = All-nil (λ x. All P (f x))
 all_parts P f (x ∷ xs) h = All-cons (λ x. All P (f x)) x xs (front_all P (f x) (flat_map f xs) h) (all_parts P f xs (back_all P (f x) (flat_map f xs) h))
 
 edited_known : (b : Bool) (recipients : List DestinationData) (known : List PeerData) (class : Class) → KnowsClass known class →
-    KnowsClass (peers_with (peers_of recipients) known) (if b then record class { destinations = recipients } else class)
-edited_known true recipients known class h = knows_new (peers_of recipients) known
-edited_known false recipients known class h = All-weaker (Knows known) (Knows (peers_with (peers_of recipients) known)) (knows_still (peers_of recipients) known) (peers_of class.destinations) h
+    KnowsClass (peers_with (recipient_peers recipients) known) (if b then record class { destinations = recipients } else class)
+edited_known true recipients known class h = knows_new (recipient_peers recipients) known
+edited_known false recipients known class h = All-weaker (Knows known) (Knows (peers_with (recipient_peers recipients) known)) (knows_still (recipient_peers recipients) known) (recipient_peers class.destinations) h
 
 pub known_by : (act : Act) (known : List PeerData) (classes : List Class) → All (KnowsClass known) classes → All (KnowsClass (learned_with act known)) (classes_with act classes)
 known_by (Edit number recipients) known classes h =
-    let now = peers_with (peers_of recipients) known in
+    let now = peers_with (recipient_peers recipients) known in
     All-map (KnowsClass now) (edited number recipients) classes
     (All-weaker (KnowsClass known) (λ class. KnowsClass now (edited number recipients class)) (λ (class : Class) k. edited_known (class.instance == number) recipients known class k) classes h)
 known_by Tick known classes h = h
@@ -78,5 +78,5 @@ known_by Pump known classes h = h
 known_by (Answer peer invoke kind) known classes h = h
 
 pub classes_known : (site : Site) (history : List Event) → All (KnowsClass (known_peers_of site history)) (classes_after site history)
-classes_known site [] = all_parts (Knows (known_peers_of site [])) (λ (class : Class). peers_of class.destinations) (first_classes site) (knows_new (peers_in (first_classes site)) [])
+classes_known site [] = all_parts (Knows (known_peers_of site [])) (λ (class : Class). recipient_peers class.destinations) (first_classes site) (knows_new (peers_in (first_classes site)) [])
 classes_known site (event ∷ older) = known_by event.act (known_peers_of site older) (classes_after site older) (classes_known site older)

@@ -25,7 +25,7 @@ pub mod Entering
 pub mod Standing
 pub mod Firing
 pub mod Moving
-pub mod Moved
+pub mod MovesTold
 pub mod ToldBy
 pub mod Looking
 pub mod RecordedBy

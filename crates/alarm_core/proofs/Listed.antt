@@ -8,7 +8,7 @@ use Rattle.bac_values.specs.Address.{PeerData}
 use Rattle.bac_values.specs.Orders.{IsAscending, is_among, is_same}
 use Rattle.bac_values.proofs.Inserting.{ascends_with_all}
 use Rattle.bac_values.proofs.OrderLemmas.{same_is_equivalence, tied}
-use Rattle.notify_class.specs.Edits.{peers_of}
+use Rattle.notify_class.specs.Edits.{recipient_peers}
 use Rattle.alarm_core.specs.declared.event.Act.{Act}
 use Rattle.alarm_core.specs.declared.event.Act.TheVariants.{Tick, Write, Ack, Pump, Answer, Edit}
 use Rattle.alarm_core.specs.declared.event.Event.{Event}
@@ -48,10 +48,10 @@ edited_peers history = flat_map (λ (event : Event). peers_by event.act) history
 learned_among : (act : Act) (known edited : List PeerData) (first : Bool) (peer : PeerData) → is_among known peer ≡ (first || is_among edited peer) →
     is_among (learned_with act known) peer ≡ (first || is_among (peers_by act ++ edited) peer)
 learned_among (Edit number recipients) known edited first peer e =
-    known_more (peers_of recipients) known peer
-    ∙ (ap (λ b. b || is_among (peers_of recipients) peer) e
-    ∙ (or_turned first (is_among edited peer) (is_among (peers_of recipients) peer)
-    ∙ ap (λ b. first || b) (sym (list_any-append (λ other. is_same other peer) (peers_of recipients) edited))))
+    known_more (recipient_peers recipients) known peer
+    ∙ (ap (λ b. b || is_among (recipient_peers recipients) peer) e
+    ∙ (or_turned first (is_among edited peer) (is_among (recipient_peers recipients) peer)
+    ∙ ap (λ b. first || b) (sym (list_any-append (λ other. is_same other peer) (recipient_peers recipients) edited))))
 learned_among Tick known edited first peer e = e
 learned_among (Write change) known edited first peer e = e
 learned_among (Ack object transition named) known edited first peer e = e
@@ -80,7 +80,7 @@ none_ascend : IsAscending []
 none_ascend i j d low within = absurd (omega (arith, within))
 
 learned_ascend : (act : Act) (known : List PeerData) → IsAscending known → IsAscending (learned_with act known)
-learned_ascend (Edit number recipients) known ascending = ascends_with_all (peers_of recipients) known ascending
+learned_ascend (Edit number recipients) known ascending = ascends_with_all (recipient_peers recipients) known ascending
 learned_ascend Tick known ascending = ascending
 learned_ascend (Write change) known ascending = ascending
 learned_ascend (Ack object transition named) known ascending = ascending

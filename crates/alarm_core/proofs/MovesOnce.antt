@@ -12,7 +12,8 @@ use Rattle.algorithm_rules.specs.Rules.{command_rules, limit_rules, match_rules,
 use Rattle.algorithm_rules.specs.declared.table.Algorithm.{Algorithm}
 use Rattle.algorithm_rules.specs.declared.table.Algorithm.TheVariants.{ChangeOfBitstring, ChangeOfState, CommandFailure, UnsignedRange, SignedOutOfRange, UnsignedOutOfRange, ChangeOfCharacterstring}
 use Rattle.algorithm_rules.specs.declared.table.Rule.{Rule}
-use Rattle.event_machine.specs.Detection.{Detection, enters, fault_by, fault_target, inhibited_step, is_fault, is_normal, look_step, rule_by, rule_held, sees, stays}
+use Rattle.bac_values.specs.EventStates.{is_fault, is_normal}
+use Rattle.event_machine.specs.Detection.{Detection, enters, fault_by, fault_target, inhibited_step, look_step, rule_by, rule_held, sees, stays}
 use Rattle.event_machine.specs.Held.{is_held}
 use Rattle.event_machine.specs.AlarmSteps as next
 use Rattle.event_machine.specs.AlarmSteps.{goes_on, inhibited_change, later_change, next_look, relied_on, rule_lasting}

@@ -13,7 +13,7 @@ use Rattle.civil_stamp.specs.LocalTime.{ZoneData}
 use Rattle.event_services.specs.declared.notification.Notification.{Notification}
 use Rattle.note_maker.specs.Notes.{note_to, notes_for}
 use Rattle.note_maker.specs.Shapes.{acknowledgement_notification}
-use Rattle.notify_class.specs.Edits.{peers_of}
+use Rattle.notify_class.specs.Edits.{recipient_peers}
 use Rattle.notify_class.specs.Chosen.{chosen_destinations}
 use Rattle.notify_class.specs.Recipients.{DestinationData}
 use Rattle.notify_class.specs.Windows.{is_in_window}
@@ -37,14 +37,14 @@ use Rattle.alarm_core.proofs.KnownPeers.{classes_known}
 abbrev pub GoesTo : List PeerData → Note → Type 0
 GoesTo known note = Knows known note.peer
 
-unmapped : (known : List PeerData) (recipients : List DestinationData) → All (Knows known) (peers_of recipients) → All (λ (recipient : DestinationData). Knows known recipient.peer) recipients
+unmapped : (known : List PeerData) (recipients : List DestinationData) → All (Knows known) (recipient_peers recipients) → All (λ (recipient : DestinationData). Knows known recipient.peer) recipients
 unmapped known [] h = All-nil (λ (recipient : DestinationData). Knows known recipient.peer)
 unmapped known (recipient ∷ recipients) h =
-    All-cons (λ (recipient : DestinationData). Knows known recipient.peer) recipient recipients (All-head (Knows known) recipient.peer (peers_of recipients) h)
-    (unmapped known recipients (All-tail (Knows known) recipient.peer (peers_of recipients) h))
+    All-cons (λ (recipient : DestinationData). Knows known recipient.peer) recipient recipients (All-head (Knows known) recipient.peer (recipient_peers recipients) h)
+    (unmapped known recipients (All-tail (Knows known) recipient.peer (recipient_peers recipients) h))
 
 notes_go : (known : List PeerData) (facts : Notification) (recipients : List DestinationData) (transition : Transition) (moment : ℕ) (zone : ZoneData) →
-    All (Knows known) (peers_of recipients) → All (GoesTo known) (notes_for facts recipients transition moment zone)
+    All (Knows known) (recipient_peers recipients) → All (GoesTo known) (notes_for facts recipients transition moment zone)
 notes_go known facts recipients transition moment zone h =
     All-map (GoesTo known) (note_to facts) (chosen_destinations recipients transition moment zone)
     (All-filter (λ recipient. is_in_window recipient transition moment zone) (λ (recipient : DestinationData). Knows known recipient.peer) recipients (unmapped known recipients h))

@@ -1,4 +1,5 @@
 -- The room that a site's classes leave in its outbox is kept, and the notifications of a tick are within it.
+use Rattle.bac_values.specs.Limits.{most_destinations, most_peers}
 use Rattle.std.proofs.Common.{◌≡◌, ℕ, ◌+◌, ◌-◌, ◌*◌, ◌≤◌, ◌==◌, nat_lt, Bool, true, false, not, if◌then◌else◌, List, [], ◌∷◌, ◌++◌, length, map, Result, Ok, Err, refl, sym, ap, ◌∙◌, subst, arith}
 use Rattle.std.proofs.Math.Path.{fun_ext}
 use Rattle.std.proofs.Math.Nat.{mul-le-mul_right}
@@ -9,7 +10,7 @@ use Rattle.std.proofs.lemmas.List.Sums.{sum_by-append, sum_by-le-sum_by}
 use Rattle.std.proofs.lemmas.List.Filters.{sum_by-filter_both}
 use Rattle.std.proofs.lemmas.Simd.{map-map}
 use Rattle.bac_values.specs.Address.{PeerData}
-use Rattle.notify_class.specs.Edits.{edit_verdict, known_with, most_destinations, most_peers, peers_of as peers_in_list}
+use Rattle.notify_class.specs.Edits.{edit_verdict, known_with, recipient_peers}
 use Rattle.notify_class.specs.Recipients.{DestinationData}
 use Rattle.notify_class.specs.declared.class.Class.{Class}
 use Rattle.notify_class.specs.declared.edit.EditFault.{EditFault}
@@ -126,7 +127,7 @@ few_notes false false false count known all e = refl
 edit_fits : (known : List PeerData) (recipients : List DestinationData) (members room : ℕ) → edit_verdict known recipients members room ≡ Ok tt → members * length recipients ≤ room
 edit_fits known recipients members room e =
     let count = length recipients in
-    let peers = length (known_with known (peers_in_list recipients)) in
+    let peers = length (known_with known (recipient_peers recipients)) in
     let notes = members * count in
     ltb-false room notes (few_notes (nat_lt most_destinations count) (nat_lt most_peers peers) (nat_lt room notes) count peers notes e)
 

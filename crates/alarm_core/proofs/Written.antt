@@ -11,7 +11,7 @@ use Rattle.bac_values.specs.declared.moved.Moved.{Moved}
 use Rattle.bac_values.specs.declared.transition.Transition.{Transition}
 use Rattle.bac_values.specs.declared.peer.Peer.{Peer}
 use Rattle.notify_class.specs.declared.destination.Destination.{Destination}
-use Rattle.notify_class.specs.Edits.{peers_of}
+use Rattle.notify_class.specs.Edits.{recipient_peers}
 use Rattle.object_table.specs.declared.change.Change.{Change}
 use Rattle.outbox.specs.Outboxes.{OutboxState, answered, learned, pumped, queued}
 use Rattle.enrollment.specs.Objects.{ObjectsState, written}
@@ -29,7 +29,7 @@ use Rattle.alarm_core.specs.DueSteps.{all_once, detections_of, due_count, due_of
 use Rattle.alarm_core.specs.State.{DetectedObjectState, CoreState}
 use Rattle.alarm_core.specs.ViewSteps.{seen_in}
 use Rattle.alarm_core.specs.Verdicts.{queue_verdict, step_verdict}
-use Rattle.alarm_core.proofs.Moved.{each_of_one_look, each_of_two_looks, of_two_looks}
+use Rattle.alarm_core.proofs.MovesTold.{each_of_one_look, each_of_two_looks, of_two_looks}
 
 -- where an answer gives two facts, it gives what follows from both
 pub on_both : {A E P Q R : Type 0} (result : Result A E) → (P → Q → R) → OnOk result P → OnOk result Q → OnOk result R
@@ -74,9 +74,9 @@ module _ (old : CoreState) (moment : ℕ) where
   answered_state peer invoke kind new n = n ∙ (λ k. record old { outbox = answered peer invoke old.outbox; logs = no_calls old.logs k })
 
   pub edited_state : (class : ℕ) (destinations : List Destination) (new : CoreState) →
-      new ≡ record old { classes = map (edited class destinations) old.classes; outbox = learned (peers_of destinations) old.outbox } → new ≡ acted (event_at moment (Edit class destinations)) old
+      new ≡ record old { classes = map (edited class destinations) old.classes; outbox = learned (recipient_peers destinations) old.outbox } → new ≡ acted (event_at moment (Edit class destinations)) old
   edited_state class destinations new n =
-      n ∙ (λ k. record old { classes = map (edited class destinations) old.classes; outbox = learned (peers_of destinations) old.outbox; logs = no_calls old.logs k })
+      n ∙ (λ k. record old { classes = map (edited class destinations) old.classes; outbox = learned (recipient_peers destinations) old.outbox; logs = no_calls old.logs k })
 
   pub acknowledged_state : (object : ObjectIdData) (transition : Transition) (named : EventState) (new : CoreState) (alarms : List DetectedObjectState) (notes : List Note) (outbox : OutboxState) →
       new ≡ record old { alarms = alarms; outbox = outbox } → alarms ≡ map (acked object transition) old.alarms → outbox ≡ queued notes old.outbox →

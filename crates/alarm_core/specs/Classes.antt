@@ -4,7 +4,7 @@ use Rattle.std.specs.List.{flat_map}
 use Rattle.bac_values.specs.Address.{PeerData}
 use Rattle.bac_values.specs.Orders.{peers_with}
 use Rattle.notify_class.specs.declared.class.Class.{Class}
-use Rattle.notify_class.specs.Edits.{peers_of}
+use Rattle.notify_class.specs.Edits.{recipient_peers}
 use Rattle.notify_class.specs.Recipients.{DestinationData}
 use Rattle.alarm_core.specs.declared.event.Act.{Act}
 use Rattle.alarm_core.specs.declared.event.Act.TheVariants.{Edit}
@@ -39,10 +39,10 @@ class_in number classes = find (λ (class : Class). class.instance == number) cl
 
 -- the peers of the lists of some classes
 abbrev pub peers_in : List Class → List PeerData
-peers_in classes = flat_map (λ (class : Class). peers_of class.destinations) classes
+peers_in classes = flat_map (λ (class : Class). recipient_peers class.destinations) classes
 
 abbrev pub learned_with : Act → List PeerData → List PeerData
-learned_with (Edit number recipients) known = peers_with (peers_of recipients) known
+learned_with (Edit number recipients) known = peers_with (recipient_peers recipients) known
 learned_with act known = known
 
 -- the known peers, ascending: those of the site's lists, and those of every edit
@@ -52,7 +52,7 @@ known_peers_of site (event ∷ older) = learned_with event.act (known_peers_of s
 
 -- the peers of the list that an edit gives
 abbrev pub peers_by : Act → List PeerData
-peers_by (Edit number recipients) = peers_of recipients
+peers_by (Edit number recipients) = recipient_peers recipients
 peers_by act = []
 
 -- the peers of the site's lists, and those of the lists of all edits

@@ -13,7 +13,7 @@ use Rattle.bac_values.specs.declared.note.Send.{Send}
 use Rattle.event_log.specs.History.{Call, next_log}
 use Rattle.event_log.specs.Log.{EventLogState}
 use Rattle.notify_class.specs.declared.class.Class.{Class}
-use Rattle.notify_class.specs.Edits.{peers_of}
+use Rattle.notify_class.specs.Edits.{recipient_peers}
 use Rattle.outbox.specs.Outboxes.{OutboxState, answered, learned, new_outbox, pumped, queued, sends_of}
 use Rattle.object_table.specs.Rows.{is_object}
 use Rattle.enrollment.specs.declared.subject.Subject.{Subject}
@@ -94,7 +94,7 @@ next_notes event state = notes_by state.site state.classes state.values event.mo
 abbrev pub outbox_with : ℕ → Act → List Note → OutboxState → OutboxState
 outbox_with moment Pump notes outbox = pumped moment outbox
 outbox_with moment (Answer peer invoke kind) notes outbox = answered peer invoke outbox
-outbox_with moment (Edit class recipients) notes outbox = learned (peers_of recipients) outbox
+outbox_with moment (Edit class recipients) notes outbox = learned (recipient_peers recipients) outbox
 outbox_with moment act notes outbox = queued notes outbox
 
 -- what it sends

@@ -1,12 +1,11 @@
 -- The properties of event enrollments as they are read (ANSI/ASHRAE 135-2020, 12.12).
 use Rattle.std.specs.Prelude.{ℕ, ◌==◌, Bool, false, not, Option, Some, None, Result, Ok, Err, List, [], ◌∷◌, map}
-use Rattle.bac_values.specs.EventStates.{number_of_state}
+use Rattle.bac_values.specs.EventStates.{number_of_state, is_normal}
 use Rattle.bac_values.specs.Reliabilities.{number_of_reliability}
 use Rattle.bac_values.specs.declared.event_state.EventState.{EventState as State'}
 use Rattle.bac_values.specs.declared.reliability.Reliability.{Reliability as Reliability'}
 use Rattle.bac_values.specs.declared.value.Value.TheVariants as values
 use Rattle.algorithm_rules.specs.EventTypes.{event_type_of}
-use Rattle.event_machine.specs.Detection.{is_normal}
 use Rattle.event_machine.specs.Summary.{AlarmState}
 use Rattle.object_table.specs.declared.row.Row.{Row}
 use Rattle.enrollment.specs.declared.enrollment_property.EnrollmentProperty.{EnrollmentProperty}

@@ -5,7 +5,7 @@ use Rattle.std.specs.Option.{option_and_then}
 use Rattle.std.specs.Ordering.{is_lt}
 use Rattle.bac_values.specs.Identifier.{ObjectIdData}
 use Rattle.bac_values.specs.Orders.{identifier_order}
-use Rattle.event_machine.specs.Detection.{is_normal}
+use Rattle.bac_values.specs.EventStates.{is_normal}
 use Rattle.event_services.specs.declared.information.EventSummary.{EventSummary}
 use Rattle.notify_class.specs.declared.class.Class.{Class}
 use Rattle.enrollment.specs.declared.subject.Subject.{Subject}

@@ -1,21 +1,10 @@
 -- How much a site may have.
 use Rattle.std.specs.Prelude.{ℕ, ◌+◌, ◌≤◌, length, All, sum_by}
+use Rattle.bac_values.specs.Limits.{most_destinations}
+pub use Rattle.bac_values.specs.Limits.{most_objects, most_classes, most_logs, most_records}
 use Rattle.event_log.specs.declared.log_site.LogSite.{LogSite}
-use Rattle.notify_class.specs.Edits.{most_destinations}
 use Rattle.notify_class.specs.declared.class_site.ClassSite.{ClassSite}
 use Rattle.alarm_core.specs.declared.site.Site.{Site}
-
-abbrev pub most_objects : ℕ
-most_objects = 2_048
-
-abbrev pub most_classes : ℕ
-most_classes = 256
-
-abbrev pub most_logs : ℕ
-most_logs = 16
-
-abbrev pub most_records : ℕ
-most_records = 16_384
 
 abbrev pub HasFewDestinations : ClassSite → Type 0
 HasFewDestinations listed = length listed.class.destinations ≤ most_destinations

@@ -1,5 +1,6 @@
 -- What is told of an event-state transition and of an acknowledgement, and to whom (ANSI/ASHRAE 135-2020, 13.2.5 and 13.5).
 use Rattle.std.specs.Prelude.{ℕ, ◌≤◌, length, Bool, false, if◌then◌else◌, Option, Some, None, List}
+use Rattle.bac_values.specs.Limits.{most_note_octets}
 use Rattle.std.specs.List.{flat_map}
 use Rattle.std.specs.Option.{option_and_then, option_map, option_to_list}
 use Rattle.bac_values.specs.EventStates.{transition_to}
@@ -19,7 +20,6 @@ use Rattle.note_maker.specs.Told.{flags_in, values_at}
 use Rattle.notify_class.specs.declared.class.Class.{Class}
 use Rattle.object_table.specs.declared.row.Row.{Row}
 use Rattle.object_table.specs.Rows.{row_of}
-use Rattle.outbox.specs.Posts.{most_octets}
 use Rattle.reliability_eval.specs.Reliability.{reliability_in}
 use Rattle.enrollment.specs.declared.enrollment_site.EnrollmentSite.{EnrollmentSite}
 use Rattle.enrollment.specs.Enrollments.{site_of}
@@ -109,4 +109,4 @@ notes_of_acknowledgement site classes moment subject transition named =
 
 -- as the outbox has notes
 abbrev pub IsShort : Note → Type 0
-IsShort note = length note.body ≤ most_octets
+IsShort note = length note.body ≤ most_note_octets

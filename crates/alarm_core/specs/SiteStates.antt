@@ -1,5 +1,6 @@
 -- What the state of a site keeps to, whatever happened: the states that a snapshot of the site may hold.
 use Rattle.std.specs.Prelude.{◌≡◌, ◌≤◌, ◌<◌, ◌^◌, ℕ, ℤ, pos, ◌==◌, Bool, true, IsTrue, IsSome, IfSome, IsNone, Option, Some, is_some, if◌then◌else◌, List, length, All}
+use Rattle.bac_values.specs.Limits.{most_destinations, most_peers, most_note_octets}
 use Rattle.std.specs.List.{AllZip, list_any}
 use Rattle.std.specs.Option.{option_map_or}
 use Rattle.bac_values.specs.EventStates.{event_states, number_of_state, transition_to}
@@ -19,7 +20,6 @@ use Rattle.event_machine.specs.declared.run.Run.{Run}
 use Rattle.event_log.specs.Log.{IsLog}
 use Rattle.event_log.specs.declared.log_record.LogRecord.{LogRecord}
 use Rattle.event_log.specs.declared.log_site.LogSite.{LogSite}
-use Rattle.notify_class.specs.Edits.{most_destinations, most_peers}
 use Rattle.notify_class.specs.declared.class.Class.{Class}
 use Rattle.notify_class.specs.declared.class_site.ClassSite.{ClassSite}
 use Rattle.object_table.specs.Objects.{IsRow}
@@ -29,7 +29,6 @@ use Rattle.object_table.specs.Values.{is_present_value}
 use Rattle.object_table.specs.declared.object_site.ObjectSite.{ObjectSite}
 use Rattle.object_table.specs.declared.row.Row.{Row}
 use Rattle.outbox.specs.Outboxes.{IsOutbox, peers_of}
-use Rattle.outbox.specs.Posts.{most_octets}
 use Rattle.enrollment.specs.Objects.{ObjectsState}
 use Rattle.enrollment.specs.declared.enrollment_site.EnrollmentSite.{EnrollmentSite}
 use Rattle.enrollment.specs.declared.subject.Subject.{Subject}
@@ -137,7 +136,7 @@ hundredths_shown zone stamp = hundredths_or_none (hundredths_in zone stamp)
 
 -- a record of a log: where the site has no zone rule, its stamp tells its hundredths
 pub record IsRecordOf (site : Site) (entry : LogRecord) : Type 0 where
-  pub short : length entry.body ≤ most_octets
+  pub short : length entry.body ≤ most_note_octets
   pub shown : IsNone site.device.zone_rule → entry.hundredths ≡ hundredths_shown (site_zone site) entry.stamp
 
 -- a log of a site, as records and writes may have left it

@@ -1,5 +1,6 @@
 -- What a site keeps to.
 use Rattle.std.specs.Prelude.{◌≡◌, ◌≤◌, ◌&&◌, ℕ, ℤ, pos, nat_le, Bool, List, length, All, IfSome, IsTrue, is_some}
+use Rattle.bac_values.specs.Limits.{most_records}
 use Rattle.std.specs.Char.{is_ascii}
 use Rattle.std.specs.List.{list_all}
 use Rattle.bac_values.specs.Identifier.{number_of_kind}
@@ -20,7 +21,7 @@ pub record IsLogSite (listed : LogSite) : Type 0 where
   pub number : listed.object.number ≡ number_of_kind EventLog
   pub instance : listed.object.instance ≤ 4194302
   pub least : 1 ≤ listed.size
-  pub most : listed.size ≤ 16384
+  pub most : listed.size ≤ most_records
 
 -- a text that may be a site's zone rule: from 1 to 64 ASCII octets that jiff takes for a rule
 abbrev pub is_zone_rule : List ℕ → Bool

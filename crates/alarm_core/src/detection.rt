@@ -1,4 +1,5 @@
 ghost use Rattle.std.specs.Prelude.{◌≡◌, ◌≤◌, ◌↔◌, [], None, IfOk, IfSome, IsTrue, OnErr, length, suc};
+ghost use Rattle.bac_values.specs.Limits.{most_listed_values};
 ghost use Rattle.std.specs.Option.{option_map};
 ghost use Rattle.bac_values.specs.Moments.{IsMoment};
 ghost use Rattle.event_machine.specs.Given.{moves_in, point_of};
@@ -53,7 +54,7 @@ fn evaluate_by<L: Ledger>(
     steps: &mut Steps<L>,
 ) -> Changed
     requires algorithm { IfSome input (λ input. input.now.snapshot.algorithm ≡ algorithm) }
-    requires few { IfSome input (λ input. length input.now.snapshot.alarm_values.now ≤ 32) }
+    requires few { IfSome input (λ input. length input.now.snapshot.alarm_values.now ≤ most_listed_values) }
     requires moment { IfSome input (λ input. IsMoment input.now.point.moment) }
     ensures alarm { alarm.new ≡ (change_by algorithm (option_map (λ input. point_of input.now.snapshot input.now.point) input.entry) alarm.old).alarm }
     ensures moves { moves_in result ≡ (change_by algorithm (option_map (λ input. point_of input.now.snapshot input.now.point) input.entry) alarm.old).moves }
@@ -71,7 +72,7 @@ fn evaluate_by<L: Ledger>(
 // Whether one object wouldn't move, if it is there.
 fn is_still_by(algorithm: Algorithm, input: Option<&EvaluationInput<'_>>, alarm: &Alarm) -> bool
     requires algorithm { IfSome input (λ input. input.now.snapshot.algorithm ≡ algorithm) }
-    requires few { IfSome input (λ input. length input.now.snapshot.alarm_values.now ≤ 32) }
+    requires few { IfSome input (λ input. length input.now.snapshot.alarm_values.now ≤ most_listed_values) }
     ensures still { IsTrue result ↔ ((change_by algorithm (option_map (λ input. point_of input.now.snapshot input.now.point) input.entry) alarm.now).moves ≡ []) }
 {
     match input {
@@ -83,7 +84,7 @@ fn is_still_by(algorithm: Algorithm, input: Option<&EvaluationInput<'_>>, alarm:
 // When one object is next to be looked at, if it is there.
 fn due_by(algorithm: Algorithm, input: Option<&EvaluationInput<'_>>, alarm: &Alarm) -> Option<u64>
     requires algorithm { IfSome input (λ input. input.now.snapshot.algorithm ≡ algorithm) }
-    requires few { IfSome input (λ input. length input.now.snapshot.alarm_values.now ≤ 32) }
+    requires few { IfSome input (λ input. length input.now.snapshot.alarm_values.now ≤ most_listed_values) }
     ensures due { result ≡ due_by algorithm (option_map (λ input. point_of input.now.snapshot input.now.point) input.entry) alarm.now }
 {
     let input = input?;

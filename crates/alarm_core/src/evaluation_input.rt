@@ -1,4 +1,5 @@
 ghost use Rattle.std.specs.Prelude.{◌≡◌, ◌≤◌, IfSome, length};
+ghost use Rattle.bac_values.specs.Limits.{most_listed_values};
 ghost use Rattle.std.specs.Option.{option_map};
 ghost use Rattle.algorithm_rules.specs.Facts.{facts_of};
 ghost use Rattle.bac_values.specs.Moments.{IsMoment};
@@ -49,7 +50,7 @@ fn blank(algorithm: Algorithm, null: &Value) -> Snapshot<'_>
     requires null { null.now ≡ Null }
     ensures algorithm { result.algorithm ≡ algorithm }
     ensures facts { facts_of result ≡ no_facts }
-    ensures few { length result.alarm_values.now ≤ 32 }
+    ensures few { length result.alarm_values.now ≤ most_listed_values }
 {
     Snapshot {
         algorithm,
@@ -78,7 +79,7 @@ pub(crate) fn evaluation_input<'a>(
     ensures algorithm { IfSome result (λ input. input.snapshot.algorithm ≡ algorithm) }
     ensures point { option_map (λ input. point_of input.snapshot input.point) result ≡ point_in at.now ack_required object objects.now }
     ensures moment { IfSome result (λ input. IsMoment input.point.moment) }
-    ensures few { IfSome result (λ input. length input.snapshot.alarm_values.now ≤ 32) }
+    ensures few { IfSome result (λ input. length input.snapshot.alarm_values.now ≤ most_listed_values) }
 {
     let point = point_facts(objects, object, at, ack_required);
     match objects.snapshot(object) {
@@ -106,7 +107,7 @@ pub(crate) fn first_input<'a>(
     ensures algorithm { result.snapshot.algorithm ≡ algorithm }
     ensures point { point_of result.snapshot result.point ≡ start_point at.now ack_required object objects.now }
     ensures moment { IsMoment result.point.moment }
-    ensures few { length result.snapshot.alarm_values.now ≤ 32 }
+    ensures few { length result.snapshot.alarm_values.now ≤ most_listed_values }
 {
     let point = point_facts(objects, object, at, ack_required);
     match objects.snapshot(object) {

@@ -6,6 +6,7 @@
 #![tactic(auto)]
 
 mod admitting;
+mod class_peers;
 mod classes;
 mod detection;
 mod detections;
@@ -23,7 +24,6 @@ mod note_queue;
 mod notifications;
 mod parts;
 mod read_property;
-mod recipients;
 mod restoring;
 mod site;
 mod state;
@@ -33,6 +33,7 @@ mod transition_report;
 mod view;
 mod write_property;
 
+pub use bac_values::Moved;
 pub use enrollment::EnrollmentSite;
 pub use event::{Act, Event, Outcome, StepFault};
 pub use event_log::LogSite;

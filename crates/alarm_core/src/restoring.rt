@@ -1,7 +1,7 @@
 ghost use Rattle.std.specs.Prelude.{◌≡◌, ◌≤◌, ◌++◌, ◌∷◌, [], All, IfOk, List, OnOk, filter, flat_map, if◌then◌else◌, length, map, zip};
+ghost use Rattle.bac_values.specs.Limits.{most_peers};
 ghost use Rattle.bac_values.specs.Orders.{IsAscending};
 ghost use Rattle.event_log.specs.declared.log_site.LogSite.{LogSite as Listed};
-ghost use Rattle.notify_class.specs.Edits.{most_peers};
 ghost use Rattle.outbox.specs.Outboxes.{IsOutbox, peers_of};
 ghost use Rattle.alarm_core.specs.Parts.{ArePartsOf, detected_by, kept_by, state_of_parts};
 ghost use Rattle.alarm_core.specs.Sites.{IsLogSite, IsSite};

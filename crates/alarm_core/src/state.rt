@@ -13,13 +13,13 @@ ghost use Rattle.alarm_core.specs.Logs.{log_in};
 ghost use Rattle.alarm_core.specs.Sites.{IsSite};
 
 use crate::Site;
+use crate::class_peers::peers_in;
 use crate::classes::classes_of;
 use crate::detection::detected_object;
 use crate::detections::Detections;
 use crate::identifiers::device_object;
 use crate::initial_state::first_detections;
 use crate::logs::{SiteLog, first_logs, kept_log};
-use crate::recipients::peers_in;
 use crate::site::{copy_of_site, is_other_object};
 use bac_values::{NoMemory, ObjectId, Peer, PeerList};
 use civil_stamp::{LocalMoment, Zone};

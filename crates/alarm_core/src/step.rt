@@ -1,7 +1,7 @@
 ghost use Rattle.std.specs.Prelude.{◌≡◌, ◌↔◌, ◌<◌, ◌≤◌, ◌^◌, ◌∷◌, ◌+◌, ◌++◌, [], All, List, None, Ok, max, map, IfOk, IfSome, IsFalse, IsTrue, OnErr, OnOk};
 ghost use Rattle.std.specs.List.{flat_map};
 ghost use Rattle.bac_values.specs.Moments.{IsMoment};
-ghost use Rattle.notify_class.specs.Edits.{peers_of};
+ghost use Rattle.notify_class.specs.Edits.{recipient_peers};
 ghost use Rattle.outbox.specs.Outboxes.{AreKnown, answered, learned, pumped, queued, sends_of, unfinished_in};
 ghost use Rattle.enrollment.specs.Objects.{IsTaken, written};
 ghost use Rattle.event_log.specs.declared.log_site.LogSite.{LogSite as LogPlace};
@@ -22,12 +22,12 @@ ghost use Rattle.alarm_core.specs.Room.{HasRoom};
 ghost use Rattle.alarm_core.specs.Verdicts.{Answers, queue_verdict, step_verdict};
 ghost use Rattle.alarm_core.specs.ViewSteps.{seen_in};
 
+use crate::class_peers::recipient_peers;
 use crate::classes::edited_classes;
 use crate::due_looks::Round;
 use crate::logs::{change_all, enter_all, kept_log};
 use crate::note_queue::queue_all;
 use crate::notifications::{add_notes, notes_of_acknowledgement};
-use crate::recipients::peers_of;
 use crate::transition::ObjectTransition;
 use crate::transition_report::{Told, add_moves, tell};
 use crate::view::SiteView;
@@ -296,7 +296,7 @@ impl Core {
     fn edit(&mut self, class: u32, destinations: &[Destination]) -> Result<Done, StepFault>
         ensures state { OnOk result (self.new ≡ record self.old {
           classes = map (edited class destinations.now) self.old.classes;
-          outbox = learned (peers_of destinations.now) self.old.outbox;
+          outbox = learned (recipient_peers destinations.now) self.old.outbox;
         }) }
         ensures moves { IfOk result (λ done. done.moves.items ≡ []) }
         ensures sends { IfOk result (λ done. done.sends.items ≡ []) }
@@ -304,7 +304,7 @@ impl Core {
         ensures verdict { Answers result (Ok tt) }
     {
         let classes = edited_classes(self.alloc, class, destinations, &self.classes)?;
-        let others = peers_of(self.alloc, destinations)?;
+        let others = recipient_peers(self.alloc, destinations)?;
         let peers = self.peers.with(self.alloc, &others)?;
         self.outbox.learn(self.alloc, &others)?;
         self.classes = classes;

@@ -1,4 +1,5 @@
 -- What a crash may leave while a blank device is formatted.
+use Rattle.bac_values.specs.Limits.{most_site_octets}
 use Rattle.std.proofs.Common.{◌≡◌, ◌≢◌, inl, inr, ℕ, zero, suc, ◌+◌, ◌-◌, ◌/◌, ◌%◌, ◌<◌, ◌≤◌, ◌^◌, Bool, false, List, [], ◌∷◌, ◌++◌, length, take, drop, get_or, refl, sym, ◌∙◌, ap, subst, arith, append_assoc, length-append, nat_lt, if◌then◌else◌, Err, Option, Some, None}
 use Rattle.std.proofs.lemmas.List.{drop_more, drop-drop, drop_at, take_at, get_or_at, get_or-drop}
 use Rattle.std.proofs.lemmas.Bool.{cases_eq}
@@ -22,7 +23,7 @@ length-heading text size = twenty (length (text ++ (0 ∷ 0 ∷ 0 ∷ 0 ∷ 0 �
     twenty : (k : ℕ) → k ≡ length text + 6 → suc (suc (suc (suc (suc (suc (suc (suc (suc (suc (suc (suc (suc (suc (suc (suc (suc (suc (suc (suc k))))))))))))))))))) ≡ length text + 26
     twenty k is = omega arith
 
-module _ (site : Site) (size : ℕ) (text : length site.text ≤ 1048576) (room : length site.text + 32 ≤ site.need) (enough : site.need ≤ size) (word : size < 2 ^ 64) where
+module _ (site : Site) (size : ℕ) (text : length site.text ≤ most_site_octets) (room : length site.text + 32 ≤ site.need) (enough : site.need ≤ size) (word : size < 2 ^ 64) where
   abbrev n : ℕ
   n = length site.text
 

@@ -1,4 +1,5 @@
 ghost use Rattle.std.specs.Prelude.{◌≡◌, ◌+◌, ◌<◌, ◌≤◌, ◌^◌, length, IfOk, IfErr};
+ghost use Rattle.bac_values.specs.Limits.{most_site_octets};
 ghost use Rattle.alarm_journal.specs.Press.{IsSmall};
 ghost use Rattle.alarm_journal.specs.declared.open_fault.OpenFault.TheVariants.{DiskFault};
 ghost use Rattle.alarm_journal.specs.Journal.{checked_header, first_other, foreign_place, formatted_size, heading};
@@ -12,7 +13,7 @@ const MARK: [u8; 8] = [66, 65, 67, 65, 76, 82, 77, 49];
 /// The octets from place 1 of a blank device on: the header, a selector for the first area, no snapshot and a closed
 /// gate.
 pub fn heading_of(alloc: Global, text: &[u8], size: u64) -> Result<Vec<u8>, AllocError>
-    requires { length text.now ≤ 1048576 }
+    requires { length text.now ≤ most_site_octets }
     ensures heading { IfOk result (λ octets. octets.items ≡ heading text.now size) }
 {
     let mut formatted = [0; 8];
@@ -43,7 +44,7 @@ fn other_place(place: u64, wanted: &[u8], found: &[u8]) -> Option<u64>
 
 // The first place of the header, but for the size, whose octet isn't this site's.
 fn foreign_at(text: &[u8], header: &[u8]) -> Option<u64>
-    requires few { length text.now ≤ 1048576 }
+    requires few { length text.now ≤ most_site_octets }
     requires whole { 22 + length text.now ≤ length header.now }
     ensures first { result ≡ foreign_place text.now header.now }
 {
@@ -68,7 +69,7 @@ fn size_in(header: &[u8]) -> u64
 
 /// The size at formatting, where the header of an open device of this size is this site's and nothing is wrong with it.
 pub fn check_header(text: &[u8], need: u64, size: u64, header: &[u8]) -> Result<u64, OpenFault>
-    requires few { length text.now ≤ 1048576 }
+    requires few { length text.now ≤ most_site_octets }
     requires whole { 22 + length text.now ≤ length header.now }
     ensures checked { result ≡ checked_header (record { text = text.now; need = need }) size header.now }
     ensures bounds { IfOk result (λ formatted. (need ≤ formatted) × (formatted ≤ size)) }

@@ -1,4 +1,5 @@
 ghost use Rattle.std.specs.Prelude.{◌≡◌, ◌<◌, ◌≤◌, ◌+◌, length, IfOk};
+ghost use Rattle.bac_values.specs.Limits.{most_batch_octets, snapshot_octets_limit};
 ghost use Rattle.alarm_journal.specs.Journal.{framed};
 
 use bac_values::NoMemory;
@@ -25,7 +26,7 @@ impl Model for Job {
 
 // The length of a body, the body, and a closed gate behind it.
 fn frame(alloc: Global, body: &[u8]) -> Result<Vec<u8>, AllocError>
-    requires { length body.now < 36000000 }
+    requires { length body.now < snapshot_octets_limit }
     ensures framed { IfOk result (λ octets. octets.items ≡ framed body.now) }
 {
     let mut count = [0; 4];
@@ -39,7 +40,7 @@ fn frame(alloc: Global, body: &[u8]) -> Result<Vec<u8>, AllocError>
 impl Job {
     /// A batch of these records, ready to be written.
     pub fn batch(alloc: Global, records: &[u8]) -> Result<Job, NoMemory>
-        requires few { length records.now ≤ 60000 }
+        requires few { length records.now ≤ most_batch_octets }
         ensures made { IfOk result (λ job. job ≡ records.now) }
     {
         let octets = frame(alloc, records)?;
@@ -49,7 +50,7 @@ impl Job {
     /// A snapshot of this state, ready to be written.
     pub fn snapshot(alloc: Global, state: &[u8]) -> Result<Job, NoMemory>
         requires some { 0 < length state.now }
-        requires few { length state.now < 36000000 }
+        requires few { length state.now < snapshot_octets_limit }
         ensures made { IfOk result (λ job. job ≡ state.now) }
     {
         let octets = frame(alloc, state)?;
@@ -67,7 +68,7 @@ impl Job {
     pub(crate) fn framed(&self) -> &[u8]
         ensures framed { result.now ≡ framed self.now }
         ensures length { length result.now ≡ length self.now + 5 }
-        ensures few { length self.now < 36000000 }
+        ensures few { length self.now < snapshot_octets_limit }
     {
         self.octets.as_slice()
     }

@@ -1,4 +1,5 @@
 ghost use Rattle.std.specs.Prelude.{◌≡◌, ◌⊎◌, ◌+◌, ◌-◌, ◌/◌, ◌%◌, ◌≤◌, ◌<◌, if◌then◌else◌, slice_index, [], ◌∷◌, ℕ, length, IfOk, IfErr, OnOk, OnErr, MatchResult, IsTrue, ◌↔◌, Ok, Err, false};
+ghost use Rattle.bac_values.specs.Limits.{most_site_octets};
 ghost use Rattle.ground_io.specs.Counts.{HasCause};
 ghost use Rattle.ground_io.specs.Trace.{Adds};
 ghost use Rattle.alarm_journal.specs.Areas.{IsLaid};
@@ -25,7 +26,7 @@ fn format<G: Ground>(
     need: u64,
     size: u64,
 ) -> Result<Layout, OpenFault>
-    requires few { length text.now ≤ 1048576 }
+    requires few { length text.now ≤ most_site_octets }
     requires size { size ≡ G.size device.old }
     requires needed { length text.now + 32 ≤ need }
     requires room { need ≤ size }
@@ -79,7 +80,7 @@ fn read_journal<G: Ground>(
     need: u64,
     size: u64,
 ) -> Result<(Layout, Opened), OpenFault>
-    requires few { length text.now ≤ 1048576 }
+    requires few { length text.now ≤ most_site_octets }
     requires size { size ≡ G.size device.old }
     requires needed { length text.now + 32 ≤ need }
     requires room { need ≤ size }
@@ -112,7 +113,7 @@ pub(crate) fn open_device<G: Ground>(
     text: &[u8],
     need: u64,
 ) -> Result<(Layout, Opened), OpenFault>
-    requires few { length text.now ≤ 1048576 }
+    requires few { length text.now ≤ most_site_octets }
     requires needed { length text.now + 32 ≤ need }
     ensures same { G.size device.new ≡ G.size device.old }
     ensures cause { HasCause (G.disk_faults device.old) (G.disk_faults device.new) (result ≡ Err DiskFault) }

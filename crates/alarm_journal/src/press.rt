@@ -1,4 +1,5 @@
 ghost use Rattle.std.specs.Prelude.{◌≡◌, ◌<◌, ◌≤◌, ◌+◌, ◌-◌, ◌/◌, All, List, [], ◌∷◌, ℕ, length, IfOk, IfErr, IsTrue, MatchResult, Ok, Err, map, ⊤};
+ghost use Rattle.bac_values.specs.Limits.{most_site_octets};
 ghost use Rattle.ground_io.specs.Counts.{HasCause};
 ghost use Rattle.ground_io.specs.Trace.{Adds};
 ghost use Rattle.alarm_journal.specs.Emissions.{EmitsAll};
@@ -71,7 +72,7 @@ impl<G: Ground> Press<G> {
         site_text: &[u8],
         need: u64,
     ) -> Result<(Press<G>, Opened), (G, OpenFault)>
-        requires few { length site_text.now ≤ 1048576 }
+        requires few { length site_text.now ≤ most_site_octets }
         requires needed { length site_text.now + 32 ≤ need }
 
         // The press stands for what was opened, and each image that a crash may leave opens to that.

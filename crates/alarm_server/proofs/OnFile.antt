@@ -18,7 +18,7 @@ use Rattle.alarm_server.specs.Script.{spelled_in}
 use Rattle.alarm_server.specs.Report.{report_of}
 use Rattle.alarm_server.specs.Pieces.{piece_text}
 use Rattle.alarm_server.specs.Status.{IsSiteFault, of_site_fault}
-use Rattle.alarm_server.specs.Text.{most_octets}
+use Rattle.alarm_server.specs.Text.{octets_read}
 use Rattle.alarm_server.proofs.KeptOpenings.{untouched_at_once}
 use Rattle.alarm_server.proofs.Sending.{Composes}
 use Rattle.alarm_server.proofs.Texts.{front_says, whole_site}
@@ -105,7 +105,7 @@ told_more P (Some t) (Some rest) p = tt
 -- ---- what is read is as good as the whole text
 
 -- the text that was read is this site, and it is the whole text
-pub file_is : (source : Option (List ℕ)) (text : List ℕ) (site : Site) → IfSome source (λ octets. text ≡ take most_octets octets) → site_of text ≡ Ok site → IfSome source (λ octets. (site_of octets ≡ Ok site) × (octets ≡ text))
+pub file_is : (source : Option (List ℕ)) (text : List ℕ) (site : Site) → IfSome source (λ octets. text ≡ take octets_read octets) → site_of text ≡ Ok site → IfSome source (λ octets. (site_of octets ≡ Ok site) × (octets ≡ text))
 file_is None text site front says = tt
 file_is (Some octets) text site front says = (sym (front_says octets) ∙ (ap site_of (sym front) ∙ says), whole_site octets text site front says)
 
@@ -130,11 +130,11 @@ text_refused text found fault given same =
       | inr says ↦ (refused, says ∙ ap Err own.0)
     ]
 
-file_has : (source : Option (List ℕ)) (text : List ℕ) (fault : SiteFault) → IfSome source (λ octets. text ≡ take most_octets octets) → site_of text ≡ Err fault → IfSome source (λ octets. site_of octets ≡ Err fault)
+file_has : (source : Option (List ℕ)) (text : List ℕ) (fault : SiteFault) → IfSome source (λ octets. text ≡ take octets_read octets) → site_of text ≡ Err fault → IfSome source (λ octets. site_of octets ≡ Err fault)
 file_has None text fault front says = tt
 file_has (Some octets) text fault front says = sym (front_says octets) ∙ (ap site_of (sym front) ∙ says)
 
-pub file_refused : (source : Option (List ℕ)) (text : List ℕ) (found fault : SiteFault) → IfSome source (λ octets. text ≡ take most_octets octets) → (found ≡ site_fault.NoMemory) ⊎ (site_of text ≡ Err found) → of_site_fault found ≡ SiteRefused fault → RefusesFile source fault
+pub file_refused : (source : Option (List ℕ)) (text : List ℕ) (found fault : SiteFault) → IfSome source (λ octets. text ≡ take octets_read octets) → (found ≡ site_fault.NoMemory) ⊎ (site_of text ≡ Err found) → of_site_fault found ≡ SiteRefused fault → RefusesFile source fault
 file_refused source text found fault front given same =
     let refused = text_refused text found fault given same in
     (refused.0, file_has source text fault front refused.1)

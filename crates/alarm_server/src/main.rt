@@ -1,7 +1,8 @@
-//! The alarm server: an integer value on trial, a session on a site's file, or a generated one.
+//! The alarm server: a server or a session on a site's file, an integer value on trial, or a generated site.
 //!
-//! `run` is the top call. It stands over any source of octets and any ground, so that its contract says all that the
-//! program does; `main` hands it the real ones.
+//! `run` and `serve` are the top calls. They stand over any source of octets, any ground and any link, so that their
+//! contracts say all that the program does; `main` hands them the real ones. Where a text can't be printed, the status is
+//! told by its number alone.
 #![tactic(auto)]
 
 mod announcing_link;
@@ -87,21 +88,13 @@ written), 7 (the journal can't be written), 8 (the journal is refused), 9 (no
 memory) or 10 (the link failed).
 docs/SITE.md, docs/SCRIPT.md and docs/JOURNAL.md describe the files.";
 
+// The words of the command.
 fn words_in(rt: &HostRuntime) -> io::Result<Vec<String>> {
     let mut words = Vec::new(rt.alloc());
     for word in env::args(rt)?.skip(1) {
         words.push(word)?;
     }
     Ok(words)
-}
-
-// The words of the command, or nothing where there is no memory for them.
-fn words_given(rt: &HostRuntime) -> io::Result<Option<Vec<String>>> {
-    match words_in(rt) {
-        Ok(words) => Ok(Some(words)),
-        Err(error) if error.kind() == ErrorKind::OutOfMemory => Ok(None),
-        Err(error) => Err(error),
-    }
 }
 
 // What is printed in place of a run.
@@ -116,11 +109,12 @@ fn notice_for(words: &[String]) -> Option<&'static str> {
     }
 }
 
-fn ends_with(rt: &HostRuntime, status: Status) -> io::Result<ExitCode> {
+// Says how a run ended, and answers its number, also where standard error takes no text.
+fn ends_with(rt: &HostRuntime, status: Status) -> ExitCode {
     if status != Status::Done {
-        eprintln!(rt; "{status}")?;
+        let _said = eprintln!(rt; "{status}");
     }
-    Ok(ExitCode::from(status.code()))
+    ExitCode::from(status.code())
 }
 
 // Runs what the words ask for, with a site's text from a reader and a device, and answers how that ended.
@@ -151,7 +145,7 @@ fn line_refused(rt: &HostRuntime, path: &str) -> Option<u32> {
 }
 
 // Says how a run on the file of that path ended, and in which line where the file is no TOML.
-fn ends_on_file(rt: &HostRuntime, path: &str, status: Status) -> io::Result<ExitCode> {
+fn ends_on_file(rt: &HostRuntime, path: &str, status: Status) -> ExitCode {
     let not_toml = Status::SiteRefused {
         fault: SiteFault::NotToml,
     };
@@ -160,20 +154,20 @@ fn ends_on_file(rt: &HostRuntime, path: &str, status: Status) -> io::Result<Exit
     } else {
         None
     };
-    let code = ends_with(rt, status)?;
+    let code = ends_with(rt, status);
     if let Some(line) = line {
-        eprintln!(rt; "line {line}")?;
+        let _said = eprintln!(rt; "line {line}");
     }
-    Ok(code)
+    code
 }
 
 // Says that a file can't be opened, or that there is no memory for it.
-fn cannot_open(rt: &HostRuntime, error: &io::Error) -> io::Result<ExitCode> {
+fn cannot_open(rt: &HostRuntime, error: &io::Error) -> ExitCode {
     if error.kind() == ErrorKind::OutOfMemory {
         return ends_with(rt, Status::NoMemory);
     }
-    eprintln!(rt; "cannot open")?;
-    Ok(ExitCode::from(1))
+    let _said = eprintln!(rt; "cannot open");
+    ExitCode::from(1)
 }
 
 // Runs what the words ask for, with the site's text and the journal from the files of these paths.
@@ -183,16 +177,10 @@ fn run_on_files(
     path: &str,
     journal: &str,
 ) -> io::Result<ExitCode> {
-    let file = match File::open(rt, path) {
-        Ok(file) => file,
-        Err(error) => return cannot_open(rt, &error),
-    };
-    let journal = match open_journal_file(rt, journal) {
-        Ok(journal) => journal,
-        Err(error) => return cannot_open(rt, &error),
-    };
+    let file = File::open(rt, path)?;
+    let journal = open_journal_file(rt, journal)?;
     let status = run_with(rt, words, file, Some(journal))?;
-    ends_on_file(rt, path, status)
+    Ok(ends_on_file(rt, path, status))
 }
 
 /// So many milliseconds a server's ticker and committer rest.
@@ -248,7 +236,7 @@ struct Places {
     place: String,
 }
 
-// Opens them, if they are all there.
+// Opens the files of a server and its socket, if they are all there.
 fn open_places(rt: &HostRuntime, path: &str, journal: &str) -> io::Result<Places> {
     let site = File::open(rt, path)?;
     let journal = open_journal_file(rt, journal)?;
@@ -262,7 +250,7 @@ fn open_places(rt: &HostRuntime, path: &str, journal: &str) -> io::Result<Places
 }
 
 // Says what a server came to, and how it ended.
-fn ends_serving(rt: &HostRuntime, path: &str, served: Served) -> io::Result<ExitCode> {
+fn ends_serving(rt: &HostRuntime, path: &str, served: Served) -> ExitCode {
     let Served {
         status,
         received,
@@ -270,44 +258,78 @@ fn ends_serving(rt: &HostRuntime, path: &str, served: Served) -> io::Result<Exit
         durable,
         lost,
     } = served;
-    println!(rt; "served {received} {events} {durable} {lost}")?;
+    let _said = println!(rt; "served {received} {events} {durable} {lost}");
     ends_on_file(rt, path, status)
 }
 
-fn main(rt: HostRuntime) -> io::Result<ExitCode> {
-    let Some(words) = words_given(&rt)? else {
-        return ends_with(&rt, Status::NoMemory);
-    };
-    if let Some(notice) = notice_for(&words) {
-        println!(rt; "{notice}")?;
-        return Ok(ExitCode::SUCCESS);
+// Prints a text in place of a run.
+fn prints(rt: &HostRuntime, notice: &str) -> ExitCode {
+    match println!(rt; "{notice}") {
+        Ok(()) => ExitCode::SUCCESS,
+        Err(_) => ends_with(rt, Status::EmitFault),
     }
-    let Some(paths) = paths_of(&words) else {
-        return ends_with(&rt, Status::Usage);
+}
+
+// Serves the site of a file, with the journal of another, at the port that the environment names. `workers` is the runtime
+// as that which starts threads.
+fn serve_on_files<R: Threads + Wait + Sync + Clock>(
+    rt: &HostRuntime,
+    workers: &R,
+    words: &[String],
+    path: &str,
+    journal: &str,
+) -> io::Result<ExitCode> {
+    let Places {
+        site,
+        journal,
+        socket,
+        place,
+    } = open_places(rt, path, journal)?;
+    let mut source = StdSource::new(site);
+    let link = UdpLink::new(&socket, Duration::from_millis(PATIENCE))?;
+    let link = AnnouncingLink::new(link, rt, place);
+    let device = FileGround::new(Some(journal), io::writer(rt), Some(socket))?;
+    let served = serve_over(workers, rt.alloc(), words, &mut source, device, link);
+    Ok(ends_serving(rt, path, served))
+}
+
+// Runs or serves what the words ask for.
+fn begin<R: Threads + Wait + Sync + Clock>(
+    rt: &HostRuntime,
+    workers: &R,
+    words: &[String],
+) -> io::Result<ExitCode> {
+    let Some(paths) = paths_of(words) else {
+        return Ok(ends_with(rt, Status::Usage));
     };
     let site = paths.site.and_then(|place| words.get(place));
     let journal = paths.journal.and_then(|place| words.get(place));
     match (site, journal) {
         (Some(site), Some(journal)) if paths.serves => {
-            let places = match open_places(&rt, site.as_str(), journal.as_str()) {
-                Ok(places) => places,
-                Err(error) => return cannot_open(&rt, &error),
-            };
-            let mut source = StdSource::new(places.site);
-            let link = UdpLink::new(&places.socket, Duration::from_millis(PATIENCE))?;
-            let link = AnnouncingLink::new(link, &rt, places.place);
-            let device = FileGround::new(
-                Some(places.journal),
-                io::writer(&rt),
-                Some(places.socket),
-            )?;
-            let served = serve_over(&rt, rt.alloc(), &words, &mut source, device, link);
-            ends_serving(&rt, site.as_str(), served)
+            serve_on_files(rt, workers, words, site.as_str(), journal.as_str())
         }
-        (Some(site), Some(journal)) => run_on_files(&rt, &words, site.as_str(), journal.as_str()),
+        (Some(site), Some(journal)) => run_on_files(rt, words, site.as_str(), journal.as_str()),
         _ => {
-            let status = run_with(&rt, &words, io::empty(), None)?;
-            ends_with(&rt, status)
+            let status = run_with(rt, words, io::empty(), None)?;
+            Ok(ends_with(rt, status))
         }
+    }
+}
+
+// A word that is no text is one of no form.
+fn main(rt: HostRuntime) -> ExitCode {
+    let words = match words_in(&rt) {
+        Ok(words) => words,
+        Err(error) if error.kind() == ErrorKind::OutOfMemory => {
+            return ends_with(&rt, Status::NoMemory);
+        }
+        Err(_) => return ends_with(&rt, Status::Usage),
+    };
+    if let Some(notice) = notice_for(&words) {
+        return prints(&rt, notice);
+    }
+    match begin(&rt, &rt, &words) {
+        Ok(code) => code,
+        Err(error) => cannot_open(&rt, &error),
     }
 }

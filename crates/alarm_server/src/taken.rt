@@ -1,4 +1,5 @@
 ghost use Rattle.std.specs.Prelude.{◌≡◌, ◌<◌, ◌^◌, ◌∷◌, ◌++◌, [], List, None, max, IfOk, IfSome, OnErr, OnOk, map};
+ghost use Rattle.bac_values.specs.Limits.{most_events};
 ghost use Rattle.bac_values.specs.Moments.{IsMoment};
 ghost use Rattle.state_codec.specs.Records.{HasRecord};
 ghost use Rattle.alarm_core.specs.State.{CoreState};
@@ -13,7 +14,7 @@ ghost use Rattle.alarm_server.specs.SessionSteps.{state_with};
 ghost use Rattle.alarm_server.specs.Pieces.{answer_for, piece_by, piece_of, send_line};
 
 use alarm_core::{Core, Event, Outcome, StepFault};
-use bac_values::{Moved, NoMemory, ReportLine, Send, push, single};
+use bac_values::{MOST_EVENTS, Moved, NoMemory, ReportLine, Send, push, single};
 use event_machine::Steps;
 use script_lines::Line;
 use service_desk::{Decision, decide};
@@ -30,9 +31,6 @@ pub struct Taken {
     /// The event that it entered, if it did.
     pub event: Option<Event>,
 }
-
-// How many events a history may have. One more is as good as no memory for it.
-const MOST_EVENTS: u64 = 1 << 63;
 
 // The lines of a piece that tell of changes of event states.
 fn add_changes(piece: &mut Vec<ReportLine>, number: u64, moves: &[Moved]) -> Result<(), NoMemory>
@@ -94,7 +92,7 @@ fn counted<L: Ledger>(core: &mut Core, event: &Event, blank: Blank) -> Result<Ou
     requires some { 0 < blank.parts }
     requires moment { IsMoment event.now.moment }
     requires allowed { IsAllowed core.old event.now.act }
-    requires few { core.old.events < 2 ^ 63 }
+    requires few { core.old.events < most_events }
     ensures state { OnOk result (core.new ≡ next_state (raised core.old.last_moment event.now) core.old) }
     ensures moment { IfOk result (λ outcome. outcome.moment ≡ max event.now.moment core.old.last_moment) }
     ensures moves { IfOk result (λ outcome. outcome.moves ≡ map moved_by (next_transitions (raised core.old.last_moment event.now) core.old)) }

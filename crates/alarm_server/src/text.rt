@@ -2,15 +2,16 @@ ghost use Rattle.std.specs.Prelude.{◌≡◌, ◌<◌, ◌≤◌, ◌+◌, IfEr
 ghost use Rattle.std.specs.Io.KnownBytes.{IsAtEnd, Keeps, prepend_known};
 ghost use Rattle.ground_io.specs.Counts.{HasCause};
 ghost use Rattle.alarm_server.specs.Status.{IsTextFault};
-ghost use Rattle.alarm_server.specs.Text.{most_octets};
+ghost use Rattle.alarm_server.specs.Text.{octets_read};
 
 use crate::status::Status;
+use bac_values::MOST_SITE_OCTETS;
 use ground_io::Source;
 use std::alloc::Global;
 
 /// How many octets of a site's source are read at most: one more than a site's text may have, so that a longer one is
 /// refused as that.
-const MOST_OCTETS: usize = 1_048_577;
+const OCTETS_READ: usize = MOST_SITE_OCTETS + 1;
 
 /// How many octets are asked for at once.
 const PIECE: usize = 8_192;
@@ -34,13 +35,13 @@ fn read_more<S: Source>(source: &mut S, text: &mut Vec<u8>, most: usize) -> Resu
 
 /// The octets of a source, to its end or as many as tell that it is too long for a site.
 pub fn read_text<S: Source>(alloc: Global, source: &mut S) -> Result<Vec<u8>, Status>
-    ensures text { IfOk result (λ text. IfSome (S.left source.old) (λ octets. text.items ≡ take most_octets octets)) }
+    ensures text { IfOk result (λ text. IfSome (S.left source.old) (λ octets. text.items ≡ take octets_read octets)) }
     ensures fault { IfErr result IsTextFault }
     ensures cause { HasCause (S.faults source.old) (S.faults source.new) (IsErrOf result Status.ReadFault) }
 {
     let mut text = Vec::new(alloc);
-    while text.len() < MOST_OCTETS {
-        let room = MOST_OCTETS - text.len();
+    while text.len() < OCTETS_READ {
+        let room = OCTETS_READ - text.len();
         if !read_more(source, &mut text, room)? {
             return Ok(text);
         }

@@ -1,4 +1,5 @@
 ghost use Rattle.std.specs.Prelude.{◌≡◌, ◌≤◌, ◌<◌, ◌∷◌, [], List, length, false, replicate};
+ghost use Rattle.bac_values.specs.Limits.{most_listed_values};
 ghost use Rattle.bac_values.specs.Moments.{IsMoment};
 ghost use Rattle.event_machine.specs.AlarmRecord.{never};
 ghost use Rattle.event_machine.specs.Detection.{moves_at};
@@ -79,7 +80,7 @@ fn counted<L: Ledger>(
     requires name { blank.name ≡ L.name }
     requires parts { blank.parts ≡ L.parts }
     requires some { 0 < blank.parts }
-    requires few { length snapshot.now.alarm_values.now ≤ 32 }
+    requires few { length snapshot.now.alarm_values.now ≤ most_listed_values }
     requires moment { IsMoment point.now.moment }
     ensures course { (first : Point) (later : List Incident) → IsCourse first (Looked (point_of snapshot.now point.now) ∷ later) → IsAfter snapshot.now.algorithm first later alarm.old →
         IsAfter snapshot.now.algorithm first (Looked (point_of snapshot.now point.now) ∷ later) alarm.new }

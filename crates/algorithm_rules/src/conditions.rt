@@ -1,4 +1,5 @@
 ghost use Rattle.std.specs.Prelude.{◌≡◌, ◌≤◌, ◌↔◌, IsTrue, length, ◌+ℤ◌, ◌-ℤ◌, ℤ};
+ghost use Rattle.bac_values.specs.Limits.{most_listed_values};
 ghost use Rattle.algorithm_rules.specs.Conditions.{is_above, is_below, is_met, is_within, key_of, number_in};
 ghost use Rattle.algorithm_rules.specs.Facts.{facts_of};
 ghost use Rattle.algorithm_rules.specs.SameValue.{same_value};
@@ -9,7 +10,7 @@ use bac_values::Value;
 /// The key of a rule whose condition holds, or none. It is the position of the first alarm value that matches for the
 /// rule on another match, and 0 for every other one.
 pub fn key(rule: &Rule, snapshot: &Snapshot<'_>) -> Option<u32>
-    requires few { length snapshot.now.alarm_values.now ≤ 32 }
+    requires few { length snapshot.now.alarm_values.now ≤ most_listed_values }
     ensures key { result ≡ key_of rule.now (facts_of snapshot.now) }
 {
     match rule.test {
@@ -19,7 +20,7 @@ pub fn key(rule: &Rule, snapshot: &Snapshot<'_>) -> Option<u32>
 }
 
 fn is_met(test: Test, snapshot: &Snapshot<'_>) -> bool
-    requires few { length snapshot.now.alarm_values.now ≤ 32 }
+    requires few { length snapshot.now.alarm_values.now ≤ most_listed_values }
     ensures met { result ≡ is_met test (facts_of snapshot.now) }
 {
     let [low_enabled, high_enabled] = snapshot.limit_enable;

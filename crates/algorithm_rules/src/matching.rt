@@ -1,4 +1,5 @@
 ghost use Rattle.std.specs.Prelude.{◌≡◌, ◌<◌, ◌≤◌, IfSome, length, position};
+ghost use Rattle.bac_values.specs.Limits.{most_listed_values};
 ghost use Rattle.algorithm_rules.specs.Facts.{facts_of};
 ghost use Rattle.algorithm_rules.specs.Matches.{matched_in, matches, matches_bits, matches_text, occurs_in};
 
@@ -8,7 +9,7 @@ use memchr::memmem;
 
 /// The position of the first alarm value that matches the value, from 0.
 pub fn matched(snapshot: &Snapshot<'_>) -> Option<u32>
-    requires few { length snapshot.now.alarm_values.now ≤ 32 }
+    requires few { length snapshot.now.alarm_values.now ≤ most_listed_values }
     ensures matched { result ≡ matched_in (facts_of snapshot.now) }
 {
     match snapshot.alarm_value {

@@ -1,4 +1,5 @@
 ghost use Rattle.std.specs.Prelude.{◌≡◌, ◌≤◌, length};
+ghost use Rattle.bac_values.specs.Limits.{most_listed_values};
 ghost use Rattle.algorithm_rules.specs.Conditions.{delay_of};
 ghost use Rattle.algorithm_rules.specs.Facts.{facts_of};
 
@@ -6,7 +7,7 @@ use crate::{Rule, Snapshot, Waiting};
 
 /// The seconds for which a rule's condition must last.
 pub fn delay(rule: &Rule, snapshot: &Snapshot<'_>) -> u32
-    requires few { length snapshot.now.alarm_values.now ≤ 32 }
+    requires few { length snapshot.now.alarm_values.now ≤ most_listed_values }
     ensures delay { result ≡ delay_of rule.now (facts_of snapshot.now) }
 {
     match rule.wait {

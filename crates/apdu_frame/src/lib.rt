@@ -5,11 +5,12 @@
 #![tactic(auto)]
 
 mod apdu;
+mod first;
 mod reading;
 mod replies;
 mod requests;
 
 pub use apdu::Apdu;
 pub use reading::read_apdu;
-pub use replies::{abort, error, reject, simple_ack};
+pub use replies::{abort, change_list_error, error, reject, simple_ack};
 pub use requests::{complex_ack, request, unconfirmed};

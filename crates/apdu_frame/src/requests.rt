@@ -1,12 +1,14 @@
 ghost use Rattle.std.specs.Prelude.{◌≡◌, ◌++◌, IfOk};
+ghost use Rattle.bac_values.specs.Services.{longest_apdu};
 ghost use Rattle.apdu_frame.specs.declared.apdu.Apdu.{Apdu};
 ghost use Rattle.apdu_frame.specs.ReadingSteps.{apdu_of};
 ghost use Rattle.apdu_frame.specs.Writing.{written_complex_ack, written_request, written_unconfirmed};
 
-use bac_values::NoMemory;
+use crate::first::first_octet;
+use bac_values::{NoMemory, PduType};
 use std::alloc::Global;
 
-/// The octet that says that answers of up to 1476 octets are taken, and none in segments.
+/// The octet that says that answers of up to `LONGEST_APDU` octets are taken, and none in segments.
 const ACCEPTS: u8 = 0x05;
 
 /// A header and what stands behind it.
@@ -23,15 +25,28 @@ fn joined(alloc: Global, header: &[u8], body: &[u8]) -> Result<Vec<u8>, NoMemory
 pub fn complex_ack(alloc: Global, invoke: u8, service: u8, body: &[u8]) -> Result<Vec<u8>, NoMemory>
     ensures text { IfOk result (λ octets. octets.items ≡ written_complex_ack invoke service body.now) }
 {
-    joined(alloc, &[0x30, invoke, service], body)
+    joined(
+        alloc,
+        &[first_octet(PduType::COMPLEX_ACK), invoke, service],
+        body,
+    )
 }
 
 /// A confirmed request with its parameters, `body`.
 pub fn request(alloc: Global, invoke: u8, service: u8, body: &[u8]) -> Result<Vec<u8>, NoMemory>
     ensures text { IfOk result (λ octets. octets.items ≡ written_request invoke service body.now) }
-    ensures read_back { IfOk result (λ octets. apdu_of octets.items ≡ Apdu.Request 1476 invoke service 4) }
+    ensures read_back { IfOk result (λ octets. apdu_of octets.items ≡ Apdu.Request longest_apdu invoke service 4) }
 {
-    joined(alloc, &[0x00, ACCEPTS, invoke, service], body)
+    joined(
+        alloc,
+        &[
+            first_octet(PduType::CONFIRMED_REQUEST),
+            ACCEPTS,
+            invoke,
+            service,
+        ],
+        body,
+    )
 }
 
 /// An unconfirmed request with its parameters, `body`.
@@ -39,5 +54,9 @@ pub fn unconfirmed(alloc: Global, service: u8, body: &[u8]) -> Result<Vec<u8>, N
     ensures text { IfOk result (λ octets. octets.items ≡ written_unconfirmed service body.now) }
     ensures read_back { IfOk result (λ octets. apdu_of octets.items ≡ Apdu.Unconfirmed service 2) }
 {
-    joined(alloc, &[0x10, service], body)
+    joined(
+        alloc,
+        &[first_octet(PduType::UNCONFIRMED_REQUEST), service],
+        body,
+    )
 }

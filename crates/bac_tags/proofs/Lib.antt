@@ -26,3 +26,5 @@ pub mod Reasons
 pub mod OptionalReaders
 pub mod ParameterAnswers
 pub mod ElementAnswers
+pub mod LongReaders
+pub mod Unwinding

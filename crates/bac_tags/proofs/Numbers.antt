@@ -11,6 +11,7 @@ use Rattle.bac_values.specs.Identifier.{ObjectIdData}
 use Rattle.bac_tags.specs.Contents.{IsUnsigned, IsSigned, IsObject, IsBits, mirrored}
 use Rattle.bac_tags.specs.Elements.{IsBetween}
 use Rattle.bac_values.specs.BitString.{BitsData}
+use Rattle.bac_tags.specs.Stamps.{IsFour}
 use Rattle.bac_tags.specs.ReadingSteps.{unsigned_of, signed_of, identifier_of, string_of, bits_of}
 use Rattle.bac_tags.proofs.Standing.{IsBytes}
 use Rattle.bac_tags.proofs.Steps.{chosen}
@@ -79,6 +80,10 @@ identifier_values = record {
       let instance : big_number 4 content % 4194304 ≡ x.instance = omega (arith, h.1, h.2.0, h.2.1) in
       ap (λ (n : ℕ). made n (big_number 4 content % 4194304)) number ∙ ap (λ (n : ℕ). made x.number n) instance;
 }
+
+-- four octets are their own value
+pub four_values : Values 4 4 (λ content. content) IsFour
+four_values = record { is = λ content bytes right. (omega (arith, right.0, right.1), refl); right = λ content x h. (omega (arith, h.0), omega (arith, h.0)); one = λ content x h. sym h.1 }
 
 -- ---- contents that may have another form
 

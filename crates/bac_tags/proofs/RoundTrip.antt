@@ -9,19 +9,22 @@ use Rattle.bac_values.specs.declared.stamp.Stamp.{Stamp}
 use Rattle.bac_values.specs.declared.value.Value.{Value}
 use Rattle.bac_tags.specs.declared.tag.Tag.{Tag}
 use Rattle.bac_tags.specs.Tags.{FitsShape}
-use Rattle.bac_tags.specs.Contents.{IsUnsigned, IsSigned, IsObject, IsBoolean, IsBits}
+use Rattle.bac_tags.specs.Elements.{longest_content}
+use Rattle.bac_tags.specs.Contents.{IsUnsigned, IsSigned, IsObject, IsBoolean, IsBits, IsOctetString}
+use Rattle.bac_tags.specs.Stamps.{IsFour}
 use Rattle.bac_tags.specs.Values.{IsOneElement}
-use Rattle.bac_tags.specs.ReadingSteps.{tag_at, unsigned_of, unsigned_at, signed_of, signed_at, identifier_of, object_at, boolean_of, boolean_at, bits_of, bits_at, stamp_at, value_at}
-use Rattle.bac_tags.specs.Writing.{written_tag, written_unsigned, written_signed, written_object, written_boolean, written_bits, written_stamp, written_value}
+use Rattle.bac_tags.specs.ReadingSteps.{tag_at, unsigned_of, unsigned_at, signed_of, signed_at, identifier_of, object_at, boolean_of, boolean_at, bits_of, bits_at, octet_string_at, time_at, stamp_at, value_at}
+use Rattle.bac_tags.specs.Writing.{written_tag, written_unsigned, written_signed, written_object, written_boolean, written_bits, written_octet_string, written_time, written_stamp, written_value}
 use Rattle.bac_tags.proofs.Standing.{Stands, Stands-from}
 use Rattle.bac_tags.proofs.TagLaws.{tag_again}
 use Rattle.bac_tags.proofs.Readers.{value_again as content_again, form_again}
-use Rattle.bac_tags.proofs.Numbers.{unsigned_values, signed_values, identifier_values, bits_forms}
+use Rattle.bac_tags.proofs.Numbers.{unsigned_values, signed_values, identifier_values, four_values, bits_forms}
+use Rattle.bac_tags.proofs.LongReaders.{IsShort, octet_string_values, as_it_is}
 use Rattle.bac_tags.proofs.Booleans.{boolean_forms, application_again}
 use Rattle.bac_tags.proofs.StampLaws.{stamp_again}
 use Rattle.bac_tags.proofs.ValueLaws.{value_again}
 use Rattle.bac_tags.proofs.Written.{tag_written}
-use Rattle.bac_tags.proofs.WrittenElements.{unsigned_written, signed_written, object_written, boolean_written, bits_written, stamp_written, value_written}
+use Rattle.bac_tags.proofs.WrittenElements.{element_written, unsigned_written, signed_written, object_written, boolean_written, bits_written, stamp_written, value_written}
 
 between : (before octets rest : List ℕ) → Stands (before ++ octets ++ rest) (length before) octets (length before + length octets)
 between before octets rest =
@@ -66,6 +69,20 @@ unfolding bits_at
 bits_back before rest context string fits =
     let octets = written_bits context string in
     form_again 8 context 1 9 bits_of IsBits bits_forms (before ++ octets ++ rest) (length before) (within before octets rest) octets string (length before + length octets) (bits_written context string fits) (between before octets rest)
+
+pub octet_string_back : (before rest octets : List ℕ) → length octets < 2 ^ 32 → octet_string_at (before ++ written_octet_string octets ++ rest) (length before) ≡ Ok (octets, length before + length (written_octet_string octets))
+unfolding octet_string_at
+octet_string_back before rest content short =
+    let octets = written_octet_string content in
+    let spelled = element_written 6 None (IsShort IsOctetString) content content short (record { short = short; is = refl }) in
+    as_it_is _ ∙ content_again 6 None 0 longest_content (λ octets. octets) (IsShort IsOctetString) octet_string_values (before ++ octets ++ rest) (length before) (within before octets rest) octets content (length before + length octets) spelled (between before octets rest)
+
+pub time_back : (before rest time : List ℕ) → length time ≡ 4 → time_at (before ++ written_time time ++ rest) (length before) ≡ Ok (time, length before + length (written_time time))
+unfolding time_at
+time_back before rest time four =
+    let octets = written_time time in
+    let spelled = element_written 11 None IsFour time time (omega (arith, four)) (four, refl) in
+    as_it_is _ ∙ content_again 11 None 4 4 (λ octets. octets) IsFour four_values (before ++ octets ++ rest) (length before) (within before octets rest) octets time (length before + length octets) spelled (between before octets rest)
 
 pub stamp_back : (before rest : List ℕ) (stamp : Stamp) → length stamp.octets ≡ 8 → stamp_at (before ++ written_stamp stamp ++ rest) (length before) ≡ Ok (stamp, length before + length (written_stamp stamp))
 stamp_back before rest stamp eight =

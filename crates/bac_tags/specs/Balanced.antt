@@ -1,5 +1,5 @@
 -- Elements of any kind, one after the other, which are looked at no further (ANSI/ASHRAE 135-2020, 20.2.1).
-use Rattle.std.specs.Prelude.{◌≡◌, ℕ, ◌+◌, ◌==◌, ◌&&◌, not, if◌then◌else◌, List, [], ◌++◌, length}
+use Rattle.std.specs.Prelude.{◌≡◌, ℕ, ◌==◌, ◌&&◌, not, if◌then◌else◌, List, [], ◌++◌, length}
 use Rattle.bac_values.specs.ApplicationTags.{boolean_tag}
 use Rattle.bac_tags.specs.declared.tag.Tag.{Tag}
 use Rattle.bac_tags.specs.declared.tag.Shape.TheVariants.{Primitive}

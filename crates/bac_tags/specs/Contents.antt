@@ -1,8 +1,8 @@
 -- What the contents of primitive elements stand for (ANSI/ASHRAE 135-2020, 20.2). Numbers of one to four octets are read.
-use Rattle.std.specs.Prelude.{◌≡◌, ℕ, zero, suc, ◌+◌, ◌*◌, ◌/◌, ◌%◌, ◌^◌, ◌≤◌, ◌⊎◌, ℤ, Bool, Option, Some, None, List, [], ◌∷◌, length}
+use Rattle.std.specs.Prelude.{◌≡◌, ℕ, zero, suc, ◌+◌, ◌*◌, ◌/◌, ◌%◌, ◌^◌, ◌<◌, ◌≤◌, ◌⊎◌, ℤ, Bool, Option, Some, None, List, [], ◌∷◌, length}
 use Rattle.std.specs.Int.{from_bool}
 use Rattle.byteorder.specs.Endian.{big_number, twos_complement}
-use Rattle.bac_values.specs.ApplicationTags.{boolean_tag, unsigned_tag, signed_tag, bit_string_tag, enumerated_tag, object_identifier_tag}
+use Rattle.bac_values.specs.ApplicationTags.{boolean_tag, unsigned_tag, signed_tag, octet_string_tag, bit_string_tag, enumerated_tag, object_identifier_tag}
 use Rattle.bac_values.specs.Identifier.{IsIdentifier, ObjectIdData}
 use Rattle.bac_values.specs.BitString.{BitsData}
 use Rattle.bac_tags.specs.Tags.{SpellsTag, EndsInTag}
@@ -64,3 +64,26 @@ IsBits (unused ∷ octets) string =
 
 abbrev pub SpellsBits : Option ℕ → List ℕ → BitsData → Type 0
 SpellsBits context = SpellsElement bit_string_tag context IsBits
+
+-- a BitString of more than 64 bits
+pub record IsLongString (content : List ℕ) : Type 0 where
+  pub unused : ℕ
+  pub octets : List ℕ
+  pub parts : content ≡ unused ∷ octets
+  pub few : unused ≤ 7
+  pub long : 8 < length octets
+
+-- a BitString of any length: one of more than 64 bits stands for no value
+abbrev pub IsAnyBits : List ℕ → Option BitsData → Type 0
+IsAnyBits content (Some string) = IsBits content string
+IsAnyBits content None = IsLongString content
+
+abbrev pub SpellsAnyBits : List ℕ → Option BitsData → Type 0
+SpellsAnyBits = SpellsElement bit_string_tag None IsAnyBits
+
+-- an OctetString (20.2.8) is its octets, however many
+abbrev pub IsOctetString : List ℕ → List ℕ → Type 0
+IsOctetString content octets = octets ≡ content
+
+abbrev pub SpellsOctetString : List ℕ → List ℕ → Type 0
+SpellsOctetString = SpellsElement octet_string_tag None IsOctetString

@@ -1,5 +1,5 @@
 -- Primitive elements (ANSI/ASHRAE 135-2020, 20.2.1): a tag, and behind it a content of the length that the tag says.
-use Rattle.std.specs.Prelude.{◌≡◌, ◌≢◌, ℕ, ◌<◌, ◌≤◌, ◌⊎◌, true, false, Option, Some, None, List, ◌++◌, length}
+use Rattle.std.specs.Prelude.{◌≡◌, ◌≢◌, ℕ, ◌-◌, ◌^◌, ◌<◌, ◌≤◌, ◌⊎◌, true, false, Option, Some, None, List, ◌++◌, length}
 use Rattle.bac_tags.specs.declared.tag.Tag.{Tag}
 use Rattle.bac_tags.specs.declared.tag.Shape.TheVariants.{Primitive}
 use Rattle.bac_tags.specs.Tags.{SpellsTag, EndsInTag}
@@ -16,6 +16,10 @@ pub record SpellsElement {X : Type 0} (type : ℕ) (context : Option ℕ) (IsCon
   pub parts : octets ≡ header ++ content
   pub tagged : SpellsTag header (element_tag type context (length content))
   pub is : IsContent content value
+
+-- the greatest length that a tag can tell (20.2.1.3.1)
+abbrev pub longest_content : ℕ
+longest_content = 2 ^ 32 - 1
 
 -- lengths that a type has
 abbrev pub IsBetween : ℕ → ℕ → ℕ → Type 0

@@ -1,5 +1,5 @@
 -- Whether a parameter stands at a place.
-use Rattle.std.specs.Prelude.{◌≡◌, ℕ, ◌⊎◌, Option, Some, None, List, [], length, drop}
+use Rattle.std.specs.Prelude.{◌≡◌, ℕ, ◌⊎◌, Option, Some, None, List, [], ◌∷◌, ◌++◌, length, drop}
 use Rattle.bac_tags.specs.Places.{IsSpelledAt}
 use Rattle.bac_tags.specs.Elements.{HasOtherTag}
 
@@ -22,3 +22,9 @@ IsOptionalAt Spells number input place (Some value) end = IsSpelledAt Spells inp
 abbrev pub SpellsIfGiven : {X : Type 0} → (List ℕ → X → Type 0) → List ℕ → Option X → Type 0
 SpellsIfGiven Spells octets None = octets ≡ []
 SpellsIfGiven Spells octets (Some x) = Spells octets x
+
+-- things of one kind, one after the other
+abbrev pub SpellsEach : {X : Type 0} → (List ℕ → X → Type 0) → List ℕ → List X → Type 0
+SpellsEach Spells octets [] = octets ≡ []
+SpellsEach Spells octets (x ∷ xs) =
+    (front : List ℕ) × (rest : List ℕ) × (octets ≡ front ++ rest) × Spells front x × SpellsEach Spells rest xs

@@ -1,10 +1,11 @@
 -- Reading from a place on: the value and the place after it, or the first fault.
 use Rattle.std.specs.Prelude.{◌≡◌, ℕ, zero, suc, ◌+◌, ◌-◌, ◌*◌, ◌^◌, ◌/◌, ◌%◌, ◌==◌, nat_lt, ◌&&◌, ◌||◌, not, ◌⊎◌, if◌then◌else◌, ℤ, Option, Some, None, unwrap_or, is_some, Bool, true, false, List, [], ◌∷◌, ◌++◌, length, slice_index, slice_range, Result, Ok, Err, IsOkAnd}
+use Rattle.bac_values.specs.Limits.{most_text_octets}
 use Rattle.std.specs.Option.{ok_or}
 use Rattle.std.specs.Bool.{beq}
 use Rattle.std.specs.Str.{is_utf8}
 use Rattle.byteorder.specs.Endian.{big_number, twos_complement}
-use Rattle.bac_values.specs.ApplicationTags.{null_tag, boolean_tag, unsigned_tag, signed_tag, character_string_tag, bit_string_tag, enumerated_tag, date_tag, time_tag, object_identifier_tag}
+use Rattle.bac_values.specs.ApplicationTags.{null_tag, boolean_tag, unsigned_tag, signed_tag, octet_string_tag, character_string_tag, bit_string_tag, enumerated_tag, date_tag, time_tag, object_identifier_tag}
 use Rattle.bac_values.specs.Identifier.{ObjectIdData}
 use Rattle.bac_values.specs.BitString.{BitsData}
 use Rattle.bac_values.specs.declared.stamp.Stamp.{Stamp}
@@ -16,6 +17,7 @@ use Rattle.bac_tags.specs.declared.fault.TagFault.TheVariants.{Truncated, WrongT
 use Rattle.bac_tags.specs.declared.tag.Tag.{Tag}
 use Rattle.bac_tags.specs.declared.tag.Shape.{Shape}
 use Rattle.bac_tags.specs.declared.tag.Shape.TheVariants.{Primitive, Opening, Closing}
+use Rattle.bac_tags.specs.Elements.{longest_content}
 use Rattle.bac_tags.specs.Contents.{mirrored}
 use Rattle.bac_tags.specs.Values.{has_length}
 
@@ -134,6 +136,24 @@ bits_of (unused ∷ octets) =
 unfoldable pub bits_at : List ℕ → ℕ → Option ℕ → Result (BitsData × ℕ) TagFault
 bits_at input place context = formed bits_of place (content_at input place bit_string_tag context 1 9)
 
+-- there is no value for a string of more than 64 bits
+abbrev pub string_if_short : ℕ → List ℕ → Option BitsData
+string_if_short unused octets = if nat_lt 8 (length octets) then None else Some (string_of unused octets)
+
+abbrev pub any_bits_of : List ℕ → Option (Option BitsData)
+any_bits_of [] = None
+any_bits_of (unused ∷ octets) =
+    if nat_lt 7 unused || nat_lt (8 * length octets) unused then None else Some (string_if_short unused octets)
+
+unfoldable pub any_bits_at : List ℕ → ℕ → Result (Option BitsData × ℕ) TagFault
+any_bits_at input place = formed any_bits_of place (content_at input place bit_string_tag None 1 longest_content)
+
+unfoldable pub octet_string_at : List ℕ → ℕ → Result (List ℕ × ℕ) TagFault
+octet_string_at input place = content_at input place octet_string_tag None 0 longest_content
+
+unfoldable pub time_at : List ℕ → ℕ → Result (List ℕ × ℕ) TagFault
+time_at input place = content_at input place time_tag None 4 4
+
 unfoldable pub stamp_at : List ℕ → ℕ → Result (Stamp × ℕ) TagFault
 stamp_at input place = do
   date ← content_at input place date_tag None 4 4
@@ -154,7 +174,7 @@ number_in type value content = if nat_lt 4 (length content) then values.Opaque t
 
 abbrev pub characters_in : List ℕ → Value
 characters_in octets =
-    if nat_lt 256 (length octets) then values.Opaque character_string_tag TooLong else (if is_utf8 octets then values.Text octets else values.Opaque character_string_tag NotUtf8)
+    if nat_lt most_text_octets (length octets) then values.Opaque character_string_tag TooLong else (if is_utf8 octets then values.Text octets else values.Opaque character_string_tag NotUtf8)
 
 abbrev pub text_in : List ℕ → Value
 text_in [] = values.Opaque character_string_tag CharacterSet

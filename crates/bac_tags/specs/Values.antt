@@ -1,5 +1,6 @@
 -- One application value (ANSI/ASHRAE 135-2020, 20.2.1.4 and 20.2.2 to 20.2.14).
 use Rattle.std.specs.Prelude.{◌≡◌, ◌≢◌, ℕ, ◌*◌, ◌^◌, ◌<◌, ◌≤◌, ◌==◌, nat_le, ◌||◌, ◌⊎◌, IsTrue, Bool, true, if◌then◌else◌, None, List, [], ◌∷◌, ◌++◌, length, IsUtf8, FitsSigned}
+use Rattle.bac_values.specs.Limits.{most_text_octets}
 use Rattle.std.specs.Int.{w32}
 use Rattle.bac_values.specs.ApplicationTags.{null_tag, boolean_tag, unsigned_tag, signed_tag, real_tag, double_tag, character_string_tag, bit_string_tag, enumerated_tag, date_tag, time_tag, object_identifier_tag}
 use Rattle.bac_values.specs.Identifier.{IsIdentifier}
@@ -12,7 +13,7 @@ use Rattle.bac_values.specs.declared.value.Foreign.TheVariants.{OtherType, Chara
 use Rattle.bac_tags.specs.declared.tag.Tag.{Tag}
 use Rattle.bac_tags.specs.Tags.{SpellsTag}
 use Rattle.bac_tags.specs.Elements.{element_tag, SpellsElement}
-use Rattle.bac_tags.specs.Contents.{IsUnsigned, IsSigned, IsObject, IsBits, SpellsBoolean}
+use Rattle.bac_tags.specs.Contents.{IsUnsigned, IsSigned, IsObject, IsBits, IsLongString, SpellsBoolean}
 use Rattle.bac_tags.specs.Stamps.{SpellsStamp}
 
 -- the lengths that a type has: Null 0, Boolean 0 and 1 (which are its values), Real, Date, Time and ObjectIdentifier 4, Double 8, and at least 1 those whose content begins with a number. An OctetString has any, and so has a type without a name
@@ -40,14 +41,6 @@ pub record IsOtherType (type : ℕ) : Type 0 where
 abbrev pub IsCharacters : ℕ → List ℕ → List ℕ → Type 0
 IsCharacters set octets content = content ≡ set ∷ octets
 
--- a BitString of more than 64 bits
-pub record IsLongString (content : List ℕ) : Type 0 where
-  pub unused : ℕ
-  pub octets : List ℕ
-  pub parts : content ≡ unused ∷ octets
-  pub few : unused ≤ 7
-  pub long : 8 < length octets
-
 -- a CharacterString that stands for no text
 abbrev pub IsNoText : (ℕ → List ℕ → Type 0) → ℕ → List ℕ → Type 0
 IsNoText Why type content = (type ≡ character_string_tag) × ((set : ℕ) × (octets : List ℕ) × IsCharacters set octets content × Why set octets)
@@ -56,8 +49,8 @@ IsNoText Why type content = (type ≡ character_string_tag) × ((set : ℕ) × (
 abbrev pub IsForeign : Foreign → ℕ → List ℕ → Type 0
 IsForeign OtherType type content = IsOtherType type × IsTrue (has_length type (length content))
 IsForeign CharacterSet type content = IsNoText (λ set octets. set ≢ 0) type content
-IsForeign TooLong type content = IsNoText (λ set octets. (set ≡ 0) × (256 < length octets)) type content
-IsForeign NotUtf8 type content = IsNoText (λ set octets. (set ≡ 0) × (length octets ≤ 256) × ¬ IsUtf8 octets) type content
+IsForeign TooLong type content = IsNoText (λ set octets. (set ≡ 0) × (most_text_octets < length octets)) type content
+IsForeign NotUtf8 type content = IsNoText (λ set octets. (set ≡ 0) × (length octets ≤ most_text_octets) × ¬ IsUtf8 octets) type content
 IsForeign OutOfRange type content = (((type ≡ unsigned_tag) ⊎ ((type ≡ signed_tag) ⊎ (type ≡ enumerated_tag))) × (4 < length content)) ⊎ ((type ≡ bit_string_tag) × IsLongString content)
 
 -- the value of a content of this type. A Boolean has no content, and a date with a time is two values
@@ -66,7 +59,7 @@ IsValue type content values.Null = (type ≡ null_tag) × (content ≡ [])
 IsValue type content (values.Bool b) = ⊥
 IsValue type content (values.Unsigned n) = (type ≡ unsigned_tag) × IsUnsigned content n
 IsValue type content (values.Signed z) = (type ≡ signed_tag) × IsSigned content z
-IsValue type content (values.Text text) = (type ≡ character_string_tag) × IsCharacters 0 text content × (length text ≤ 256) × IsUtf8 text
+IsValue type content (values.Text text) = (type ≡ character_string_tag) × IsCharacters 0 text content × (length text ≤ most_text_octets) × IsUtf8 text
 IsValue type content (values.Bits string) = (type ≡ bit_string_tag) × IsBits content string
 IsValue type content (values.Enumerated n) = (type ≡ enumerated_tag) × IsUnsigned content n
 IsValue type content (values.Object id) = (type ≡ object_identifier_tag) × IsObject content id
@@ -146,7 +139,7 @@ IsOneElement values.Null = Unit {0}
 IsOneElement (values.Bool b) = Unit {0}
 IsOneElement (values.Unsigned n) = n < 2 ^ 32
 IsOneElement (values.Signed z) = FitsSigned w32 z
-IsOneElement (values.Text text) = (length text ≤ 256) × IsUtf8 text
+IsOneElement (values.Text text) = (length text ≤ most_text_octets) × IsUtf8 text
 IsOneElement (values.Bits string) = IsBitString string.size string.bits
 IsOneElement (values.Enumerated n) = n < 2 ^ 32
 IsOneElement (values.Object id) = IsIdentifier id.number id.instance

@@ -2,7 +2,7 @@
 use Rattle.std.specs.Prelude.{ℕ, ◌+◌, ◌-◌, ◌*◌, ◌/◌, ◌^◌, ℤ, pos, negsuc, min, nat_lt, Bool, if◌then◌else◌, Option, Some, None, List, [], ◌∷◌, ◌++◌, length, take, drop}
 use Rattle.std.specs.Int.{w32, cast_unsigned, from_bool}
 use Rattle.byteorder.specs.Endian.{big_bytes}
-use Rattle.bac_values.specs.ApplicationTags.{null_tag, boolean_tag, unsigned_tag, signed_tag, character_string_tag, bit_string_tag, enumerated_tag, date_tag, time_tag, object_identifier_tag}
+use Rattle.bac_values.specs.ApplicationTags.{null_tag, boolean_tag, unsigned_tag, signed_tag, octet_string_tag, character_string_tag, bit_string_tag, enumerated_tag, date_tag, time_tag, object_identifier_tag}
 use Rattle.bac_values.specs.Identifier.{ObjectIdData}
 use Rattle.bac_values.specs.BitString.{BitsData}
 use Rattle.bac_values.specs.declared.stamp.Stamp.{Stamp}
@@ -85,6 +85,12 @@ unused_of_bits size = 8 * octets_of_bits size - size
 abbrev pub written_bits : Option ℕ → BitsData → List ℕ
 written_bits context string =
     written_element bit_string_tag context (unused_of_bits string.size ∷ big_bytes (octets_of_bits string.size) (mirrored string.size string.bits * 2 ^ unused_of_bits string.size))
+
+abbrev pub written_octet_string : List ℕ → List ℕ
+written_octet_string octets = written_element octet_string_tag None octets
+
+abbrev pub written_time : List ℕ → List ℕ
+written_time octets = written_element time_tag None octets
 
 abbrev pub written_stamp : Stamp → List ℕ
 written_stamp stamp = written_element date_tag None (take 4 stamp.octets) ++ written_element time_tag None (drop 4 stamp.octets)

@@ -19,36 +19,52 @@ fn content_size(tag: Tag, length: u32) -> usize
     length as usize
 }
 
-/// Where the closing tag with that number stands, behind whole elements that begin at the place, and where it ends. It
-/// calls itself once for each tag.
+/// How many tags that are open within one another one frame of `elements_end` holds.
+const OPEN: usize = 64;
+
+/// Where the closing tag with that number stands, behind whole elements that begin at the place, and where it ends. The
+/// numbers of the tags that are open stand in an array, from the outermost to the one that is to be closed next; it calls
+/// itself only for elements within as many as that holds.
 fn elements_end(input: &[u8], at: usize, number: u8) -> Option<(usize, usize)>
     requires { at ≤ length input.now }
     ensures exact { result ≡ elements_end input.now at number }
     ensures within { IfSome result (λ x. (at ≤ x.0) × (x.0 < x.1) × (x.1 ≤ length input.now)) }
 {
-    let Ok((tag, after)) = read_tag(input, at) else {
-        return None;
-    };
-    match tag.shape {
-        Shape::Primitive { length } => {
-            let size = content_size(tag, length);
-            if input.len() - after < size {
-                return None;
+    let mut numbers = [number; OPEN];
+    let (mut inner, mut place) = (0, at);
+    'tags: loop {
+        let Ok((tag, after)) = read_tag(input, place) else {
+            return None;
+        };
+        match tag.shape {
+            Shape::Primitive { length } => {
+                let size = content_size(tag, length);
+                if input.len() - after < size {
+                    return None;
+                }
+                place = after + size;
             }
-            elements_end(input, after + size, number)
-        }
-        Shape::Opening => {
-            if !tag.context {
-                return None;
+            Shape::Opening if !tag.context => return None,
+            Shape::Opening => {
+                if inner + 1 < OPEN {
+                    inner += 1;
+                    numbers[inner] = tag.number;
+                    place = after;
+                } else {
+                    let (_, next) = elements_end(input, after, tag.number)?;
+                    place = next;
+                }
             }
-            let (_, next) = elements_end(input, after, tag.number)?;
-            elements_end(input, next, number)
-        }
-        Shape::Closing => {
-            if !tag.context || tag.number != number {
-                return None;
+            Shape::Closing => {
+                if !tag.context || tag.number != numbers[inner] {
+                    return None;
+                }
+                if inner == 0 {
+                    return Some((place, after));
+                }
+                inner -= 1;
+                place = after;
             }
-            Some((at, after))
         }
     }
 }

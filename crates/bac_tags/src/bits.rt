@@ -1,10 +1,10 @@
-ghost use Rattle.std.specs.Prelude.{◌≡◌, ◌↔◌, ◌⊎◌, ℕ, ◌*◌, ◌<◌, ◌≤◌, ◌^◌, ◌++◌, length, drop, IfOk, OnOk, OnErr};
+ghost use Rattle.std.specs.Prelude.{◌≡◌, ◌↔◌, ◌⊎◌, ℕ, ◌*◌, ◌<◌, ◌≤◌, ◌^◌, ◌++◌, None, Option, length, drop, IfOk, OnOk, OnErr};
 ghost use Rattle.bac_values.specs.BitString.{BitsData};
 ghost use Rattle.bac_values.specs.ApplicationTags.{bit_string_tag};
 ghost use Rattle.bac_tags.specs.Places.{IsSpelledAt};
-ghost use Rattle.bac_tags.specs.Elements.{EndsInElement, HasOtherTag, HasOtherLength, HasOtherForm};
-ghost use Rattle.bac_tags.specs.Contents.{IsBits, SpellsBits, mirrored};
-ghost use Rattle.bac_tags.specs.ReadingSteps.{unsigned_of, string_of, bits_of, bits_at};
+ghost use Rattle.bac_tags.specs.Elements.{EndsInElement, HasOtherTag, HasOtherLength, HasOtherForm, longest_content};
+ghost use Rattle.bac_tags.specs.Contents.{IsAnyBits, IsBits, SpellsAnyBits, SpellsBits, mirrored};
+ghost use Rattle.bac_tags.specs.ReadingSteps.{unsigned_of, string_of, bits_of, bits_at, any_bits_of, any_bits_at};
 ghost use Rattle.bac_tags.specs.Writing.{written_bits};
 
 use crate::TagFault;
@@ -99,6 +99,53 @@ pub fn read_bits(input: &[u8], at: usize, context: Option<u8>) -> Result<(Bits, 
     ensures within { IfOk result (λ x. (at < x.1) × (x.1 ≤ length input.now)) }
 {
     bits_at(input, at, context)
+}
+
+/// The string of a content of any length, which begins with the number of unused bits: no value where it has more than
+/// `MOST_BITS` bits. None where the number of unused bits is above 7, or above 0 with no octet after it.
+fn any_bits_of(content: &[u8]) -> Option<Option<Bits>>
+    requires some { 1 ≤ length content.now }
+    ensures { result ≡ any_bits_of content.now }
+{
+    if content.len() <= 9 {
+        return bits_of(content).map(Some);
+    }
+    if content[0] > 7 {
+        return None;
+    }
+    Some(None)
+}
+
+/// The BitString of any length at a place, and the place after it.
+#[tactic(auto, unfolding(crate::specs::ReadingSteps::any_bits_at))]
+fn any_bits_at(input: &[u8], at: usize) -> Result<(Option<Bits>, usize), TagFault>
+    requires { at ≤ length input.now }
+    ensures exact { result ≡ any_bits_at input.now at }
+    ensures within { IfOk result (λ x. (at < x.1) × (x.1 ≤ length input.now)) }
+{
+    let (content, after) = content_at(input, at, BIT_STRING, None, 1, u32::MAX)?;
+    match any_bits_of(content) {
+        Some(bits) => Ok((bits, after)),
+        None => Err(TagFault::BadLength { at }),
+    }
+}
+
+/// Reads an application's BitString of any length at a place (20.2.10), and answers it with the place after it. One of
+/// more than `MOST_BITS` bits has no value here, and is None. No memory is taken.
+pub fn read_any_bits(input: &[u8], at: usize) -> Result<(Option<Bits>, usize), TagFault>
+    requires { at ≤ length input.now }
+    ensures found { IfOk result (λ x. IsSpelledAt SpellsAnyBits input.now at x.0 x.1) }
+    ensures only { (string : Option BitsData) (end : ℕ) → IsSpelledAt SpellsAnyBits input.now at string end → result ≡ Ok (string, end) }
+
+    ensures truncated { (result ≡ Err (TagFault.Truncated (length input.now))) ↔ EndsInElement bit_string_tag None 1 longest_content (drop at input.now) }
+    ensures wrong_tag { (result ≡ Err (TagFault.WrongTag at)) ↔ HasOtherTag bit_string_tag None (drop at input.now) }
+    // The string would have no octet, or a number of unused bits that it can't have.
+    ensures bad_length { (result ≡ Err (TagFault.BadLength at)) ↔ (HasOtherLength bit_string_tag None 1 longest_content (drop at input.now) ⊎ HasOtherForm bit_string_tag None 1 longest_content IsAnyBits (drop at input.now)) }
+
+    ensures exact { result ≡ any_bits_at input.now at }
+    ensures within { IfOk result (λ x. (at < x.1) × (x.1 ≤ length input.now)) }
+{
+    any_bits_at(input, at)
 }
 
 /// Appends a BitString in the fewest octets; with `Some(n)` it has the number `n` in a context.

@@ -20,6 +20,8 @@ pub(crate) const REAL: u8 = ApplicationTag::REAL.0;
 
 pub(crate) const DOUBLE: u8 = ApplicationTag::DOUBLE.0;
 
+pub(crate) const OCTET_STRING: u8 = ApplicationTag::OCTET_STRING.0;
+
 pub(crate) const CHARACTER_STRING: u8 = ApplicationTag::CHARACTER_STRING.0;
 
 pub(crate) const BIT_STRING: u8 = ApplicationTag::BIT_STRING.0;
@@ -70,6 +72,7 @@ pub(crate) fn content_at(
     ensures exact { Gives (λ x. (x.0.now, x.1)) result (content_at input.now at kind context least most) }
     ensures within { IfOk result (λ x. (at < x.1) × (x.1 ≤ length input.now)) }
     ensures long { IfOk result (λ x. (least ≤ length x.0.now) × (length x.0.now ≤ most)) }
+    ensures behind { IfOk result (λ x. at + length x.0.now < x.1) }
 {
     let (length, start) = header_at(input, at, kind, context)?;
     if length < least || length > most {

@@ -18,17 +18,19 @@ mod enclosing_tags;
 mod fault;
 mod malformed;
 mod object;
+mod octet_string;
 mod octets;
 mod parameter;
 mod round_trip;
 mod signed;
 mod stamp;
 mod tag;
+mod time;
 mod unsigned;
 mod value;
 
 pub use balanced::read_elements;
-pub use bits::{read_bits, write_bits};
+pub use bits::{read_any_bits, read_bits, write_bits};
 pub use boolean::{read_bool, write_bool};
 pub use element_parameters::{
     optional_object, optional_unsigned, required_object, required_unsigned,
@@ -37,10 +39,12 @@ pub use enclosing_tags::{read_closing, read_octets, read_opening, write_closing,
 pub use fault::TagFault;
 pub use malformed::{Malformed, invalid_tag, missing_parameter, too_many_arguments};
 pub use object::{read_object, write_object};
+pub use octet_string::{read_octet_string, write_octet_string};
 pub use parameter::{nothing_follows, optional, or_invalid, required};
 pub use round_trip::{bits_in_order, reads_back};
 pub use signed::{read_signed, write_signed};
 pub use stamp::{read_stamp, write_stamp};
 pub use tag::{Shape, Tag, read_tag, write_tag};
-pub use unsigned::{read_unsigned, unsigned_size, write_unsigned};
+pub use time::{read_time, write_time};
+pub use unsigned::{read_unsigned, unsigned_size, write_enumerated, write_unsigned};
 pub use value::{read_value, write_value};

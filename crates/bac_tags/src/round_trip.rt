@@ -8,8 +8,8 @@ ghost use Rattle.bac_tags.specs.declared.tag.Tag.{Tag};
 ghost use Rattle.bac_tags.specs.Tags.{FitsShape};
 ghost use Rattle.bac_tags.specs.Contents.{IsBits};
 ghost use Rattle.bac_tags.specs.Values.{IsOneElement};
-ghost use Rattle.bac_tags.specs.ReadingSteps.{tag_at, unsigned_at, signed_at, object_at, boolean_at, bits_at, stamp_at, value_at};
-ghost use Rattle.bac_tags.specs.Writing.{written_tag, written_unsigned, written_signed, written_object, written_boolean, written_bits, written_stamp, written_value};
+ghost use Rattle.bac_tags.specs.ReadingSteps.{tag_at, unsigned_at, signed_at, object_at, boolean_at, bits_at, octet_string_at, time_at, stamp_at, value_at};
+ghost use Rattle.bac_tags.specs.Writing.{written_tag, written_unsigned, written_signed, written_object, written_boolean, written_bits, written_octet_string, written_time, written_stamp, written_value};
 
 /// What was written is read back with its place, whatever stands before it and behind it. A date with a time is
 /// read back by the reader of stamps.
@@ -21,6 +21,8 @@ pub fn reads_back()
     ensures boolean { (before rest : List ℕ) (context : Option ℕ) (b : Bool) → boolean_at (before ++ written_boolean context b ++ rest) (length before) context ≡ Ok (b, length before + length (written_boolean context b)) }
     ensures bits { (before rest : List ℕ) (context : Option ℕ) (string : BitsData) → IsBitString string.size string.bits → bits_at (before ++ written_bits context string ++ rest) (length before) context ≡ Ok (string, length before + length (written_bits context string)) }
     ensures stamp { (before rest : List ℕ) (stamp : Stamp) → length stamp.octets ≡ 8 → stamp_at (before ++ written_stamp stamp ++ rest) (length before) ≡ Ok (stamp, length before + length (written_stamp stamp)) }
+    ensures octet_string { (before rest octets : List ℕ) → length octets < 2 ^ 32 → octet_string_at (before ++ written_octet_string octets ++ rest) (length before) ≡ Ok (octets, length before + length (written_octet_string octets)) }
+    ensures time { (before rest time : List ℕ) → length time ≡ 4 → time_at (before ++ written_time time ++ rest) (length before) ≡ Ok (time, length before + length (written_time time)) }
     ensures value { (before rest : List ℕ) (value : Value) → IsOneElement value → value_at (before ++ written_value value ++ rest) (length before) ≡ Ok (value, length before + length (written_value value)) }
 {}
 

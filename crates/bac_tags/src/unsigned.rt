@@ -75,9 +75,10 @@ pub fn write_unsigned(out: &mut Vec<u8>, context: Option<u8>, number: u32) -> Re
 }
 
 /// Appends an application's Enumerated in the fewest octets.
-pub(crate) fn write_enumerated(out: &mut Vec<u8>, number: u32) -> Result<(), NoMemory>
+pub fn write_enumerated(out: &mut Vec<u8>, number: u32) -> Result<(), NoMemory>
     ensures written { OnOk result (out.new.items ≡ out.old.items ++ written_enumerated None number) }
     ensures same { OnErr result (out.new.items ≡ out.old.items) }
+    // What is written spells the number, so it is read again.
     ensures spelled { SpellsEnumerated None (written_enumerated None number) number }
 {
     let octets = number.to_be_bytes();

@@ -1,4 +1,5 @@
 ghost use Rattle.std.specs.Prelude.{◌≡◌, ◌↔◌, ◌⊎◌, ℕ, ◌<◌, ◌≤◌, List, IsTrue, ◌++◌, length, drop, IfOk, OnOk, OnErr};
+ghost use Rattle.bac_values.specs.ApplicationTags.{character_string_tag};
 ghost use Rattle.bac_values.specs.declared.value.Value.{Value};
 ghost use Rattle.bac_tags.specs.Places.{IsSpelledAt};
 ghost use Rattle.bac_tags.specs.Tags.{EndsInTag};
@@ -19,7 +20,7 @@ use crate::{
     Shape, TagFault, read_tag, write_bits, write_bool, write_object, write_signed, write_stamp,
     write_unsigned,
 };
-use bac_values::{Foreign, NoMemory, Text, Value};
+use bac_values::{Foreign, MOST_TEXT_OCTETS, NoMemory, Text, Value};
 use std::alloc::Global;
 
 /// The type and the length in the tag of an application's primitive element, and the place after the tag.
@@ -59,7 +60,7 @@ fn characters_in(alloc: Global, octets: &[u8]) -> Result<Value, NoMemory>
     ensures no_memory { OnErr result (IsText (characters_in octets.now)) }
 {
     let tag = CHARACTER_STRING;
-    if octets.len() > 256 {
+    if octets.len() > MOST_TEXT_OCTETS {
         let why = Foreign::TooLong;
         return Ok(Value::Opaque { tag, why });
     }
@@ -111,7 +112,7 @@ fn string_in(content: &[u8]) -> Option<Value>
 fn value_in(alloc: Global, kind: u8, content: &[u8]) -> Result<Option<Value>, NoMemory>
     requires { IsTrue (has_length kind (length content.now)) }
     ensures value { IfOk result (λ value. value ≡ value_in kind content.now) }
-    ensures no_memory { OnErr result (IsText (text_in content.now) × (kind ≡ 7)) }
+    ensures no_memory { OnErr result (IsText (text_in content.now) × (kind ≡ character_string_tag)) }
 {
     let short = content.len() <= 4;
     let value = match kind {

@@ -1,14 +1,15 @@
--- Bit strings (ANSI/ASHRAE 135-2020, 20.2.10) of at most 64 bits.
+-- Bit strings (ANSI/ASHRAE 135-2020, 20.2.10).
 use Rattle.std.specs.Prelude.{ℕ, ◌+◌, ◌*◌, ◌^◌, ◌<◌, ◌≤◌, ◌==◌, Bool, not, bit_and, List, [], ◌∷◌, length, if◌then◌else◌}
+use Rattle.bac_values.specs.Limits.{most_bits}
 
 -- how many bits there are, and the number whose lowest bit is the string's first
 pub record BitsData : Type 0 where
   pub size : ℕ
   pub bits : ℕ
 
--- at most 64 bits, and none at or above the size
+-- at most `most_bits` bits, and none at or above the size
 abbrev pub IsBitString : ℕ → ℕ → Type 0
-IsBitString size bits = (size ≤ 64) × (bits < 2 ^ size)
+IsBitString size bits = (size ≤ most_bits) × (bits < 2 ^ size)
 
 -- ---- strings that are lists of flags: the first bit is the first flag
 

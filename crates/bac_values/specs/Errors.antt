@@ -45,11 +45,20 @@ invalid_array_index_error = record { class = property_class; code = 42 }
 abbrev pub property_is_not_an_array_error : ServiceError
 property_is_not_an_array_error = record { class = property_class; code = 50 }
 
+abbrev pub no_space_to_add_list_element_error : ServiceError
+no_space_to_add_list_element_error = record { class = resources_class; code = 19 }
+
 abbrev pub no_space_to_write_property_error : ServiceError
 no_space_to_write_property_error = record { class = resources_class; code = 20 }
 
 abbrev pub invalid_time_stamp_error : ServiceError
 invalid_time_stamp_error = record { class = services_class; code = 14 }
+
+abbrev pub property_is_not_a_list_error : ServiceError
+property_is_not_a_list_error = record { class = services_class; code = 22 }
+
+abbrev pub list_element_not_found_error : ServiceError
+list_element_not_found_error = record { class = services_class; code = 81 }
 
 abbrev pub invalid_event_state_error : ServiceError
 invalid_event_state_error = record { class = services_class; code = 73 }

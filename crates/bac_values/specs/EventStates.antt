@@ -1,5 +1,5 @@
 -- Event states and transitions (ANSI/ASHRAE 135-2020, 13.2.2 and clause 21, BACnetEventState).
-use Rattle.std.specs.Prelude.{ℕ, ◌==◌, Option, List, [], ◌∷◌, find}
+use Rattle.std.specs.Prelude.{ℕ, ◌==◌, Bool, true, false, Option, List, [], ◌∷◌, find}
 use Rattle.bac_values.specs.declared.event_state.EventState.{EventState}
 use Rattle.bac_values.specs.declared.event_state.EventState.TheVariants.{Normal, Fault, Offnormal, HighLimit, LowLimit}
 use Rattle.bac_values.specs.declared.transition.Transition.{Transition}
@@ -19,6 +19,14 @@ event_states = Normal ∷ Fault ∷ Offnormal ∷ HighLimit ∷ LowLimit ∷ []
 -- the state with a number
 abbrev pub state_of_number : ℕ → Option EventState
 state_of_number number = find (λ state. number_of_state state == number) event_states
+
+abbrev pub is_normal : EventState → Bool
+is_normal Normal = true
+is_normal _ = false
+
+abbrev pub is_fault : EventState → Bool
+is_fault Fault = true
+is_fault _ = false
 
 -- the transition by which a state is entered: to-normal for NORMAL, to-fault for FAULT, to-offnormal for every other
 abbrev pub transition_to : EventState → Transition

@@ -5,6 +5,7 @@ pub mod Padding
 pub mod EventStates
 pub mod Reliabilities
 pub mod Moments
+pub mod Limits
 pub mod Orders
 pub mod ApplicationTags
 pub mod Properties

@@ -10,6 +10,9 @@ unconfirmed_request_pdu = 1
 abbrev pub simple_ack_pdu : ℕ
 simple_ack_pdu = 2
 
+abbrev pub complex_ack_pdu : ℕ
+complex_ack_pdu = 3
+
 abbrev pub error_pdu : ℕ
 error_pdu = 5
 

@@ -13,6 +13,10 @@ alarm_value_property = 6
 abbrev pub alarm_values_property : ℕ
 alarm_values_property = 7
 
+-- every property of an object, where many are read at once (15.7.3.1.2)
+abbrev pub all_properties : ℕ
+all_properties = 8
+
 abbrev pub notification_class_property : ℕ
 notification_class_property = 17
 
@@ -109,11 +113,20 @@ stop_when_full_property = 144
 abbrev pub total_record_count_property : ℕ
 total_record_count_property = 145
 
+abbrev pub event_message_texts_property : ℕ
+event_message_texts_property = 351
+
+abbrev pub event_message_texts_config_property : ℕ
+event_message_texts_config_property = 352
+
 abbrev pub event_detection_enable_property : ℕ
 event_detection_enable_property = 353
 
 abbrev pub event_algorithm_inhibit_property : ℕ
 event_algorithm_inhibit_property = 354
+
+abbrev pub event_algorithm_inhibit_ref_property : ℕ
+event_algorithm_inhibit_ref_property = 355
 
 abbrev pub time_delay_normal_property : ℕ
 time_delay_normal_property = 356

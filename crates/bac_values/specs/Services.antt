@@ -11,9 +11,29 @@ acknowledge_alarm_service = 0
 abbrev pub confirmed_event_notification_service : ℕ
 confirmed_event_notification_service = 2
 
+-- 13.10
+abbrev pub get_alarm_summary_service : ℕ
+get_alarm_summary_service = 3
+
+-- 13.11
+abbrev pub get_enrollment_summary_service : ℕ
+get_enrollment_summary_service = 4
+
+-- 15.1
+abbrev pub add_list_element_service : ℕ
+add_list_element_service = 8
+
+-- 15.2
+abbrev pub remove_list_element_service : ℕ
+remove_list_element_service = 9
+
 -- 15.5
 abbrev pub read_property_service : ℕ
 read_property_service = 12
+
+-- 15.7
+abbrev pub read_property_multiple_service : ℕ
+read_property_multiple_service = 14
 
 -- 15.9
 abbrev pub write_property_service : ℕ

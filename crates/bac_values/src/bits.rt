@@ -1,9 +1,11 @@
 ghost use Rattle.std.specs.Prelude.{◌≡◌, ◌^◌, ◌<◌, ◌≤◌, ◌↔◌, OkIff, length};
 ghost use Rattle.bac_values.specs.BitString.{IsBitString, flags_number, four_flags, string_of_flags, three_flags, two_flags};
+ghost use Rattle.bac_values.specs.Limits.{most_bits};
 
+use crate::MOST_BITS;
 use std::marker::Model;
 
-/// A string of at most 64 bits. The first bit is the lowest of the number.
+/// A string of at most `MOST_BITS` bits. The first bit is the lowest of the number.
 #[derive(Clone, Copy, Debug, PartialEq, Eq)]
 pub struct Bits {
     size: u8,
@@ -22,7 +24,7 @@ impl Model for Bits {
     ghost inverse = { λ string. record { size = string.size; bits = string.bits } };
 }
 
-/// A length above 64, or a bit that is set at or above the length.
+/// A length above `MOST_BITS`, or a bit that is set at or above the length.
 #[derive(Clone, Copy, Debug, PartialEq, Eq)]
 pub struct TooManyBits;
 
@@ -31,16 +33,16 @@ impl Bits {
     pub fn new(length: u8, bits: u64) -> Result<Bits, TooManyBits>
         ensures made { OkIff result (IsBitString length bits) (record { size = length; bits = bits }) }
     {
-        if length > 64 {
+        if length > MOST_BITS {
             return Err(TooManyBits);
         }
-        if length < 64 && bits >= 1 << length {
+        if length < MOST_BITS && bits >= 1 << length {
             return Err(TooManyBits);
         }
         Ok(Bits { size: length, bits })
     }
 
-    /// How many bits there are, at most 64.
+    /// How many bits there are, at most `MOST_BITS`.
     pub fn length(&self) -> u8
         ensures length { result ≡ self.now.size }
         ensures range { IsBitString self.now.size self.now.bits }
@@ -58,7 +60,7 @@ impl Bits {
 
     /// The string of flags, the first flag first.
     pub fn of_flags(flags: &[bool]) -> Bits
-        requires few { length flags.now ≤ 64 }
+        requires few { length flags.now ≤ most_bits }
         ensures string { result ≡ string_of_flags flags.now }
     {
         Bits {
@@ -96,7 +98,7 @@ impl Bits {
 
 // The number whose lowest bit is the first flag.
 fn flags_number(flags: &[bool]) -> u64
-    requires few { length flags.now ≤ 64 }
+    requires few { length flags.now ≤ most_bits }
     ensures number { result ≡ flags_number flags.now }
     ensures range { result < 2 ^ length flags.now }
 {

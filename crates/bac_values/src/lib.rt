@@ -5,6 +5,7 @@
 //! contracts see every type as plain data.
 #![tactic(auto)]
 
+mod alarm_row;
 mod application_tag;
 mod bits;
 mod event_state;
@@ -13,6 +14,7 @@ mod growing;
 mod input;
 mod items;
 mod laws;
+mod limits;
 mod mac;
 mod moment;
 mod moved;
@@ -37,6 +39,7 @@ mod text;
 mod transition;
 mod value;
 
+pub use alarm_row::AlarmRow;
 pub use application_tag::ApplicationTag;
 pub use bits::{Bits, TooManyBits};
 pub use event_state::EventState;
@@ -45,6 +48,12 @@ pub use growing::{push, single};
 pub use input::{Input, SetFault};
 pub use items::Items;
 pub use laws::{equal_peers_are_one, orders_are_by_fields};
+pub use limits::{
+    LEAST_OUTBOX, MOST_BATCH_OCTETS, MOST_BINDINGS, MOST_BITS, MOST_CLASSES, MOST_DATAGRAM_OCTETS,
+    MOST_DESTINATIONS, MOST_EVENTS, MOST_LISTED_VALUES, MOST_LOGS, MOST_NOTE_OCTETS, MOST_OBJECTS,
+    MOST_OUTBOX, MOST_PEERS, MOST_PENDING_CALLS, MOST_RECORD_OCTETS, MOST_RECORDS,
+    MOST_SITE_OCTETS, MOST_TEXT_OCTETS, SNAPSHOT_OCTETS_LIMIT, limits_are_those_of_contracts,
+};
 pub use mac::Mac;
 pub use moment::{FIRST_MOMENT, LAST_MOMENT};
 pub use moved::Moved;
@@ -52,8 +61,8 @@ pub use no_memory::NoMemory;
 pub use note::{Note, Send};
 pub use numbers::{
     errors_have_their_numbers, event_types_have_their_numbers, kinds_are_all,
-    pdus_have_their_numbers, properties_have_their_numbers, reasons_have_their_numbers,
-    services_have_their_numbers, tags_have_their_numbers,
+    moments_have_their_numbers, pdus_have_their_numbers, properties_have_their_numbers,
+    reasons_have_their_numbers, services_have_their_numbers, tags_have_their_numbers,
 };
 pub use object_id::{InstanceRange, ObjectId};
 pub use object_kind::ObjectKind;

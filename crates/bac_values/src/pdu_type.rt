@@ -9,6 +9,8 @@ impl PduType {
     pub const UNCONFIRMED_REQUEST: PduType = PduType(1);
     /// BACnet-SimpleACK-PDU.
     pub const SIMPLE_ACK: PduType = PduType(2);
+    /// BACnet-ComplexACK-PDU.
+    pub const COMPLEX_ACK: PduType = PduType(3);
     /// BACnet-Error-PDU.
     pub const ERROR: PduType = PduType(5);
     /// BACnet-Reject-PDU.

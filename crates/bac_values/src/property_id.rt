@@ -11,6 +11,8 @@ impl PropertyId {
     pub const ALARM_VALUE: PropertyId = PropertyId(6);
     /// Alarm_Values.
     pub const ALARM_VALUES: PropertyId = PropertyId(7);
+    /// All properties of an object, in ReadPropertyMultiple (15.7.3.1.2).
+    pub const ALL: PropertyId = PropertyId(8);
     /// Notification_Class.
     pub const NOTIFICATION_CLASS: PropertyId = PropertyId(17);
     /// Deadband.
@@ -75,10 +77,16 @@ impl PropertyId {
     pub const STOP_WHEN_FULL: PropertyId = PropertyId(144);
     /// Total_Record_Count.
     pub const TOTAL_RECORD_COUNT: PropertyId = PropertyId(145);
+    /// Event_Message_Texts.
+    pub const EVENT_MESSAGE_TEXTS: PropertyId = PropertyId(351);
+    /// Event_Message_Texts_Config.
+    pub const EVENT_MESSAGE_TEXTS_CONFIG: PropertyId = PropertyId(352);
     /// Event_Detection_Enable.
     pub const EVENT_DETECTION_ENABLE: PropertyId = PropertyId(353);
     /// Event_Algorithm_Inhibit.
     pub const EVENT_ALGORITHM_INHIBIT: PropertyId = PropertyId(354);
+    /// Event_Algorithm_Inhibit_Ref.
+    pub const EVENT_ALGORITHM_INHIBIT_REF: PropertyId = PropertyId(355);
     /// Time_Delay_Normal.
     pub const TIME_DELAY_NORMAL: PropertyId = PropertyId(356);
     /// Reliability_Evaluation_Inhibit.

@@ -1,4 +1,4 @@
-use crate::{EventState, Moved, Send, SetFault};
+use crate::{EventState, Items, Moved, Send, SetFault};
 
 /// A line of a program's report. A `line` is the number of the script's line, from 1.
 #[derive(Debug, Drop)]
@@ -81,6 +81,51 @@ pub enum ReportLine {
         /// How many lines it has.
         lines: u64,
         /// How many events there are.
+        events: u64,
+    },
+    /// A packet for a standby.
+    Packet {
+        /// Its octets.
+        packet: Items<u8>,
+    },
+    /// All that a leader's journal has past a number of events was shipped.
+    ShipEnd {
+        /// How many packets it took.
+        packets: u64,
+        /// How many events the journal has.
+        events: u64,
+    },
+    /// The line's packet is none, or none that may come next.
+    Malformed {
+        /// The script's line.
+        line: u64,
+    },
+    /// The line's packet begins past what the standby has.
+    Gap {
+        /// The script's line.
+        line: u64,
+        /// How many events the standby has.
+        events: u64,
+    },
+    /// The line's packet holds nothing that the standby hasn't.
+    Repeat {
+        /// The script's line.
+        line: u64,
+        /// How many events the standby has, all of them on its disk.
+        events: u64,
+    },
+    /// The line's packet is a piece of a snapshot of which more is to come.
+    Part {
+        /// The script's line.
+        line: u64,
+        /// How many octets of the snapshot have come.
+        place: u32,
+    },
+    /// What the line's packet holds was taken.
+    Taken {
+        /// The script's line.
+        line: u64,
+        /// How many events the standby has now, all of them on its disk.
         events: u64,
     },
     /// A workload was run to its end.

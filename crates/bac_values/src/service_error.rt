@@ -62,15 +62,30 @@ impl ServiceError {
         class: PROPERTY,
         code: 50,
     };
+    /// The list has no space for the element.
+    pub const NO_SPACE_TO_ADD_LIST_ELEMENT: ServiceError = ServiceError {
+        class: RESOURCES,
+        code: 19,
+    };
     /// The value is longer than the server keeps.
     pub const NO_SPACE_TO_WRITE_PROPERTY: ServiceError = ServiceError {
         class: RESOURCES,
         code: 20,
     };
+    /// The property is no list whose elements can be edited.
+    pub const PROPERTY_IS_NOT_A_LIST: ServiceError = ServiceError {
+        class: SERVICES,
+        code: 22,
+    };
     /// The time stamp isn't that of the transition.
     pub const INVALID_TIME_STAMP: ServiceError = ServiceError {
         class: SERVICES,
         code: 14,
+    };
+    /// The element isn't in the list.
+    pub const LIST_ELEMENT_NOT_FOUND: ServiceError = ServiceError {
+        class: SERVICES,
+        code: 81,
     };
     /// The state isn't the one that was entered.
     pub const INVALID_EVENT_STATE: ServiceError = ServiceError {

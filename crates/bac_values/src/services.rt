@@ -7,8 +7,18 @@ impl ConfirmedService {
     pub const ACKNOWLEDGE_ALARM: ConfirmedService = ConfirmedService(0);
     /// ConfirmedEventNotification (13.8).
     pub const CONFIRMED_EVENT_NOTIFICATION: ConfirmedService = ConfirmedService(2);
+    /// GetAlarmSummary (13.10).
+    pub const GET_ALARM_SUMMARY: ConfirmedService = ConfirmedService(3);
+    /// GetEnrollmentSummary (13.11).
+    pub const GET_ENROLLMENT_SUMMARY: ConfirmedService = ConfirmedService(4);
+    /// AddListElement (15.1).
+    pub const ADD_LIST_ELEMENT: ConfirmedService = ConfirmedService(8);
+    /// RemoveListElement (15.2).
+    pub const REMOVE_LIST_ELEMENT: ConfirmedService = ConfirmedService(9);
     /// ReadProperty (15.5).
     pub const READ_PROPERTY: ConfirmedService = ConfirmedService(12);
+    /// ReadPropertyMultiple (15.7).
+    pub const READ_PROPERTY_MULTIPLE: ConfirmedService = ConfirmedService(14);
     /// WriteProperty (15.9).
     pub const WRITE_PROPERTY: ConfirmedService = ConfirmedService(15);
     /// ReadRange (15.8).

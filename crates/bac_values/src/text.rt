@@ -1,10 +1,12 @@
 ghost use Rattle.std.specs.Prelude.{◌≡◌, ℕ, ◌<◌, ◌≤◌, ◌↔◌, length, IfOk, IfErr, IsErrOf, IsUtf8};
+ghost use Rattle.bac_values.specs.Limits.{most_text_octets};
 ghost use Rattle.bac_values.specs.declared.text.TextFault.TheVariants.{NoMemory, TooLong};
 
+use crate::MOST_TEXT_OCTETS;
 use std::alloc::{AllocError, Global};
 use std::marker::Model;
 
-/// A text of at most 256 octets of UTF-8. Contracts see the octets.
+/// A text of at most `MOST_TEXT_OCTETS` octets of UTF-8. Contracts see the octets.
 #[derive(Clone, Debug, Drop)]
 pub struct Text {
     text: String,
@@ -12,18 +14,19 @@ pub struct Text {
 
 impl Model for Text {
     ghost use Rattle.std.specs.Prelude.{List, ℕ, ◌≤◌, length, string_bytes};
+    ghost use Rattle.bac_values.specs.Limits.{most_text_octets};
 
     ghost Value = { List ℕ };
 
     ghost view = { λ text. string_bytes text.text };
 
-    ghost invariant = { λ text. length (string_bytes text.text) ≤ 256 };
+    ghost invariant = { λ text. length (string_bytes text.text) ≤ most_text_octets };
 }
 
 /// Why no text was made.
 #[derive(Clone, Copy, Debug, PartialEq, Eq)]
 pub enum TextFault {
-    /// The source has this many octets, above 256.
+    /// The source has this many octets, which are too many.
     TooLong {
         /// The octets of the source.
         octets: usize,
@@ -41,12 +44,12 @@ impl From<AllocError> for TextFault {
 }
 
 impl Text {
-    /// A copy of a source of at most 256 octets.
+    /// A copy of a source of at most `MOST_TEXT_OCTETS` octets.
     pub fn new(alloc: Global, source: &str) -> Result<Text, TextFault>
         ensures same { IfOk result (λ text. text ≡ source.now) }
-        ensures too_long { (octets : ℕ) → (IsErrOf result (TextFault.TooLong octets)) ↔ ((octets ≡ length source.now) × (256 < octets)) }
+        ensures too_long { (octets : ℕ) → (IsErrOf result (TextFault.TooLong octets)) ↔ ((octets ≡ length source.now) × (most_text_octets < octets)) }
     {
-        if source.len() > 256 {
+        if source.len() > MOST_TEXT_OCTETS {
             return Err(TextFault::TooLong {
                 octets: source.len(),
             });
@@ -55,10 +58,10 @@ impl Text {
         Ok(Text { text })
     }
 
-    /// The octets, at most 256, which are UTF-8.
+    /// The octets, at most `MOST_TEXT_OCTETS`, which are UTF-8.
     pub fn octets(&self) -> &[u8]
         ensures same { result.now ≡ self.now }
-        ensures short { length self.now ≤ 256 }
+        ensures short { length self.now ≤ most_text_octets }
         ensures utf8 { IsUtf8 self.now }
     {
         self.text.as_str().as_bytes()
@@ -67,7 +70,7 @@ impl Text {
     /// The text.
     pub fn as_str(&self) -> &str
         ensures same { result.now ≡ self.now }
-        ensures short { length self.now ≤ 256 }
+        ensures short { length self.now ≤ most_text_octets }
     {
         self.text.as_str()
     }

@@ -13,13 +13,6 @@ pub enum Transition {
 }
 
 impl Transition {
-    /// All three, in the order of lists of three.
-    pub const ALL: [Transition; 3] = [
-        Transition::ToOffnormal,
-        Transition::ToFault,
-        Transition::ToNormal,
-    ];
-
     /// The place in lists of three, from 0.
     pub fn place(self) -> usize
         ensures place { result ≡ place_of_transition self }

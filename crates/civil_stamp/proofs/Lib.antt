@@ -1,3 +1,3 @@
 pub mod StampLemmas
-mod HundredthsLemmas
+pub mod HundredthsLemmas
 mod ZoneLemmas

@@ -1,5 +1,5 @@
 -- A stamp of local time is the one that is computed.
-use Rattle.std.proofs.Common.{rules, slice_index, ◌≡◌, ℕ, zero, suc, ◌+◌, ◌-◌, ◌/◌, ◌%◌, ◌<◌, ◌≤◌, ℤ, pos, negsuc, ◌+ℤ◌, ◌-ℤ◌, ◌*ℤ◌, ◌≤ℤ◌, arith, refl, sym, ap, ◌∙◌, inl, inr, unsigned_abs, List, [], ◌∷◌, length}
+use Rattle.std.proofs.Common.{rules, slice_index, ◌≡◌, ℕ, zero, suc, ◌+◌, ◌-◌, ◌/◌, ◌%◌, ◌<◌, ◌≤◌, ℤ, pos, negsuc, ◌-ℤ◌, ◌*ℤ◌, ◌≤ℤ◌, arith, refl, sym, ap, ◌∙◌, inl, inr, unsigned_abs, List, [], ◌∷◌, length}
 use Rattle.std.proofs.lemmas.Bool.Decides.{leb_tells}
 use Rattle.std.proofs.lemmas.Int.{by_lt_z}
 use Rattle.std.specs.Int.{int_div_euclid, int_rem_euclid}
@@ -15,7 +15,7 @@ use Rattle.jiff_core.proofs.DateTimeLemmas.{civil_nanos-parts, time_nanos_bound}
 use Rattle.jiff_core.proofs.SignedLemmas.{signed_arith}
 use Rattle.jiff_tz.proofs.YearLemmas.{year_of_day-date}
 use Rattle.civil_stamp.specs.CivilStamp.{civil_octets}
-use Rattle.civil_stamp.specs.LocalTime.{milliseconds_ahead, months_within, days_into_year, month_of_day, day_of_month, octets_of_day_and_time, local_hundredths, local_stamp, stamp_year, stamp_month, stamp_day, stamp_weekday, stamp_hour, stamp_minute, stamp_second, stamp_hundredth, stamp_epoch_day, stamp_time, IsLocalStamp, ZoneData}
+use Rattle.civil_stamp.specs.LocalTime.{months_within, days_into_year, month_of_day, day_of_month, octets_of_day_and_time, local_hundredths, local_stamp, stamp_year, stamp_month, stamp_day, stamp_weekday, stamp_hour, stamp_minute, stamp_second, stamp_hundredth, stamp_epoch_day, stamp_time, IsLocalStamp, ZoneData}
 
 -- the months that fit are those whose days fit, up to the next month's
 months_within_is : (y : ℤ) (n k days : ℕ) → k ≤ n → days_of_months y k ≤ days → days < days_of_months y (suc k) → months_within y n days ≡ k
@@ -144,7 +144,7 @@ stamp_is zone moment stamp h =
     ap (λ (xs : List ℕ). let s : Stamp = record { octets = xs } in s) same
 
 -- what a date and a time of day are on the clock is a stamp of local time
-pub civil_octets-shows : (zone : ZoneData) (moment : ℕ) (stamp : Stamp) (shown : DateTime) → stamp.octets ≡ civil_octets shown → IsBetween (pos 1900) (pos 2155) shown.date.year → civil_nanos shown ≡ (pos moment +ℤ milliseconds_ahead zone moment) *ℤ pos 1_000_000 → IsLocalStamp zone moment stamp
+pub civil_octets-shows : (zone : ZoneData) (moment : ℕ) (stamp : Stamp) (shown : DateTime) → stamp.octets ≡ civil_octets shown → IsBetween (pos 1900) (pos 2155) shown.date.year → civil_nanos shown ≡ local_hundredths zone moment *ℤ pos 10_000_000 → IsLocalStamp zone moment stamp
 civil_octets-shows zone moment stamp shown octets years e =
     let parts = civil_nanos-parts shown in
     let bound = time_nanos_bound shown.time in

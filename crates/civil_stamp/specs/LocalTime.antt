@@ -1,14 +1,15 @@
 -- Local time: what the clock of a zone shows, as a Date and a Time (ANSI/ASHRAE 135-2020, 20.2.12 and 20.2.13).
-use Rattle.std.specs.Prelude.{◌≡◌, ℕ, zero, suc, ◌+◌, ◌-◌, ◌*◌, ◌/◌, ◌%◌, ◌<◌, ◌&&◌, Bool, List, [], ◌∷◌, length, ℤ, pos, neg_ℤ, ◌+ℤ◌, ◌-ℤ◌, ◌*ℤ◌, unsigned_abs, slice_index, nat_le, nat_lt, Option, Some, None, option_map, if◌then◌else◌}
-use Rattle.std.specs.Int.{int_div_euclid, int_rem_euclid}
+use Rattle.std.specs.Prelude.{◌≡◌, ℕ, zero, suc, ◌+◌, ◌-◌, ◌*◌, ◌/◌, ◌%◌, ◌<◌, ◌&&◌, Bool, List, [], ◌∷◌, length, ℤ, pos, neg_ℤ, ◌+ℤ◌, ◌-ℤ◌, ◌*ℤ◌, ◌≤ℤ◌, ◌⊎◌, unsigned_abs, slice_index, nat_le, nat_lt, Option, Some, None, option_map, if◌then◌else◌}
+use Rattle.std.specs.Int.{int_div_euclid, int_max, int_min, int_rem_euclid}
+use Rattle.std.specs.Ordering.{int_eq}
 use Rattle.jiff_core.specs.Calendar.{IsBetween, IsCivilDate, days_from_civil, days_in_month, days_of_months, weekday_number}
 use Rattle.jiff_tz.specs.PosixReader.{read_whole}
 use Rattle.jiff_tz.specs.Year.{year_of_day}
 use Rattle.bac_values.specs.Moments.{IsMoment}
 use Rattle.bac_values.specs.declared.stamp.Stamp.{Stamp}
-use Rattle.civil_stamp.specs.ZoneRules.{ClockRule, clock_rule, seconds_ahead, seconds_shown}
+use Rattle.civil_stamp.specs.ZoneRules.{ClockRule, clock_rule, daylight_ahead, seconds_ahead}
 
--- what is seen of a zone: what its rule says of the clock. Only the next five definitions say what it is made of
+-- what is seen of a zone: what its rule says of the clock. Only the next six definitions say what it is made of
 abbrev pub ZoneData : Type 0
 ZoneData = ClockRule
 
@@ -24,18 +25,24 @@ fixed_zone minutes = record { standard = minutes *ℤ pos 60; daylight = None }
 abbrev pub rule_zone : List ℕ → Option ZoneData
 rule_zone text = option_map clock_rule (read_whole text)
 
--- how many milliseconds the clock of the zone stands ahead of UTC at the moment
-abbrev pub milliseconds_ahead : ZoneData → ℕ → ℤ
-milliseconds_ahead zone moment = seconds_ahead zone (pos moment *ℤ pos 1_000_000) *ℤ pos 1_000
+-- how many hundredths of a second the clock of the zone stands ahead of UTC, at these since 1970-01-01T00:00:00 at UTC
+abbrev pub hundredths_ahead : ZoneData → ℤ → ℤ
+hundredths_ahead zone at = seconds_ahead zone (at *ℤ pos 10_000_000) *ℤ pos 100
 
--- how many hundredths of a second the clock of the zone stands ahead of UTC that shows these hundredths since
--- 1970-01-01T00:00:00 in the year; in a fold or a gap, how many it stood before
-abbrev pub hundredths_ahead : ZoneData → ℤ → ℤ → ℤ
-hundredths_ahead zone year shown = seconds_shown zone year (shown *ℤ pos 10_000_000) *ℤ pos 100
+-- the most and the least that it ever stands ahead of UTC
+abbrev pub most_ahead : ZoneData → ℤ
+most_ahead zone = int_max zone.standard (daylight_ahead zone) *ℤ pos 100
 
--- the hundredths of a second since 1970-01-01T00:00:00 on the clock of the zone, rounded down
+abbrev pub least_ahead : ZoneData → ℤ
+least_ahead zone = int_min zone.standard (daylight_ahead zone) *ℤ pos 100
+
+-- the hundredths of a second since 1970-01-01T00:00:00 that the clock of the zone shows, at these at UTC
+abbrev pub clock_at : ZoneData → ℤ → ℤ
+clock_at zone at = at +ℤ hundredths_ahead zone at
+
+-- what it shows at the moment, rounded down: it's put forward and back at whole seconds
 abbrev pub local_hundredths : ZoneData → ℕ → ℤ
-local_hundredths zone moment = int_div_euclid (pos moment +ℤ milliseconds_ahead zone moment) (pos 10)
+local_hundredths zone moment = clock_at zone (pos (moment / 10))
 
 -- the parts of a stamp: the year is kept less 1900, and Monday is 1
 abbrev pub stamp_year : Stamp → ℤ
@@ -107,15 +114,39 @@ is_civil_time stamp =
 abbrev pub shown_hundredths : Stamp → ℤ
 shown_hundredths stamp = stamp_epoch_day stamp *ℤ pos 8_640_000 +ℤ pos (stamp_time stamp)
 
--- the hundredths of a second since 1970-01-01T00:00:00 at UTC when the clock of the zone shows the stamp: of two times in a
--- fold the earlier one, and in a gap by the offset before it
-abbrev pub utc_hundredths : ZoneData → Stamp → ℤ
-utc_hundredths zone stamp =
-    shown_hundredths stamp -ℤ hundredths_ahead zone (stamp_year stamp) (shown_hundredths stamp)
+-- the clock of the zone shows the stamp's date and time at these hundredths of a second since 1970-01-01T00:00:00 at UTC
+abbrev pub IsShownAt : ZoneData → Stamp → ℤ → Type 0
+IsShownAt zone stamp at = clock_at zone at ≡ shown_hundredths stamp
 
--- these, where the stamp is a civil time
+-- it shows them then, and at no earlier time
+pub record IsFirstShownAt (zone : ZoneData) (stamp : Stamp) (at : ℤ) : Type 0 where
+  pub shown : IsShownAt zone stamp at
+  pub first : (other : ℤ) → IsShownAt zone stamp other → at ≤ℤ other
+
+-- they lie in a gap: it never shows them, as it's put forward over them, by so many hundredths. That long before `at` it's as far
+-- short of them, so but for the gap it would come to show them `at`; and then it's as far beyond them
+pub record LiesInGap (zone : ZoneData) (stamp : Stamp) (at : ℤ) : Type 0 where
+  pub never : (other : ℤ) → ¬ (IsShownAt zone stamp other)
+  pub forward : ℕ
+  pub some : 0 < forward
+  pub before : clock_at zone (at -ℤ pos forward) ≡ shown_hundredths stamp -ℤ pos forward
+  pub after : clock_at zone at ≡ shown_hundredths stamp +ℤ pos forward
+
+-- the time that a stamp tells in the zone: when its clock first shows it, and in a gap when it would have by the offset before
+abbrev pub IsTimeOf : ZoneData → Stamp → ℤ → Type 0
+IsTimeOf zone stamp at = IsFirstShownAt zone stamp at ⊎ LiesInGap zone stamp at
+
+-- that time, of a clock that shows these hundredths: it stands ahead of UTC in one of two ways, so it shows them at one of two
+-- times. It's the earlier one, if the clock shows them then, else the later one
+unfoldable pub utc_hundredths : ZoneData → ℤ → ℤ
+utc_hundredths zone shown =
+    if int_eq (clock_at zone (shown -ℤ most_ahead zone)) shown
+    then shown -ℤ most_ahead zone
+    else shown -ℤ least_ahead zone
+
+-- the time that the stamp tells in the zone, where it is a civil time
 abbrev pub hundredths_in : ZoneData → Stamp → Option ℤ
-hundredths_in zone stamp = if is_civil_time stamp then Some (utc_hundredths zone stamp) else None
+hundredths_in zone stamp = if is_civil_time stamp then Some (utc_hundredths zone (shown_hundredths stamp)) else None
 
 -- a moment, and the zone in which its local date and time are told
 pub record LocalMomentData : Type 0 where

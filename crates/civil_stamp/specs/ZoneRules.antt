@@ -1,15 +1,12 @@
--- What a zone rule says of a clock: the TZ variable of POSIX, as jiff reads it and goes by it. Instants, and what clocks show, are nanoseconds since 1970-01-01T00:00:00.
-use Rattle.std.specs.Prelude.{◌≡◌, ℤ, pos, ◌+ℤ◌, ◌-ℤ◌, ◌*ℤ◌, int_lt, Bool, not, ◌&&◌, ◌||◌, IsTrue, IfSome, Option, option_map, if◌then◌else◌}
+-- What a zone rule says of a clock: the TZ variable of POSIX, as jiff reads it and goes by it. Instants are nanoseconds since 1970-01-01T00:00:00.
+use Rattle.std.specs.Prelude.{◌≡◌, ℤ, ◌+ℤ◌, ◌-ℤ◌, ◌*ℤ◌, int_lt, ◌&&◌, ◌||◌, IsTrue, IfSome, Option, option_map, if◌then◌else◌}
 use Rattle.jiff_core.specs.Calendar.{IsWithin}
-use Rattle.jiff_core.specs.DateTime.{civil_nanos}
 use Rattle.jiff_core.specs.Timestamp.{IsOffsetSeconds, nanos_of_seconds}
-use Rattle.jiff_core.specs.declared.civil.datetime.DateTime.{DateTime}
-use Rattle.jiff_tz.specs.Ambiguous.{compatible_offset}
 use Rattle.jiff_tz.specs.PosixDay.{is_rule_day}
-use Rattle.jiff_tz.specs.PosixRule.{clamp_to, first_nanosecond, in_span, in_window, int_same, last_nanosecond, match_some, nanos_per_day, rule_day, saturating_add, saturating_sub}
+use Rattle.jiff_tz.specs.PosixRule.{clamp_to, first_nanosecond, in_window, int_same, last_nanosecond, match_some, nanos_per_day, rule_day, saturating_add}
 use Rattle.jiff_tz.specs.PosixText.{DstText, TzText}
 use Rattle.jiff_tz.specs.Year.{year_of_nanos}
-use Rattle.jiff_tz.specs.Zone.{ambiguous_at, offset_at}
+use Rattle.jiff_tz.specs.Zone.{offset_at}
 use Rattle.jiff_tz.specs.declared.posix.Day.{Day}
 use Rattle.jiff_tz.specs.declared.timezone.TimeZone.{TimeZone}
 use Rattle.civil_stamp.specs.declared.daylight.DaylightTime.{DaylightTime}
@@ -71,40 +68,10 @@ seconds_ahead rule instant =
     match_some rule.daylight rule.standard (λ daylight.
     if in_window (daylight_of_year (year_of_nanos instant) daylight rule.standard) instant then daylight.ahead else rule.standard)
 
--- Where the clock shows a date and a time. What it shows twice, as it is put back, lies in a fold, and what it never shows, as
--- it is put forward, in a gap.
+-- how many seconds the clock stands ahead of UTC in daylight saving time; without one, as in standard time
+abbrev pub daylight_ahead : ClockRule → ℤ
+daylight_ahead rule = match_some rule.daylight rule.standard (λ daylight. daylight.ahead)
 
--- the start and the end of daylight saving time, each as the clock shows it before it is put
-abbrev pub shown_start_and_end : ℤ → DaylightTime → ℤ × ℤ
-shown_start_and_end year daylight = (moment_of_year year daylight.start (pos 0), moment_of_year year daylight.end (pos 0))
-
--- by how much the clock is put forward at the start
-abbrev pub shift_of : DaylightTime → ℤ → ℤ
-shift_of daylight standard = nanos_of_seconds daylight.ahead -ℤ nanos_of_seconds standard
-
--- where daylight saving time is ahead of standard time, the gap follows the start, and the fold comes before the end
-abbrev pub is_daylight_ahead : ℤ × ℤ → ℤ → ℤ → Bool
-is_daylight_ahead window shift shown =
-    in_window window shown && not (in_span window.0 (saturating_add window.0 shift) shown)
-
--- where it is behind, the fold comes before the start, and the gap follows the end
-abbrev pub is_daylight_behind : ℤ × ℤ → ℤ → ℤ → Bool
-is_daylight_behind window shift shown =
-    in_window window shown || (not (in_span (saturating_add window.0 shift) window.0 shown) && in_span window.1 (saturating_sub window.1 shift) shown)
-
--- whether the clock that shows this keeps daylight saving time; in a fold or a gap, whether it kept it before
-abbrev pub is_daylight_shown : ℤ → DaylightTime → ℤ → ℤ → Bool
-is_daylight_shown year daylight standard shown =
-    if int_lt daylight.ahead standard then is_daylight_behind (shown_start_and_end year daylight) (shift_of daylight standard) shown
-    else int_lt standard daylight.ahead && is_daylight_ahead (shown_start_and_end year daylight) (shift_of daylight standard) shown
-
--- how many seconds the clock that shows this in the year stands ahead of UTC; in a fold or a gap, how many it stood before
-unfoldable pub seconds_shown : ClockRule → ℤ → ℤ → ℤ
-seconds_shown rule year shown =
-    match_some rule.daylight rule.standard (λ daylight.
-    if is_daylight_shown year daylight rule.standard shown then daylight.ahead else rule.standard)
-
--- the clock goes as jiff's zone does: by its offset at each instant, and by jiff's compatible one of each date and time
+-- the clock goes as jiff's zone does: by its offset at each instant
 pub record GoesAs (zone : TimeZone) (rule : ClockRule) : Type 0 where
   pub instants : (instant : ℤ) → offset_at zone instant ≡ seconds_ahead rule instant
-  pub shown : (shown : DateTime) → (compatible_offset (ambiguous_at zone shown)).seconds ≡ seconds_shown rule shown.date.year (civil_nanos shown)

@@ -56,6 +56,13 @@ impl DaylightTime {
         }
     }
 
+    /// How many seconds the clock stands ahead of UTC.
+    pub(crate) fn ahead(self) -> i32
+        ensures ahead { result ≡ self.ahead }
+    {
+        self.ahead
+    }
+
     /// The same for jiff, which wants a name.
     pub(crate) fn dst(self) -> Dst
         requires within { IsDaylightTime self }

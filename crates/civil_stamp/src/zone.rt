@@ -1,11 +1,14 @@
-ghost use Rattle.std.specs.Prelude.{◌≡◌, ◌*ℤ◌, ◌+ℤ◌, pos, OkIff, IfOk, ok_or};
+ghost use Rattle.std.specs.Prelude.{◌≡◌, ◌*ℤ◌, pos, OkIff, IfOk, ok_or};
 ghost use Rattle.bac_values.specs.Moments.{IsMoment};
 ghost use Rattle.jiff.specs.Placed.{IsPosixZone};
 ghost use Rattle.jiff.specs.Words.{civil_nanos, plain_zone, IsBetween};
+ghost use Rattle.jiff_core.specs.Calendar.{IsWithin};
+ghost use Rattle.jiff_core.specs.Timestamp.{IsOffsetSeconds};
 ghost use Rattle.jiff_tz.specs.PosixText.{tz_view};
 ghost use Rattle.jiff_tz.specs.declared.timezone.TimeZone.{TimeZone as JiffZone};
-ghost use Rattle.civil_stamp.specs.ZoneRules.{GoesAs, clock_rule};
-ghost use Rattle.civil_stamp.specs.LocalTime.{IsZone, fixed_zone, milliseconds_ahead, rule_zone};
+ghost use Rattle.civil_stamp.specs.CivilStamp.{IsNear, IsNearer};
+ghost use Rattle.civil_stamp.specs.ZoneRules.{GoesAs, clock_rule, daylight_ahead};
+ghost use Rattle.civil_stamp.specs.LocalTime.{IsZone, fixed_zone, hundredths_ahead, least_ahead, local_hundredths, most_ahead, rule_zone, utc_hundredths};
 
 use crate::daylight::DaylightTime;
 use jiff::Timestamp;
@@ -109,13 +112,64 @@ impl Zone {
         TimeZone::from_plain(jiff_tz::TimeZone::Posix(self.said()))
     }
 
-    /// The date and the time of day that the zone's clock shows at the moment.
+    /// How many hundredths of a second the zone's clock stands ahead of UTC, so many after 1970-01-01T00:00Z.
+    fn hundredths_ahead(&self, at: i64) -> i64
+        requires near { IsNear at }
+        ensures ahead { result ≡ hundredths_ahead self.now at }
+        ensures within { IsWithin 9_359_900 result }
+    {
+        let instant = Timestamp::from_millisecond(at * 10).unwrap();
+        i64::from(self.time_zone().to_offset(instant).seconds()) * 100
+    }
+
+    // How many seconds the zone's clock stands ahead of UTC in daylight saving time; without one, as in standard time.
+    fn daylight_ahead(&self) -> i32
+        ensures ahead { result ≡ daylight_ahead self.now }
+        ensures within { IsOffsetSeconds result }
+    {
+        match self.daylight {
+            Some(daylight) => daylight.ahead(),
+            None => self.standard,
+        }
+    }
+
+    // The most hundredths of a second that the zone's clock ever stands ahead of UTC.
+    fn most_ahead(&self) -> i64
+        ensures ahead { result ≡ most_ahead self.now }
+        ensures within { IsWithin 9_359_900 result }
+    {
+        i64::from(self.standard.max(self.daylight_ahead())) * 100
+    }
+
+    // The least hundredths of a second that it ever stands ahead of UTC.
+    fn least_ahead(&self) -> i64
+        ensures ahead { result ≡ least_ahead self.now }
+        ensures within { IsWithin 9_359_900 result }
+    {
+        i64::from(self.standard.min(self.daylight_ahead())) * 100
+    }
+
+    /// When the zone's clock shows so many hundredths after 1970-01-01T00:00, in those after 1970-01-01T00:00Z: of two times
+    /// the earlier one, and where it never shows them, as it's put forward, by the offset before.
+    pub(crate) fn when_shown(&self, shown: i64) -> i64
+        requires nearer { IsNearer shown }
+        ensures time { result ≡ utc_hundredths self.now shown }
+    {
+        let earlier = shown - self.most_ahead();
+        if earlier + self.hundredths_ahead(earlier) == shown {
+            return earlier;
+        }
+        shown - self.least_ahead()
+    }
+
+    /// The date and the time of day that the zone's clock shows at the moment, in hundredths of a second rounded down.
     pub(crate) fn date_and_time(&self, moment: u64) -> DateTime
         requires moment { IsMoment moment }
         ensures year { IsBetween (pos 1900) (pos 2155) result.date.year }
-        ensures shows { civil_nanos result ≡ (pos moment +ℤ milliseconds_ahead self.now moment) *ℤ pos 1_000_000 }
+        ensures shows { civil_nanos result ≡ local_hundredths self.now moment *ℤ pos 10_000_000 }
     {
-        let instant = Timestamp::from_millisecond(moment as i64).unwrap();
+        let hundredths = moment / 10;
+        let instant = Timestamp::from_millisecond(hundredths as i64 * 10).unwrap();
         let offset = self.time_zone().to_offset(instant);
         offset.to_datetime(instant)
     }

@@ -1,4 +1,5 @@
 ghost use Rattle.std.specs.Prelude.{◌≡◌, ◌↔◌, ◌≤◌, All, IfErr, IfOk, IfSome, IsNone, IsTrue, None, OnErr, length};
+ghost use Rattle.bac_values.specs.Limits.{most_listed_values};
 ghost use Rattle.std.specs.Option.{option_copied, option_map};
 ghost use Rattle.algorithm_rules.specs.Facts.{facts_of};
 ghost use Rattle.object_table.specs.Rows.{Ascends, row_of};
@@ -134,7 +135,7 @@ impl Enrollments {
     pub fn snapshot_of<'a>(&self, table: &'a Table, object: ObjectId) -> Option<Snapshot<'a>>
         ensures algorithm { IfSome result (λ snapshot. snapshot.algorithm ≡ algorithm_with object self.now) }
         ensures facts { option_map facts_of result ≡ facts_with object self.now table.now }
-        ensures few { IfSome result (λ snapshot. length snapshot.alarm_values.now ≤ 32) }
+        ensures few { IfSome result (λ snapshot. length snapshot.alarm_values.now ≤ most_listed_values) }
         ensures absent { Holds table.now self.now → IsNone result ↔ (site_of object self.now ≡ None) × (row_of object table.now ≡ None) }
     {
         match self.row(object) {

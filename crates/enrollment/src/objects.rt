@@ -1,4 +1,5 @@
 ghost use Rattle.std.specs.Prelude.{◌≡◌, ◌↔◌, ◌≤◌, IfSome, IsFalse, IsTrue, None, length};
+ghost use Rattle.bac_values.specs.Limits.{most_listed_values};
 ghost use Rattle.std.specs.Option.{option_map};
 ghost use Rattle.algorithm_rules.specs.Facts.{facts_of};
 ghost use Rattle.object_table.specs.Rows.{row_of};
@@ -82,7 +83,7 @@ impl Objects {
     pub fn snapshot(&self, object: ObjectId) -> Option<Snapshot<'_>>
         ensures algorithm { IfSome result (λ snapshot. snapshot.algorithm ≡ algorithm_with object self.now.enrollments) }
         ensures facts { option_map facts_of result ≡ facts_at object self.now }
-        ensures few { IfSome result (λ snapshot. length snapshot.alarm_values.now ≤ 32) }
+        ensures few { IfSome result (λ snapshot. length snapshot.alarm_values.now ≤ most_listed_values) }
     {
         self.enrollments.snapshot_of(&self.table, object)
     }

@@ -1,4 +1,4 @@
-ghost use Rattle.std.specs.Prelude.{◌≡◌, ◌≤◌, ◌++◌, ◌∷◌, [], true, false, IfOk, OnOk, filter, length, map, slice_range};
+ghost use Rattle.std.specs.Prelude.{◌≡◌, ◌≤◌, ◌++◌, true, false, IfOk, OnOk, filter, length, map, slice_range};
 ghost use Rattle.std.specs.List.{flat_map};
 ghost use Rattle.std.specs.List.Sorted.{IsPartitionPoint, IsSortedByKey};
 ghost use Rattle.bac_values.specs.Identifier.{ObjectIdData};
@@ -7,7 +7,7 @@ ghost use Rattle.enrollment.specs.References.{is_below, is_to, is_up_to, referen
 ghost use Rattle.enrollment.specs.Watchers.{watchers};
 
 use crate::EnrollmentSite;
-use bac_values::{NoMemory, ObjectId};
+use bac_values::{NoMemory, ObjectId, push};
 use std::alloc::Global;
 use std::marker::Model;
 
@@ -87,10 +87,10 @@ fn collected(alloc: Global, sites: &[EnrollmentSite]) -> Result<Vec<Reference>, 
 fn add_references(references: &mut Vec<Reference>, site: &EnrollmentSite) -> Result<(), NoMemory>
     ensures added { OnOk result (references.new.items ≡ references.old.items ++ references_of site.now) }
 {
-    add(references, reference_to(site.monitored, site))?;
+    push(references, reference_to(site.monitored, site))?;
     match site.feedback {
         Some(feedback) if feedback != site.monitored => {
-            add(references, reference_to(feedback, site))
+            push(references, reference_to(feedback, site))
         }
         _ => Ok(()),
     }
@@ -102,15 +102,6 @@ fn reference_to(object: ObjectId, site: &EnrollmentSite) -> Reference
     Reference {
         referred: object,
         watcher: site.object,
-    }
-}
-
-fn add(references: &mut Vec<Reference>, reference: Reference) -> Result<(), NoMemory>
-    ensures added { OnOk result (references.new.items ≡ references.old.items ++ reference ∷ []) }
-{
-    match references.push(reference) {
-        Ok(()) => Ok(()),
-        Err(_refused) => Err(NoMemory),
     }
 }
 

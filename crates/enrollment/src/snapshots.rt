@@ -1,4 +1,5 @@
 ghost use Rattle.std.specs.Prelude.{◌≡◌, ◌≤◌, [], IfSome, length};
+ghost use Rattle.bac_values.specs.Limits.{most_listed_values};
 ghost use Rattle.std.specs.Option.{option_and_then, option_copied, option_map};
 ghost use Rattle.algorithm_rules.specs.Facts.{facts_of};
 ghost use Rattle.object_table.specs.Objects.{IsObject};
@@ -14,7 +15,7 @@ pub fn snapshot_of_object<'a>(object: ObjectId, site: &'a ObjectSite) -> Snapsho
     requires allowed { IsObject site.now }
     ensures algorithm { result.algorithm ≡ algorithm_for object }
     ensures facts { facts_of result ≡ facts_of_object site.now }
-    ensures few { length result.alarm_values.now ≤ 32 }
+    ensures few { length result.alarm_values.now ≤ most_listed_values }
 {
     Snapshot {
         algorithm: algorithm_of(object.kind()),
@@ -49,7 +50,7 @@ pub fn algorithm_of(kind: Option<ObjectKind>) -> Algorithm
 pub fn snapshot_of_enrollment<'a>(table: &'a Table, site: &EnrollmentSite) -> Option<Snapshot<'a>>
     ensures algorithm { IfSome result (λ snapshot. snapshot.algorithm ≡ site.now.algorithm) }
     ensures facts { option_map facts_of result ≡ facts_of_site site.now table.now }
-    ensures few { IfSome result (λ snapshot. length snapshot.alarm_values.now ≤ 32) }
+    ensures few { IfSome result (λ snapshot. length snapshot.alarm_values.now ≤ most_listed_values) }
 {
     match table.value_of(site.monitored) {
         Some(value) => Some(snapshot_with(value, feedback_of(table, site.feedback), site)),

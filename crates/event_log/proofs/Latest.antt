@@ -1,11 +1,11 @@
 -- The last place at which a test passes, from the back.
-use Rattle.std.proofs.Common.{◌≡◌, ℕ, zero, suc, ◌+◌, ◌<◌, ◌≤◌, ◌-◌, nat_lt, IfSome, position, get_or, Bool, true, false, List, [], ◌∷◌, ◌++◌, length, take, refl, sym, ◌∙◌, ap, arith, rules, slice_get, Option, Some, None, if◌then◌else◌}
-use Rattle.std.specs.List.{position_or_len}
-use Rattle.std.proofs.lemmas.List.{take_more, length-take-le}
-use Rattle.std.proofs.lemmas.Option.{slice_get_within}
+use Rattle.std.proofs.Common.{◌≡◌, ℕ, suc, ◌+◌, ◌<◌, nat_lt, IfSome, IsSomeAnd, MatchOption, position, Bool, true, false, List, [], ◌∷◌, ◌++◌, length, refl, sym, ◌∙◌, ap, subst, arith, Option, Some, None, if◌then◌else◌, Bor, length-append}
+use Rattle.std.specs.Fn.{Called}
+use Rattle.std.specs.Iterator.{Yields, YieldsThen}
+use Rattle.std.specs.List.{FoldsTo, position_or_len}
+use Rattle.std.specs.Map.Iter.{TakesLast, deref}
 use Rattle.std.proofs.lemmas.Bool.{ltb-true}
-use Rattle.std.specs.Option.{option_map_or}
-use Rattle.circular_buffer.proofs.Places.{slice_get-some}
+use denote.Param.Members.{Mut}
 use Rattle.event_log.specs.Ranges.{last_position, later_position}
 
 module _ {X : Type 0} (test : X → Bool) where
@@ -20,11 +20,6 @@ module _ {X : Type 0} (test : X → Bool) where
   last_position-snoc : (xs : List X) (x : X) → last_position test (xs ++ x ∷ []) ≡ (if test x then Some (length xs) else last_position test xs)
   last_position-snoc [] x = one_by (test x)
   last_position-snoc (y ∷ ys) x = ap (later_position (test y)) (last_position-snoc ys x) ∙ more_by (test y) (test x) (length ys) (last_position test ys)
-
-  get_or-found : (xs : List X) (k : ℕ) (x : X) → slice_get xs k ≡ Some x → get_or xs k x ≡ x
-  get_or-found [] k x found = refl
-  get_or-found (y ∷ ys) zero x found = search rules
-  get_or-found (y ∷ ys) (suc k) x found = get_or-found ys k x found
 
   within_by : (b : Bool) (o : Option ℕ) (n : ℕ) → IfSome o (λ k. k < n) → IfSome (later_position b o) (λ k. k < suc n)
   within_by b (Some k) n h = omega (arith, h)
@@ -42,32 +37,46 @@ module _ {X : Type 0} (test : X → Bool) where
   pub position_within : (xs : List X) → IfSome (position test xs) (λ k. k < length xs)
   position_within xs = first_by _ (position_or_len test xs) (length xs) refl
 
-  take_one_more : (xs : List X) (k : ℕ) (x : X) → slice_get xs k ≡ Some x → take (k + 1) xs ≡ take k xs ++ x ∷ []
-  take_one_more xs k x found = take_more xs k x (slice_get_within xs k x found) ∙ ap (λ y. take k xs ++ y ∷ []) (get_or-found xs k x found)
+module _ {X F : Type 0} {g : Mut F (Bor X × Unit {0}) Bool} (test : X → Bool) (f : F) (answers : (x : Bor X) (b : Bool) (q : F) → Called g f (x, tt) b q → (q ≡ f) × (b ≡ test x.now)) where
+  abbrev Passed : F → List (Bor X) → F → Type 0
+  Passed from ys to = FoldsTo (λ p x q. Called g p (x, tt) false q) from ys to
 
-  -- an element that passes is the last one among as many
-  pub passes_last : (xs : List X) (k : ℕ) (x : X) → slice_get xs k ≡ Some x → test x ≡ true → last_position test (take (k + 1) xs) ≡ Some (length (take k xs))
-  passes_last xs k x found e = ap (last_position test) (take_one_more xs k x found) ∙ last_position-snoc (take k xs) x ∙ (rw e refl)
+  abbrev Ends : ℕ → Option ℕ → Option (Bor X) → List (Bor X) → F → Type 0
+  Ends n r o ys j = MatchOption o (r ≡ None) (λ x. IsSomeAnd r (λ i. i + 1 + length ys ≡ n) × ((h : F) × Called g j (x, tt) true h))
 
-  -- one that doesn't pass changes nothing
-  pub passes_earlier : (xs : List X) (k : ℕ) (x : X) → slice_get xs k ≡ Some x → test x ≡ false → last_position test (take (k + 1) xs) ≡ last_position test (take k xs)
-  passes_earlier xs k x found e = ap (last_position test) (take_one_more xs k x found) ∙ last_position-snoc (take k xs) x ∙ (rw e refl)
+  -- one element fewer, and one fewer that was passed over
+  one_fewer : (n m : ℕ) (r : Option ℕ) (o : Option (Bor X)) (y : Bor X) (ys : List (Bor X)) (j : F) → n ≡ m + 1 → Ends n r o (y ∷ ys) j → Ends m r o ys j
+  one_fewer n m r None y ys j longer ends = ends
+  one_fewer n m None (Some x) y ys j longer ends = absurd ends.0
+  one_fewer n m (Some i) (Some x) y ys j longer ends = (omega (arith, longer, ends.0), ends.1)
 
-  -- the element behind which the search stands passes: it is the last one
-  pub found_back : (xs : List X) (place : ℕ) → 0 < place → place ≤ length xs → last_position test xs ≡ last_position test (take place xs) →
-      option_map_or test (slice_get xs (place - 1)) false ≡ true → Some (place - 1) ≡ last_position test xs
-  found_back xs place h within same passes =
-      let x = slice_get-some xs (place - 1) (omega (arith, h, within)) in
-      let e : test x.0 ≡ true = ap (λ o. option_map_or test o false) (sym x.1) ∙ passes in
-      let back : place - 1 + 1 ≡ place = omega (arith, h) in
-      let long : length (take (place - 1) xs) ≡ place - 1 = length-take-le (place - 1) xs (omega (arith, within)) in
-      sym (same ∙ ap (λ n. last_position test (take n xs)) (sym back) ∙ passes_last xs (place - 1) x.0 x.1 e ∙ ap Some long)
+  longer_by_one : (s t : List X) (x : X) → s ≡ t ++ x ∷ [] → length s ≡ length t + 1
+  longer_by_one s t x same = ap length same ∙ length-append t (x ∷ [])
 
-  -- it doesn't pass: the search goes on before it
-  pub passed_over : (xs : List X) (place : ℕ) → 0 < place → place ≤ length xs → last_position test xs ≡ last_position test (take place xs) →
-      option_map_or test (slice_get xs (place - 1)) false ≡ false → last_position test xs ≡ last_position test (take (place - 1) xs)
-  passed_over xs place h within same fails =
-      let x = slice_get-some xs (place - 1) (omega (arith, h, within)) in
-      let e : test x.0 ≡ false = ap (λ o. option_map_or test o false) (sym x.1) ∙ fails in
-      let back : place - 1 + 1 ≡ place = omega (arith, h) in
-      same ∙ ap (λ n. last_position test (take n xs)) (sym back) ∙ passes_earlier xs (place - 1) x.0 x.1 e
+  last_of : (s t : List X) (x : X) (b : Bool) → s ≡ t ++ x ∷ [] → b ≡ test x → last_position test s ≡ (if b then Some (length t) else last_position test t)
+  last_of s t x b same answer = ap (last_position test) same ∙ last_position-snoc test t x ∙ ap (λ c. if c then Some (length t) else last_position test t) (sym answer)
+
+  found_last : (s u : List X) (x : Bor X) (r : Option ℕ) → s ≡ u ++ x.now ∷ [] → true ≡ test x.now → IsSomeAnd r (λ i. i + 1 + 0 ≡ length s) → r ≡ last_position test s
+  found_last s u x None same passes at = absurd at
+  found_last s u x (Some i) same passes at =
+      let long = longer_by_one s u x.now same in
+      let place : i ≡ length u = omega (arith, at, long) in
+      ap Some place ∙ sym (last_of s u x.now true same passes)
+
+  from_back : (ys : List (Bor X)) (s t u : List X) (o : Option (Bor X)) (j : F) (r : Option ℕ)
+      → Yields (TakesLast (deref {X = X})) s ys t → TakesLast (deref {X = X}) t o u → Passed f ys j → Ends (length s) r o ys j → r ≡ last_position test s
+  from_back [] s t u None j r yields step passed ends = ends ∙ sym (ap (last_position test) (yields ∙ step.0))
+  from_back [] s t u (Some x) j r yields step passed ends =
+      let called = subst (λ p. Called g p (x, tt) true ends.1.0) (sym passed) ends.1.1 in
+      found_last s u x r (yields ∙ step) (answers x true ends.1.0 called).1 ends.0
+  from_back (y ∷ ys) s t u o j r yields step passed ends =
+      let once = answers y false passed.0 passed.1 in
+      let rest = subst (λ p. Passed p ys j) once.0 passed.2 in
+      let fewer = one_fewer (length s) (length yields.0) r o y ys j (longer_by_one s yields.0 y.now yields.1) ends in
+      from_back ys yields.0 t u o j r yields.2 step rest fewer ∙ sym (last_of s yields.0 y.now false yields.1 once.1)
+
+  -- what is found from the back is the last place at which the test passes
+  pub last_position_found : (s u : List X) (r : Option ℕ)
+      → (ys : List (Bor X)) × (o : Option (Bor X)) × (j : F) × YieldsThen (TakesLast (deref {X = X})) s ys o u × Passed f ys j × Ends (length s) r o ys j
+      → r ≡ last_position test s
+  last_position_found s u r ran = from_back ran.0 s ran.3.0 u ran.1 ran.2 r ran.3.1 ran.3.2 ran.4 ran.5

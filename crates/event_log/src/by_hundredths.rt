@@ -1,6 +1,5 @@
 //! Where a time stands in a log by hundredths of a second since 1970-01-01T00:00Z.
-ghost use Rattle.std.specs.Prelude.{◌≡◌, ◌<◌, pos, int_lt, length, slice_get, false, IfSome};
-ghost use Rattle.std.specs.Option.{option_map_or};
+ghost use Rattle.std.specs.Prelude.{◌≡◌, ◌<◌, pos, int_lt, length, IfSome};
 ghost use Rattle.event_log.specs.Ranges.{first_later, last_earlier};
 
 use crate::LogRecord;
@@ -29,28 +28,13 @@ pub(crate) fn first_later(records: &HeapCircularBuffer<LogRecord>, reference: i6
     records.iter().position(|entry| is_later(entry, reference))
 }
 
-// Whether the record at a place is strictly before a reference.
-fn precedes(records: &HeapCircularBuffer<LogRecord>, place: usize, reference: i64) -> bool
-    ensures { result ≡ option_map_or (λ entry. int_lt (pos entry.hundredths) reference) (slice_get records.now.items place) false }
-{
-    match records.get(place) {
-        Some(entry) => is_earlier(entry, reference),
-        None => false,
-    }
-}
-
 /// The place of the last record that is strictly before a reference.
 #[tactic(auto, using(crate::proofs::Latest::last_position_within))]
 pub(crate) fn last_earlier(records: &HeapCircularBuffer<LogRecord>, reference: i64) -> Option<usize>
     ensures place { result ≡ last_earlier reference records.now.items }
     ensures within { IfSome result (λ place. place < length records.now.items) }
 {
-    let mut place = records.len();
-    while place > 0 {
-        place -= 1;
-        if precedes(records, place, reference) {
-            return Some(place);
-        }
-    }
-    None
+    records
+        .iter()
+        .rposition(|entry| is_earlier(entry, reference))
 }

@@ -1,5 +1,4 @@
-ghost use Rattle.std.specs.Prelude.{◌≡◌, ℕ, List, [], ◌∷◌, IfOk, option_copied, slice_get, length, ◌≤◌, ◌<◌, IfSome, false};
-ghost use Rattle.std.specs.Option.{option_map_or};
+ghost use Rattle.std.specs.Prelude.{◌≡◌, ℕ, List, [], ◌∷◌, IfOk, option_copied, slice_get, length, ◌≤◌, ◌<◌, IfSome};
 ghost use Rattle.circular_buffer.specs.Buffer.{buffer};
 ghost use Rattle.event_log.specs.Log.{IsLog, LoggedEvent, new_log, is_taken, recorded, with_entry, cleared, switched, EventLogState};
 ghost use Rattle.event_log.specs.Ranges.{is_before, first_after, last_before, place_by_hundredths, place_by_time, range_from, place_of_position, place_of_sequence};
@@ -226,30 +225,15 @@ fn first_after(records: &HeapCircularBuffer<LogRecord>, reference: &Stamp) -> Op
         .position(|entry| is_before(reference, &entry.stamp))
 }
 
-// Whether the record at a place is strictly before a stamp.
-fn precedes(records: &HeapCircularBuffer<LogRecord>, place: usize, reference: &Stamp) -> bool
-    ensures { result ≡ option_map_or (λ entry. is_before entry.stamp reference.now) (slice_get records.now.items place) false }
-{
-    match records.get(place) {
-        Some(entry) => is_before(&entry.stamp, reference),
-        None => false,
-    }
-}
-
 // The place of the last record that is strictly before a stamp.
 #[tactic(auto, using(crate::proofs::Latest::last_position_within))]
 fn last_before(records: &HeapCircularBuffer<LogRecord>, reference: &Stamp) -> Option<usize>
     ensures place { result ≡ last_before reference.now records.now.items }
     ensures within { IfSome result (λ place. place < length records.now.items) }
 {
-    let mut place = records.len();
-    while place > 0 {
-        place -= 1;
-        if precedes(records, place, reference) {
-            return Some(place);
-        }
-    }
-    None
+    records
+        .iter()
+        .rposition(|entry| is_before(&entry.stamp, reference))
 }
 
 // A buffer of a size with these records, which fit.

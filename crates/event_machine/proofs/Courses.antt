@@ -11,7 +11,8 @@ use Rattle.algorithm_rules.specs.declared.table.Rule.{Rule}
 use Rattle.algorithm_rules.specs.Rules.{rules_of, match_rules, command_rules, limit_rules, range_rules}
 use Rattle.event_machine.specs.Points.{Point, Incident, Looked, Acknowledged, newest_of, NeverFalls, IsCourse}
 use Rattle.event_machine.specs.Held.{is_held}
-use Rattle.event_machine.specs.Detection.{Detection, sees, stays, enters, is_fault, is_normal, fault_target, fault_by, inhibited_step, rule_held, rule_by, later_step, and_then, detection_at}
+use Rattle.bac_values.specs.EventStates.{is_fault, is_normal}
+use Rattle.event_machine.specs.Detection.{Detection, sees, stays, enters, fault_target, fault_by, inhibited_step, rule_held, rule_by, later_step, and_then, detection_at}
 
 -- no point of a course is before the one before it
 pub never_falls : (first : Point) (later : List Incident) → IsCourse first later → NeverFalls first later

@@ -10,7 +10,8 @@ use Rattle.algorithm_rules.specs.Rules.{rules_of}
 use Rattle.event_machine.specs.declared.run.Run.{Run}
 use Rattle.event_machine.specs.Points.{Point, Incident, Looked, Follows, IsCourse, newest_of}
 use Rattle.event_machine.specs.Held.{key_in_detection, is_key, run_of}
-use Rattle.event_machine.specs.Detection.{Detection, sees, is_fault, detection_at}
+use Rattle.bac_values.specs.EventStates.{is_fault}
+use Rattle.event_machine.specs.Detection.{Detection, sees, detection_at}
 use Rattle.event_machine.specs.Runs.{earliest, run_with, run_start_of, run_at, runs_of}
 use Rattle.event_machine.specs.AlarmSteps.{key_at, start_with, run_onward, next_run, next_runs}
 use Rattle.event_machine.specs.Summary.{no_runs}

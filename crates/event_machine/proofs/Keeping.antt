@@ -9,7 +9,8 @@ use Rattle.algorithm_rules.specs.declared.table.Rule.{Rule}
 use Rattle.event_machine.specs.declared.moves.Move.{Move}
 use Rattle.event_machine.specs.declared.run.Run.{Run}
 use Rattle.event_machine.specs.Points.{Point, Incident, Looked, Acknowledged, IsCourse}
-use Rattle.event_machine.specs.Detection.{Detection, Step, sees, enters, is_fault, is_normal, fault_target, fault_by, inhibited_step, rule_held, rule_by, later_step, and_then, look_step, stays, first_detection, detection_at, moves_at}
+use Rattle.bac_values.specs.EventStates.{is_fault, is_normal}
+use Rattle.event_machine.specs.Detection.{Detection, Step, sees, enters, fault_target, fault_by, inhibited_step, rule_held, rule_by, later_step, and_then, look_step, stays, first_detection, detection_at, moves_at}
 use Rattle.event_machine.specs.AlarmRecord.{Mark, Entered, Acked, marks_with, marks_of}
 use Rattle.event_machine.specs.Runs.{runs_of}
 use Rattle.event_machine.specs.Since.{entry_of, detection_tried}

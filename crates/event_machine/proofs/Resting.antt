@@ -5,7 +5,8 @@ use Rattle.bac_values.specs.declared.event_state.EventState.TheVariants.{Normal}
 use Rattle.algorithm_rules.specs.declared.table.Algorithm.{Algorithm}
 use Rattle.algorithm_rules.specs.declared.table.Rule.{Rule}
 use Rattle.event_machine.specs.Points.{Point, Incident, Looked, IsCourse}
-use Rattle.event_machine.specs.Detection.{fault_target, is_fault, is_normal, moves_at}
+use Rattle.bac_values.specs.EventStates.{is_fault, is_normal}
+use Rattle.event_machine.specs.Detection.{fault_target, moves_at}
 use Rattle.event_machine.specs.AlarmSteps.{Change, stays, enters, goes_on, next_runs, rule_by, rule_lasting, fault_by, relied_on, later_change, next_look}
 use Rattle.event_machine.specs.RestSteps.{rests}
 use Rattle.event_machine.specs.Summary.{AlarmState, IsAfter}

@@ -13,7 +13,8 @@ use Rattle.algorithm_rules.specs.Facts.{Facts}
 use Rattle.algorithm_rules.specs.Rules.{rules_of}
 use Rattle.event_machine.specs.declared.run.Run.{Run}
 use Rattle.event_machine.specs.Points.{Point}
-use Rattle.event_machine.specs.Detection.{is_fault, is_normal, fault_target}
+use Rattle.bac_values.specs.EventStates.{is_fault, is_normal}
+use Rattle.event_machine.specs.Detection.{fault_target}
 use Rattle.event_machine.specs.Runs.{places, has_gone_on}
 use Rattle.event_machine.specs.Due.{next_due_of, has_come}
 use Rattle.event_machine.specs.Summary.{AlarmState, no_runs}

@@ -6,7 +6,8 @@ use Rattle.algorithm_rules.specs.declared.table.Algorithm.{Algorithm}
 use Rattle.algorithm_rules.specs.declared.table.Rule.{Rule}
 use Rattle.event_machine.specs.Points.{Point, Incident, Looked, Acknowledged, newest_of, NeverFalls}
 use Rattle.event_machine.specs.Held.{IsHeld}
-use Rattle.event_machine.specs.Detection.{Detection, Step, since, sees, stays, enters, is_fault, is_normal, fault_target, fault_by, inhibited_step, rule_held, rule_by, later_step, and_then, detection_at}
+use Rattle.bac_values.specs.EventStates.{is_fault, is_normal}
+use Rattle.event_machine.specs.Detection.{Detection, Step, since, sees, stays, enters, fault_target, fault_by, inhibited_step, rule_held, rule_by, later_step, and_then, detection_at}
 use Rattle.event_machine.specs.Since.{some_move, starts_anew, points_since, entry_of, detection_tried, KeepsPointsSince, HoldsSinceEntry}
 
 -- whether a point begins the points that count, by the step there

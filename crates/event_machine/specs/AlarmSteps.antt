@@ -4,7 +4,7 @@ use Rattle.std.specs.Option.{option_and_then}
 use Rattle.bac_values.specs.declared.event_state.EventState.{EventState}
 use Rattle.bac_values.specs.declared.event_state.EventState.TheVariants.{Normal}
 use Rattle.bac_values.specs.declared.transition.Transition.{Transition}
-use Rattle.bac_values.specs.EventStates.{transition_to, place_of_transition}
+use Rattle.bac_values.specs.EventStates.{transition_to, place_of_transition, is_fault, is_normal}
 use Rattle.algorithm_rules.specs.declared.table.Algorithm.{Algorithm}
 use Rattle.algorithm_rules.specs.declared.table.Rule.{Rule}
 use Rattle.algorithm_rules.specs.Facts.{Facts}
@@ -13,7 +13,7 @@ use Rattle.event_machine.specs.declared.moves.Move.{Move}
 use Rattle.event_machine.specs.declared.run.Run.{Run}
 use Rattle.event_machine.specs.Points.{Point}
 use Rattle.event_machine.specs.Held.{key_in_detection}
-use Rattle.event_machine.specs.Detection.{is_fault, is_normal, cause_on, fault_target}
+use Rattle.event_machine.specs.Detection.{cause_on, fault_target}
 use Rattle.event_machine.specs.AlarmRecord.{wants_ack}
 use Rattle.event_machine.specs.Runs.{places, has_gone_on}
 use Rattle.event_machine.specs.Summary.{AlarmState, new_alarm, no_runs}

@@ -2,6 +2,7 @@
 use Rattle.std.specs.Prelude.{ℕ, ◌==◌, ◌&&◌, Bool, true, false, if◌then◌else◌, Option, Some, None, List, [], ◌∷◌, ◌++◌, find}
 use Rattle.bac_values.specs.declared.event_state.EventState.{EventState}
 use Rattle.bac_values.specs.declared.event_state.EventState.TheVariants.{Normal, Fault, Offnormal}
+use Rattle.bac_values.specs.EventStates.{is_fault, is_normal}
 use Rattle.bac_values.specs.declared.reliability.Reliability.{Reliability}
 use Rattle.bac_values.specs.declared.reliability.Reliability.TheVariants.{NoFaultDetected}
 use Rattle.bac_values.specs.Reliabilities.{number_of_reliability}
@@ -30,14 +31,6 @@ since d = d.newest ∷ d.older
 pub record Step : Type 0 where
   pub detection : Detection
   pub moves : List Move
-
-abbrev pub is_fault : EventState → Bool
-is_fault Fault = true
-is_fault _ = false
-
-abbrev pub is_normal : EventState → Bool
-is_normal Normal = true
-is_normal _ = false
 
 -- the object is seen at one more point
 abbrev pub sees : Point → Detection → Detection

@@ -2,7 +2,8 @@
 use Rattle.std.specs.Prelude.{Bool, ◌&&◌, ◌||◌, if◌then◌else◌, is_none}
 use Rattle.algorithm_rules.specs.declared.table.Algorithm.{Algorithm}
 use Rattle.event_machine.specs.Points.{Point}
-use Rattle.event_machine.specs.Detection.{fault_target, is_fault, is_normal}
+use Rattle.bac_values.specs.EventStates.{is_fault, is_normal}
+use Rattle.event_machine.specs.Detection.{fault_target}
 use Rattle.event_machine.specs.AlarmSteps.{next_runs, rule_lasting}
 use Rattle.event_machine.specs.Summary.{AlarmState}
 

@@ -5,7 +5,8 @@ use Rattle.bac_values.specs.Reliabilities.{number_of_reliability}
 use Rattle.algorithm_rules.specs.declared.table.Algorithm.{Algorithm}
 use Rattle.event_machine.specs.declared.run.Run.{Run}
 use Rattle.event_machine.specs.Points.{Point}
-use Rattle.event_machine.specs.Detection.{fault_target, is_fault, is_normal}
+use Rattle.bac_values.specs.EventStates.{is_fault, is_normal}
+use Rattle.event_machine.specs.Detection.{fault_target}
 use Rattle.event_machine.specs.Runs.{places}
 use Rattle.event_machine.specs.AlarmSteps.{key_at}
 use Rattle.event_machine.specs.Due.{next_due_of}

@@ -5,7 +5,8 @@ use Rattle.algorithm_rules.specs.declared.table.Rule.{Rule}
 use Rattle.event_machine.specs.declared.moves.Move.{Move}
 use Rattle.event_machine.specs.Points.{Point, Incident, Looked, Acknowledged, NeverFalls}
 use Rattle.event_machine.specs.Held.{IsHeld}
-use Rattle.event_machine.specs.Detection.{Detection, since, is_fault, fault_step, detection_at, moves_at}
+use Rattle.bac_values.specs.EventStates.{is_fault}
+use Rattle.event_machine.specs.Detection.{Detection, since, fault_step, detection_at, moves_at}
 
 abbrev pub some_move : List Move → Bool
 some_move [] = false

@@ -1,4 +1,5 @@
 ghost use Rattle.std.specs.Prelude.{◌≡◌, ◌≤◌, ◌∷◌, List, length};
+ghost use Rattle.bac_values.specs.Limits.{most_listed_values};
 ghost use Rattle.bac_values.specs.Moments.{IsMoment};
 ghost use Rattle.algorithm_rules.specs.Facts.{facts_of};
 ghost use Rattle.algorithm_rules.specs.declared.table.Algorithm.{Algorithm};
@@ -28,7 +29,7 @@ pub struct Alarm {
 }
 
 fn cause_on(to: EventState, snapshot: &Snapshot<'_>, cause: Option<u32>) -> Option<u32>
-    requires few { length snapshot.now.alarm_values.now ≤ 32 }
+    requires few { length snapshot.now.alarm_values.now ≤ most_listed_values }
     ensures cause { result ≡ cause_on to (facts_of snapshot.now) cause }
 {
     match to {
@@ -167,7 +168,7 @@ impl Alarm {
 
     /// The runs of the rules go on to one more point.
     pub(crate) fn go_on(&mut self, snapshot: &Snapshot<'_>, point: &PointFacts)
-        requires few { length snapshot.now.alarm_values.now ≤ 32 }
+        requires few { length snapshot.now.alarm_values.now ≤ most_listed_values }
         requires moment { IsMoment point.now.moment }
         ensures runs { self.new ≡ goes_on snapshot.now.algorithm (point_of snapshot.now point.now) self.old }
     {
@@ -176,7 +177,7 @@ impl Alarm {
 
     /// The runs of the rules begin at a point.
     pub(crate) fn begin_runs(&mut self, snapshot: &Snapshot<'_>, point: &PointFacts)
-        requires few { length snapshot.now.alarm_values.now ≤ 32 }
+        requires few { length snapshot.now.alarm_values.now ≤ most_listed_values }
         requires moment { IsMoment point.now.moment }
         ensures runs { self.new ≡ begins snapshot.now.algorithm (point_of snapshot.now point.now) self.old }
     {
@@ -185,7 +186,7 @@ impl Alarm {
 
     /// A state is entered at a point.
     pub(crate) fn enter(&mut self, to: EventState, snapshot: &Snapshot<'_>, point: &PointFacts)
-        requires few { length snapshot.now.alarm_values.now ≤ 32 }
+        requires few { length snapshot.now.alarm_values.now ≤ most_listed_values }
         requires moment { IsMoment point.now.moment }
         ensures entered { self.new ≡ entered snapshot.now.algorithm (point_of snapshot.now point.now) to self.old }
     {

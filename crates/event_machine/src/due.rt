@@ -1,4 +1,5 @@
 ghost use Rattle.std.specs.Prelude.{◌≡◌, ◌≤◌, List, is_some, length};
+ghost use Rattle.bac_values.specs.Limits.{most_listed_values};
 ghost use Rattle.std.specs.Option.{IfSome};
 ghost use Rattle.bac_values.specs.Moments.{IsMoment};
 ghost use Rattle.algorithm_rules.specs.Facts.{facts_of};
@@ -13,7 +14,7 @@ use algorithm_rules::{Rule, Snapshot, delay, rule};
 
 // When the run of a rule will have gone on for its delay.
 fn due_by(rule: Option<Rule>, snapshot: &Snapshot<'_>, run: Option<Run>) -> Option<u64>
-    requires few { length snapshot.now.alarm_values.now ≤ 32 }
+    requires few { length snapshot.now.alarm_values.now ≤ most_listed_values }
     requires range { IfSome run (λ r. IsMoment r.start) }
     ensures due { result ≡ due_by rule (facts_of snapshot.now) run }
 {
@@ -34,7 +35,7 @@ fn earlier(one: Option<u64>, other: Option<u64>) -> Option<u64>
 
 /// The least moment at which a rule is held if nothing that the object sees changes, where there is one.
 pub fn next_due(alarm: &Alarm, snapshot: &Snapshot<'_>) -> Option<u64>
-    requires few { length snapshot.now.alarm_values.now ≤ 32 }
+    requires few { length snapshot.now.alarm_values.now ≤ most_listed_values }
     ensures number { result ≡ next_due_of snapshot.now.algorithm (facts_of snapshot.now) alarm.now }
     ensures tells { (first : Point) (later : List Incident) (point : Point) → IsCourse first later → IsAfter snapshot.now.algorithm first later alarm.now →
         SeesTheSame (facts_of snapshot.now) alarm.now.last_reliability (newest_of first later) point →

@@ -1,4 +1,5 @@
 ghost use Rattle.std.specs.Prelude.{◌≡◌, ◌≤◌, length};
+ghost use Rattle.bac_values.specs.Limits.{most_listed_values};
 ghost use Rattle.event_machine.specs.Given.{point_of};
 ghost use Rattle.event_machine.specs.AlarmSteps.{lasting, rule_lasting};
 ghost use Rattle.event_machine.specs.Runs.{has_gone_on};
@@ -9,7 +10,7 @@ use bac_values::EventState;
 
 // Whether a run has gone on for the delay of its rule.
 fn has_gone_on(rule: &Rule, snapshot: &Snapshot<'_>, point: &PointFacts, run: Option<Run>) -> bool
-    requires few { length snapshot.now.alarm_values.now ≤ 32 }
+    requires few { length snapshot.now.alarm_values.now ≤ most_listed_values }
     ensures gone_on { result ≡ has_gone_on rule.now (point_of snapshot.now point.now) run }
 {
     let Some(run) = run else {
@@ -25,7 +26,7 @@ fn lasting(
     point: &PointFacts,
     run: Option<Run>,
 ) -> Option<Rule>
-    requires few { length snapshot.now.alarm_values.now ≤ 32 }
+    requires few { length snapshot.now.alarm_values.now ≤ most_listed_values }
     ensures rule { result ≡ lasting (point_of snapshot.now point.now) rule run }
 {
     let rule = rule?;
@@ -43,7 +44,7 @@ pub(crate) fn rule_lasting(
     state: EventState,
     runs: &[Option<Run>; 3],
 ) -> Option<Rule>
-    requires few { length snapshot.now.alarm_values.now ≤ 32 }
+    requires few { length snapshot.now.alarm_values.now ≤ most_listed_values }
     ensures rule { result ≡ rule_lasting snapshot.now.algorithm (point_of snapshot.now point.now) state runs.now }
 {
     let algorithm = snapshot.algorithm;

@@ -1,4 +1,5 @@
 ghost use Rattle.std.specs.Prelude.{◌≡◌, ◌≤◌, length};
+ghost use Rattle.bac_values.specs.Limits.{most_listed_values};
 ghost use Rattle.algorithm_rules.specs.Facts.{facts_of};
 ghost use Rattle.event_machine.specs.Held.{key_in_detection, other_than};
 ghost use Rattle.event_machine.specs.AlarmSteps.{key_at};
@@ -17,7 +18,7 @@ fn other_than(cause: Option<u32>, key: Option<u32>) -> Option<u32>
 }
 
 fn key_in_detection(rule: &Rule, snapshot: &Snapshot<'_>, cause: Option<u32>) -> Option<u32>
-    requires few { length snapshot.now.alarm_values.now ≤ 32 }
+    requires few { length snapshot.now.alarm_values.now ≤ most_listed_values }
     ensures key { result ≡ key_in_detection rule.now (facts_of snapshot.now) cause }
 {
     let key = key(rule, snapshot);
@@ -34,7 +35,7 @@ pub(crate) fn key_at(
     cause: Option<u32>,
     place: u8,
 ) -> Option<u32>
-    requires few { length snapshot.now.alarm_values.now ≤ 32 }
+    requires few { length snapshot.now.alarm_values.now ≤ most_listed_values }
     ensures key { result ≡ key_at snapshot.now.algorithm state cause (facts_of snapshot.now) place }
 {
     let rule = rule(snapshot.algorithm, state, place)?;

@@ -1,4 +1,5 @@
 ghost use Rattle.std.specs.Prelude.{◌≡◌, ◌≤◌, ◌∷◌, [], List, length, suc};
+ghost use Rattle.bac_values.specs.Limits.{most_listed_values};
 ghost use Rattle.std.specs.Option.{option_to_list};
 ghost use Rattle.bac_values.specs.Moments.{IsMoment};
 ghost use Rattle.event_machine.specs.Detection.{fault_target, moves_at};
@@ -15,7 +16,7 @@ use std::sync::ledger::Ledger;
 
 /// The first point of an object, at which nothing moves: the runs of its rules begin. Memory is not asked for.
 pub fn begin(alarm: &mut Alarm, snapshot: &Snapshot<'_>, point: &PointFacts)
-    requires few { length snapshot.now.alarm_values.now ≤ 32 }
+    requires few { length snapshot.now.alarm_values.now ≤ most_listed_values }
     requires moment { IsMoment point.now.moment }
     ensures begun { alarm.new ≡ begins snapshot.now.algorithm (point_of snapshot.now point.now) alarm.old }
     ensures course { alarm.old ≡ new_alarm → IsAfter snapshot.now.algorithm (point_of snapshot.now point.now) [] alarm.new }
@@ -30,7 +31,7 @@ fn enter(
     to: EventState,
     by_fault: bool,
 ) -> Move
-    requires few { length snapshot.now.alarm_values.now ≤ 32 }
+    requires few { length snapshot.now.alarm_values.now ≤ most_listed_values }
     requires moment { IsMoment point.now.moment }
     ensures alarm { alarm.new ≡ (enters snapshot.now.algorithm (point_of snapshot.now point.now) to by_fault alarm.old).alarm }
     ensures moves { result ∷ [] ≡ (enters snapshot.now.algorithm (point_of snapshot.now point.now) to by_fault alarm.old).moves }
@@ -64,7 +65,7 @@ pub(crate) fn fault_target(
 
 // The object is seen at the point, and a fault comes, changes or ends, or the runs go on.
 fn fault_change(alarm: &mut Alarm, snapshot: &Snapshot<'_>, point: &PointFacts) -> Option<Move>
-    requires few { length snapshot.now.alarm_values.now ≤ 32 }
+    requires few { length snapshot.now.alarm_values.now ≤ most_listed_values }
     requires moment { IsMoment point.now.moment }
     ensures alarm { alarm.new ≡ (fault_change snapshot.now.algorithm (point_of snapshot.now point.now) alarm.old).alarm }
     ensures moves { option_to_list result ≡ (fault_change snapshot.now.algorithm (point_of snapshot.now point.now) alarm.old).moves }
@@ -80,7 +81,7 @@ fn fault_change(alarm: &mut Alarm, snapshot: &Snapshot<'_>, point: &PointFacts) 
 
 // An inhibited object returns to NORMAL. Its rules have no runs there.
 fn inhibited_change(alarm: &mut Alarm, snapshot: &Snapshot<'_>, point: &PointFacts) -> Option<Move>
-    requires few { length snapshot.now.alarm_values.now ≤ 32 }
+    requires few { length snapshot.now.alarm_values.now ≤ most_listed_values }
     requires moment { IsMoment point.now.moment }
     ensures alarm { alarm.new ≡ (inhibited_change snapshot.now.algorithm (point_of snapshot.now point.now) alarm.old).alarm }
     ensures moves { option_to_list result ≡ (inhibited_change snapshot.now.algorithm (point_of snapshot.now point.now) alarm.old).moves }
@@ -93,7 +94,7 @@ fn inhibited_change(alarm: &mut Alarm, snapshot: &Snapshot<'_>, point: &PointFac
 
 // What comes behind the fault step: nothing in FAULT, else the inhibition, else the first rule that is held.
 fn later_change(alarm: &mut Alarm, snapshot: &Snapshot<'_>, point: &PointFacts) -> Option<Move>
-    requires few { length snapshot.now.alarm_values.now ≤ 32 }
+    requires few { length snapshot.now.alarm_values.now ≤ most_listed_values }
     requires moment { IsMoment point.now.moment }
     ensures alarm { alarm.new ≡ (later_change snapshot.now.algorithm (point_of snapshot.now point.now) alarm.old).alarm }
     ensures moves { option_to_list result ≡ (later_change snapshot.now.algorithm (point_of snapshot.now point.now) alarm.old).moves }
@@ -116,7 +117,7 @@ pub fn evaluate<L: Ledger>(
     point: &PointFacts,
     steps: &mut Steps<L>,
 ) -> Changed
-    requires few { length snapshot.now.alarm_values.now ≤ 32 }
+    requires few { length snapshot.now.alarm_values.now ≤ most_listed_values }
     requires moment { IsMoment point.now.moment }
     ensures alarm { alarm.new ≡ (next_look snapshot.now.algorithm (point_of snapshot.now point.now) alarm.old).alarm }
     ensures moves { moves_in result ≡ (next_look snapshot.now.algorithm (point_of snapshot.now point.now) alarm.old).moves }

@@ -1,4 +1,5 @@
 ghost use Rattle.std.specs.Prelude.{◌≡◌, ◌≤◌, ◌↔◌, ◌∷◌, [], List, IsTrue, length};
+ghost use Rattle.bac_values.specs.Limits.{most_listed_values};
 ghost use Rattle.event_machine.specs.Detection.{moves_at};
 ghost use Rattle.event_machine.specs.Given.{point_of};
 ghost use Rattle.event_machine.specs.AlarmSteps.{next_look};
@@ -14,7 +15,7 @@ use algorithm_rules::Snapshot;
 use bac_values::EventState;
 
 fn would_rest(alarm: &Alarm, snapshot: &Snapshot<'_>, point: &PointFacts) -> bool
-    requires few { length snapshot.now.alarm_values.now ≤ 32 }
+    requires few { length snapshot.now.alarm_values.now ≤ most_listed_values }
     ensures rests { result ≡ rests snapshot.now.algorithm (point_of snapshot.now point.now) alarm.now }
 {
     let state = alarm.state();
@@ -33,7 +34,7 @@ fn would_rest(alarm: &Alarm, snapshot: &Snapshot<'_>, point: &PointFacts) -> boo
 
 /// Whether nothing would move at one more point. Memory is not asked for.
 pub fn is_still(alarm: &Alarm, snapshot: &Snapshot<'_>, point: &PointFacts) -> bool
-    requires few { length snapshot.now.alarm_values.now ≤ 32 }
+    requires few { length snapshot.now.alarm_values.now ≤ most_listed_values }
     ensures still { IsTrue result ↔ ((next_look snapshot.now.algorithm (point_of snapshot.now point.now) alarm.now).moves ≡ []) }
     ensures course { (first : Point) (later : List Incident) → IsCourse first (Looked (point_of snapshot.now point.now) ∷ later) → IsAfter snapshot.now.algorithm first later alarm.now →
         (IsTrue result ↔ (moves_at snapshot.now.algorithm first (Looked (point_of snapshot.now point.now) ∷ later) ≡ [])) }

@@ -1,4 +1,5 @@
 ghost use Rattle.std.specs.Prelude.{◌≡◌, ◌≤◌, length};
+ghost use Rattle.bac_values.specs.Limits.{most_listed_values};
 ghost use Rattle.event_machine.specs.Given.{point_of};
 ghost use Rattle.event_machine.specs.AlarmSteps.{next_runs, run_onward};
 
@@ -26,7 +27,7 @@ pub(crate) fn next_runs(
     cause: Option<u32>,
     runs: &[Option<Run>; 3],
 ) -> [Option<Run>; 3]
-    requires few { length snapshot.now.alarm_values.now ≤ 32 }
+    requires few { length snapshot.now.alarm_values.now ≤ most_listed_values }
     ensures runs { result ≡ next_runs snapshot.now.algorithm (point_of snapshot.now point.now) state cause runs.now }
 {
     if point.inhibited {

@@ -1,4 +1,5 @@
 ghost use Rattle.std.specs.Prelude.{◌≡◌, ◌≤◌, length};
+ghost use Rattle.bac_values.specs.Limits.{most_listed_values};
 ghost use Rattle.event_machine.specs.Given.{point_of};
 ghost use Rattle.event_machine.specs.SettledSteps.{fits, is_settled, obeys_inhibition, running_key, runs_stand};
 
@@ -9,7 +10,7 @@ use algorithm_rules::Snapshot;
 use bac_values::EventState;
 
 fn running_key(alarm: &Alarm, snapshot: &Snapshot<'_>, point: &PointFacts, place: u8) -> Option<u32>
-    requires few { length snapshot.now.alarm_values.now ≤ 32 }
+    requires few { length snapshot.now.alarm_values.now ≤ most_listed_values }
     ensures key { result ≡ running_key snapshot.now.algorithm (point_of snapshot.now point.now) alarm.now place }
 {
     if point.inhibited {
@@ -31,7 +32,7 @@ fn fits(key: Option<u32>, run: Option<Run>) -> bool
 
 // Whether the runs are as one more point leaves them.
 fn runs_stand(alarm: &Alarm, snapshot: &Snapshot<'_>, point: &PointFacts) -> bool
-    requires few { length snapshot.now.alarm_values.now ≤ 32 }
+    requires few { length snapshot.now.alarm_values.now ≤ most_listed_values }
     ensures stand { result ≡ runs_stand snapshot.now.algorithm (point_of snapshot.now point.now) alarm.now }
 {
     let [first, second, third] = alarm.runs();
@@ -50,7 +51,7 @@ fn obeys_inhibition(point: &PointFacts, snapshot: &Snapshot<'_>, state: EventSta
 /// its facts, its reliability or its inhibition change. Neither the moment nor the stamp of the point matters. Memory is
 /// not asked for.
 pub fn is_settled(alarm: &Alarm, snapshot: &Snapshot<'_>, point: &PointFacts) -> bool
-    requires few { length snapshot.now.alarm_values.now ≤ 32 }
+    requires few { length snapshot.now.alarm_values.now ≤ most_listed_values }
     ensures settled { result ≡ is_settled snapshot.now.algorithm (point_of snapshot.now point.now) alarm.now }
 {
     let state = alarm.state();

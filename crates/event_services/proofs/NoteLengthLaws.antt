@@ -1,4 +1,5 @@
 -- No notification is longer than its longest parts allow.
+use Rattle.bac_values.specs.Limits.{most_note_octets}
 use Rattle.std.proofs.Common.{◌≡◌, ℤ, pos, negsuc, ℕ, ◌+◌, ◌*◌, ◌^◌, ◌≤◌, Bool, Option, Some, None, List, [], ◌∷◌, ◌++◌, length, take, drop, ap, arith, inl, inr}
 use Rattle.std.specs.Int.{w32, cast_unsigned, from_bool}
 use Rattle.std.proofs.lemmas.Bool.{cases_lt, lt-ltb, le-ltb}
@@ -26,7 +27,7 @@ use Rattle.event_services.specs.declared.notification.EventValues.{EventValues}
 use Rattle.event_services.specs.declared.notification.EventValues.TheVariants.{Bitstring, State, Command, UnsignedRange, SignedOutOfRange, UnsignedOutOfRange, Characterstring, Reliability}
 use Rattle.event_services.specs.Notifications.{type_of_values, written_text_in, bits_of_flags, written_flags, state_number, written_property, written_told, written_values, written_source, written_kind, written_event, written_states}
 use Rattle.bac_tags.specs.ParameterWriting.{written_enclosed, written_if_given}
-use Rattle.event_services.specs.NoteLengths.{most_octets, HasShortText, IsShort, AreShort}
+use Rattle.event_services.specs.NoteLengths.{HasShortText, IsShort, AreShort}
 use Rattle.event_services.specs.NoteRanges.{IfAny}
 
 -- ---- tags and elements
@@ -222,7 +223,7 @@ states_octets note =
 
 -- what was written part by part, of a notification with a whole stamp and with short texts, has at most 1,014 octets
 pub parts_octets : (note : Notification) (start event message states all : List ℕ) → start ≡ [] → event ≡ start ++ written_event note → message ≡ event ++ written_if_given (written_text_in 7) note.text → states ≡ message ++ written_states note → all ≡ states ++ written_if_given written_values note.values
-    → length note.stamp.octets ≡ 8 → IfAny HasShortText note.text → IfAny AreShort note.values → length all ≤ most_octets
+    → length note.stamp.octets ≡ 8 → IfAny HasShortText note.text → IfAny AreShort note.values → length all ≤ most_note_octets
 parts_octets note start event message states all e f g h i eight text values =
     omega (
       arith,

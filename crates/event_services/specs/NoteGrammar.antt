@@ -1,5 +1,6 @@
 -- Which octets are a notification (ANSI/ASHRAE 135-2020, clause 21, ConfirmedEventNotification-Request and BACnetNotificationParameters), in any spelling of its elements.
 use Rattle.std.specs.Prelude.{◌≡◌, ℕ, ◌<◌, ◌≤◌, Bool, Option, Some, List, ◌∷◌, ◌++◌, length, IsUtf8}
+use Rattle.bac_values.specs.Limits.{most_text_octets}
 use Rattle.bac_values.specs.EventStates.{number_of_state}
 use Rattle.bac_values.specs.Reliabilities.{number_of_reliability}
 use Rattle.bac_values.specs.declared.event_state.EventState.{EventState}
@@ -44,9 +45,9 @@ SpellsReliability number octets reliability = SpellsNumber number octets (number
 abbrev pub SpellsFlags : List ℕ → StatusFlags → Type 0
 SpellsFlags octets flags = SpellsBits (Some 1) octets (bits_of_flags flags)
 
--- the number of the character set, which is UTF-8, and at most 256 octets
+-- the number of the character set, which is UTF-8, and at most `most_text_octets` octets
 abbrev pub IsTextContent : List ℕ → List ℕ → Type 0
-IsTextContent content text = (content ≡ 0 ∷ text) × (length text ≤ 256) × IsUtf8 text
+IsTextContent content text = (content ≡ 0 ∷ text) × (length text ≤ most_text_octets) × IsUtf8 text
 
 abbrev pub SpellsText : ℕ → List ℕ → List ℕ → Type 0
 SpellsText number = SpellsElement 0 (Some number) IsTextContent

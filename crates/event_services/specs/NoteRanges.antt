@@ -1,5 +1,6 @@
 -- Notifications whose fields are in the ranges of their types, and whose values are those of the event type.
 use Rattle.std.specs.Prelude.{◌≡◌, ℕ, ◌^◌, ◌<◌, ◌≤◌, Option, Some, None, List, length, IsUtf8, FitsSigned}
+use Rattle.bac_values.specs.Limits.{most_text_octets}
 use Rattle.std.specs.Int.{w32}
 use Rattle.bac_values.specs.BitString.{IsBitString}
 use Rattle.bac_values.specs.Identifier.{IsIdentifier}
@@ -14,7 +15,7 @@ abbrev pub IsLong : ℕ → Type 0
 IsLong n = n < 2 ^ 32
 
 abbrev pub IsText : List ℕ → Type 0
-IsText text = (length text ≤ 256) × IsUtf8 text
+IsText text = (length text ≤ most_text_octets) × IsUtf8 text
 
 -- nothing, or what has the property
 abbrev pub IfAny : {X : Type 0} → (X → Type 0) → Option X → Type 0

@@ -1,5 +1,6 @@
 -- Reading event notifications (ANSI/ASHRAE 135-2020, clause 21, ConfirmedEventNotification-Request and BACnetNotificationParameters). What a field doesn't hold isn't in the grammar.
 use Rattle.std.specs.Prelude.{◌≡◌, ℕ, ◌/◌, ◌%◌, ◌==◌, nat_lt, nat_le, ◌&&◌, ◌⊎◌, if◌then◌else◌, Bool, true, false, Option, Some, None, List, [], ◌∷◌, length, Result, Ok, Err}
+use Rattle.bac_values.specs.Limits.{most_text_octets}
 use Rattle.std.specs.Option.{ok_or}
 use Rattle.std.specs.Str.{is_utf8}
 use Rattle.bac_values.specs.BitString.{BitsData}
@@ -60,10 +61,10 @@ flags_of string =
 unfoldable pub flags_at : Reads StatusFlags
 flags_at = held_at flags_of (λ input place. bits_at input place (Some 1))
 
--- a text of at most 256 octets of UTF-8, behind the number of this character set; in a context the tag doesn't tell the type
+-- a text of at most `most_text_octets` octets of UTF-8, behind the number of this character set; in a context the tag doesn't tell the type
 abbrev pub text_of : List ℕ → Option (List ℕ)
 text_of [] = None
-text_of (set ∷ text) = if set == 0 && nat_le (length text) 256 && is_utf8 text then Some text else None
+text_of (set ∷ text) = if set == 0 && nat_le (length text) most_text_octets && is_utf8 text then Some text else None
 
 unfoldable pub text_at : ℕ → Reads (List ℕ)
 text_at number = held_at text_of (λ input place. content_at input place 0 (Some number) 1 257)

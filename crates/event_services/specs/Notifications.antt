@@ -1,6 +1,7 @@
 -- Event notifications (ANSI/ASHRAE 135-2020, 13.8, 13.9 and clause 21, BACnetNotificationParameters): what can be told, and the one spelling in which it is written.
 use Rattle.std.specs.Prelude.{◌≡◌, ℕ, ◌+◌, ◌*◌, if◌then◌else◌, Bool, Option, Some, None, List, [], ◌∷◌, ◌++◌}
 use Rattle.std.specs.Int.{from_bool}
+use Rattle.bac_values.specs.ApplicationTags.{character_string_tag}
 use Rattle.bac_values.specs.BitString.{BitsData}
 use Rattle.bac_values.specs.EventTypes.{change_of_bitstring_type, change_of_state_type, command_failure_type, unsigned_range_type, signed_out_of_range_type, unsigned_out_of_range_type, change_of_characterstring_type, change_of_reliability_type}
 use Rattle.bac_values.specs.EventStates.{number_of_state}
@@ -62,7 +63,7 @@ IsTold type (Some told) = (type_of_values told ≡ type) × HasOneValues told
 
 -- a text in UTF-8 with a number in a context
 abbrev pub written_text_in : ℕ → List ℕ → List ℕ
-written_text_in number text = written_element 7 (Some number) (0 ∷ text)
+written_text_in number text = written_element character_string_tag (Some number) (0 ∷ text)
 
 -- in-alarm, fault, overridden, out-of-service, the first of them the string's first bit
 abbrev pub bits_of_flags : StatusFlags → BitsData

@@ -1,10 +1,11 @@
 ghost use Rattle.std.specs.Prelude.{◌≡◌, ◌<◌, ◌≤◌, length, IfOk, IfSome, MatchOption};
+ghost use Rattle.bac_values.specs.Limits.{most_text_octets};
 ghost use Rattle.event_services.specs.NoteTexts.{IsText};
 ghost use Rattle.event_services.specs.NoteReadingSteps.{GivesRead, octet_number_at, state_at, flags_of, flags_at, text_of, text_at, moment_at};
 
 use crate::time_stamp::enclosed_stamp;
 use bac_tags::{TagFault, read_bits, read_closing, read_octets, read_opening, read_unsigned};
-use bac_values::{Bits, EventState, Stamp, StatusFlags, Text};
+use bac_values::{Bits, EventState, MOST_TEXT_OCTETS, Stamp, StatusFlags, Text};
 use std::alloc::Global;
 
 /// The number of one octet with that number in a context, and the place after it.
@@ -81,12 +82,12 @@ pub(crate) fn moment_at(input: &[u8], at: usize, number: u8) -> Result<(Stamp, u
 /// The text of a content, which begins with the number of its character set.
 fn text_of(content: &[u8]) -> Option<&str>
     ensures exact { MatchOption result (text_of content.now ≡ None) (λ text. text_of content.now ≡ Some text.now) }
-    ensures short { IfSome result (λ text. length text.now ≤ 256) }
+    ensures short { IfSome result (λ text. length text.now ≤ most_text_octets) }
 {
     let [set, text @ ..] = content else {
         return None;
     };
-    if *set != 0 || text.len() > 256 {
+    if *set != 0 || text.len() > MOST_TEXT_OCTETS {
         return None;
     }
     match str::from_utf8(text) {

@@ -1,4 +1,5 @@
 ghost use Rattle.std.specs.Prelude.{◌≡◌, ◌↔◌, ◌⊎◌, ℕ, ◌<◌, ◌≤◌, length, IfOk};
+ghost use Rattle.bac_values.specs.Reasons.{missing_required_parameter_reason};
 ghost use Rattle.event_services.specs.declared.read_note.NoteFault.TheVariants as faults;
 ghost use Rattle.bac_tags.specs.ParameterReadingSteps.{required, optional};
 ghost use Rattle.bac_tags.specs.ReadingSteps.{boolean_at};
@@ -207,7 +208,7 @@ pub fn read_notification(alloc: Global, bytes: &[u8]) -> Result<Notification, No
     ensures only { (note : Notification) → SpellsNotification bytes.now note → GivesNote (HasText bytes.now) result (Ok note) }
     // Each refusal, and exactly where it comes, but that a text before it may get no memory.
     ensures refused { (result ≡ Err NoteFault.NoMemory) ⊎ ((reject at : ℕ) → (result ≡ Err (NoteFault.Malformed reject at)) ↔ RefusesNotification bytes.now (record { reject = reject; at = at })) }
-    ensures missing { (result ≡ Err NoteFault.NoMemory) ⊎ ((result ≡ Err (NoteFault.Malformed 5 (length bytes.now))) ↔ EndsBeforeRequired bytes.now) }
+    ensures missing { (result ≡ Err NoteFault.NoMemory) ⊎ ((result ≡ Err (NoteFault.Malformed missing_required_parameter_reason (length bytes.now))) ↔ EndsBeforeRequired bytes.now) }
     // Memory is refused only where the message text stands, or a text in the values of an event.
     ensures no_memory { result ≡ Err NoteFault.NoMemory → HasText bytes.now }
 

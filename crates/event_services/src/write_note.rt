@@ -1,9 +1,10 @@
 ghost use Rattle.std.specs.Prelude.{◌≡◌, ◌++◌, List, ◌<◌, ◌≤◌, ◌^◌, length, OnOk, IfOk, MatchOption};
+ghost use Rattle.bac_values.specs.Limits.{most_note_octets, most_text_octets};
 ghost use Rattle.bac_tags.specs.Writing.{written_unsigned, written_boolean, written_stamp, written_value};
 ghost use Rattle.bac_values.specs.EventStates.{number_of_state};
 ghost use Rattle.event_services.specs.Notifications.{IsOneValue, IsOneOrNone, HasOneValues, IsTold, type_of_values, written_text_in, bits_of_flags, written_flags, written_property, written_told, written_values, written_source, written_kind, written_event, written_states, written_notification, told_to};
 ghost use Rattle.bac_tags.specs.ParameterWriting.{written_enclosed, written_if_given};
-ghost use Rattle.event_services.specs.NoteLengths.{most_octets, IsShort, AreShort, HasShortText};
+ghost use Rattle.event_services.specs.NoteLengths.{IsShort, AreShort, HasShortText};
 ghost use Rattle.event_services.specs.NoteRanges.{IfAny};
 
 use crate::notification::{EventValues, Notification};
@@ -19,7 +20,7 @@ use std::alloc::Global;
 /// Appends a text with that number in a context.
 fn write_text(out: &mut Vec<u8>, number: u8, text: &Text) -> Result<(), NoMemory>
     ensures written { OnOk result (out.new.items ≡ out.old.items ++ written_text_in number text.now) }
-    ensures short { length text.now ≤ 256 }
+    ensures short { length text.now ≤ most_text_octets }
 {
     let octets = text.octets();
     write_tag(
@@ -183,7 +184,7 @@ fn write_changed(
     alarm: &Text,
 ) -> Result<(), NoMemory>
     ensures written { OnOk result (out.new.items ≡ out.old.items ++ written_told (EventValues.Characterstring changed.now flags alarm.now)) }
-    ensures short { OnOk result ((length changed.now ≤ 256) × (length alarm.now ≤ 256)) }
+    ensures short { OnOk result ((length changed.now ≤ most_text_octets) × (length alarm.now ≤ most_text_octets)) }
 {
     write_text(out, 0, changed)?;
     write_flags(out, flags)?;
@@ -382,7 +383,7 @@ pub fn write_notification_to(
     // The values are those of the event type, and each is one element.
     requires { IsTold note.now.event_type note.now.values }
     ensures written { IfOk result (λ octets. octets.items ≡ written_notification (told_to process note.now)) }
-    ensures short { IfOk result (λ octets. length octets.items ≤ most_octets) }
+    ensures short { IfOk result (λ octets. length octets.items ≤ most_note_octets) }
 {
     let mut out = Vec::new(alloc);
     write_event(&mut out, process, note)?;
@@ -398,7 +399,7 @@ pub fn write_notification(alloc: Global, note: &Notification) -> Result<Vec<u8>,
     // The values are those of the event type, and each is one element.
     requires { IsTold note.now.event_type note.now.values }
     ensures written { IfOk result (λ octets. octets.items ≡ written_notification note.now) }
-    ensures short { IfOk result (λ octets. length octets.items ≤ most_octets) }
+    ensures short { IfOk result (λ octets. length octets.items ≤ most_note_octets) }
 {
     write_notification_to(alloc, note.process, note)
 }

@@ -1,6 +1,7 @@
 -- A floor after one turn more.
 use Rattle.std.proofs.Common.{◌≡◌, ◌≢◌, inl, inr, ℕ, ◌+◌, ◌-◌, ◌≤◌, ◌<◌, List, [], ◌∷◌, ◌++◌, length, map, refl, sym, ap, ◌∙◌, subst, arith}
 use Rattle.std.specs.Prelude.{Option, Some, None, Result, Ok, Err, IfOk, IfErr}
+use Rattle.bac_values.specs.Limits.{most_pending_calls}
 use Rattle.std.proofs.lemmas.List.{drop_all, take_all}
 use Rattle.std.proofs.lemmas.List.Elements.{All-nil}
 use Rattle.ground_io.specs.Trace.{Told}
@@ -25,7 +26,7 @@ use Rattle.floor_desk.specs.declared.load.Carried.TheVariants.{Home as HomeAgain
 use Rattle.floor_desk.specs.declared.load.Load.{Load}
 use Rattle.floor_desk.specs.declared.floor.Spot.{Spot}
 use Rattle.floor_desk.specs.declared.floor.Spot.TheVariants.{Home, Out, Broken}
-use Rattle.floor_desk.specs.Accounts.{Account, Due, IsBehind, IsDenied, IsLegalFrom, IsOpen, IsTicketOf, Loan, MayComeNext, accepted, account, entry_for, looked, most_calls, most_record_octets, start, step, ticket_for}
+use Rattle.floor_desk.specs.Accounts.{Account, Due, IsBehind, IsDenied, IsLegalFrom, IsOpen, IsTicketOf, Loan, MayComeNext, accepted, account, entry_for, looked, start, step, ticket_for, most_pending_octets}
 use Rattle.floor_desk.specs.Carrying.{IsCarriedOut, IsWorkOf, Lends}
 use Rattle.floor_desk.specs.Moves.{Accepts, CameOf, Hinders, NeedsCommit, IsLentBy, IsNotBroken, IsReady, MayEnter, Refuses, lent, with_answer}
 use Rattle.floor_desk.specs.Keeping.{HoldsHistory}
@@ -60,7 +61,7 @@ module _ {G : Type 0} (told : G → Option Told) (disk_faults : G → ℕ) where
   not_failed origin a lost (Out place upto) not here = here.0
   not_failed origin a lost (Broken device place) not here = absurd not
 
-  not_behind : (floor : FloorState G) (a : Account G) → ShowsAccount told disk_faults floor a → floor.calls < most_calls → length floor.records ≤ most_record_octets → IsBehind a → ⊥
+  not_behind : (floor : FloorState G) (a : Account G) → ShowsAccount told disk_faults floor a → floor.calls < most_pending_calls → length floor.records ≤ most_pending_octets → IsBehind a → ⊥
   not_behind floor a s few short (inl many) = absurd (omega (arith, s.calls, few, many))
   not_behind floor a s few short (inr long) = absurd (omega (arith, ap (λ (l : List ℕ). length l) s.records, short, long))
 

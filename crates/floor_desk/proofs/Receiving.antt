@@ -7,6 +7,7 @@ use Rattle.std.proofs.lemmas.List.{append-nil, drop-drop, take_all, length-appen
 use Rattle.std.proofs.lemmas.List.Elements.{All-append, All-cons, All-nil}
 use Rattle.std.proofs.Math.Seq.{take-add}
 use Rattle.std.specs.Prelude.{◌⊎◌, length, take, drop, map, min, Ok, Err, IfSome, IsTrue, false, Option, Some, None, Result}
+use Rattle.bac_values.specs.Limits.{most_datagram_octets}
 use Rattle.std.specs.List.{All}
 use Rattle.bac_values.specs.Address.{PeerData}
 use Rattle.bac_values.specs.declared.input.Input.{Input}
@@ -24,7 +25,7 @@ use Rattle.ground_io.specs.declared.link.Received.{Received}
 use Rattle.floor_desk.specs.declared.receiver.Came.{Came}
 use Rattle.floor_desk.specs.declared.receiver.Ends.{Ends}
 use Rattle.floor_desk.specs.Tries.{AreTried, Attempt, IsBehind, IsOfCommit, IsOfInput, IsTried, Try, tries_in}
-use Rattle.floor_desk.specs.Workers.{AreTaken, HasCome, HasReceived, HasTried, IsDatagram, IsNext, StaysLeft, if_lost, input_of, lost_of, most_octets}
+use Rattle.floor_desk.specs.Workers.{AreTaken, HasCome, HasReceived, HasTried, IsDatagram, IsNext, StaysLeft, if_lost, input_of, lost_of}
 use Rattle.floor_desk.proofs.Working.{tries_append, worked_none, worked_then}
 
 abbrev attempt : Input → Result Ticket EnterFault → Attempt
@@ -47,17 +48,17 @@ take_cut n m xs is = dite (dec_le (length xs) m)
     (λ long. ap (λ k. take k xs) (is ∙ (min_comm (length xs) m ∙ min-eq_left (omega arith))))
 
 -- what came over a link is its next datagram
-pub next_of : (E : Type 0) (old new : Option (List Send)) (peer : PeerData) (count : ℕ) (before after : List ℕ) → length before ≡ most_octets → Receives {E = E} old new (Ok (Datagram peer count)) before after → IsNext old new (Entered peer (take count after))
+pub next_of : (E : Type 0) (old new : Option (List Send)) (peer : PeerData) (count : ℕ) (before after : List ℕ) → length before ≡ most_datagram_octets → Receives {E = E} old new (Ok (Datagram peer count)) before after → IsNext old new (Entered peer (take count after))
 next_of E None new peer count before after long r = tt
 next_of E (Some old) None peer count before after long r = absurd r
 next_of E (Some []) (Some new) peer count before after long r = absurd r
 next_of E (Some (first ∷ rest)) (Some new) peer count before after long r =
     let cut = r.1 in
-    let same : take count after ≡ take most_octets first.bytes = cut.octets ∙ take_cut count most_octets first.bytes (cut.cut ∙ ap (λ z. min (length first.bytes) z) long) in
+    let same : take count after ≡ take most_datagram_octets first.bytes = cut.octets ∙ take_cut count most_datagram_octets first.bytes (cut.cut ∙ ap (λ z. min (length first.bytes) z) long) in
     (r.0, ap (λ z. Entered z (take count after)) cut.sender ∙ ap (λ z. Entered first.peer z) same)
 
 -- if it came
-pub next_in : (E : Type 0) (old new : Option (List Send)) (received : Received) (before after : List ℕ) (result : Option Came) → length before ≡ most_octets → Receives {E = E} old new (Ok received) before after → IfSome result (HasCome received after) → IfSome result (λ came. IsNext old new came.input)
+pub next_in : (E : Type 0) (old new : Option (List Send)) (received : Received) (before after : List ℕ) (result : Option Came) → length before ≡ most_datagram_octets → Receives {E = E} old new (Ok received) before after → IfSome result (HasCome received after) → IfSome result (λ came. IsNext old new came.input)
 next_in E old new received before after None long r h = h
 next_in E old new received before after (Some came) long r h =
     subst (λ i. IsNext old new i) (sym h.input) (next_of E old new h.peer came.length before after long (subst (λ x. Receives {E = E} old new (Ok x) before after) h.is r))

@@ -1,5 +1,6 @@
 -- What a history of a floor comes to, and which entries may follow it.
 use Rattle.std.specs.Prelude.{◌≡◌, ◌⊎◌, ℕ, ◌+◌, ◌-◌, ◌<◌, ◌≤◌, ⊤, List, [], ◌∷◌, ◌++◌, length, map, drop, Option, Some, None, Result, Ok, Err}
+use Rattle.bac_values.specs.Limits.{most_batch_octets, most_pending_calls, most_record_octets}
 use Rattle.std.proofs.Common.{inl, inr, ⊎_elim}
 use Rattle.bac_values.specs.declared.input.Input.{Input}
 use Rattle.bac_values.specs.declared.note.Send.{Send}
@@ -126,11 +127,9 @@ module _ {G : Type 0} where
 
 -- ---- which entries may follow
 
-abbrev pub most_calls : ℕ
-most_calls = 1_024
-
-abbrev pub most_record_octets : ℕ
-most_record_octets = 57_952
+-- so many octets of records may be pending that one more record fits a batch
+abbrev pub most_pending_octets : ℕ
+most_pending_octets = most_batch_octets - most_record_octets
 
 -- the ticket of an input that is no event
 abbrev pub ticket_for : ℕ → Answer → Option Ticket
@@ -155,7 +154,7 @@ module _ {G : Type 0} where
 
   -- no more is taken before a commit
   abbrev pub IsBehind : Account G → Type 0
-  IsBehind a = (most_calls ≤ pending_calls a) ⊎ (most_record_octets < pending_octets a)
+  IsBehind a = (most_pending_calls ≤ pending_calls a) ⊎ (most_pending_octets < pending_octets a)
 
   -- an input is looked at
   pub record IsOpen (a : Account G) : Type 0 where

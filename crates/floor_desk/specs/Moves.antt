@@ -1,5 +1,6 @@
 -- What one input makes of a floor.
 use Rattle.std.specs.Prelude.{◌≡◌, ◌≢◌, ◌⊎◌, ◌<◌, ◌≤◌, ℕ, ◌+◌, All, List, [], ◌++◌, length, reverse, Option, Result, Ok, Err}
+use Rattle.bac_values.specs.Limits.{most_pending_calls}
 use Rattle.bac_values.specs.declared.note.Send.{Send}
 use Rattle.alarm_core.specs.Allowed.{Represents}
 use Rattle.alarm_core.specs.Fits.{FitsEvent}
@@ -9,7 +10,7 @@ use Rattle.alarm_journal.specs.Press.{PressState, room_of}
 use Rattle.service_desk.specs.Answers.{Answer, Full, dues_of, event_of, state_behind}
 use Rattle.state_codec.specs.Contents.{records_of}
 use Rattle.state_codec.specs.Records.{HasRecord}
-use Rattle.floor_desk.specs.Accounts.{IsTicketOf, counts, if_event, most_calls, most_record_octets}
+use Rattle.floor_desk.specs.Accounts.{IsTicketOf, counts, if_event, most_pending_octets}
 use Rattle.floor_desk.specs.Carrying.{IsWorkOf}
 use Rattle.floor_desk.specs.States.{FloorState}
 use Rattle.floor_desk.specs.declared.entry.Ticket.{Ticket}
@@ -67,7 +68,7 @@ module _ {G : Type 0} where
 
   -- a commit has to come first
   abbrev pub NeedsCommit : FloorState G → Type 0
-  NeedsCommit floor = (most_calls ≤ floor.calls) ⊎ (most_record_octets < length floor.records)
+  NeedsCommit floor = (most_pending_calls ≤ floor.calls) ⊎ (most_pending_octets < length floor.records)
 
   -- why no input is looked at
   abbrev pub Refuses : FloorState G → EnterFault → Type 0
@@ -77,8 +78,8 @@ module _ {G : Type 0} where
 
   pub record IsReady (floor : FloorState G) : Type 0 where
     pub works : IsNotBroken floor.spot
-    pub calls : floor.calls < most_calls
-    pub records : length floor.records ≤ most_record_octets
+    pub calls : floor.calls < most_pending_calls
+    pub records : length floor.records ≤ most_pending_octets
 
   -- ---- a commit
 

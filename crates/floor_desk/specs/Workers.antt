@@ -1,5 +1,6 @@
 -- What each worker of a server did, told by the entries that its pass made.
 use Rattle.std.specs.Prelude.{◌≡◌, ◌⊎◌, ◌≤◌, ◌+◌, ℕ, ⊤, All, List, [], ◌∷◌, ◌++◌, length, map, take, drop, IsTrue, Option, Some, None, Result, Ok, Err}
+use Rattle.bac_values.specs.Limits.{most_datagram_octets}
 use Rattle.bac_values.specs.Address.{PeerData}
 use Rattle.bac_values.specs.declared.input.Input.{Input}
 use Rattle.bac_values.specs.declared.input.Input.TheVariants.{Datagram}
@@ -19,13 +20,9 @@ use Rattle.floor_desk.specs.declared.receiver.Came.{Came}
 use Rattle.floor_desk.specs.declared.receiver.Ends.{Ends}
 use Rattle.floor_desk.specs.Tries.{AreTicks, AreTried, Attempt, IsBehind, IsOfCommit, IsOfInput, IsTried, tries_in}
 
--- the most octets of a datagram that are looked at
-abbrev pub most_octets : ℕ
-most_octets = 1_497
-
 -- a datagram of the link as an input: cut to these octets
 abbrev pub input_of : Send → Input
-input_of datagram = Datagram datagram.peer (take most_octets datagram.bytes)
+input_of datagram = Datagram datagram.peer (take most_datagram_octets datagram.bytes)
 
 -- how many of these have no ticket as their last answer
 abbrev pub if_lost : Result Ticket EnterFault → ℕ

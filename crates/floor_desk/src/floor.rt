@@ -2,6 +2,7 @@
 
 ghost use Rattle.std.specs.Prelude.{◌≡◌, ◌≢◌, ◌<◌, ◌≤◌, ◌+◌, ◌-◌, ◌^◌, ℕ, List, [], ◌∷◌, ◌++◌, IfOk, IfErr, IfSome, IsNone, MatchBool, OnErr, OnOk, Some, None, Option, Ok, Err, is_some, length, max, min, Result, vec_len, vec_capacity};
 ghost use Rattle.std.specs.VecDeque.{deque_len, deque_capacity};
+ghost use Rattle.bac_values.specs.Limits.{most_batch_octets, most_events, most_pending_calls};
 ghost use Rattle.bac_values.specs.Moments.{IsMoment};
 ghost use Rattle.bac_values.specs.declared.input.Input.{Input as Entered};
 ghost use Rattle.bac_values.specs.declared.note.Send.{Send as Datagram};
@@ -23,7 +24,7 @@ ghost use Rattle.floor_desk.specs.declared.entry.Look.TheVariants.{Refused};
 ghost use Rattle.floor_desk.specs.declared.faults.CommitFault.TheVariants as commits;
 ghost use Rattle.floor_desk.specs.declared.faults.EnterFault.TheVariants as enters;
 ghost use Rattle.floor_desk.specs.declared.floor.Spot.TheVariants.{Home, Out};
-ghost use Rattle.floor_desk.specs.Accounts.{Loan, account, entry_for};
+ghost use Rattle.floor_desk.specs.Accounts.{Loan, account, entry_for, most_pending_octets};
 ghost use Rattle.floor_desk.specs.Carrying.{FitsPress, IsCarriedOut, Lends, TellsCarried};
 ghost use Rattle.floor_desk.specs.Ending.{IsLastCommit};
 ghost use Rattle.floor_desk.specs.Moves.{CameOf, Hinders, IsGroundOf, IsLentBy, IsNotOut, IsReady, Refuses};
@@ -37,7 +38,7 @@ use crate::pending::Pending;
 use crate::work::work_of;
 use alarm_core::{Core, Event, Outcome, StepFault, event_fits};
 use alarm_journal::Press;
-use bac_values::{Input, Items, NoMemory, Send, single};
+use bac_values::{Input, Items, MOST_EVENTS, NoMemory, Send, single};
 use event_machine::Steps;
 use ground_io::Ground;
 use service_desk::{Decision, decide};
@@ -47,9 +48,6 @@ use std::marker::{Brand, Model};
 use std::mem;
 use std::sync::ledger::{Blank, Ledger};
 use turnstile::{Chronicle, Memo};
-
-/// How many events a history may have. One more is as good as no memory for it.
-const MOST_EVENTS: u64 = 1 << 63;
 
 /// No press leaves at so late a place of the history: it is as good as no memory for it.
 const MOST_PLACES: u64 = 1 << 63;
@@ -90,6 +88,7 @@ pub struct Floor<G: Ground> {
 impl<G: Ground> Model for Floor<G> {
     ghost use Rattle.std.specs.Prelude.{◌≤◌, length};
     ghost use Rattle.std.specs.List.{flat_map};
+    ghost use Rattle.bac_values.specs.Limits.{most_batch_octets};
     ghost use Rattle.alarm_core.specs.Limits.{KeepsLimits};
     ghost use Rattle.floor_desk.specs.States.{FloorState};
 
@@ -109,7 +108,7 @@ impl<G: Ground> Model for Floor<G> {
 
     ghost invariant = { λ floor. record {
       limits : KeepsLimits floor.core.site;
-      few : length floor.pending.records.items ≤ 60000;
+      few : length floor.pending.records.items ≤ most_batch_octets;
     } };
 }
 
@@ -153,7 +152,7 @@ fn counted<L: Ledger>(core: &mut Core, event: &Event, blank: Blank) -> Result<Ou
     requires moment { IsMoment event.now.moment }
     requires not_before { core.old.last_moment ≤ event.now.moment }
     requires allowed { IsAllowed core.old event.now.act }
-    requires few { core.old.events < 2 ^ 63 }
+    requires few { core.old.events < most_events }
     ensures state { OnOk result (core.new ≡ next_state event.now core.old) }
     ensures sends { IfOk result (λ outcome. outcome.sends ≡ next_sends event.now core.old) }
     ensures same { OnErr result (core.new ≡ core.old) }
@@ -316,7 +315,7 @@ impl<G: Ground> Floor<G> {
 
     // An input that is answered without an event.
     fn reply(&mut self, alloc: Global, send: Send) -> Result<Ticket, EnterFault>
-        requires few { self.old.calls < 1024 }
+        requires few { self.old.calls < most_pending_calls }
         ensures comes { CameOf self.old self.new (Replied send) result }
     {
         let sends = match listed(alloc, Some(send)) {
@@ -337,9 +336,9 @@ impl<G: Ground> Floor<G> {
         requires allowed { IsAllowed self.old.core event.now.act }
         requires record { HasRecord event.now }
         requires fits { FitsEvent event.now }
-        requires events { self.old.core.events < 2 ^ 63 }
-        requires few { self.old.calls < 1024 }
-        requires short { length self.old.records + length parts.octets.items ≤ 60000 }
+        requires events { self.old.core.events < most_events }
+        requires few { self.old.calls < most_pending_calls }
+        requires short { length self.old.records + length parts.octets.items ≤ most_batch_octets }
         requires written { parts.octets.items ≡ written_event event.now }
         ensures comes { (reply full : Option Datagram) → parts.reply ≡ if_owed reply → parts.full ≡ if_owed full → told ≡ is_some full → CameOf self.old self.new (entering event.now reply full (step_verdict event.now self.old.core)) result }
     {
@@ -371,10 +370,11 @@ impl<G: Ground> Floor<G> {
     ) -> Result<Ticket, EnterFault>
         requires moment { IsMoment event.moment }
         requires allowed { IsAllowed self.old.core event.act }
-        requires few { self.old.calls < 1024 }
-        requires short { length self.old.records ≤ 57952 }
+        requires few { self.old.calls < most_pending_calls }
+        requires short { length self.old.records ≤ most_pending_octets }
         ensures comes { CameOf self.old self.new (entering (raised self.old.core.last_moment event) reply full (step_verdict (raised self.old.core.last_moment event) self.old.core)) result }
     {
+        // One event more is as good as no memory for it.
         if self.core.events() >= MOST_EVENTS {
             return Err(EnterFault::NoMemory);
         }
@@ -390,8 +390,8 @@ impl<G: Ground> Floor<G> {
     // An input that is looked at.
     fn look(&mut self, alloc: Global, moment: u64, input: &Input) -> Result<Ticket, EnterFault>
         requires moment { IsMoment moment }
-        requires few { self.old.calls < 1024 }
-        requires short { length self.old.records ≤ 57952 }
+        requires few { self.old.calls < most_pending_calls }
+        requires short { length self.old.records ≤ most_pending_octets }
         ensures comes { CameOf self.old self.new (answer_to self.old.core input.now moment) result }
     {
         let decision = match decide(alloc, &self.core, input, moment) {

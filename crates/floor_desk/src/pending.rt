@@ -1,19 +1,19 @@
 //! What waits for a commit: the records of events, and the datagrams that calls owe.
 
 ghost use Rattle.std.specs.Prelude.{◌≡◌, ◌↔◌, ◌⊎◌, ◌<◌, ◌≤◌, ◌+◌, ◌^◌, ◌++◌, ◌∷◌, [], IfOk, IsTrue, OnErr, OnOk, length, vec_len, vec_capacity};
+ghost use Rattle.bac_values.specs.Limits.{most_pending_calls, most_events};
+ghost use Rattle.floor_desk.specs.Accounts.{most_pending_octets};
 ghost use Rattle.std.specs.VecDeque.{deque_len, deque_capacity};
 ghost use Rattle.std.specs.List.{flat_map};
-ghost use Rattle.floor_desk.specs.Accounts.{most_calls, most_record_octets};
 
-use bac_values::{Items, NoMemory, Send};
+use bac_values::{
+    Items, MOST_BATCH_OCTETS, MOST_PENDING_CALLS, MOST_RECORD_OCTETS, NoMemory, Send,
+};
 use std::alloc::Global;
 use std::collections::VecDeque;
 
-/// So many calls may wait for a commit.
-const MOST_CALLS: u64 = 1_024;
-
-/// A commit comes first where more octets of records wait.
-const MOST_RECORD_OCTETS: u64 = 57_952;
+/// A commit comes first where more octets of records wait: one more record fits a batch then.
+const MOST_PENDING_OCTETS: u64 = MOST_BATCH_OCTETS - MOST_RECORD_OCTETS;
 
 /// What waits for a commit.
 #[derive(Drop)]
@@ -40,9 +40,9 @@ impl Pending {
 
     /// Whether a commit has to come first.
     pub(crate) fn is_behind(&self) -> bool
-        ensures behind { IsTrue result ↔ ((most_calls ≤ self.now.calls) ⊎ (most_record_octets < length self.now.records.items)) }
+        ensures behind { IsTrue result ↔ ((most_pending_calls ≤ self.now.calls) ⊎ (most_pending_octets < length self.now.records.items)) }
     {
-        self.calls >= MOST_CALLS || self.octets() > MOST_RECORD_OCTETS
+        self.calls >= MOST_PENDING_CALLS || self.octets() > MOST_PENDING_OCTETS
     }
 
     /// How many octets of records wait.
@@ -65,7 +65,7 @@ impl Pending {
 
     /// A call with a record, with what its event sends, and with its reply.
     pub(crate) fn add_event(&mut self, mut octets: Vec<u8>, sends: Items<Send>, reply: Items<Send>)
-        requires few { self.old.calls < 2 ^ 63 }
+        requires few { self.old.calls < most_events }
         requires records { vec_len self.old.records + length octets.items ≤ vec_capacity self.old.records }
         requires sends { deque_len self.old.sends + 2 ≤ deque_capacity self.old.sends }
         ensures records { self.new.records.items ≡ self.old.records.items ++ octets.items }
@@ -82,7 +82,7 @@ impl Pending {
 
     /// A call that owes datagrams alone.
     pub(crate) fn add_reply(&mut self, sends: Items<Send>)
-        requires few { self.old.calls < 2 ^ 63 }
+        requires few { self.old.calls < most_events }
         requires sends { deque_len self.old.sends + 2 ≤ deque_capacity self.old.sends }
         ensures records { self.new.records.items ≡ self.old.records.items }
         ensures sends { self.new.sends.items ≡ self.old.sends.items ++ sends ∷ [] }

@@ -1,27 +1,25 @@
 //! Takes datagrams from the link.
 
 ghost use Rattle.std.specs.Prelude.{◌≡◌, ◌≤◌, ◌<◌, ◌+◌, ◌^◌, ◌⊎◌, false, [], Err, None, IfErr, IfOk, IfSome, IsTrue, IsErrOf, OnOk, length, take, vec_capacity};
+ghost use Rattle.bac_values.specs.Limits.{most_datagram_octets};
 ghost use Rattle.bac_values.specs.declared.input.Input.{Input as Entered};
 ghost use Rattle.ground_io.specs.Counts.{HasCause};
 ghost use Rattle.ground_io.specs.Link.{FitsInto};
 ghost use Rattle.ground_io.specs.declared.link.Received.{Received as Arrival};
 ghost use Rattle.turnstile.specs.Passes.{IsOf};
 ghost use Rattle.floor_desk.specs.Tries.{IsBehind, IsInputOf};
-ghost use Rattle.floor_desk.specs.Workers.{EndsReceiving, HasCome, HasReceived, IsDatagram, IsNext, StaysLeft, if_lost, most_octets};
+ghost use Rattle.floor_desk.specs.Workers.{EndsReceiving, HasCome, HasReceived, IsDatagram, IsNext, StaysLeft, if_lost};
 
 use crate::desk::{Desk, DeskPass};
 use crate::entering::{Offer, enter_until, is_behind};
 use crate::entry::Ticket;
 use crate::faults::EnterFault;
 use crate::steps::Steps;
-use bac_values::{Input, Items, NoMemory, Peer};
+use bac_values::{Input, Items, MOST_DATAGRAM_OCTETS, NoMemory, Peer};
 use ground_io::{Clock, Failed, Gate, Ground, Link, Received, Worker};
 use std::alloc::Global;
 use std::sync::Wait;
 use std::sync::atomic::{AtomicU32, Ordering};
-
-/// Of a datagram no more octets are looked at.
-const MOST_OCTETS: usize = 1_497;
 
 /// What a receiver came to.
 #[derive(Clone, Copy, Debug, PartialEq, Eq, Drop)]
@@ -122,10 +120,10 @@ fn next_datagram<L: Link>(
     link: &mut L,
     into: &mut [u8],
 ) -> Result<Option<Came>, Missed>
-    requires whole { length into.old ≡ most_octets }
-    ensures whole { length into.new ≡ most_octets }
+    requires whole { length into.old ≡ most_datagram_octets }
+    ensures whole { length into.new ≡ most_datagram_octets }
     ensures next { IfOk result (λ next. IfSome next (λ came. IsNext (L.left link.old) (L.left link.new) came.input)) }
-    ensures short { IfOk result (λ next. IfSome next (λ came. came.length ≤ most_octets)) }
+    ensures short { IfOk result (λ next. IfSome next (λ came. came.length ≤ most_datagram_octets)) }
     ensures offer { IfOk result (λ next. IfSome next (λ came. IsInputOf came.offer (take came.length into.new) came.input)) }
     ensures datagram { IfOk result (λ next. IfSome next (λ came. IsDatagram came.input)) }
     ensures nothing { IfOk result (λ next. next ≡ None → StaysLeft (L.left link.old) (L.left link.new)) }
@@ -134,7 +132,7 @@ fn next_datagram<L: Link>(
     ensures counted { (result ≡ Err Missed.Link) ⊎ (L.faults link.new ≡ L.faults link.old) }
     ensures uncounted { OnOk result (L.faults link.new ≡ L.faults link.old) }
 {
-    let Ok(bytes) = Vec::with_capacity(alloc, MOST_OCTETS) else {
+    let Ok(bytes) = Vec::with_capacity(alloc, MOST_DATAGRAM_OCTETS) else {
         return Err(Missed::Memory);
     };
     let Ok(received) = link.receive(into) else {
@@ -165,7 +163,7 @@ pub fn receive_all<R: Wait, G: Ground, L: Link, K: Clock, W: Gate>(
     // It ends where all have come, where the link failed, or where memory was refused.
     ensures ends { EndsReceiving count (L.faults link.old) (L.faults link.new) result.1 }
 {
-    let mut into = [0; MOST_OCTETS];
+    let mut into = [0; MOST_DATAGRAM_OCTETS];
     let mut steps = Steps::new(Worker::Receiver);
     let mut pass = pass;
     let mut ends = Ends::none();

@@ -1,6 +1,7 @@
 //! The state of a core as a snapshot of its journal.
 
 ghost use Rattle.std.specs.Prelude.{◌≤◌, ◌<◌, ◌+◌, ◌^◌, ◌≡◌, IfOk, IsTrue, OnOk, length};
+ghost use Rattle.bac_values.specs.Limits.{most_events, snapshot_octets_limit};
 ghost use Rattle.alarm_core.specs.Limits.{KeepsLimits};
 ghost use Rattle.alarm_core.specs.SiteStates.{IsStateOf};
 ghost use Rattle.state_codec.specs.Snapshots.{written_state};
@@ -9,26 +10,20 @@ ghost use Rattle.floor_desk.specs.Carrying.{IsSnapshotOf};
 
 use alarm_core::{Core, site_fits};
 use alarm_journal::Job;
-use bac_values::NoMemory;
+use bac_values::{MOST_EVENTS, NoMemory, SNAPSHOT_OCTETS_LIMIT};
 use state_codec::{snapshots_are_short, state_fits, write_state};
 use std::alloc::Global;
 
 /// How many octets a snapshot takes of its area beside its own.
 const FRAME: u64 = 5;
 
-/// No snapshot has so many octets.
-const MOST_OCTETS: u64 = 36_000_000;
-
-/// No snapshot tells of so many events.
-const MOST_EVENTS: u64 = 1 << 63;
-
 // Whether the state after so many events is a snapshot, and one of so many octets fits an area.
 fn takes_state(events: u64, length: u64, area: u64) -> bool
-    ensures few { IsTrue result → events < 2 ^ 63 }
-    ensures short { IsTrue result → length < 36000000 }
+    ensures few { IsTrue result → events < most_events }
+    ensures short { IsTrue result → length < snapshot_octets_limit }
     ensures fits { IsTrue result → length + 5 ≤ area }
 {
-    events < MOST_EVENTS && length < MOST_OCTETS && length + FRAME <= area
+    events < MOST_EVENTS && length < SNAPSHOT_OCTETS_LIMIT && length + FRAME <= area
 }
 
 // The state of a core in octets. It keeps to the rules of the types of its parts.

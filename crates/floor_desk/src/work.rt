@@ -1,6 +1,7 @@
 //! What is written of a core in one commit: nothing, some records, or its state.
 
 ghost use Rattle.std.specs.Prelude.{◌≡◌, ◌≤◌, IfOk, MatchResult, [], length, ⊤};
+ghost use Rattle.bac_values.specs.Limits.{most_batch_octets};
 ghost use Rattle.ground_io.specs.Counts.{HasCause};
 ghost use Rattle.alarm_core.specs.Limits.{KeepsLimits};
 ghost use Rattle.alarm_journal.specs.Journal.{Content};
@@ -36,7 +37,7 @@ pub(crate) fn work_of<G: Ground>(
     records: &[u8],
 ) -> Result<Work, NoMemory>
     requires limits { KeepsLimits core.now.site }
-    requires few { length records.now ≤ 60000 }
+    requires few { length records.now ≤ most_batch_octets }
     ensures work { IfOk result (λ work. IsWorkOf core.now records.now (room_of press.now.layout) work) }
     ensures fits { IfOk result (λ work. FitsPress (room_of press.now.layout) press.now.layout.half work) }
 {

@@ -1,5 +1,5 @@
 ghost use Rattle.std.specs.Prelude.{◌≡◌, ◌≤◌, IfOk, None, length, pos};
-ghost use Rattle.notify_class.specs.Edits.{most_destinations};
+ghost use Rattle.bac_values.specs.Limits.{most_destinations};
 ghost use Rattle.object_table.specs.Objects.{IsObject};
 ghost use Rattle.alarm_core.specs.Limits.{KeepsLimits};
 ghost use Rattle.alarm_core.specs.Sites.{IsSite};

@@ -141,7 +141,8 @@ impl<W: Write + Drop> Ground for FileGround<W> {
         let Some(file) = &self.file else {
             return Ok(());
         };
-        if file.sync_all().is_err() {
+        // The file's size never changes: of all that is kept of it, only its times may be left behind.
+        if file.sync_data().is_err() {
             self.disk_faults = self.disk_faults.saturating_add(1);
             return Err(Failed);
         }

@@ -8,8 +8,8 @@ use std::marker::Model;
 use std::net::{SocketAddr, UdpSocket};
 use std::time::Duration;
 
-/// The real link: a socket on which a call waits for a datagram as long as its timeout. It counts its faults and tells
-/// nothing. What comes from an address of IPv6 is no datagram of a peer, and is dropped.
+/// The real link: a socket on which a call waits for a datagram as long as its timeout, or until a signal interrupts it,
+/// as one that stops the process for a while. It counts its faults and tells nothing. What comes from an address of IPv6 is no datagram of a peer, and is dropped.
 #[derive(Drop)]
 pub struct UdpLink {
     socket: UdpSocket,
@@ -51,7 +51,9 @@ impl Link for UdpLink {
             }),
             Ok((_, SocketAddr::V6(_))) => Ok(Received::Nothing),
             Err(error) => match error.kind() {
-                ErrorKind::WouldBlock | ErrorKind::TimedOut => Ok(Received::Nothing),
+                ErrorKind::WouldBlock | ErrorKind::TimedOut | ErrorKind::Interrupted => {
+                    Ok(Received::Nothing)
+                }
                 _ => {
                     self.faults = self.faults.saturating_add(1);
                     Err(Failed)

@@ -6,7 +6,7 @@ use Rattle.std.proofs.lemmas.List.Elements.{All-filter, All-map, filter_more}
 use Rattle.bac_values.specs.declared.note.Note.{Note}
 use Rattle.bac_values.specs.declared.transition.Transition.{Transition}
 use Rattle.civil_stamp.specs.LocalTime.{ZoneData}
-use Rattle.notify_class.specs.Edits.{peers_of}
+use Rattle.notify_class.specs.Edits.{recipient_peers}
 use Rattle.notify_class.specs.Recipients.{DestinationData}
 use Rattle.notify_class.specs.Windows.{is_in_window}
 use Rattle.event_services.specs.declared.notification.Notification.{Notification}
@@ -39,21 +39,21 @@ passed_over facts recipients transition moment zone i recipient notes lt there u
     ∙ sym (append-nil (notes_for facts (take i recipients) transition moment zone))
     ∙ sym (more facts recipients transition moment zone i recipient false lt (ap (λ (r : DestinationData). is_in_window r transition moment zone) (sym there) ∙ unused))
 
-listed : (recipients : List DestinationData) → All (λ (recipient : DestinationData). Contains (peers_of recipients) recipient.peer) recipients
+listed : (recipients : List DestinationData) → All (λ (recipient : DestinationData). Contains (recipient_peers recipients) recipient.peer) recipients
 listed recipients k d lt =
     (k, rw length-map lt, get_or-map (λ (recipient : DestinationData). recipient.peer) recipients k d (get_or recipients k d).peer lt)
 
 -- each note goes to the peer of a recipient
 pub to_recipients : (facts : Notification) (recipients : List DestinationData) (transition : Transition) (moment : ℕ) (zone : ZoneData)
-    → All (λ (note : Note). Contains (peers_of recipients) note.peer) (notes_for facts recipients transition moment zone)
+    → All (λ (note : Note). Contains (recipient_peers recipients) note.peer) (notes_for facts recipients transition moment zone)
 to_recipients facts recipients transition moment zone =
     let test : DestinationData → Bool = λ recipient. is_in_window recipient transition moment zone in
-    All-map (λ (note : Note). Contains (peers_of recipients) note.peer) (note_to facts) (filter test recipients)
-    (All-filter test (λ (recipient : DestinationData). Contains (peers_of recipients) recipient.peer) recipients (listed recipients))
+    All-map (λ (note : Note). Contains (recipient_peers recipients) note.peer) (note_to facts) (filter test recipients)
+    (All-filter test (λ (recipient : DestinationData). Contains (recipient_peers recipients) recipient.peer) recipients (listed recipients))
 
 -- the same of notes that were made of all the recipients
 pub all_to_recipients : (facts : Notification) (items recipients : List DestinationData) (transition : Transition) (moment : ℕ) (zone : ZoneData) (i : ℕ) (notes : List Note) → items ≡ recipients → length items ≤ i → notes ≡ notes_for facts (take i items) transition moment zone
-    → All (λ (note : Note). Contains (peers_of recipients) note.peer) notes
+    → All (λ (note : Note). Contains (recipient_peers recipients) note.peer) notes
 all_to_recipients facts items recipients transition moment zone i notes same le made =
-    subst (All (λ (note : Note). Contains (peers_of recipients) note.peer)) (sym (made ∙ ap (λ (rs : List DestinationData). notes_for facts rs transition moment zone) (take_all i items le ∙ same)))
+    subst (All (λ (note : Note). Contains (recipient_peers recipients) note.peer)) (sym (made ∙ ap (λ (rs : List DestinationData). notes_for facts rs transition moment zone) (take_all i items le ∙ same)))
     (to_recipients facts recipients transition moment zone)

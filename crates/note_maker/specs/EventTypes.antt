@@ -5,7 +5,7 @@ use Rattle.bac_values.specs.declared.event_state.EventState.{EventState}
 use Rattle.algorithm_rules.specs.declared.table.Algorithm.{Algorithm}
 use Rattle.algorithm_rules.specs.EventTypes.{event_type_of}
 use Rattle.event_machine.specs.declared.moves.Move.{Move}
-use Rattle.event_machine.specs.Detection.{is_fault}
+use Rattle.bac_values.specs.EventStates.{is_fault}
 
 -- the event type of a transition: that of the algorithm, and CHANGE_OF_RELIABILITY where the object's reliability made it
 abbrev pub transition_type : Algorithm → Move → ℕ

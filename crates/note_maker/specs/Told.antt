@@ -11,7 +11,8 @@ use Rattle.algorithm_rules.specs.declared.table.Algorithm.{Algorithm}
 use Rattle.algorithm_rules.specs.declared.table.Algorithm.TheVariants.{ChangeOfBitstring, ChangeOfState, CommandFailure, UnsignedRange, SignedOutOfRange, UnsignedOutOfRange, ChangeOfCharacterstring}
 use Rattle.algorithm_rules.specs.Facts.{Facts}
 use Rattle.event_machine.specs.declared.moves.Move.{Move}
-use Rattle.event_machine.specs.Detection.{cause_on, is_normal}
+use Rattle.bac_values.specs.EventStates.{is_normal}
+use Rattle.event_machine.specs.Detection.{cause_on}
 use Rattle.event_services.specs.declared.notification.EventValues.{EventValues}
 use Rattle.event_services.specs.declared.notification.EventValues.TheVariants as told
 

@@ -1,8 +1,8 @@
 ghost use Rattle.std.specs.Prelude.{◌≡◌, ◌≤◌, length, All, Contains, IfOk};
+ghost use Rattle.bac_values.specs.Limits.{most_note_octets};
 ghost use Rattle.bac_values.specs.declared.note.Note.{Note};
 ghost use Rattle.event_services.specs.Notifications.{IsTold};
-ghost use Rattle.event_services.specs.NoteLengths.{most_octets};
-ghost use Rattle.notify_class.specs.Edits.{peers_of};
+ghost use Rattle.notify_class.specs.Edits.{recipient_peers};
 ghost use Rattle.note_maker.specs.Notes.{note_to, notes_for};
 
 use bac_values::{Items, NoMemory, Note, Transition, push};
@@ -15,7 +15,7 @@ use std::alloc::Global;
 fn note_to(alloc: Global, facts: &Notification, destination: &Destination) -> Result<Note, NoMemory>
     requires { IsTold facts.now.event_type facts.now.values }
     ensures note { IfOk result (λ note. note ≡ note_to facts.now destination.now) }
-    ensures short { IfOk result (λ note. length note.body ≤ most_octets) }
+    ensures short { IfOk result (λ note. length note.body ≤ most_note_octets) }
 {
     let body = write_notification_to(alloc, destination.process, facts)?;
     Ok(Note {
@@ -37,8 +37,8 @@ pub fn notes_of(
     // The values are those of the event type, and each is one element.
     requires told { IsTold facts.now.event_type facts.now.values }
     ensures notes { IfOk result (λ notes. notes.items ≡ notes_for facts.now class.now.destinations transition at.now.moment at.now.zone) }
-    ensures short { IfOk result (λ notes. All (λ (note : Note). length note.body ≤ most_octets) notes.items) }
-    ensures peers { IfOk result (λ notes. All (λ (note : Note). Contains (peers_of class.now.destinations) note.peer) notes.items) }
+    ensures short { IfOk result (λ notes. All (λ (note : Note). length note.body ≤ most_note_octets) notes.items) }
+    ensures peers { IfOk result (λ notes. All (λ (note : Note). Contains (recipient_peers class.now.destinations) note.peer) notes.items) }
 {
     let mut notes = Vec::new(alloc);
     for destination in class.destinations.as_slice() {

@@ -1,5 +1,7 @@
 ghost use Rattle.std.specs.Prelude.{◌≡◌, ◌≤◌, ℤ, Some, List, length, IfOk, IfSome, option_and_then};
+ghost use Rattle.bac_values.specs.Limits.{most_listed_values};
 ghost use Rattle.std.specs.Option.{option_copied};
+ghost use Rattle.bac_values.specs.EventTypes.{change_of_characterstring_type, change_of_reliability_type, command_failure_type};
 ghost use Rattle.algorithm_rules.specs.EventTypes.{event_type_of};
 ghost use Rattle.algorithm_rules.specs.Facts.{facts_of};
 ghost use Rattle.event_machine.specs.Detection.{cause_on};
@@ -104,7 +106,7 @@ fn signed_limit(made: Move, snapshot: &Snapshot<'_>) -> Option<i32>
 
 /// The position of the alarm value that is told.
 fn alarm_place(made: Move, snapshot: &Snapshot<'_>, cause: Option<u32>) -> Option<u32>
-    requires few { length snapshot.now.alarm_values.now ≤ 32 }
+    requires few { length snapshot.now.alarm_values.now ≤ most_listed_values }
     ensures place { result ≡ cause_on made.to (facts_of snapshot.now) cause }
 {
     match made.to {
@@ -115,7 +117,7 @@ fn alarm_place(made: Move, snapshot: &Snapshot<'_>, cause: Option<u32>) -> Optio
 
 /// The alarm value that is told.
 fn told_alarm<'a>(made: Move, snapshot: &Snapshot<'a>, cause: Option<u32>) -> Option<&'a Value>
-    requires few { length snapshot.now.alarm_values.now ≤ 32 }
+    requires few { length snapshot.now.alarm_values.now ≤ most_listed_values }
     ensures alarm { option_copied result ≡ told_alarm made (facts_of snapshot.now) cause }
 {
     let place = alarm_place(made, snapshot, cause)?;
@@ -157,7 +159,7 @@ fn command_told(
     requires command { IsOneOrNone command }
     requires feedback { IsOneOrNone feedback }
     ensures told { result ≡ command_told command feedback flags }
-    ensures typed { IsTold 3 result }
+    ensures typed { IsTold command_failure_type result }
 {
     let command = command?;
     let feedback = feedback?;
@@ -225,7 +227,7 @@ fn text_told(
     flags: StatusFlags,
 ) -> Result<Option<EventValues>, NoMemory>
     ensures told { IfOk result (λ told. told ≡ text_told value.now (option_and_then text_in (option_copied alarm.entry)) flags) }
-    ensures typed { IfOk result (λ told. IsTold 17 told) }
+    ensures typed { IfOk result (λ told. IsTold change_of_characterstring_type told) }
 {
     let Value::Text(text) = value else {
         return Ok(None);
@@ -246,7 +248,7 @@ fn algorithm_values(
     cause: Option<u32>,
     flags: StatusFlags,
 ) -> Result<Option<EventValues>, NoMemory>
-    requires few { length snapshot.now.alarm_values.now ≤ 32 }
+    requires few { length snapshot.now.alarm_values.now ≤ most_listed_values }
     ensures values { IfOk result (λ values. values ≡ algorithm_values snapshot.now.algorithm (facts_of snapshot.now) made cause flags) }
     ensures told { IfOk result (λ values. IsTold (event_type_of snapshot.now.algorithm) values) }
 {
@@ -280,7 +282,7 @@ fn reliability_values(
     present_value: Option<&Value>,
 ) -> Result<EventValues, NoMemory>
     ensures values { IfOk result (λ values. values ≡ reliability_values reliability flags (option_copied present_value.entry)) }
-    ensures typed { IfOk result (λ values. IsTold 19 (Some values)) }
+    ensures typed { IfOk result (λ values. IsTold change_of_reliability_type (Some values)) }
 {
     Ok(EventValues::Reliability {
         reliability,
@@ -300,7 +302,7 @@ pub fn values_of(
     flags: StatusFlags,
     present_value: Option<&Value>,
 ) -> Result<Option<EventValues>, NoMemory>
-    requires few { length snapshot.now.alarm_values.now ≤ 32 }
+    requires few { length snapshot.now.alarm_values.now ≤ most_listed_values }
     ensures values { IfOk result (λ values. values ≡ values_at snapshot.now.algorithm (facts_of snapshot.now) made cause reliability flags (option_copied present_value.entry)) }
     ensures told { IfOk result (λ values. IsTold (transition_type snapshot.now.algorithm made) values) }
 {

@@ -9,7 +9,7 @@ use Rattle.std.proofs.lemmas.List.{map-append, take_more}
 use Rattle.bac_values.specs.Address.{PeerData}
 use Rattle.bac_values.specs.Orders.{IsAscending, is_among, is_same}
 use Rattle.bac_values.proofs.OrderLemmas.{below_is_other, peers_are_total, same_is_equivalence, tied}
-use Rattle.notify_class.specs.Edits.{known_with, peers_of, IsUnion}
+use Rattle.notify_class.specs.Edits.{known_with, recipient_peers, IsUnion}
 use Rattle.notify_class.specs.Recipients.{DestinationData}
 
 -- what is among a list, and what is one of its elements
@@ -64,17 +64,17 @@ with_last known (first ∷ peers) peer = elim (cases_Bool (is_among known first)
 ]
 
 -- the peers of one more recipient
-grown : (known : List PeerData) (recipients : List DestinationData) (place : ℕ) (recipient : DestinationData) → place < length recipients → recipient ≡ get_or recipients place recipient → known_with known (peers_of (take (place + 1) recipients)) ≡ with_one (known_with known (peers_of (take place recipients))) recipient.peer
+grown : (known : List PeerData) (recipients : List DestinationData) (place : ℕ) (recipient : DestinationData) → place < length recipients → recipient ≡ get_or recipients place recipient → known_with known (recipient_peers (take (place + 1) recipients)) ≡ with_one (known_with known (recipient_peers (take place recipients))) recipient.peer
 grown known recipients place recipient within is =
     let longer : take (place + 1) recipients ≡ take place recipients ++ recipient ∷ [] = take_more recipients place recipient within ∙ ap (λ it. take place recipients ++ it ∷ []) (sym is) in
-    let peers : peers_of (take (place + 1) recipients) ≡ peers_of (take place recipients) ++ recipient.peer ∷ [] = ap peers_of longer ∙ map-append (λ (it : DestinationData). it.peer) (take place recipients) (recipient ∷ []) in
-    ap (known_with known) peers ∙ with_last known (peers_of (take place recipients)) recipient.peer
+    let peers : recipient_peers (take (place + 1) recipients) ≡ recipient_peers (take place recipients) ++ recipient.peer ∷ [] = ap recipient_peers longer ∙ map-append (λ (it : DestinationData). it.peer) (take place recipients) (recipient ∷ []) in
+    ap (known_with known) peers ∙ with_last known (recipient_peers (take place recipients)) recipient.peer
 
 module _ (known : List PeerData) (recipients : List DestinationData) (place : ℕ) (recipient : DestinationData) (within : place < length recipients) (is : recipient ≡ get_or recipients place recipient) where
   abbrev so_far : List PeerData
-  so_far = known_with known (peers_of (take place recipients))
+  so_far = known_with known (recipient_peers (take place recipients))
 
-  pub length-new : true ≡ not (is_among so_far recipient.peer) → length (known_with known (peers_of (take (place + 1) recipients))) ≡ length so_far + 1
+  pub length-new : true ≡ not (is_among so_far recipient.peer) → length (known_with known (recipient_peers (take (place + 1) recipients))) ≡ length so_far + 1
   length-new new =
       let none : is_among so_far recipient.peer ≡ false = opposite (is_among so_far recipient.peer) new in
       ap length (grown known recipients place recipient within is ∙ rw none refl) ∙ length-append so_far (recipient.peer ∷ [])
@@ -83,7 +83,7 @@ module _ (known : List PeerData) (recipients : List DestinationData) (place : �
       opposite true h = h
       opposite false h = refl
 
-  pub length-known : false ≡ not (is_among so_far recipient.peer) → length (known_with known (peers_of (take (place + 1) recipients))) ≡ length so_far
+  pub length-known : false ≡ not (is_among so_far recipient.peer) → length (known_with known (recipient_peers (take (place + 1) recipients))) ≡ length so_far
   length-known there =
       let one : is_among so_far recipient.peer ≡ true = opposite (is_among so_far recipient.peer) there in
       ap length (grown known recipients place recipient within is ∙ rw one refl)

@@ -1,21 +1,15 @@
 -- The limits of a Recipient_List that is edited.
 use Rattle.std.specs.Prelude.{◌≡◌, ℕ, ◌*◌, ◌↔◌, ◌⊎◌, List, [], ◌∷◌, ◌++◌, length, map, Result, Ok, Err, Contains, AllPairs, nat_lt, if◌then◌else◌}
+use Rattle.bac_values.specs.Limits.{most_destinations, most_peers}
 use Rattle.bac_values.specs.Address.{PeerData}
 use Rattle.bac_values.specs.Orders.{is_among}
 use Rattle.notify_class.specs.declared.edit.EditFault.{EditFault}
 use Rattle.notify_class.specs.declared.edit.EditFault.TheVariants.{TooMany, TooManyPeers, TooManyNotes}
 use Rattle.notify_class.specs.Recipients.{DestinationData}
 
--- the most recipients of a list, and the most peers that the server knows
-abbrev pub most_destinations : ℕ
-most_destinations = 32
-
-abbrev pub most_peers : ℕ
-most_peers = 8_192
-
 -- the peers of a list of recipients, in its order
-abbrev pub peers_of : List DestinationData → List PeerData
-peers_of recipients = map (λ (recipient : DestinationData). recipient.peer) recipients
+abbrev pub recipient_peers : List DestinationData → List PeerData
+recipient_peers recipients = map (λ (recipient : DestinationData). recipient.peer) recipients
 
 -- the known peers, once each of the others has been added that is not there yet
 abbrev pub known_with : List PeerData → List PeerData → List PeerData
@@ -33,7 +27,7 @@ pub record IsUnion (known others together : List PeerData) : Type 0 where
 abbrev pub edit_verdict : List PeerData → List DestinationData → ℕ → ℕ → Result (Unit {0}) EditFault
 edit_verdict known recipients members room =
     let count = length recipients in
-    let peers = length (known_with known (peers_of recipients)) in
+    let peers = length (known_with known (recipient_peers recipients)) in
     let notes = members * count in
     if nat_lt most_destinations count then Err (TooMany count)
     else (if nat_lt most_peers peers then Err (TooManyPeers peers)

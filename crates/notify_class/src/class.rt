@@ -1,7 +1,8 @@
 use crate::Destination;
 use bac_values::Items;
 
-/// A notification class (ANSI/ASHRAE 135-2020, 12.21). Lists of three are in the order of `Transition::ALL`.
+/// A notification class (ANSI/ASHRAE 135-2020, 12.21). Lists of three are for to-offnormal, to-fault and
+/// to-normal.
 #[derive(Clone, Debug, Drop)]
 pub struct Class {
     /// The instance of its object.

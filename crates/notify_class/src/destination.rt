@@ -16,7 +16,7 @@ pub struct Destination {
     pub process: u32,
     /// Whether the peer is to confirm its notifications.
     pub confirmed: bool,
-    /// The kinds of transitions that it is notified of, in the order of `Transition::ALL`.
+    /// The kinds of transitions that it is notified of, to-offnormal, to-fault, to-normal.
     pub transitions: [bool; 3],
 }
 

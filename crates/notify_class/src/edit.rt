@@ -2,26 +2,20 @@ ghost use Rattle.std.specs.Prelude.{◌≡◌, ◌↔◌, ◌+◌, ◌<◌, ◌�
 ghost use Rattle.bac_values.specs.Address.{PeerData};
 ghost use Rattle.bac_values.specs.Orders.{IsAscending, is_among};
 ghost use Rattle.notify_class.specs.Recipients.{DestinationData};
-ghost use Rattle.notify_class.specs.Edits.{IsUnion, known_with, peers_of, edit_verdict};
+ghost use Rattle.notify_class.specs.Edits.{IsUnion, known_with, recipient_peers, edit_verdict};
 
 use crate::Destination;
-use bac_values::{Peer, is_among};
-
-/// The most destinations of a class.
-const MOST_DESTINATIONS: usize = 32;
-
-/// The most peers that are known: those of all destinations that there are or have been.
-const MOST_PEERS: usize = 8_192;
+use bac_values::{MOST_DESTINATIONS, MOST_PEERS, Peer, is_among};
 
 /// Why the destinations of a class cannot be replaced.
 #[derive(Clone, Copy, Debug, PartialEq, Eq)]
 pub enum EditFault {
-    /// More than 32 destinations.
+    /// More than `MOST_DESTINATIONS` destinations.
     TooMany {
         /// How many.
         count: usize,
     },
-    /// The peers that are known and those that are new are together more than 8,192.
+    /// The peers that are known and those that are new are together more than `MOST_PEERS`.
     TooManyPeers {
         /// How many there would be.
         would: usize,
@@ -35,7 +29,7 @@ pub enum EditFault {
 
 /// Whether one of the destinations has the peer.
 fn has_peer(destinations: &[Destination], peer: &Peer) -> bool
-    ensures has { result ≡ is_among (peers_of destinations.now) peer.now }
+    ensures has { result ≡ is_among (recipient_peers destinations.now) peer.now }
 {
     destinations
         .iter()
@@ -47,7 +41,7 @@ fn has_peer(destinations: &[Destination], peer: &Peer) -> bool
 #[tactic(auto, using(crate::proofs::UnionLemmas::among_both))]
 fn is_new(known: &[Peer], earlier: &[Destination], peer: &Peer) -> bool
     requires ascending { IsAscending known.now }
-    ensures new { result ≡ not (is_among (known_with known.now (peers_of earlier.now)) peer.now) }
+    ensures new { result ≡ not (is_among (known_with known.now (recipient_peers earlier.now)) peer.now) }
 {
     !is_among(known, peer) && !has_peer(earlier, peer)
 }
@@ -55,7 +49,7 @@ fn is_new(known: &[Peer], earlier: &[Destination], peer: &Peer) -> bool
 /// How many peers of the destinations are not known.
 fn new_peers(known: &[Peer], destinations: &[Destination]) -> usize
     requires ascending { IsAscending known.now }
-    ensures together { length known.now + result ≡ length (known_with known.now (peers_of destinations.now)) }
+    ensures together { length known.now + result ≡ length (known_with known.now (recipient_peers destinations.now)) }
     ensures most { result ≤ length destinations.now }
 {
     let mut count = 0;
@@ -77,7 +71,7 @@ pub fn check_edit(
 ) -> Result<(), EditFault>
     requires ascending { IsAscending known.now }
     ensures verdict { result ≡ edit_verdict known.now destinations.now members room }
-    ensures union { IsUnion known.now (peers_of destinations.now) (known_with known.now (peers_of destinations.now)) }
+    ensures union { IsUnion known.now (recipient_peers destinations.now) (known_with known.now (recipient_peers destinations.now)) }
 {
     let count = destinations.len();
     if count > MOST_DESTINATIONS {

@@ -1,5 +1,6 @@
 -- What a value object may be: the keys that its kind has, and with a class those of its alarms.
 use Rattle.std.specs.Prelude.{◌≡◌, ℕ, ◌≤◌, ℤ, pos, IsTrue, IsSome, IsNone, All, false, Option, Some, None, List, [], ◌∷◌, length, FitsSigned}
+use Rattle.bac_values.specs.Limits.{most_listed_values}
 use Rattle.std.specs.Int.{w32, FitsUnsigned}
 use Rattle.bac_values.specs.EventTypes.{alarm_notify_type, event_notify_type}
 use Rattle.bac_values.specs.declared.object_kind.ObjectKind.{ObjectKind}
@@ -85,7 +86,7 @@ pub record HasAlarmKeys (kind : Option ObjectKind) (site : ObjectSite) : Type 0 
   pub limits : KeepsLimits kind site
   pub alarm_value : KeepsAlarmValue kind site.alarm_value
   pub alarm_values : All (IsAlarmValue kind) site.alarm_values
-  pub few : length site.alarm_values ≤ 32
+  pub few : length site.alarm_values ≤ most_listed_values
   pub some : NeedsAlarmValues kind site.alarm_values
   pub mask : KeepsMask kind site.mask
 
@@ -113,7 +114,7 @@ pub record IsObjectOf (kind : Option ObjectKind) (site : ObjectSite) : Type 0 wh
   pub states : HasStates kind site.states
   pub fault_limits : AreFaultLimits kind site.fault_low site.fault_high
   pub fault_values : All (IsFaultValue kind) site.fault_values
-  pub few : length site.fault_values ≤ 32
+  pub few : length site.fault_values ≤ most_listed_values
   pub alarm : KeepsAlarmKeys kind site.class site
 
 -- a value object

@@ -17,6 +17,7 @@ mod table;
 mod values;
 mod verdicts;
 
+pub use bac_values::SetFault;
 pub use change::{Change, What};
 pub use copying::{copy_of_change, copy_of_objects};
 pub use faults::WriteFault;
@@ -25,4 +26,5 @@ pub use object_property::ObjectProperty;
 pub use object_site::ObjectSite;
 pub use row::Row;
 pub use table::Table;
+pub use values::{is_field_fault, is_present_value};
 pub use verdicts::{check_index, check_value};

@@ -20,14 +20,14 @@ pub struct ObjectSite {
     pub fault_low: Option<i64>,
     /// The greatest value that is no fault, of an integer or a positive integer value.
     pub fault_high: Option<i64>,
-    /// Fault_Values, of a multi-state or a character string value: at most 32.
+    /// Fault_Values, of a multi-state or a character string value: at most `MOST_LISTED_VALUES`.
     pub fault_values: Items<Value>,
     /// Notification_Class: the instance of the class whose recipients are told of the object's events. An object without
     /// a class has none of the keys below.
     pub class: Option<u32>,
     /// Notify_Type: 0 for an alarm, 1 for an event.
     pub notify: u8,
-    /// Event_Enable, in the order of `Transition::ALL`.
+    /// Event_Enable, to-offnormal, to-fault, to-normal.
     pub enable: [bool; 3],
     /// Time_Delay, in seconds.
     pub time_delay: u32,
@@ -47,7 +47,7 @@ pub struct ObjectSite {
     pub limit_enable: [bool; 2],
     /// Alarm_Value, of a binary value.
     pub alarm_value: Option<Value>,
-    /// Alarm_Values, of a multi-state, a bit string or a character string value: at most 32.
+    /// Alarm_Values, of a multi-state, a bit string or a character string value: at most `MOST_LISTED_VALUES`.
     pub alarm_values: Items<Value>,
     /// Bit_Mask: the bits that are compared, of a bit string value.
     pub mask: Option<Bits>,

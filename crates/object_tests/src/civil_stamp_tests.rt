@@ -1,4 +1,5 @@
-// Each wanted stamp and number of hundredths was computed by Python's datetime and zoneinfo.
+// Each wanted stamp and number of hundredths was computed by Python's datetime and zoneinfo, and those of the last two rules by a
+// script that looks at each second of the days around.
 use crate::comparing::{holds, same};
 use bac_values::{FIRST_MOMENT, LAST_MOMENT, Stamp};
 use civil_stamp::{
@@ -251,6 +252,52 @@ fn has_a_winter_time_that_is_behind(rt: HostRuntime) {
         ([124, 3, 31, 7, 1, 30, 0, 0], 171_184_860_000),
     ];
     expect_hundredths(&rt, DUBLIN, &fold_and_gap);
+}
+
+// Daylight saving time that starts with the year and ends, as the clock shows it, an hour behind it: the clock is never put.
+const SUMMER_ALL_YEAR: &str = "XXX-1YYY-2,J1/0,J365/25";
+
+// Daylight saving time all year but for an hour: the clock is put back by two hours, and an hour later forward by two.
+const WINTER_FOR_AN_HOUR: &str = "AAA0BBB-2,J100/0,J100/1";
+
+#[test]
+fn has_summer_at_the_turn_of_the_year_without_a_fold(rt: HostRuntime) {
+    expect_by_rule(
+        &rt,
+        SUMMER_ALL_YEAR,
+        &[
+            (1_735_684_200_000, [125, 1, 1, 3, 0, 30, 0, 0]),
+            (1_735_698_600_000, [125, 1, 1, 3, 4, 30, 0, 0]),
+        ],
+    );
+    let around_new_year = [
+        ([124, 12, 31, 2, 23, 30, 0, 0], 173_568_060_000),
+        ([125, 1, 1, 3, 0, 30, 0, 0], 173_568_420_000),
+        ([125, 1, 1, 3, 0, 59, 59, 99], 173_568_599_999),
+        ([125, 1, 1, 3, 2, 30, 0, 0], 173_569_140_000),
+    ];
+    expect_hundredths(&rt, SUMMER_ALL_YEAR, &around_new_year);
+}
+
+#[test]
+fn has_a_fold_and_a_gap_on_one_night(rt: HostRuntime) {
+    expect_by_rule(
+        &rt,
+        WINTER_FOR_AN_HOUR,
+        &[
+            (1_712_700_000_000, [124, 4, 10, 3, 0, 0, 0, 0]),
+            (1_712_705_400_000, [124, 4, 9, 2, 23, 30, 0, 0]),
+            (1_712_709_000_000, [124, 4, 10, 3, 2, 30, 0, 0]),
+        ],
+    );
+    let fold_and_gap = [
+        ([124, 4, 9, 2, 23, 30, 0, 0], 171_269_820_000),
+        ([124, 4, 10, 3, 0, 30, 0, 0], 171_270_180_000),
+        ([124, 4, 10, 3, 1, 30, 0, 0], 171_271_260_000),
+        ([124, 4, 10, 3, 2, 0, 0, 0], 171_270_720_000),
+        ([124, 7, 1, 1, 12, 0, 0, 0], 171_982_800_000),
+    ];
+    expect_hundredths(&rt, WINTER_FOR_AN_HOUR, &fold_and_gap);
 }
 
 #[test]

@@ -1,4 +1,4 @@
-ghost use Rattle.std.specs.Prelude.{◌≡◌, ◌≤◌, IfOk};
+ghost use Rattle.std.specs.Prelude.{◌≡◌};
 ghost use Rattle.std.specs.declared.cmp.Ordering.TheVariants.{Less};
 ghost use Rattle.bac_values.specs.Orders.{identifier_order};
 ghost use Rattle.object_table.specs.Objects.{IsObject};
@@ -6,84 +6,16 @@ ghost use Rattle.enrollment.specs.Enrollments.{IsEnrollment};
 
 use crate::comparing::{holds, same};
 use algorithm_rules::{Algorithm, Snapshot, number_of as number_in};
-use bac_values::{Items, ObjectId, ObjectKind, PropertyId, Text, Transition, Value};
+use bac_values::{ObjectId, ObjectKind, PropertyId, Transition, Value};
 use enrollment::*;
 use object_table::{Change, ObjectSite, Table, What};
+use sample_objects::{flow, follower, level, mirror, range};
 use std::alloc::Global;
 use std::process::Abort;
 use std::test::Fail;
 
 fn identifier(kind: ObjectKind, instance: u32) -> Result<ObjectId, Fail> {
     Ok(ObjectId::of_kind(kind, instance)?)
-}
-
-/// Enrollment 1: COMMAND_FAILURE of integer value 2, whose feedback is integer value 1.
-fn follower(alloc: Global) -> Result<EnrollmentSite, Fail>
-    ensures allowed { IfOk result (λ site. IsEnrollment site) }
-    ensures identifier { IfOk result (λ site. site.object ≡ record { number = 9; instance = 1 }) }
-{
-    Ok(EnrollmentSite {
-        object: ObjectId::of_kind(ObjectKind::EventEnrollment, 1)?,
-        name: Text::new(alloc, "Follower")?,
-        class: 7,
-        algorithm: Algorithm::CommandFailure,
-        monitored: ObjectId::of_kind(ObjectKind::IntegerValue, 2)?,
-        feedback: Some(ObjectId::of_kind(ObjectKind::IntegerValue, 1)?),
-        low: 0,
-        high: 0,
-        notify: 0,
-        enable: [true, true, false],
-        time_delay: 5,
-        time_delay_normal: Some(8),
-        detection: true,
-        inhibit: false,
-    })
-}
-
-/// Enrollment 2: COMMAND_FAILURE of integer value 1, which is its own feedback.
-fn mirror(alloc: Global) -> Result<EnrollmentSite, Fail>
-    ensures allowed { IfOk result (λ site. IsEnrollment site) }
-    ensures identifier { IfOk result (λ site. site.object ≡ record { number = 9; instance = 2 }) }
-{
-    Ok(EnrollmentSite {
-        object: ObjectId::of_kind(ObjectKind::EventEnrollment, 2)?,
-        name: Text::new(alloc, "Mirror")?,
-        class: 7,
-        algorithm: Algorithm::CommandFailure,
-        monitored: ObjectId::of_kind(ObjectKind::IntegerValue, 1)?,
-        feedback: Some(ObjectId::of_kind(ObjectKind::IntegerValue, 1)?),
-        low: 0,
-        high: 0,
-        notify: 1,
-        enable: [true, true, true],
-        time_delay: 0,
-        time_delay_normal: None,
-        detection: true,
-        inhibit: true,
-    })
-}
-
-/// Enrollment 3: UNSIGNED_RANGE of positive integer value 1.
-fn range(alloc: Global) -> Result<EnrollmentSite, Fail>
-    ensures allowed { IfOk result (λ site. IsEnrollment site) }
-    ensures identifier { IfOk result (λ site. site.object ≡ record { number = 9; instance = 3 }) }
-{
-    Ok(EnrollmentSite {
-        object: ObjectId::of_kind(ObjectKind::EventEnrollment, 3)?,
-        name: Text::new(alloc, "Range")?,
-        class: 7,
-        algorithm: Algorithm::UnsignedRange,
-        monitored: ObjectId::of_kind(ObjectKind::PositiveIntegerValue, 1)?,
-        feedback: None,
-        low: 20,
-        high: 80,
-        notify: 0,
-        enable: [true, true, true],
-        time_delay: 3,
-        time_delay_normal: None,
-        detection: true,
-        inhibit: false,
-    })
 }
 
 /// Two enrollments.
@@ -97,71 +29,6 @@ fn enrollments_of(
     requires order { identifier_order first.object second.object ≡ Less }
 {
     Ok(Enrollments::new(alloc, vec![in alloc; first, second]?)?)
-}
-
-/// An integer value without a class.
-fn level(alloc: Global, instance: u32, number: i32) -> Result<ObjectSite, Fail>
-    requires instance { instance ≤ 4194302 }
-    ensures allowed { IfOk result (λ site. IsObject site) }
-    ensures identifier { IfOk result (λ site. site.object ≡ record { number = 45; instance = instance }) }
-{
-    Ok(ObjectSite {
-        object: ObjectId::of_kind(ObjectKind::IntegerValue, instance)?,
-        name: Text::new(alloc, "Level")?,
-        value: Value::Signed(number),
-        out_of_service: false,
-        reliability_inhibit: false,
-        states: 0,
-        fault_low: None,
-        fault_high: None,
-        fault_values: Items::of(Vec::new(alloc)),
-        class: None,
-        notify: 0,
-        enable: [false, false, false],
-        time_delay: 0,
-        time_delay_normal: None,
-        detection: false,
-        inhibit: false,
-        low: 0,
-        high: 0,
-        deadband: 0,
-        limit_enable: [false, false],
-        alarm_value: None,
-        alarm_values: Items::of(Vec::new(alloc)),
-        mask: None,
-    })
-}
-
-/// A positive integer value with a class and limits.
-fn flow(alloc: Global) -> Result<ObjectSite, Fail>
-    ensures allowed { IfOk result (λ site. IsObject site) }
-    ensures identifier { IfOk result (λ site. site.object ≡ record { number = 48; instance = 1 }) }
-{
-    Ok(ObjectSite {
-        object: ObjectId::of_kind(ObjectKind::PositiveIntegerValue, 1)?,
-        name: Text::new(alloc, "Flow")?,
-        value: Value::Unsigned(90),
-        out_of_service: false,
-        reliability_inhibit: false,
-        states: 0,
-        fault_low: None,
-        fault_high: None,
-        fault_values: Items::of(Vec::new(alloc)),
-        class: Some(7),
-        notify: 0,
-        enable: [true, true, true],
-        time_delay: 10,
-        time_delay_normal: Some(20),
-        detection: true,
-        inhibit: false,
-        low: 40,
-        high: 60,
-        deadband: 5,
-        limit_enable: [true, false],
-        alarm_value: None,
-        alarm_values: Items::of(Vec::new(alloc)),
-        mask: None,
-    })
 }
 
 /// A table of two objects.

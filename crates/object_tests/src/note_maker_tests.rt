@@ -120,7 +120,11 @@ fn processes_of(
     requires told { IsTold facts.now.event_type facts.now.values }
 {
     let mut processes = Vec::new(alloc);
-    for transition in Transition::ALL {
+    for transition in [
+        Transition::ToOffnormal,
+        Transition::ToFault,
+        Transition::ToNormal,
+    ] {
         let notes = notes_of(alloc, facts, class, transition, at)?;
         add_processes(alloc, notes.as_slice(), &mut processes)?;
     }

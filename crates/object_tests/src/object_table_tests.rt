@@ -1,44 +1,13 @@
 ghost use Rattle.std.specs.Prelude.{IfOk};
-ghost use Rattle.object_table.specs.Objects.{IsObject};
 ghost use Rattle.object_table.specs.Writes.{IsTaken};
 
 use crate::comparing::holds;
-use bac_values::{Items, ObjectId, ObjectKind, PropertyId, Text, Value};
+use bac_values::{ObjectId, ObjectKind, PropertyId, Text, Value};
 use object_table::*;
+use sample_objects::label;
 use std::alloc::Global;
 use std::process::Abort;
 use std::test::Fail;
-
-/// A character string value without a class.
-fn label(alloc: Global) -> Result<ObjectSite, Fail>
-    ensures object { IfOk result (λ site. IsObject site) }
-{
-    Ok(ObjectSite {
-        object: ObjectId::of_kind(ObjectKind::CharacterStringValue, 1)?,
-        name: Text::new(alloc, "Label")?,
-        value: Value::Text(Text::new(alloc, "ok")?),
-        out_of_service: false,
-        reliability_inhibit: false,
-        states: 0,
-        fault_low: None,
-        fault_high: None,
-        fault_values: Items::of(Vec::new(alloc)),
-        class: None,
-        notify: 0,
-        enable: [false, false, false],
-        time_delay: 0,
-        time_delay_normal: None,
-        detection: false,
-        inhibit: false,
-        low: 0,
-        high: 0,
-        deadband: 0,
-        limit_enable: [false, false],
-        alarm_value: None,
-        alarm_values: Items::of(Vec::new(alloc)),
-        mask: None,
-    })
-}
 
 fn label_id() -> Result<ObjectId, Fail> {
     Ok(ObjectId::of_kind(ObjectKind::CharacterStringValue, 1)?)

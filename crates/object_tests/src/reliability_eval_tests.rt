@@ -2,6 +2,7 @@ use crate::comparing::same;
 use bac_values::{Items, ObjectId, ObjectKind, Reliability, Text, Value};
 use object_table::{ObjectSite, Row, Table};
 use reliability_eval::*;
+use sample_objects::plain;
 use std::alloc::Global;
 use std::process::Abort;
 use std::test::Fail;
@@ -11,46 +12,18 @@ fn two(alloc: Global, first: Value, second: Value) -> Result<Items<Value>, Fail>
     Ok(Items::of(vec![in alloc; first, second]?))
 }
 
-/// A row of an object with a value, which has no class, fault limits from 10 to 20 and these fault values.
-fn row_with(
-    object: ObjectId,
-    name: Text,
-    value: Value,
-    fault_values: Items<Value>,
-    alarm_values: Items<Value>,
-) -> Row {
-    let site = ObjectSite {
-        object,
-        name,
-        value,
-        out_of_service: false,
-        reliability_inhibit: false,
-        states: 0,
-        fault_low: Some(10),
-        fault_high: Some(20),
-        fault_values,
-        class: None,
-        notify: 0,
-        enable: [false, false, false],
-        time_delay: 0,
-        time_delay_normal: None,
-        detection: false,
-        inhibit: false,
-        low: 0,
-        high: 0,
-        deadband: 0,
-        limit_enable: [false, false],
-        alarm_value: None,
-        alarm_values,
-        mask: None,
-    };
+/// An object without a class, whose fault limits are 10 and 20, with these fault values.
+fn faulted(mut site: ObjectSite, fault_values: Items<Value>) -> Row {
+    site.fault_low = Some(10);
+    site.fault_high = Some(20);
+    site.fault_values = fault_values;
     Row {
         site,
         field_fault: 0,
     }
 }
 
-/// Such a row of an object of a kind, with two fault values.
+/// A row of such an object of a kind, with two fault values.
 fn row(
     alloc: Global,
     kind: ObjectKind,
@@ -61,8 +34,7 @@ fn row(
     let object = ObjectId::of_kind(kind, 1)?;
     let faults = two(alloc, first, second)?;
     let name = Text::new(alloc, "Object")?;
-    let none = Items::of(Vec::new(alloc));
-    Ok(row_with(object, name, value, faults, none))
+    Ok(faulted(plain(alloc, object, name, value), faults))
 }
 
 fn level(alloc: Global, value: i32) -> Result<Row, Fail> {

@@ -1,4 +1,5 @@
 -- What is so of every outbox stays so.
+use Rattle.bac_values.specs.Limits.{most_note_octets}
 use Rattle.std.proofs.Common.{◌≡◌, ℕ, suc, ◌+◌, ◌^◌, ◌<◌, ◌≤◌, Bool, true, false, true≢false, nat_lt, nat_le, ◌||◌, IsTrue, List, [], ◌∷◌, length, drop, map, refl, sym, ◌∙◌, subst, inl, inr, arith, rules}
 use Rattle.std.specs.List.{list_any, position_or_len, All, slice_get}
 use Rattle.std.specs.Option.{IsSomeAnd}
@@ -12,7 +13,7 @@ use Rattle.bac_values.specs.Address.{PeerData}
 use Rattle.bac_values.specs.declared.note.Note.{Note}
 use Rattle.bac_values.specs.Orders.{is_same, IsAscending}
 use Rattle.outbox.specs.Delivery.{Timing, is_confirmed, is_awaited, is_repeated}
-use Rattle.outbox.specs.Posts.{IsPost, without_first, unsent, post_sent, post_pumped, post_answered, is_in_flight, most_octets, MailboxState}
+use Rattle.outbox.specs.Posts.{IsPost, without_first, unsent, post_sent, post_pumped, post_answered, is_in_flight, MailboxState}
 use Rattle.outbox.specs.Outboxes.{OutboxState, IsOutbox, timing_of, unfinished_in, pumped, answered, answered_by, is_flight_to}
 use Rattle.outbox.proofs.Standing.{peers_stay, pumped_peer, answered_peer}
 
@@ -34,7 +35,7 @@ without_first_keeps retries post is = record {
   attempts = omega arith;
   in_flight = λ h. absurd (omega (arith, h));
   resting = λ h. refl;
-  short = All-drop (λ (note : Note). length note.body ≤ most_octets) 1 post.notes is.short;
+  short = All-drop (λ (note : Note). length note.body ≤ most_note_octets) 1 post.notes is.short;
   own = All-drop (λ (note : Note). note.peer ≡ post.peer) 1 post.notes is.own;
 }
 
@@ -65,7 +66,7 @@ post_sent_keeps timing moment post ends is = by_test (nat_lt count (length post.
       attempts = rw e (omega arith);
       in_flight = λ h. first_confirmed post.notes (ltb-true _ _ e);
       resting = rw e (λ h. absurd (omega (arith, h)));
-      short = All-drop (λ (note : Note). length note.body ≤ most_octets) (position_or_len is_confirmed post.notes) post.notes is.short;
+      short = All-drop (λ (note : Note). length note.body ≤ most_note_octets) (position_or_len is_confirmed post.notes) post.notes is.short;
       own = All-drop (λ (note : Note). note.peer ≡ post.peer) (position_or_len is_confirmed post.notes) post.notes is.own;
     }
     by_test false e = record {
@@ -74,7 +75,7 @@ post_sent_keeps timing moment post ends is = by_test (nat_lt count (length post.
       attempts = rw e (omega arith);
       in_flight = rw e (λ h. absurd (omega (arith, h)));
       resting = rw e (λ h. refl);
-      short = All-drop (λ (note : Note). length note.body ≤ most_octets) (position_or_len is_confirmed post.notes) post.notes is.short;
+      short = All-drop (λ (note : Note). length note.body ≤ most_note_octets) (position_or_len is_confirmed post.notes) post.notes is.short;
       own = All-drop (λ (note : Note). note.peer ≡ post.peer) (position_or_len is_confirmed post.notes) post.notes is.own;
     }
 

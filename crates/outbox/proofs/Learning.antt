@@ -16,7 +16,7 @@ use Rattle.bac_values.proofs.OrderLemmas.{same_by_order, tied}
 use Rattle.bac_values.proofs.Placing.{inserted, turned, is_above as above, is_below as below}
 use Rattle.bac_values.proofs.Inserting.{ascends_with as peers_ascend}
 use Rattle.outbox.specs.Posts.{IsPost, empty_post, post_after, MailboxState}
-use Rattle.outbox.specs.Outboxes.{OutboxState, IsOutbox, timing_of, peers_of, unfinished_in, is_known, with_peer, with_peers, learned}
+use Rattle.outbox.specs.Outboxes.{OutboxState, IsOutbox, timing_of, peers_of, unfinished_in, is_known, mailboxes_with, mailboxes_with_all, learned}
 use Rattle.outbox.specs.Places.{IsPlaceOf, IsGapFor}
 use Rattle.outbox.proofs.PlaceLemmas.{peer_of, here, nowhere}
 use Rattle.outbox.proofs.Making.{empty_is}
@@ -24,13 +24,13 @@ use Rattle.outbox.specs.Following.{Learns}
 use Rattle.outbox.proofs.Standing.{Fits, fits_from, fits_to, nothing_kept}
 
 -- a peer that is known stays as it was
-pub known_same : (peer : PeerData) (posts : List MailboxState) → is_known peer posts ≡ true → with_peer peer posts ≡ posts
+pub known_same : (peer : PeerData) (posts : List MailboxState) → is_known peer posts ≡ true → mailboxes_with peer posts ≡ posts
 known_same peer posts known = rw known refl
 
-pub at_place : (peer : PeerData) (posts : List MailboxState) (place : ℕ) → IsPlaceOf peer posts place → (d : MailboxState) → posts ≡ with_peer peer posts
+pub at_place : (peer : PeerData) (posts : List MailboxState) (place : ℕ) → IsPlaceOf peer posts place → (d : MailboxState) → posts ≡ mailboxes_with peer posts
 at_place peer posts place there d = sym (known_same peer posts (list_any_at (λ (post : MailboxState). is_same post.peer peer) posts place d there.0 (here posts peer place there d)))
 
-pub at_gap : (peer : PeerData) (posts : List MailboxState) (place : ℕ) → IsGapFor peer posts place → insert posts place (empty_post peer) ≡ with_peer peer posts
+pub at_gap : (peer : PeerData) (posts : List MailboxState) (place : ℕ) → IsGapFor peer posts place → insert posts place (empty_post peer) ≡ mailboxes_with peer posts
 at_gap peer posts place gap =
     let unknown : is_known peer posts ≡ false = list_any_none (λ (post : MailboxState). is_same post.peer peer) posts (λ j d within. nowhere posts peer place gap j d within) in
     rw unknown (inserted peer_of peer posts place (empty_post peer) gap)
@@ -59,14 +59,14 @@ module _ (peer : PeerData) where
       λ k. if other_side post apart.0 k then post ∷ rest k else rest k
 
   -- the posts with the peer's, in another order
-  pub shuffled : (posts : List MailboxState) → is_known peer posts ≡ false → IsPermutation (empty_post peer ∷ posts) (with_peer peer posts)
+  pub shuffled : (posts : List MailboxState) → is_known peer posts ≡ false → IsPermutation (empty_post peer ∷ posts) (mailboxes_with peer posts)
   shuffled posts none =
       let low = filter (is_below peer) posts in
       let high = filter (λ post. not (is_below peer post)) posts in
       let parts = IsPermutation-filter_both (is_below peer) (λ post. not (is_below peer post)) (λ post. refl) posts in
       let middle = IsPermutation-sym _ _ (IsPermutation-middle low (empty_post peer) high) in
       let whole = IsPermutation-trans _ _ _ (IsPermutation-cons (empty_post peer) posts (low ++ high) parts) middle in
-      let same : low ++ empty_post peer ∷ high ≡ with_peer peer posts = rw none (ap (λ ps. low ++ empty_post peer ∷ ps) (sym (above_by_not posts none))) in
+      let same : low ++ empty_post peer ∷ high ≡ mailboxes_with peer posts = rw none (ap (λ ps. low ++ empty_post peer ∷ ps) (sym (above_by_not posts none))) in
       subst (IsPermutation (empty_post peer ∷ posts)) same whole
 
 -- the peers of the posts are those that were there with the others
@@ -96,7 +96,7 @@ is_lower peer other = is_lt (peer_order other peer)
 is_higher : PeerData → PeerData → Bool
 is_higher peer other = is_lt (peer_order peer other)
 
-with_one : (peer : PeerData) (posts : List MailboxState) → peers_of (with_peer peer posts) ≡ peer_with peer (peers_of posts)
+with_one : (peer : PeerData) (posts : List MailboxState) → peers_of (mailboxes_with peer posts) ≡ peer_with peer (peers_of posts)
 unfolding is_lower is_higher
 with_one peer posts =
     let peers = peers_of posts in
@@ -109,35 +109,35 @@ with_one peer posts =
     either (is_known peer posts) posts (below ++ empty_post peer ∷ above) peers (filter (is_lower peer) peers ++ peer ∷ filter (is_higher peer) peers) refl placed
     ∙ ap (λ b. if b then peers else filter (is_lower peer) peers ++ peer ∷ filter (is_higher peer) peers) (known_addresses peer posts)
 
-pub with_all : (others : List PeerData) (posts : List MailboxState) → peers_of (with_peers others posts) ≡ peers_with others (peers_of posts)
+pub with_all : (others : List PeerData) (posts : List MailboxState) → peers_of (mailboxes_with_all others posts) ≡ peers_with others (peers_of posts)
 with_all [] posts = refl
-with_all (peer ∷ others) posts = with_all others (with_peer peer posts) ∙ ap (peers_with others) (with_one peer posts)
+with_all (peer ∷ others) posts = with_all others (mailboxes_with peer posts) ∙ ap (peers_with others) (with_one peer posts)
 
-pub ascends_with : (peer : PeerData) (posts : List MailboxState) → IsAscending (peers_of posts) → IsAscending (peers_of (with_peer peer posts))
+pub ascends_with : (peer : PeerData) (posts : List MailboxState) → IsAscending (peers_of posts) → IsAscending (peers_of (mailboxes_with peer posts))
 ascends_with peer posts ascending = subst IsAscending (sym (with_one peer posts)) (peers_ascend peer (peers_of posts) ascending)
 
-pub ascends_still : (peer : PeerData) (posts now : List MailboxState) → now ≡ with_peer peer posts → IsAscending (peers_of posts) → IsAscending (peers_of now)
+pub ascends_still : (peer : PeerData) (posts now : List MailboxState) → now ≡ mailboxes_with peer posts → IsAscending (peers_of posts) → IsAscending (peers_of now)
 ascends_still peer posts now same ascending = subst (λ ps. IsAscending (peers_of ps)) (sym same) (ascends_with peer posts ascending)
 
-unfinished_with : (peer : PeerData) (posts : List MailboxState) → unfinished_in (with_peer peer posts) ≡ unfinished_in posts
+unfinished_with : (peer : PeerData) (posts : List MailboxState) → unfinished_in (mailboxes_with peer posts) ≡ unfinished_in posts
 unfinished_with peer posts = elim (cases_Bool (is_known peer posts)) [
   | inl known ↦ ap unfinished_in (known_same peer posts known)
   | inr unknown ↦
-      let sums = sum_by-IsPermutation (λ (p : MailboxState). length p.notes) (empty_post peer ∷ posts) (with_peer peer posts) (shuffled peer posts unknown) in
+      let sums = sum_by-IsPermutation (λ (p : MailboxState). length p.notes) (empty_post peer ∷ posts) (mailboxes_with peer posts) (shuffled peer posts unknown) in
       let first = sum_by-cons (λ (p : MailboxState). length p.notes) (empty_post peer) posts in
       omega (arith, sums, first)
 ]
 
-all_with : (P : MailboxState → Type 0) (peer : PeerData) (posts : List MailboxState) → (is_known peer posts ≡ false → P (empty_post peer)) → All P posts → All P (with_peer peer posts)
+all_with : (P : MailboxState → Type 0) (peer : PeerData) (posts : List MailboxState) → (is_known peer posts ≡ false → P (empty_post peer)) → All P posts → All P (mailboxes_with peer posts)
 all_with P peer posts first all = elim (cases_Bool (is_known peer posts)) [
   | inl known ↦ subst (All P) (sym (known_same peer posts known)) all
-  | inr unknown ↦ All-permutation P (empty_post peer ∷ posts) (with_peer peer posts) (shuffled peer posts unknown) (All-cons P (empty_post peer) posts (first unknown) all)
+  | inr unknown ↦ All-permutation P (empty_post peer ∷ posts) (mailboxes_with peer posts) (shuffled peer posts unknown) (All-cons P (empty_post peer) posts (first unknown) all)
 ]
 
-known_with : (peer : PeerData) (posts : List MailboxState) (other : PeerData) → is_known other (with_peer peer posts) ≡ (is_known other posts || is_same peer other)
+known_with : (peer : PeerData) (posts : List MailboxState) (other : PeerData) → is_known other (mailboxes_with peer posts) ≡ (is_known other posts || is_same peer other)
 known_with peer posts other = elim (cases_Bool (is_known peer posts)) [
   | inl known ↦ ap (is_known other) (known_same peer posts known) ∙ already (is_same peer other) refl known
-  | inr unknown ↦ sym (list_any-IsPermutation (λ (post : MailboxState). is_same post.peer other) (empty_post peer ∷ posts) (with_peer peer posts) (shuffled peer posts unknown)) ∙ swapped (is_same peer other) (is_known other posts)
+  | inr unknown ↦ sym (list_any-IsPermutation (λ (post : MailboxState). is_same post.peer other) (empty_post peer ∷ posts) (mailboxes_with peer posts) (shuffled peer posts unknown)) ∙ swapped (is_same peer other) (is_known other posts)
 ]
   where
     swapped : (a b : Bool) → (a || b) ≡ (b || a)
@@ -158,28 +158,28 @@ known_with peer posts other = elim (cases_Bool (is_known peer posts)) [
         rw there refl
 
 -- all of them, one after the other
-pub ascends_with_all : (peers : List PeerData) (posts : List MailboxState) → IsAscending (peers_of posts) → IsAscending (peers_of (with_peers peers posts))
+pub ascends_with_all : (peers : List PeerData) (posts : List MailboxState) → IsAscending (peers_of posts) → IsAscending (peers_of (mailboxes_with_all peers posts))
 ascends_with_all [] posts ascending = ascending
-ascends_with_all (peer ∷ peers) posts ascending = ascends_with_all peers (with_peer peer posts) (ascends_with peer posts ascending)
+ascends_with_all (peer ∷ peers) posts ascending = ascends_with_all peers (mailboxes_with peer posts) (ascends_with peer posts ascending)
 
-pub unfinished_with_all : (peers : List PeerData) (posts : List MailboxState) → unfinished_in (with_peers peers posts) ≡ unfinished_in posts
+pub unfinished_with_all : (peers : List PeerData) (posts : List MailboxState) → unfinished_in (mailboxes_with_all peers posts) ≡ unfinished_in posts
 unfinished_with_all [] posts = refl
-unfinished_with_all (peer ∷ peers) posts = unfinished_with_all peers (with_peer peer posts) ∙ unfinished_with peer posts
+unfinished_with_all (peer ∷ peers) posts = unfinished_with_all peers (mailboxes_with peer posts) ∙ unfinished_with peer posts
 
-pub all_with_all : (P : MailboxState → Type 0) (peers : List PeerData) (posts : List MailboxState) → ((peer : PeerData) → is_known peer posts ≡ false → P (empty_post peer)) → All P posts → All P (with_peers peers posts)
+pub all_with_all : (P : MailboxState → Type 0) (peers : List PeerData) (posts : List MailboxState) → ((peer : PeerData) → is_known peer posts ≡ false → P (empty_post peer)) → All P posts → All P (mailboxes_with_all peers posts)
 all_with_all P [] posts first all = all
-all_with_all P (peer ∷ peers) posts first all = all_with_all P peers (with_peer peer posts)
+all_with_all P (peer ∷ peers) posts first all = all_with_all P peers (mailboxes_with peer posts)
     (λ other unknown. first other (or_parts (is_known other posts) (is_same peer other) (sym (known_with peer posts other) ∙ unknown)).0)
     (all_with P peer posts (first peer) all)
 
-pub known_with_all : (peers : List PeerData) (posts : List MailboxState) (other : PeerData) → is_known other (with_peers peers posts) ≡ (is_known other posts || list_any (λ peer. is_same peer other) peers)
+pub known_with_all : (peers : List PeerData) (posts : List MailboxState) (other : PeerData) → is_known other (mailboxes_with_all peers posts) ≡ (is_known other posts || list_any (λ peer. is_same peer other) peers)
 known_with_all [] posts other = sym (or_false (is_known other posts))
   where
     or_false : (a : Bool) → (a || false) ≡ a
     or_false true = refl
     or_false false = refl
 known_with_all (peer ∷ peers) posts other =
-    known_with_all peers (with_peer peer posts) other ∙ ap (λ b. b || list_any (λ p. is_same p other) peers) (known_with peer posts other)
+    known_with_all peers (mailboxes_with peer posts) other ∙ ap (λ b. b || list_any (λ p. is_same p other) peers) (known_with peer posts other)
     ∙ grouped (is_known other posts) (is_same peer other) (list_any (λ p. is_same p other) peers)
   where
     grouped : (a b c : Bool) → ((a || b) || c) ≡ (a || (b || c))
@@ -203,7 +203,7 @@ learn_learns peers old = record {
       let kept : PeerData → MailboxState = λ peer. post_after (timing_of old) peer (operations peer) in
       let fits = all_with_all (Fits kept) peers old.posts (λ peer unknown. nothing_kept (timing_of old) peer (operations peer) (stands.strangers peer unknown)) (fits_from kept old.posts stands.posts) in
       record {
-        posts = fits_to kept (with_peers peers old.posts) fits;
+        posts = fits_to kept (mailboxes_with_all peers old.posts) fits;
         strangers = λ peer unknown. stands.strangers peer (or_parts (is_known peer old.posts) (list_any (λ learned. is_same learned peer) peers) (sym (known_with_all peers old.posts peer) ∙ unknown)).0;
       };
 }

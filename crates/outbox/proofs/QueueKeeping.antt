@@ -1,4 +1,5 @@
 -- What is so of every outbox stays so when notes are queued.
+use Rattle.bac_values.specs.Limits.{most_note_octets}
 use Rattle.std.proofs.Common.{◌≡◌, ℕ, suc, ◌+◌, ◌≤◌, true, IsTrue, List, [], ◌∷◌, ◌++◌, length, map, get_or, refl, sym, ◌∙◌, ap, subst, arith, length-append}
 use Rattle.std.specs.List.{All, slice_get}
 use Rattle.std.specs.Option.{IsSomeAnd}
@@ -10,7 +11,7 @@ use Rattle.bac_values.specs.Address.{PeerData}
 use Rattle.bac_values.specs.declared.note.Note.{Note}
 use Rattle.bac_values.specs.Orders.{is_same, IsAscending}
 use Rattle.bac_values.proofs.OrderLemmas.{tied}
-use Rattle.outbox.specs.Posts.{IsPost, with_note, most_octets, MailboxState}
+use Rattle.outbox.specs.Posts.{IsPost, with_note, MailboxState}
 use Rattle.outbox.specs.Outboxes.{OutboxState, IsOutbox, peers_of, unfinished_in, notes_for, with_notes, queued, is_known, AreKnown}
 use Rattle.outbox.specs.Places.{IsPlaceOf}
 use Rattle.outbox.proofs.QueueLemmas.{put_one, more_notes, no_notes, known_after, rising_still}
@@ -50,19 +51,19 @@ first_stays : (notes more : List Note) → IsSomeAnd (slice_get notes 0) (λ (no
 first_stays [] more h = absurd h
 first_stays (note ∷ notes) more h = h
 
-with_notes_keeps : (retries : ℕ) (notes : List Note) → All (λ (note : Note). length note.body ≤ most_octets) notes → (post : MailboxState) → IsPost retries post → IsPost retries (with_notes notes post)
+with_notes_keeps : (retries : ℕ) (notes : List Note) → All (λ (note : Note). length note.body ≤ most_note_octets) notes → (post : MailboxState) → IsPost retries post → IsPost retries (with_notes notes post)
 with_notes_keeps retries notes short post is = record {
   number = is.number;
   fits = is.fits;
   attempts = is.attempts;
   in_flight = λ h. first_stays post.notes (notes_for post.peer notes) (is.in_flight h);
   resting = is.resting;
-  short = All-append (λ (note : Note). length note.body ≤ most_octets) post.notes (notes_for post.peer notes) is.short (All-filter (λ (note : Note). is_same post.peer note.peer) (λ (note : Note). length note.body ≤ most_octets) notes short);
+  short = All-append (λ (note : Note). length note.body ≤ most_note_octets) post.notes (notes_for post.peer notes) is.short (All-filter (λ (note : Note). is_same post.peer note.peer) (λ (note : Note). length note.body ≤ most_note_octets) notes short);
   own = All-append (λ (note : Note). note.peer ≡ post.peer) post.notes (notes_for post.peer notes) is.own
       (All-weaker (λ (note : Note). is_same post.peer note.peer ≡ true) (λ (note : Note). note.peer ≡ post.peer) (λ note e. sym (tied post.peer note.peer e)) (notes_for post.peer notes) (filter_passes (λ (note : Note). is_same post.peer note.peer) notes));
 }
 
-pub queue_keeps : (notes : List Note) (outbox : OutboxState) → IsOutbox outbox → AreKnown notes outbox.posts → All (λ (note : Note). length note.body ≤ most_octets) notes → unfinished_in outbox.posts + length notes ≤ outbox.limit → IsOutbox (queued notes outbox)
+pub queue_keeps : (notes : List Note) (outbox : OutboxState) → IsOutbox outbox → AreKnown notes outbox.posts → All (λ (note : Note). length note.body ≤ most_note_octets) notes → unfinished_in outbox.posts + length notes ≤ outbox.limit → IsOutbox (queued notes outbox)
 queue_keeps notes outbox is known short fits =
     let counts = all_longer notes outbox.posts is.ascending known in
     record {

@@ -1,4 +1,5 @@
 -- The tests of what was told are what they test.
+use Rattle.bac_values.specs.Limits.{most_note_octets}
 use Rattle.std.proofs.Common.{◌≡◌, ◌↔◌, ℕ, zero, suc, ◌+◌, ◌-◌, ◌^◌, ◌<◌, ◌≤◌, ◌==◌, Bool, true, false, true≢false, ◌&&◌, nat_lt, nat_le, IsTrue, List, [], ◌∷◌, length, take, drop, map, get_or, slice_get, refl, sym, ◌∙◌, ap, subst, arith, rules}
 use Rattle.std.specs.List.{All, AllAdjacentBelow, IsAllAdjacentAnswer, list_all}
 use Rattle.std.specs.Option.{IsSomeAnd, option_map_or}
@@ -14,7 +15,7 @@ use Rattle.bac_values.specs.Orders.{is_same, peer_order, IsAscending}
 use Rattle.bac_values.proofs.OrderLemmas.{peers_are_total, same_is_equivalence, tied}
 use Rattle.outbox.specs.declared.post.Post.{Post}
 use Rattle.outbox.specs.Delivery.{is_confirmed}
-use Rattle.outbox.specs.Posts.{IsPost, TestsPosts, is_own, is_post, is_tried, most_octets, MailboxState}
+use Rattle.outbox.specs.Posts.{IsPost, TestsPosts, is_own, is_post, is_tried, MailboxState}
 use Rattle.outbox.specs.Outboxes.{AreParts, AreSettings, are_posts, notes_told, peers_of, restored_post, restored_posts}
 use Rattle.outbox.proofs.Finished.{le_true}
 use Rattle.outbox.proofs.Told.{counts_told, first_within, others_count}
@@ -33,26 +34,26 @@ le-true a b e = search (rules, e)
 -- ---- the notes of a post
 
 module _ (peer : PeerData) where
-  pub own_told : (notes : List Note) → list_all (is_own peer) notes ≡ true → All (λ (note : Note). length note.body ≤ most_octets) notes × All (λ (note : Note). note.peer ≡ peer) notes
+  pub own_told : (notes : List Note) → list_all (is_own peer) notes ≡ true → All (λ (note : Note). length note.body ≤ most_note_octets) notes × All (λ (note : Note). note.peer ≡ peer) notes
   own_told [] e = (λ k d h. absurd (omega (arith, h)), λ k d h. absurd (omega (arith, h)))
   own_told (note ∷ notes) e =
       let parts = both (is_own peer note) (list_all (is_own peer) notes) e in
-      let own = both (nat_le (length note.body) most_octets) (is_same note.peer peer) parts.0 in
+      let own = both (nat_le (length note.body) most_note_octets) (is_same note.peer peer) parts.0 in
       let rest = own_told notes parts.1 in
       (shorts own.0 rest.0, owns own.1 rest.1)
     where
-      shorts : nat_le (length note.body) most_octets ≡ true → All (λ (n : Note). length n.body ≤ most_octets) notes → All (λ (n : Note). length n.body ≤ most_octets) (note ∷ notes)
-      shorts e all zero d h = le-true (length note.body) most_octets e
+      shorts : nat_le (length note.body) most_note_octets ≡ true → All (λ (n : Note). length n.body ≤ most_note_octets) notes → All (λ (n : Note). length n.body ≤ most_note_octets) (note ∷ notes)
+      shorts e all zero d h = le-true (length note.body) most_note_octets e
       shorts e all (suc k) d h = all k d (omega (arith, h))
 
       owns : is_same note.peer peer ≡ true → All (λ (n : Note). n.peer ≡ peer) notes → All (λ (n : Note). n.peer ≡ peer) (note ∷ notes)
       owns e all zero d h = tied note.peer peer e
       owns e all (suc k) d h = all k d (omega (arith, h))
 
-  pub told_own : (notes : List Note) → All (λ (note : Note). length note.body ≤ most_octets) notes → All (λ (note : Note). note.peer ≡ peer) notes → list_all (is_own peer) notes ≡ true
+  pub told_own : (notes : List Note) → All (λ (note : Note). length note.body ≤ most_note_octets) notes → All (λ (note : Note). note.peer ≡ peer) notes → list_all (is_own peer) notes ≡ true
   told_own [] short own = refl
   told_own (note ∷ notes) short own =
-      let fits : nat_le (length note.body) most_octets ≡ true = le_true (length note.body) most_octets (short 0 note (omega arith)) in
+      let fits : nat_le (length note.body) most_note_octets ≡ true = le_true (length note.body) most_note_octets (short 0 note (omega arith)) in
       let mine : is_same note.peer peer ≡ true = ap (λ p. is_same note.peer p) (sym (own 0 note (omega arith))) ∙ same_is_equivalence.refl note.peer in
       all_of (is_own peer note) (list_all (is_own peer) notes) (all_of _ _ fits mine)
       (told_own notes (λ k d h. short (suc k) d (omega (arith, h))) (λ k d h. own (suc k) d (omega (arith, h))))

@@ -1,5 +1,6 @@
 -- The notes of all recipients, as plain data.
 use Rattle.std.specs.Prelude.{◌≡◌, ℕ, ◌≤◌, ◌==◌, nat_le, Bool, ◌&&◌, IsTrue, List, [], ◌∷◌, ◌++◌, length, take, drop, map, filter, sum_by, All, flat_map, if◌then◌else◌}
+use Rattle.bac_values.specs.Limits.{most_outbox}
 use Rattle.std.specs.Ordering.{is_lt}
 use Rattle.std.specs.List.{list_any, list_all}
 use Rattle.bac_values.specs.Address.{PeerData}
@@ -29,7 +30,7 @@ unfinished_in posts = sum_by (λ (post : MailboxState). length post.notes) posts
 
 -- the limits of the settings
 pub record AreSettings (limit timeout retries : ℕ) : Type 0 where
-  pub fits : limit ≤ 16_384
+  pub fits : limit ≤ most_outbox
   pub ends : timeout ≤ 3_600_000
   pub stops : retries ≤ 15
 
@@ -86,18 +87,18 @@ abbrev pub is_known : PeerData → List MailboxState → Bool
 is_known peer posts = list_any (λ (post : MailboxState). is_same post.peer peer) posts
 
 -- with an empty post for a peer that has none, between the posts of those below it and those above it
-abbrev pub with_peer : PeerData → List MailboxState → List MailboxState
-with_peer peer posts =
+abbrev pub mailboxes_with : PeerData → List MailboxState → List MailboxState
+mailboxes_with peer posts =
     if is_known peer posts then posts
     else filter (λ (post : MailboxState). is_lt (peer_order post.peer peer)) posts ++ empty_post peer ∷ filter (λ (post : MailboxState). is_lt (peer_order peer post.peer)) posts
 
 -- with each of the peers
-abbrev pub with_peers : List PeerData → List MailboxState → List MailboxState
-with_peers [] posts = posts
-with_peers (peer ∷ peers) posts = with_peers peers (with_peer peer posts)
+abbrev pub mailboxes_with_all : List PeerData → List MailboxState → List MailboxState
+mailboxes_with_all [] posts = posts
+mailboxes_with_all (peer ∷ peers) posts = mailboxes_with_all peers (mailboxes_with peer posts)
 
 abbrev pub learned : List PeerData → OutboxState → OutboxState
-learned peers outbox = record outbox { posts = with_peers peers outbox.posts }
+learned peers outbox = record outbox { posts = mailboxes_with_all peers outbox.posts }
 
 -- what is told of a post
 abbrev pub shown : MailboxState → Post

@@ -1,5 +1,6 @@
 -- What is kept of one recipient: what is not finished.
 use Rattle.std.specs.Prelude.{◌≡◌, ℕ, ◌+◌, ◌%◌, ◌^◌, ◌<◌, ◌≤◌, ◌↔◌, Bool, false, ◌&&◌, ◌||◌, IsTrue, IsSomeAnd, nat_lt, nat_le, ◌==◌, List, [], ◌∷◌, ◌++◌, length, take, drop, map, slice_get, All, if◌then◌else◌}
+use Rattle.bac_values.specs.Limits.{most_note_octets}
 use Rattle.std.specs.List.{list_all, position_or_len}
 use Rattle.std.specs.Option.{option_map_or}
 use Rattle.bac_values.specs.Address.{PeerData}
@@ -32,10 +33,6 @@ post_of peer delivery = record {
 abbrev pub post_after : Timing → PeerData → List Operation → MailboxState
 post_after timing peer operations = post_of peer (delivery_after timing operations)
 
--- the longest parameters of an event notification, in octets
-abbrev pub most_octets : ℕ
-most_octets = 1_024
-
 -- what is so of every post: an invoke ID of 8 bits and a deadline of 64, at most one more transmission than there are retries,
 -- a note in flight is to be confirmed, no deadline where none is, and short notes for this recipient
 pub record IsPost (retries : ℕ) (post : MailboxState) : Type 0 where
@@ -44,12 +41,12 @@ pub record IsPost (retries : ℕ) (post : MailboxState) : Type 0 where
   pub attempts : post.attempts ≤ 1 + retries
   pub in_flight : 0 < post.attempts → IsSomeAnd (slice_get post.notes 0) (λ (note : Note). IsTrue note.confirmed)
   pub resting : post.attempts ≡ 0 → post.deadline ≡ 0
-  pub short : All (λ (note : Note). length note.body ≤ most_octets) post.notes
+  pub short : All (λ (note : Note). length note.body ≤ most_note_octets) post.notes
   pub own : All (λ (note : Note). note.peer ≡ post.peer) post.notes
 
 -- whether a note is short, and for this recipient
 abbrev pub is_own : PeerData → Note → Bool
-is_own peer note = nat_le (length note.body) most_octets && is_same note.peer peer
+is_own peer note = nat_le (length note.body) most_note_octets && is_same note.peer peer
 
 -- whether it is so of a post's attempts and deadline: none where its first note isn't to be confirmed, or isn't there
 abbrev pub is_tried : ℕ → MailboxState → Bool

@@ -1,11 +1,12 @@
 //! What is done with the mailboxes of all recipients, which stand in the order of their peers.
 ghost use Rattle.std.specs.Prelude.{◌≡◌, ℕ, ◌+◌, ◌<◌, ◌≤◌, if◌then◌else◌, ◌++◌, IfOk, All, length, map, flat_map, vec_len, vec_capacity};
+ghost use Rattle.bac_values.specs.Limits.{most_outbox};
 ghost use Rattle.std.specs.List.{list_all, list_any};
 ghost use Rattle.bac_values.specs.Moments.{IsMoment};
 ghost use Rattle.bac_values.specs.Orders.{IsAscending};
 ghost use Rattle.outbox.specs.Places.{IsSearched};
 ghost use Rattle.outbox.specs.Posts.{IsPost, empty_post, post_pumped, post_sends, is_post_idle, MailboxState};
-ghost use Rattle.outbox.specs.Outboxes.{peers_of, unfinished_in, with_peer, with_peers, is_flight_to, answered_by};
+ghost use Rattle.outbox.specs.Outboxes.{peers_of, unfinished_in, mailboxes_with, mailboxes_with_all, is_flight_to, answered_by};
 
 use crate::mailbox::Mailbox;
 use bac_values::{NoMemory, Peer, Send};
@@ -82,7 +83,7 @@ pub(crate) fn pump_all(mailboxes: &mut [Mailbox], moment: u64, timeout: u64, ret
 
 /// How many notes are not finished.
 pub(crate) fn count_unfinished(mailboxes: &[Mailbox]) -> u32
-    requires room { unfinished_in mailboxes.now ≤ 16_384 }
+    requires room { unfinished_in mailboxes.now ≤ most_outbox }
     ensures count { result ≡ unfinished_in mailboxes.now }
 {
     let mut count = 0;
@@ -109,7 +110,7 @@ pub(crate) fn empty_mailboxes(alloc: Global, peers: Vec<Peer>) -> Result<Vec<Mai
 fn add_one(alloc: Global, mailboxes: &mut Vec<Mailbox>, peer: Peer)
     requires ascending { IsAscending (peers_of mailboxes.old.items) }
     requires room { vec_len mailboxes.old < vec_capacity mailboxes.old }
-    ensures added { mailboxes.new.items ≡ with_peer peer mailboxes.old.items }
+    ensures added { mailboxes.new.items ≡ mailboxes_with peer mailboxes.old.items }
     ensures length { vec_len mailboxes.new ≤ vec_len mailboxes.old + 1 }
     ensures capacity { vec_capacity mailboxes.old ≤ vec_capacity mailboxes.new }
 {
@@ -122,7 +123,7 @@ fn add_one(alloc: Global, mailboxes: &mut Vec<Mailbox>, peer: Peer)
 pub(crate) fn add_all(alloc: Global, mailboxes: &mut Vec<Mailbox>, peers: &[Peer])
     requires ascending { IsAscending (peers_of mailboxes.old.items) }
     requires room { vec_len mailboxes.old + length peers.now ≤ vec_capacity mailboxes.old }
-    ensures added { mailboxes.new.items ≡ with_peers peers.now mailboxes.old.items }
+    ensures added { mailboxes.new.items ≡ mailboxes_with_all peers.now mailboxes.old.items }
 {
     for peer in peers {
         add_one(alloc, mailboxes, *peer);

@@ -10,16 +10,13 @@ ghost use Rattle.outbox.specs.Posts.{TestsPosts, is_own, is_post, is_tried};
 ghost use Rattle.outbox.specs.Outboxes.{AreSettings, are_posts, restored_post};
 
 use crate::Post;
-use bac_values::{Note, Peer};
-
-/// The longest parameters of an event notification, in octets.
-const MOST_OCTETS: usize = 1_024;
+use bac_values::{MOST_NOTE_OCTETS, MOST_OUTBOX, Note, Peer};
 
 /// Whether a note is short, and for this recipient.
 fn is_own(peer: &Peer, note: &Note) -> bool
     ensures own { result ≡ is_own peer.now note.now }
 {
-    note.body.as_slice().len() <= MOST_OCTETS && note.peer.is_same(peer)
+    note.body.as_slice().len() <= MOST_NOTE_OCTETS && note.peer.is_same(peer)
 }
 
 /// Whether the first note, if there is one, is to be confirmed.
@@ -98,7 +95,7 @@ pub(crate) fn is_ascending(posts: &[Post]) -> bool
 pub(crate) fn are_settings(limit: u32, timeout: u64, retries: u8) -> bool
     ensures settings { IsTrue result ↔ AreSettings limit timeout retries }
 {
-    limit <= 16_384 && timeout <= 3_600_000 && retries <= 15
+    limit <= MOST_OUTBOX && timeout <= 3_600_000 && retries <= 15
 }
 
 /// The test of posts tells what is so of every post.

@@ -1,13 +1,14 @@
 ghost use Rattle.std.specs.List.{position_or_len};
 ghost use Rattle.std.specs.Prelude.{◌≡◌, ℕ, List, ◌-◌, take, ◌+◌, ◌<◌, ◌≤◌, ◌∷◌, [], ◌++◌, IfOk, OnOk, OnErr, IfErr, All, length, option_copied, slice_get, drop};
+ghost use Rattle.bac_values.specs.Limits.{most_note_octets};
 ghost use Rattle.bac_values.specs.Moments.{IsMoment};
 ghost use Rattle.bac_values.specs.declared.note.Note.{Note};
 ghost use Rattle.outbox.specs.Notifying.{apdu_of, datagram_of};
 ghost use Rattle.outbox.specs.Delivery.{is_awaited, is_repeated, is_confirmed, datagrams_between};
-ghost use Rattle.outbox.specs.Posts.{empty_post, with_note, without_first, is_in_flight, post_answered, unsent, post_sent, post_pumped, post_sends, is_post_idle, most_octets, MailboxState};
+ghost use Rattle.outbox.specs.Posts.{empty_post, with_note, without_first, is_in_flight, post_answered, unsent, post_sent, post_pumped, post_sends, is_post_idle, MailboxState};
 
 use apdu_frame::{request, unconfirmed};
-use bac_values::{ConfirmedService, Items, NoMemory, Note, Peer, Send, UnconfirmedService};
+use bac_values::{ConfirmedService, Items, NoMemory, Note, Peer, Send, UnconfirmedService, push};
 use bvlc_npdu::wrap;
 use std::alloc::{AllocFailed, Global};
 use std::collections::VecDeque;
@@ -55,7 +56,7 @@ fn apdu_of(alloc: Global, invoke: u8, note: &Note) -> Result<Vec<u8>, NoMemory>
 
 /// The datagram that carries a note to a peer.
 fn datagram_of(alloc: Global, peer: &Peer, invoke: u8, note: &Note) -> Result<Send, NoMemory>
-    requires short { length note.now.body ≤ most_octets }
+    requires short { length note.now.body ≤ most_note_octets }
     ensures datagram { IfOk result (λ send. send ≡ datagram_of peer.now invoke note.now) }
 {
     let apdu = apdu_of(alloc, invoke, note)?;
@@ -218,7 +219,7 @@ impl Mailbox {
         retries: u8,
         sends: &mut Vec<Send>,
     ) -> Result<(), NoMemory>
-        requires short { All (λ (note : Note). length note.body ≤ most_octets) self.now.notes }
+        requires short { All (λ (note : Note). length note.body ≤ most_note_octets) self.now.notes }
         ensures appended { OnOk result ((timeout : ℕ) → sends.new.items ≡ sends.old.items ++ post_sends (record { timeout = timeout; retries = retries }) moment self.now) }
     {
         if self.is_awaited(moment) {
@@ -296,16 +297,6 @@ fn unsent_end(notes: &VecDeque<Note>, from: usize) -> usize
     place
 }
 
-/// One more datagram, behind the others.
-fn push_send(sends: &mut Vec<Send>, send: Send) -> Result<(), NoMemory>
-    ensures pushed { OnOk result (sends.new.items ≡ sends.old.items ++ send ∷ []) }
-{
-    match sends.push(send) {
-        Ok(()) => Ok(()),
-        Err(_) => Err(NoMemory),
-    }
-}
-
 /// Writes the datagrams of the notes at some places behind others.
 fn append_between(
     alloc: Global,
@@ -315,12 +306,12 @@ fn append_between(
     places: Range<usize>,
     sends: &mut Vec<Send>,
 ) -> Result<(), NoMemory>
-    requires short { All (λ (note : Note). length note.body ≤ most_octets) notes.now.items }
+    requires short { All (λ (note : Note). length note.body ≤ most_note_octets) notes.now.items }
     ensures appended { OnOk result (sends.new.items ≡ sends.old.items ++ datagrams_between peer.now invoke notes.now.items places.start places.end) }
 {
     for place in places.start..places.end.min(notes.len()) {
         let send = datagram_of(alloc, peer, invoke, &notes[place])?;
-        push_send(sends, send)?;
+        push(sends, send)?;
     }
     Ok(())
 }

@@ -1,9 +1,10 @@
 ghost use Rattle.std.specs.Prelude.{◌≡◌, ◌&&◌, nat_lt, ℕ, ◌+◌, ◌-◌, ◌<◌, ◌≤◌, ◌^◌, ◌↔◌, IsTrue, List, [], map, All, IfOk, IfErr, IsErrOf, OnOk, OnErr, OnSome, option_map, option_and_then, option_copied, slice_get, length, if◌then◌else◌};
+ghost use Rattle.bac_values.specs.Limits.{most_note_octets};
 ghost use Rattle.bac_values.specs.Address.{PeerData};
 ghost use Rattle.bac_values.specs.Moments.{IsMoment};
 ghost use Rattle.bac_values.specs.declared.note.Note.{Note};
 ghost use Rattle.bac_values.specs.Orders.{IsAscending};
-ghost use Rattle.outbox.specs.Posts.{most_octets, MailboxState};
+ghost use Rattle.outbox.specs.Posts.{MailboxState};
 ghost use Rattle.outbox.specs.Outboxes.{OutboxState, AreSettings, IsOutbox, AreParts, peers_of, unfinished_in, new_outbox, queued, pumped, sends_of, has_in_flight, answered, is_idle, AreKnown, learned, shown, restored, notes_told, notes_of};
 ghost use Rattle.outbox.specs.Following.{StandsFor, Follows, Learns, AreSent, no_operations, after_queue, after_pump, after_answer};
 ghost use Rattle.outbox.specs.Verdicts.{returned};
@@ -114,7 +115,7 @@ impl Outbox {
     pub fn queue(&mut self, alloc: Global, notes: Vec<Note>) -> Result<(), QueueFault>
         requires few { length notes.items < 2 ^ 31 }
         requires known { AreKnown notes.items self.old.posts }
-        requires short { All (λ (note : Note). length note.body ≤ most_octets) notes.items }
+        requires short { All (λ (note : Note). length note.body ≤ most_note_octets) notes.items }
         ensures queued { OnOk result (self.new ≡ queued notes.items self.old) }
         ensures refused { OnErr result (self.new ≡ self.old) }
         ensures returned { IfErr result (λ fault. returned fault ≡ notes.items) }

@@ -1,4 +1,5 @@
 ghost use Rattle.std.specs.Prelude.{◌≡◌, ◌≤◌, ◌↔◌, ◌⊎◌, ℕ, List, length, IfOk, OnErr};
+ghost use Rattle.bac_values.specs.Reasons.{missing_required_parameter_reason};
 ghost use Rattle.bac_values.specs.declared.value.Value.{Value};
 ghost use Rattle.bac_tags.specs.Places.{IsSpelledAt};
 ghost use Rattle.bac_tags.specs.Values.{SpellsValue};
@@ -92,7 +93,7 @@ pub fn read_write_property(alloc: Global, bytes: &[u8]) -> Result<WriteRequest, 
     ensures only { (request : WriteRequest) → SpellsWriteProperty bytes.now request → (result ≡ Ok request) ⊎ (result ≡ Err ServiceFault.NoMemory) }
     // Each refusal, and exactly where it comes.
     ensures refused { (reject at : ℕ) → (result ≡ Err (ServiceFault.Malformed reject at)) ↔ RefusesWriteProperty bytes.now (record { reject = reject; at = at }) }
-    ensures missing { (result ≡ Err (ServiceFault.Malformed 5 (length bytes.now))) ↔ EndsBeforeValue bytes.now }
+    ensures missing { (result ≡ Err (ServiceFault.Malformed missing_required_parameter_reason (length bytes.now))) ↔ EndsBeforeValue bytes.now }
     // Memory is refused only where the octets are in the grammar and a text stands in the value.
     ensures no_memory { result ≡ Err ServiceFault.NoMemory → HasText bytes.now }
 

@@ -1,18 +1,15 @@
 -- The properties of notification classes, and what is read of them (ANSI/ASHRAE 135-2020, 12.21).
-use Rattle.std.specs.Prelude.{ℕ, ◌==◌, ◌/◌, ◌%◌, if◌then◌else◌, Option, Some, None, Result, Ok, Err, List, [], ◌∷◌, ◌++◌, map, find}
-use Rattle.std.specs.Int.{bytes_high_first}
+use Rattle.std.specs.Prelude.{ℕ, ◌==◌, ◌/◌, ◌%◌, Option, Some, None, Result, Ok, Err, List, [], ◌∷◌, ◌++◌, map, find}
 use Rattle.std.specs.List.{flat_map}
-use Rattle.bac_values.specs.Address.{PeerData}
-use Rattle.bac_values.specs.ApplicationTags.{octet_string_tag, time_tag}
 use Rattle.bac_values.specs.BitString.{string_of_flags, BitsData}
 use Rattle.bac_values.specs.Identifier.{number_of_kind}
 use Rattle.bac_values.specs.Properties.{ack_required_property, notification_class_property, object_identifier_property, object_name_property, object_type_property, priority_property, recipient_list_property}
 use Rattle.bac_values.specs.declared.object_kind.ObjectKind.TheVariants as kinds
 use Rattle.bac_values.specs.declared.value.Value.TheVariants as values
-use Rattle.bac_tags.specs.Writing.{written_bits, written_boolean, written_element, written_tag, written_unsigned}
-use Rattle.bac_tags.specs.EnclosingTags.{opening, closing}
+use Rattle.bac_tags.specs.Writing.{written_bits, written_boolean, written_time, written_unsigned}
 use Rattle.notify_class.specs.declared.class_site.ClassSite.{ClassSite}
 use Rattle.notify_class.specs.Recipients.{DestinationData}
+use Rattle.recipients.specs.Recipients.{written_peer}
 use Rattle.property_values.specs.declared.class_properties.ClassProperty.{ClassProperty}
 use Rattle.property_values.specs.declared.class_properties.ClassProperty.TheVariants.{ObjectIdentifier, ObjectName, ObjectType, NotificationClass, Priority, AckRequired, RecipientList}
 use Rattle.property_values.specs.declared.content.Content.{Content}
@@ -43,23 +40,8 @@ property_of number = find (λ property. number_of_property property == number) c
 abbrev pub clock_of : ℕ → List ℕ
 clock_of time = time / 360000 ∷ time / 6000 % 60 ∷ time / 100 % 60 ∷ time % 100 ∷ []
 
-abbrev pub written_time : ℕ → List ℕ
-written_time time = written_element time_tag None (clock_of time)
-
--- the octets of a station: on the local network those of the IP address and of the port, the high one first (annex J.1.2)
-abbrev pub station_of : PeerData → List ℕ
-station_of peer = if peer.net == 0 then bytes_high_first 4 peer.ip ++ bytes_high_first 2 peer.port else peer.mac
-
-abbrev pub written_station : PeerData → List ℕ
-written_station peer = written_element octet_string_tag None (station_of peer)
-
--- a BACnetAddress: the number of the network, which is 0 for the local one, and the OctetString of the station there
-abbrev pub written_address : PeerData → List ℕ
-written_address peer = written_unsigned None peer.net ++ written_station peer
-
--- a BACnetRecipient that is an address
-abbrev pub written_peer : PeerData → List ℕ
-written_peer peer = written_tag (opening 1) ++ (written_address peer ++ written_tag (closing 1))
+abbrev pub written_clock : ℕ → List ℕ
+written_clock time = written_time (clock_of time)
 
 -- seven bits, Monday first
 abbrev pub days_of : DestinationData → BitsData
@@ -69,8 +51,8 @@ days_of recipient = record { size = 7; bits = recipient.days }
 abbrev pub written_recipient : DestinationData → List ℕ
 written_recipient recipient =
     written_bits None (days_of recipient)
-    ++ (written_time recipient.from
-    ++ (written_time recipient.to
+    ++ (written_clock recipient.from
+    ++ (written_clock recipient.to
     ++ (written_peer recipient.peer
     ++ (written_unsigned None recipient.process
     ++ (written_boolean None recipient.confirmed

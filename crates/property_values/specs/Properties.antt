@@ -3,7 +3,7 @@ use Rattle.std.specs.Prelude.{ℕ, ◌==◌, ℤ, pos, negsuc, Bool, false, not,
 use Rattle.std.specs.List.{flat_map}
 use Rattle.bac_values.specs.BitString.{string_of_flags}
 use Rattle.bac_values.specs.Errors.{invalid_array_index_error, property_is_not_an_array_error, unknown_object_error, unknown_property_error}
-use Rattle.bac_values.specs.EventStates.{number_of_state}
+use Rattle.bac_values.specs.EventStates.{number_of_state, is_normal}
 use Rattle.bac_values.specs.Reliabilities.{number_of_reliability}
 use Rattle.bac_values.specs.declared.event_state.EventState.{EventState as State'}
 use Rattle.bac_values.specs.declared.object_kind.ObjectKind.{ObjectKind}
@@ -14,7 +14,6 @@ use Rattle.bac_values.specs.declared.value.Value.{Value}
 use Rattle.bac_values.specs.declared.value.Value.TheVariants as values
 use Rattle.bac_tags.specs.Writing.{written_stamp, written_tag, written_value}
 use Rattle.bac_tags.specs.EnclosingTags.{opening, closing}
-use Rattle.event_machine.specs.Detection.{is_normal}
 use Rattle.event_machine.specs.Summary.{AlarmState}
 use Rattle.object_table.specs.declared.object_property.ObjectProperty.{ObjectProperty}
 use Rattle.object_table.specs.declared.object_property.ObjectProperty.TheVariants.{ObjectIdentifier, ObjectName, ObjectType, PresentValue, StatusFlags, EventState, Reliability, OutOfService, ReliabilityEvaluationInhibit, NumberOfStates, TimeDelay, TimeDelayNormal, HighLimit, LowLimit, Deadband, LimitEnable, AlarmValue, AlarmValues, FaultValues, EventEnable, EventAlgorithmInhibit, AckedTransitions, NotifyType, EventDetectionEnable, NotificationClass, EventTimeStamps}

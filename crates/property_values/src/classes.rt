@@ -1,18 +1,15 @@
-ghost use Rattle.std.specs.Prelude.{◌≡◌, ◌≤◌, ◌<◌, ◌++◌, IfOk, None, OnOk, length};
-ghost use Rattle.bac_tags.specs.Writing.{written_element, written_unsigned};
-ghost use Rattle.property_values.specs.ClassProperties.{array_of_numbers, class_content, class_property, clock_of, days_of, list_of_recipients, written_address, written_peer, written_recipient, written_station, written_time};
+ghost use Rattle.std.specs.Prelude.{◌≡◌, ◌<◌, ◌++◌, IfOk, None, OnOk};
+ghost use Rattle.bac_tags.specs.Writing.{written_unsigned};
+ghost use Rattle.property_values.specs.ClassProperties.{array_of_numbers, class_content, class_property, clock_of, days_of, list_of_recipients, written_clock, written_recipient};
 ghost use Rattle.property_values.specs.Reading.{AnswersContent};
 ghost use Rattle.property_values.specs.Devices.{HasInstance, class_object};
 
 use crate::encoding::{enumerated, object, string_with, text, three_flags, unsigned};
 use crate::{ClassProperty, Content, ReadFault};
-use bac_tags::{
-    Shape, Tag, write_bits, write_bool, write_closing, write_opening, write_tag, write_unsigned,
-};
-use bac_values::{
-    ApplicationTag, Bits, Items, NoMemory, ObjectId, ObjectKind, Peer, PropertyId, push,
-};
+use bac_tags::{write_bits, write_bool, write_time, write_unsigned};
+use bac_values::{Bits, Items, NoMemory, ObjectId, ObjectKind, PropertyId, push};
 use notify_class::{ClassSite, Destination};
+use recipients::write_peer;
 use std::alloc::Global;
 
 /// The identifier of a notification class of a site.
@@ -21,26 +18,6 @@ pub fn class_object(listed: &ClassSite) -> ObjectId
     ensures object { result ≡ class_object listed.now }
 {
     ObjectId::of_kind(ObjectKind::NotificationClass, listed.class.instance).unwrap()
-}
-
-// Puts an element of a type with a short content behind the others.
-fn write_content(out: &mut Vec<u8>, kind: ApplicationTag, content: &[u8]) -> Result<(), NoMemory>
-    requires short { length content.now ≤ 7 }
-    ensures written { OnOk result (out.new.items ≡ out.old.items ++ written_element kind.0 None content.now) }
-{
-    let shape = Shape::Primitive {
-        length: content.len() as u32,
-    };
-    write_tag(
-        out,
-        Tag {
-            number: kind.0,
-            context: false,
-            shape,
-        },
-    )?;
-    out.extend_from_slice(content)?;
-    Ok(())
 }
 
 // The hour, the minute, the second and the hundredth of a time of the day.
@@ -56,43 +33,11 @@ fn clock_of(time: u32) -> [u8; 4]
     ]
 }
 
-fn write_time(out: &mut Vec<u8>, time: u32) -> Result<(), NoMemory>
+fn write_clock(out: &mut Vec<u8>, time: u32) -> Result<(), NoMemory>
     requires day { time < 8640000 }
-    ensures written { OnOk result (out.new.items ≡ out.old.items ++ written_time time) }
+    ensures written { OnOk result (out.new.items ≡ out.old.items ++ written_clock time) }
 {
-    write_content(out, ApplicationTag::TIME, &clock_of(time))
-}
-
-// The station of a peer: on the local network its IP address and its port.
-fn write_station(out: &mut Vec<u8>, peer: Peer) -> Result<(), NoMemory>
-    ensures written { OnOk result (out.new.items ≡ out.old.items ++ written_station peer) }
-{
-    if peer.net != 0 {
-        return write_content(out, ApplicationTag::OCTET_STRING, peer.mac.octets());
-    }
-    let [first, second, third, fourth] = peer.ip.to_be_bytes();
-    let [high, low] = peer.port.to_be_bytes();
-    let octets = [first, second, third, fourth, high, low];
-    write_content(out, ApplicationTag::OCTET_STRING, &octets)
-}
-
-// The number of a peer's network and its station there.
-fn write_address(out: &mut Vec<u8>, peer: Peer) -> Result<(), NoMemory>
-    ensures written { OnOk result (out.new.items ≡ out.old.items ++ written_address peer) }
-{
-    write_unsigned(out, None, u32::from(peer.net))?;
-    write_station(out, peer)
-}
-
-// The number of the tags round an address.
-const ADDRESS: u8 = 1;
-
-fn write_peer(out: &mut Vec<u8>, peer: Peer) -> Result<(), NoMemory>
-    ensures written { OnOk result (out.new.items ≡ out.old.items ++ written_peer peer) }
-{
-    write_opening(out, ADDRESS)?;
-    write_address(out, peer)?;
-    write_closing(out, ADDRESS)
+    write_time(out, clock_of(time))
 }
 
 // The valid days, Monday first.
@@ -106,8 +51,8 @@ fn write_recipient(out: &mut Vec<u8>, recipient: &Destination) -> Result<(), NoM
     ensures written { OnOk result (out.new.items ≡ out.old.items ++ written_recipient recipient.now) }
 {
     write_bits(out, None, days_of(recipient))?;
-    write_time(out, recipient.from)?;
-    write_time(out, recipient.to)?;
+    write_clock(out, recipient.from)?;
+    write_clock(out, recipient.to)?;
     write_peer(out, recipient.peer)?;
     write_unsigned(out, None, recipient.process)?;
     write_bool(out, None, recipient.confirmed)?;

@@ -1,4 +1,5 @@
 ghost use Rattle.std.specs.Prelude.{◌≡◌, ◌≤◌, ◌<◌, All, IfOk, length};
+ghost use Rattle.bac_values.specs.Limits.{most_batch_octets};
 ghost use Rattle.alarm_core.specs.Sites.{IsSite};
 ghost use Rattle.alarm_journal.specs.Opened.{EndsOnDevice, sum_of};
 
@@ -36,7 +37,7 @@ fn opened(alloc: Global, device: Device) -> Result<(Press<Device>, Opened), (Dev
 }
 
 fn job_of(alloc: Global, octets: &[u8]) -> Result<Job, Missed>
-    requires few { length octets.now ≤ 60000 }
+    requires few { length octets.now ≤ most_batch_octets }
     ensures made { IfOk result (λ job. job ≡ octets.now) }
 {
     match Job::batch(alloc, octets) {
@@ -58,7 +59,7 @@ fn committed(press: Press<Device>, job: &Job) -> (Device, bool) {
 
 // The device with a record more in its journal; `false` where it failed.
 fn with_record(alloc: Global, device: Device, octets: &[u8]) -> Result<(Device, bool), Missed>
-    requires few { length octets.now ≤ 60000 }
+    requires few { length octets.now ≤ most_batch_octets }
 {
     let job = job_of(alloc, octets)?;
     match opened(alloc, device) {
@@ -141,7 +142,7 @@ fn say_image(alloc: Global, text: &mut Text, site: &Site, image: Vec<u8>) -> Res
 fn with_records(alloc: Global, device: Device, text: &mut Text) -> Result<(Device, bool), Missed> {
     let mut device = device;
     for octets in RECORDS {
-        if octets.len() > 60_000 {
+        if octets.len() as u64 > MOST_BATCH_OCTETS {
             return Err(Missed::Other);
         }
         let (next, is_written) = with_record(alloc, device, octets)?;

@@ -1,4 +1,5 @@
 ghost use Rattle.std.specs.Prelude.{◌≡◌, ◌<◌, ◌≤◌, ◌^◌, IfOk, OnErr};
+ghost use Rattle.bac_values.specs.Limits.{most_events};
 ghost use Rattle.bac_values.specs.Moments.{IsMoment};
 ghost use Rattle.alarm_core.specs.Allowed.{IsAllowed};
 ghost use Rattle.alarm_core.specs.Sites.{IsSite};
@@ -11,7 +12,7 @@ use crate::records::{say_record, say_state};
 use crate::report::{Text, say_report};
 use crate::script::{Script, lines_of, next_line};
 use alarm_core::{Core, Event, Outcome, Site, StepFault};
-use bac_values::{FIRST_MOMENT, LAST_MOMENT, ReportLine, Send};
+use bac_values::{FIRST_MOMENT, LAST_MOMENT, MOST_EVENTS, ReportLine, Send};
 use event_machine::Steps;
 use script_lines::Line;
 use service_desk::{Decision, decide};
@@ -50,7 +51,7 @@ fn counted<L: Ledger>(core: &mut Core, event: &Event, blank: Blank) -> Result<Ou
     requires some { 0 < blank.parts }
     requires moment { IsMoment event.now.moment }
     requires allowed { IsAllowed core.old event.now.act }
-    requires few { core.old.events < 2 ^ 63 }
+    requires few { core.old.events < most_events }
     ensures same { OnErr result (core.new ≡ core.old) }
 {
     let mut steps = Steps::<L>::new(blank);
@@ -60,7 +61,7 @@ fn counted<L: Ledger>(core: &mut Core, event: &Event, blank: Blank) -> Result<Ou
 fn stepped(core: &mut Core, event: &Event) -> Result<Outcome, StepFault>
     requires moment { IsMoment event.now.moment }
     requires allowed { IsAllowed core.old event.now.act }
-    requires few { core.old.events < 2 ^ 63 }
+    requires few { core.old.events < most_events }
 {
     match counted::<Brand>(core, event, Blank::new(1)) {
         Err(StepFault::NoMemory) => counted::<Brand>(core, event, Blank::new(1)),
@@ -140,7 +141,7 @@ fn enter(
     requires moment { IsMoment event.now.moment }
     requires allowed { IsAllowed core.old event.now.act }
 {
-    if core.events() >= 1 << 63 {
+    if core.events() >= MOST_EVENTS {
         return Err(Missed::Other);
     }
     match stepped(core, event) {

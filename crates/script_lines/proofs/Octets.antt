@@ -6,6 +6,7 @@ use Rattle.hex.specs.Hex.{decode_of, decode_sized}
 use Rattle.hex.specs.declared.error.FromHexError.{FromHexError}
 use Rattle.hex.proofs.HexLemmas.{decode_of-ok}
 use Rattle.std.specs.Prelude.{IsSomeAnd}
+use Rattle.bac_values.specs.Limits.{most_datagram_octets}
 use Rattle.bac_values.specs.Identifier.{ObjectIdData}
 use Rattle.bac_values.specs.declared.input.Input.TheVariants.{Set}
 use Rattle.bac_values.specs.declared.value.Value.{Value}
@@ -27,7 +28,7 @@ pub long_text : (digits : List ℕ) → 512 < length digits → text_of digits �
 long_text digits long = none_of text_from 256 digits (decode_of digits) refl (λ octets more. grind (arith, nat_tests)) long
 
 pub long_datagram : (digits : List ℕ) → 2994 < length digits → datagram_of digits ≡ None
-long_datagram digits long = none_of datagram_from 1497 digits (decode_of digits) refl (λ octets more. grind (arith, nat_tests)) long
+long_datagram digits long = none_of datagram_from most_datagram_octets digits (decode_of digits) refl (λ octets more. grind (arith, nat_tests)) long
 
 abbrev set_line : ℕ → ℕ → ObjectIdData → Value → Line
 set_line number moment object value = record { number = number; moment = moment; input = Set object value }

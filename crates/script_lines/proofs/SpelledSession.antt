@@ -1,4 +1,5 @@
 -- What is known of a line that a session's text spells.
+use Rattle.bac_values.specs.Limits.{most_datagram_octets}
 use Rattle.std.proofs.Common.{◌≡◌, ℕ, ◌^◌, ◌-◌, ◌≤◌, ◌&&◌, nat_le, Bool, true, false, cond, Option, Some, None, IfSome, List, length, codes, refl, arith}
 use Rattle.std.specs.Str.{bytes_eq}
 use Rattle.std.proofs.lemmas.Bool.Decides.{nat_tests}
@@ -39,8 +40,8 @@ moment_in_range word =
 
 datagram_in_range : (digits : List ℕ) → IfSome (datagram_of digits) IsDatagram
 datagram_in_range digits =
-    then_part (λ _. Unit {0}) IsDatagram (octets_of digits) (λ octets. cond (nat_le 1 (length octets) && nat_le (length octets) 1497) (Some octets) None) (any_part (octets_of digits))
-    (λ octets _. if_some IsDatagram (nat_le 1 (length octets) && nat_le (length octets) 1497) octets (λ e. (grind (arith, nat_tests), grind (arith, nat_tests))))
+    then_part (λ _. Unit {0}) IsDatagram (octets_of digits) (λ octets. cond (nat_le 1 (length octets) && nat_le (length octets) most_datagram_octets) (Some octets) None) (any_part (octets_of digits))
+    (λ octets _. if_some IsDatagram (nat_le 1 (length octets) && nat_le (length octets) most_datagram_octets) octets (λ e. (grind (arith, nat_tests), grind (arith, nat_tests))))
 
 at_moment : (input : Input) (number : ℕ) (words : List ℕ) → IsSessionInput input → IfSome (moment_line input number words) (IsLineAt number)
 unfolding moment_line

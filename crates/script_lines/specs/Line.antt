@@ -2,10 +2,11 @@
 use Rattle.std.specs.Prelude.{◌≡◌, ℕ, ◌==◌, ◌||◌, nat_lt, Bool, true, Option, Some, None, option_and_then, List, [], ◌∷◌, length, if◌then◌else◌, codes}
 use Rattle.std.specs.Str.{bytes_eq}
 use Rattle.std.specs.Option.{option_map}
-use Rattle.bac_values.specs.Identifier.{ObjectIdData}
+use Rattle.bac_values.specs.Identifier.{number_of_kind, ObjectIdData}
 use Rattle.bac_values.specs.Moments.{IsMoment}
 use Rattle.bac_values.specs.declared.input.Input.{Input}
 use Rattle.bac_values.specs.declared.input.Input.TheVariants.{Tick, Pump, Set, Fault, Datagram}
+use Rattle.bac_values.specs.declared.object_kind.ObjectKind.TheVariants.{IntegerValue}
 use Rattle.bac_values.specs.declared.value.Value.TheVariants.{Signed}
 use Rattle.script_lines.specs.declared.line.Grammar.{Grammar}
 use Rattle.script_lines.specs.declared.line.Grammar.TheVariants.{Trial, Session}
@@ -18,7 +19,7 @@ use Rattle.script_lines.specs.SessionLine.{session_line_of, IsOfOctets, IsSessio
 
 -- the object on trial: integer-value 1
 abbrev pub trial_object : ObjectIdData
-trial_object = record { number = 45; instance = 1 }
+trial_object = record { number = number_of_kind IntegerValue; instance = 1 }
 
 -- what a line of a trial can say: that time goes by, or a value with a sign for the object on trial
 abbrev pub IsTrialInput : Input → Type 0

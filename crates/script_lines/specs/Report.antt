@@ -11,7 +11,7 @@ use Rattle.bac_values.specs.declared.object_kind.ObjectKind.TheVariants.{BinaryV
 use Rattle.bac_values.specs.declared.input.SetFault.{SetFault}
 use Rattle.bac_values.specs.declared.input.SetFault.TheVariants.{UnknownObject, WrongKind, OutOfService, ValueRange}
 use Rattle.bac_values.specs.declared.report.ReportLine.{ReportLine}
-use Rattle.bac_values.specs.declared.report.ReportLine.TheVariants.{TrialMove, TrialEnd, Open, Entered, Idle, Ignored, Refused, Reply, Full, Change, Sent, End, Summary}
+use Rattle.bac_values.specs.declared.report.ReportLine.TheVariants.{TrialMove, TrialEnd, Open, Entered, Idle, Ignored, Refused, Reply, Full, Change, Sent, End, Packet, ShipEnd, Malformed, Gap, Repeat, Part, Taken, Summary}
 
 abbrev pub state_name : EventState → List ℕ
 state_name Normal = codes "normal"
@@ -55,6 +55,10 @@ address_text peer = decimal (peer.ip / 16777216) ++ (codes "." ++ (decimal (peer
 abbrev pub word_text : ℕ → List ℕ → List ℕ
 word_text line word = decimal line ++ (codes " " ++ (word ++ codes "\n"))
 
+-- `N WORD NUMBER` and a line feed
+abbrev pub number_text : ℕ → List ℕ → ℕ → List ℕ
+number_text line word number = decimal line ++ (codes " " ++ (word ++ (codes " " ++ (decimal number ++ codes "\n"))))
+
 -- what a workload has led to
 abbrev pub counts_text : ℕ → ℕ → ℕ → ℕ → List ℕ
 counts_text events changes sends full = codes "events " ++ (decimal events ++ (codes " changes " ++ (decimal changes ++ (codes " sends " ++ (decimal sends ++ (codes " full " ++ decimal full))))))
@@ -73,4 +77,11 @@ report_text (Full line would limit) = decimal line ++ (codes " full " ++ (decima
 report_text (Change line moved) = decimal line ++ (codes " change " ++ (object_text moved.object ++ (codes " " ++ (state_name moved.from ++ (codes " " ++ (state_name moved.to ++ codes "\n"))))))
 report_text (Sent line send) = decimal line ++ (codes " send " ++ (address_text send.peer ++ (codes " " ++ (encode_lower send.bytes ++ codes "\n"))))
 report_text (End lines events) = codes "end " ++ (decimal lines ++ (codes " " ++ (decimal events ++ codes "\n")))
+report_text (Packet packet) = codes "packet " ++ (encode_lower packet ++ codes "\n")
+report_text (ShipEnd packets events) = codes "end " ++ (decimal packets ++ (codes " " ++ (decimal events ++ codes "\n")))
+report_text (Malformed line) = word_text line (codes "malformed")
+report_text (Gap line events) = number_text line (codes "gap") events
+report_text (Repeat line events) = number_text line (codes "repeat") events
+report_text (Part line place) = number_text line (codes "part") place
+report_text (Taken line events) = number_text line (codes "taken") events
 report_text (Summary seed count events changes sends full) = codes "workload " ++ (decimal seed ++ (codes " " ++ (decimal count ++ (codes " " ++ (counts_text events changes sends full ++ codes "\n")))))

@@ -1,5 +1,6 @@
 -- What a line of a session's script says.
 use Rattle.std.specs.Prelude.{◌≡◌, ℕ, ◌+◌, ◌*◌, ◌-◌, ◌^◌, ◌<◌, ◌≤◌, ◌==◌, ◌&&◌, nat_le, nat_lt, Option, Some, None, IsSome, option_and_then, List, [], ◌∷◌, length, take, find, if◌then◌else◌, codes}
+use Rattle.bac_values.specs.Limits.{most_datagram_octets}
 use Rattle.std.specs.List.{before_first, after_first, position_or_len}
 use Rattle.std.specs.Option.{option_map}
 use Rattle.std.specs.Result.{result_ok}
@@ -113,7 +114,7 @@ text_of digits = octets_of digits >>= text_from
 
 -- a datagram, which isn't empty, of at most 1,497 octets
 abbrev pub datagram_from : List ℕ → Option (List ℕ)
-datagram_from octets = if nat_le 1 (length octets) && nat_le (length octets) 1497 then Some octets else None
+datagram_from octets = if nat_le 1 (length octets) && nat_le (length octets) most_datagram_octets then Some octets else None
 
 abbrev pub datagram_of : List ℕ → Option (List ℕ)
 datagram_of digits = octets_of digits >>= datagram_from
@@ -177,7 +178,7 @@ session_line_of number text =
 
 -- a datagram that a line can hold
 abbrev pub IsDatagram : List ℕ → Type 0
-IsDatagram octets = (1 ≤ length octets) × (length octets ≤ 1497)
+IsDatagram octets = (1 ≤ length octets) × (length octets ≤ most_datagram_octets)
 
 -- what a line of a session can say
 abbrev pub IsSessionInput : Input → Type 0

@@ -17,6 +17,7 @@ mod value;
 mod words;
 
 pub use address::read_peer;
+pub use bac_values::ReportLine;
 pub use line::{Grammar, Line, LineSays};
 pub use lines::{LineFault, Lines};
 pub use names::kind_name;

@@ -1,8 +1,8 @@
 ghost use Rattle.std.specs.Prelude.{◌≡◌, IfOk, string_bytes};
-ghost use Rattle.script_lines.specs.Report.{object_text, address_text, counts_text, report_text};
+ghost use Rattle.script_lines.specs.Report.{object_text, address_text, counts_text, number_text, report_text, word_text};
 
 use crate::names::{kind_name, refusal_word, state_name};
-use bac_values::{Moved, NoMemory, ObjectId, Peer, ReportLine, Send};
+use bac_values::{EventState, Items, Moved, NoMemory, ObjectId, Peer, ReportLine, Send, SetFault};
 use std::alloc::{AllocError, Global};
 
 /// The text `KIND:INSTANCE` of an object, with the type's number where it has no name.
@@ -51,6 +51,21 @@ fn send_text(alloc: Global, line: u64, send: &Send) -> Result<String, AllocError
     format!(in alloc; "{line} send {address} {octets}\n")
 }
 
+// packet hex.
+fn packet_text(alloc: Global, packet: &Items<u8>) -> Result<String, AllocError>
+    ensures text { IfOk result (λ text. string_bytes text ≡ report_text (ReportLine.Packet packet.now)) }
+{
+    let octets = hex::encode(alloc, packet.as_slice())?;
+    format!(in alloc; "packet {octets}\n")
+}
+
+// N WORD NUMBER.
+fn number_text(alloc: Global, line: u64, word: &str, number: u64) -> Result<String, AllocError>
+    ensures text { IfOk result (λ text. string_bytes text ≡ number_text line word.now number) }
+{
+    format!(in alloc; "{line} {word} {number}\n")
+}
+
 // events E changes C sends S full F.
 fn counts_text(
     alloc: Global,
@@ -64,16 +79,48 @@ fn counts_text(
     format!(in alloc; "events {events} changes {changes} sends {sends} full {full}")
 }
 
+// MOMENT FROM TO.
+fn move_text(
+    alloc: Global,
+    moment: u64,
+    from: EventState,
+    to: EventState,
+) -> Result<String, AllocError>
+    ensures text { IfOk result (λ text. string_bytes text ≡ report_text (ReportLine.TrialMove moment from to)) }
+{
+    let from = state_name(from);
+    let to = state_name(to);
+    format!(in alloc; "{moment} {from} {to}\n")
+}
+
+// N refused WORD.
+fn refused_text(alloc: Global, line: u64, why: SetFault) -> Result<String, AllocError>
+    ensures text { IfOk result (λ text. string_bytes text ≡ report_text (ReportLine.Refused line why)) }
+{
+    let word = refusal_word(why);
+    format!(in alloc; "{line} refused {word}\n")
+}
+
+// end N EVENTS.
+fn end_text(alloc: Global, number: u64, events: u64) -> Result<String, AllocError>
+    ensures text { IfOk result (λ text. string_bytes text ≡ report_text (ReportLine.End number events)) }
+{
+    format!(in alloc; "end {number} {events}\n")
+}
+
+// N WORD.
+fn word_text(alloc: Global, line: u64, word: &str) -> Result<String, AllocError>
+    ensures text { IfOk result (λ text. string_bytes text ≡ word_text line word.now) }
+{
+    format!(in alloc; "{line} {word}\n")
+}
+
 // The text of a report's line.
 fn line_text(alloc: Global, line: &ReportLine) -> Result<String, AllocError>
     ensures text { IfOk result (λ text. string_bytes text ≡ report_text line.now) }
 {
     match line {
-        ReportLine::TrialMove { moment, from, to } => {
-            let from = state_name(*from);
-            let to = state_name(*to);
-            format!(in alloc; "{moment} {from} {to}\n")
-        }
+        ReportLine::TrialMove { moment, from, to } => move_text(alloc, *moment, *from, *to),
         ReportLine::TrialEnd { lines } => format!(in alloc; "end {lines}\n"),
         ReportLine::Open { events } => format!(in alloc; "open {events}\n"),
         ReportLine::Entered {
@@ -81,19 +128,23 @@ fn line_text(alloc: Global, line: &ReportLine) -> Result<String, AllocError>
             event,
             moment,
         } => format!(in alloc; "{line} entered {event} {moment}\n"),
-        ReportLine::Idle { line } => format!(in alloc; "{line} idle\n"),
-        ReportLine::Ignored { line } => format!(in alloc; "{line} ignored\n"),
-        ReportLine::Refused { line, why } => {
-            let word = refusal_word(*why);
-            format!(in alloc; "{line} refused {word}\n")
-        }
-        ReportLine::Reply { line } => format!(in alloc; "{line} reply\n"),
+        ReportLine::Idle { line } => word_text(alloc, *line, "idle"),
+        ReportLine::Ignored { line } => word_text(alloc, *line, "ignored"),
+        ReportLine::Refused { line, why } => refused_text(alloc, *line, *why),
+        ReportLine::Reply { line } => word_text(alloc, *line, "reply"),
         ReportLine::Full { line, would, limit } => {
             format!(in alloc; "{line} full {would} {limit}\n")
         }
         ReportLine::Change { line, moved } => change_text(alloc, *line, *moved),
         ReportLine::Sent { line, send } => send_text(alloc, *line, send),
-        ReportLine::End { lines, events } => format!(in alloc; "end {lines} {events}\n"),
+        ReportLine::End { lines, events } => end_text(alloc, *lines, *events),
+        ReportLine::Packet { packet } => packet_text(alloc, packet),
+        ReportLine::ShipEnd { packets, events } => end_text(alloc, *packets, *events),
+        ReportLine::Malformed { line } => word_text(alloc, *line, "malformed"),
+        ReportLine::Gap { line, events } => number_text(alloc, *line, "gap", *events),
+        ReportLine::Repeat { line, events } => number_text(alloc, *line, "repeat", *events),
+        ReportLine::Part { line, place } => number_text(alloc, *line, "part", u64::from(*place)),
+        ReportLine::Taken { line, events } => number_text(alloc, *line, "taken", *events),
         ReportLine::Summary {
             seed,
             count,

@@ -1,10 +1,11 @@
 ghost use Rattle.std.specs.Prelude.{◌≡◌, ◌/◌, ◌≤◌, true, false, Some, None, IfOk, IsErr, IsSome, IsSomeAnd, MatchBool, MatchOption, length};
+ghost use Rattle.bac_values.specs.Limits.{most_datagram_octets};
 ghost use Rattle.std.specs.Str.{is_utf8};
 ghost use Rattle.script_lines.specs.SessionLine.{IsText, bit_of, bits_number, bits_of, datagram_from, datagram_of, name_of, octets_of, text_from, text_of, value_named, value_of, behind, colon};
 
 use crate::number::{signed, unsigned};
 use crate::words::place_of;
-use bac_values::{Bits, Items, NoMemory, Text, Value};
+use bac_values::{Bits, Items, MOST_DATAGRAM_OCTETS, NoMemory, Text, Value};
 use std::alloc::Global;
 
 // The bit that a digit stands for.
@@ -94,12 +95,9 @@ fn text(alloc: Global, digits: &[u8]) -> Result<Option<Text>, NoMemory>
     text_from(alloc, octets)
 }
 
-// How many octets a datagram may have.
-const LONGEST_DATAGRAM: usize = 1497;
-
 // A datagram of these octets.
 fn datagram_from(alloc: Global, octets: &[u8]) -> Result<Option<Items<u8>>, NoMemory>
-    requires size { length octets.now ≤ 1497 }
+    requires size { length octets.now ≤ most_datagram_octets }
     ensures datagram { IfOk result (λ found. found ≡ datagram_from octets.now) }
     ensures wants { IsErr result → IsSome (datagram_from octets.now) }
 {
@@ -117,10 +115,10 @@ pub fn read_datagram(alloc: Global, digits: &[u8]) -> Result<Option<Items<u8>>, 
     ensures datagram { IfOk result (λ found. found ≡ datagram_of digits.now) }
     ensures wants { IsErr result → IsSome (datagram_of digits.now) }
 {
-    if digits.len() > 2 * LONGEST_DATAGRAM {
+    if digits.len() > 2 * MOST_DATAGRAM_OCTETS {
         return Ok(None);
     }
-    let mut room = [0; LONGEST_DATAGRAM];
+    let mut room = [0; MOST_DATAGRAM_OCTETS];
     let octets = &mut room[..digits.len() / 2];
     if !fill(digits, octets) {
         return Ok(None);

@@ -16,6 +16,7 @@ mod replies;
 mod who_is;
 mod write_property;
 
+pub use bac_values::Input;
 pub use decision::Decision;
 pub use inputs::decide;
 pub use laws::{each_reply_fits, each_request_is_answered};

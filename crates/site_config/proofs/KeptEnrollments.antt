@@ -1,6 +1,7 @@
 -- What the keys of an enrollment and of a log keep to.
 use Rattle.std.proofs.Common.{◌≡◌, ◌≤◌, ℕ, List, length, true, false, Bool, Option, Some, None, Ok, Err, refl}
 use Rattle.std.specs.Prelude.{codes, Result, IsSome, IsNone, if◌then◌else◌}
+use Rattle.bac_values.specs.Limits.{most_records}
 use Rattle.std.specs.Str.{bytes_eq}
 use Rattle.toml.specs.Data.{Data, Members, as_bool, as_str}
 use Rattle.algorithm_rules.specs.declared.table.Algorithm.{Algorithm}
@@ -143,15 +144,15 @@ unfolding log_of
 log_part_kept ms log h =
     let instance = after (required instance_in (codes "instance") ms) _ log h in
     let name = after (name_of (object_with kinds.EventLog instance.value) ms) _ log instance.next_is in
-    let size = after (required (unsigned_in 1 16384) (codes "size") ms) _ log name.next_is in
+    let size = after (required (unsigned_in 1 most_records) (codes "size") ms) _ log name.next_is in
     let stop = after (or_else false as_bool (codes "stop_when_full") ms) _ log size.next_is in
     let enable = after (or_else true as_bool (codes "enable") ms) _ log stop.next_is in
     let classes = after (required (list_in 1 256 instance_in) (codes "classes") ms) _ log enable.next_is in
     let whole : LogSite = record { object = object_with kinds.EventLog instance.value; name = name.value; size = size.value; stop_when_full = stop.value; enable = enable.value; classes = classes.value } in
     let is : whole ≡ log = ok_is whole log classes.next_is in
     let I : ℕ → Type 0 = λ n. n ≤ 4194302 in
-    let Size : ℕ → Type 0 = λ n. (1 ≤ n) × (n ≤ 16384) in
-    let good : Size size.value = required_keeps Size (unsigned_in 1 16384) (unsigned_kept 1 16384) (codes "size") ms size.value size.first_is in
+    let Size : ℕ → Type 0 = λ n. (1 ≤ n) × (n ≤ most_records) in
+    let good : Size size.value = required_keeps Size (unsigned_in 1 most_records) (unsigned_kept 1 most_records) (codes "size") ms size.value size.first_is in
     rw (← is) (record {
       number = refl;
       instance = required_keeps I instance_in instance_kept (codes "instance") ms instance.value instance.first_is;

@@ -1,4 +1,5 @@
 -- The site of a draft that keeps to the limits keeps to them.
+use Rattle.bac_values.specs.Limits.{most_objects, most_records, most_classes, most_destinations, most_logs}
 use Rattle.std.proofs.Common.{◌≡◌, ◌⊎◌, ℕ, ◌+◌, ◌≤◌, nat_lt, cond, Bool, true, false, List, [], ◌∷◌, length, get_or, Result, Ok, Err, if◌then◌else◌, refl, ap, arith, inl, inr}
 use Rattle.std.specs.List.{list_any, sum_by}
 use Rattle.std.proofs.lemmas.Bool.{cases_Bool, eqb-true, ltb-false, or_parts}
@@ -27,45 +28,45 @@ passed false fault rest verdict h = (refl, h)
 
 -- what a draft that passes has
 pub record IsSmall (draft : Draft) : Type 0 where
-  pub classes : length draft.classes ≤ 256
+  pub classes : length draft.classes ≤ most_classes
   pub crowded : are_crowded draft.destinations ≡ false
-  pub objects : length draft.objects + length draft.enrollments ≤ 2048
-  pub logs : length draft.logs ≤ 16
-  pub records : sum_by size_of draft.logs ≤ 16384
+  pub objects : length draft.objects + length draft.enrollments ≤ most_objects
+  pub logs : length draft.logs ≤ most_logs
+  pub records : sum_by size_of draft.logs ≤ most_records
 
 pub small_draft : (draft : Draft) (verdict : Unit {0}) → limits_of draft ≡ Ok verdict → IsSmall draft
 small_draft draft verdict h =
-    let classes = passed (nat_lt 256 (length draft.classes)) _ _ verdict h in
+    let classes = passed (nat_lt most_classes (length draft.classes)) _ _ verdict h in
     let crowded = passed (are_crowded draft.destinations) _ _ verdict classes.1 in
-    let objects = passed (nat_lt 2048 (length draft.objects)) _ _ verdict crowded.1 in
-    let both = passed (nat_lt 2048 (length draft.objects + length draft.enrollments)) _ _ verdict objects.1 in
-    let logs = passed (nat_lt 16 (length draft.logs)) _ _ verdict both.1 in
-    let records = passed (nat_lt 16384 (sum_by size_of draft.logs)) _ _ verdict logs.1 in
+    let objects = passed (nat_lt most_objects (length draft.objects)) _ _ verdict crowded.1 in
+    let both = passed (nat_lt most_objects (length draft.objects + length draft.enrollments)) _ _ verdict objects.1 in
+    let logs = passed (nat_lt most_logs (length draft.logs)) _ _ verdict both.1 in
+    let records = passed (nat_lt most_records (sum_by size_of draft.logs)) _ _ verdict logs.1 in
     record {
-      classes = ltb-false 256 (length draft.classes) classes.0;
+      classes = ltb-false most_classes (length draft.classes) classes.0;
       crowded = crowded.0;
-      objects = ltb-false 2048 (length draft.objects + length draft.enrollments) both.0;
-      logs = ltb-false 16 (length draft.logs) logs.0;
-      records = ltb-false 16384 (sum_by size_of draft.logs) records.0;
+      objects = ltb-false most_objects (length draft.objects + length draft.enrollments) both.0;
+      logs = ltb-false most_logs (length draft.logs) logs.0;
+      records = ltb-false most_records (sum_by size_of draft.logs) records.0;
     }
 
 -- ---- the destinations of a class
 
 -- a class is named by none of these destinations, or has few among all
-named_or_few : (number : ℕ) (all rest : List DestinationSite) → list_any (λ destination. nat_lt 32 (count_of destination.class.instance all)) rest ≡ false → (count_of number rest ≡ 0) ⊎ (count_of number all ≤ 32)
+named_or_few : (number : ℕ) (all rest : List DestinationSite) → list_any (λ destination. nat_lt most_destinations (count_of destination.class.instance all)) rest ≡ false → (count_of number rest ≡ 0) ⊎ (count_of number all ≤ most_destinations)
 named_or_few number all [] h = inl refl
 named_or_few number all (destination ∷ rest) h =
-    let parts = or_parts (nat_lt 32 (count_of destination.class.instance all)) (list_any (λ other. nat_lt 32 (count_of other.class.instance all)) rest) h in
+    let parts = or_parts (nat_lt most_destinations (count_of destination.class.instance all)) (list_any (λ other. nat_lt most_destinations (count_of other.class.instance all)) rest) h in
     elim (cases_Bool (names_class number destination)) [
       | inl same ↦
           let is : destination.class.instance ≡ number = eqb-true destination.class.instance number same in
-          inr (omega (arith, ltb-false 32 (count_of destination.class.instance all) parts.0, ap (λ n. count_of n all) is))
+          inr (omega (arith, ltb-false most_destinations (count_of destination.class.instance all) parts.0, ap (λ n. count_of n all) is))
       | inr other ↦
           let one : count_of number (destination ∷ rest) ≡ cond (names_class number destination) 1 0 + count_of number rest = sum_by-cons (λ (d : DestinationSite). cond (names_class number d) 1 0) destination rest in
           elim (named_or_few number all rest parts.1) [ inl none ↦ inl (omega (arith, one, ap {B = ℕ} (λ (b : Bool). cond b 1 0) other, none)) | inr few ↦ inr few ]
     ]
 
-few_named : (number : ℕ) (destinations : List DestinationSite) → are_crowded destinations ≡ false → count_of number destinations ≤ 32
+few_named : (number : ℕ) (destinations : List DestinationSite) → are_crowded destinations ≡ false → count_of number destinations ≤ most_destinations
 few_named number destinations h = elim (named_or_few number destinations destinations h) [ inl none ↦ omega (arith, none) | inr few ↦ few ]
 
 has_few : (destinations : List DestinationSite) (item : ClassItem) → are_crowded destinations ≡ false → HasFewDestinations (with_destinations destinations item)

@@ -1,6 +1,7 @@
 -- The site of a text keeps to what a site keeps to.
 use Rattle.std.proofs.Common.{◌≡◌, ◌≤◌, ℕ, ℤ, pos, List, [], ◌∷◌, length, true, false, Bool, Option, Some, None, Ok, Err, if◌then◌else◌, refl, arith}
 use Rattle.std.specs.Prelude.{codes, Result, neg_ℤ, nat_lt, IfOk, IfSome, IsTrue}
+use Rattle.bac_values.specs.Limits.{least_outbox, most_outbox, most_site_octets}
 use Rattle.std.specs.List.{All, AllByRecursion}
 use Rattle.std.proofs.lemmas.List.Elements.{All-nil, All-map, All-weaker}
 use Rattle.toml.specs.Data.{Data, Members, as_bool, get_member, Items, no_items, item, table, array, string, integer, float, boolean, datetime}
@@ -162,14 +163,14 @@ device_kept ms device h =
     let rule = after (optional (zone_rule_beside (get_member (codes "zone_minutes") ms)) (codes "zone_rule") ms) _ device zone.next_is in
     let timeout = after (or_else 3000 (unsigned_in 1 3600000) (codes "apdu_timeout") ms) _ device rule.next_is in
     let retries = after (or_else 3 (unsigned_in 0 15) (codes "retries") ms) _ device timeout.next_is in
-    let outbox = after (or_else 256 (unsigned_in 64 16384) (codes "outbox") ms) _ device retries.next_is in
+    let outbox = after (or_else 256 (unsigned_in least_outbox most_outbox) (codes "outbox") ms) _ device retries.next_is in
     let whole : DeviceSite = record { instance = instance.value; name = name.value; vendor = vendor.value; start = start.value; zone_minutes = zone.value; zone_rule = rule.value; apdu_timeout = timeout.value; retries = retries.value; outbox = outbox.value } in
     let is : whole ≡ device = ok_is whole device outbox.next_is in
     let M : ℕ → Type 0 = IsMoment in
     let Z : ℤ → Type 0 = IsZone in
     let I : ℕ → Type 0 = λ n. n ≤ 4194302 in
     let usual : IsZone (pos 0) = (record { le = tt }, record { le = tt }) in
-    let Limit : ℕ → Type 0 = λ n. n ≤ 16384 in
+    let Limit : ℕ → Type 0 = λ n. n ≤ most_outbox in
     let Timeout : ℕ → Type 0 = λ n. n ≤ 3600000 in
     let Retries : ℕ → Type 0 = λ n. n ≤ 15 in
     rw (← is) (record {
@@ -178,7 +179,7 @@ device_kept ms device h =
       zone = or_else_keeps Z (whole_in (neg_ℤ (pos 840)) (pos 840)) (whole_kept (neg_ℤ (pos 840)) (pos 840)) (codes "zone_minutes") (pos 0) usual ms zone.value zone.first_is;
       rule = rule_kept (whole_in (neg_ℤ (pos 840)) (pos 840)) (get_member (codes "zone_minutes") ms) (get_member (codes "zone_rule") ms) zone.value rule.value zone.first_is rule.first_is;
       settings = record {
-        fits = or_else_keeps Limit (unsigned_in 64 16384) (λ d n e. (unsigned_kept 64 16384 d n e).1) (codes "outbox") 256 (omega arith) ms outbox.value outbox.first_is;
+        fits = or_else_keeps Limit (unsigned_in least_outbox most_outbox) (λ d n e. (unsigned_kept least_outbox most_outbox d n e).1) (codes "outbox") 256 (omega arith) ms outbox.value outbox.first_is;
         ends = or_else_keeps Timeout (unsigned_in 1 3600000) (λ d n e. (unsigned_kept 1 3600000 d n e).1) (codes "apdu_timeout") 3000 (omega arith) ms timeout.value timeout.first_is;
         stops = or_else_keeps Retries (unsigned_in 0 15) (λ d n e. (unsigned_kept 0 15 d n e).1) (codes "retries") 3 (omega arith) ms retries.value retries.first_is;
       };
@@ -292,7 +293,7 @@ found_kept (Some document) site h = document_kept document site h
 
 site_kept : (text : List ℕ) (site : Site) → site_of text ≡ Ok site → IsGiven site
 unfolding site_of
-site_kept text site h = by (nat_lt 1048576 (length text)) h
+site_kept text site h = by (nat_lt most_site_octets (length text)) h
   where
     by : (long : Bool) → (if long then Err TooLong else site_or_no_toml (document_of text)) ≡ Ok site → IsGiven site
     by true e = absurd cc

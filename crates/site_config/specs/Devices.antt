@@ -1,5 +1,6 @@
 -- The device (ANSI/ASHRAE 135-2020, 12.11).
 use Rattle.std.specs.Prelude.{ℕ, ◌&&◌, nat_le, Bool, List, length, pos, neg_ℤ, codes, Option, Some, None, Result, Ok, if◌then◌else◌}
+use Rattle.bac_values.specs.Limits.{least_outbox, most_outbox}
 use Rattle.std.specs.Char.{is_ascii}
 use Rattle.std.specs.List.{list_all}
 use Rattle.toml.specs.Data.{Data, Members, get_member}
@@ -45,5 +46,5 @@ device_of ms = do
   rule ← optional (zone_rule_beside (get_member (codes "zone_minutes") ms)) (codes "zone_rule") ms
   timeout ← or_else 3000 (unsigned_in 1 3600000) (codes "apdu_timeout") ms
   retries ← or_else 3 (unsigned_in 0 15) (codes "retries") ms
-  outbox ← or_else 256 (unsigned_in 64 16384) (codes "outbox") ms
+  outbox ← or_else 256 (unsigned_in least_outbox most_outbox) (codes "outbox") ms
   Ok (record { instance = instance; name = name; vendor = vendor; start = start; zone_minutes = zone; zone_rule = rule; apdu_timeout = timeout; retries = retries; outbox = outbox })

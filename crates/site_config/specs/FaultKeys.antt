@@ -1,5 +1,6 @@
 -- The keys of an object of some kinds that have to do with its faults, and with the states among which it is.
 use Rattle.std.specs.Prelude.{ℕ, ℤ, ◌&&◌, is_none, Option, Some, None, [], codes, Result, Ok, if◌then◌else◌}
+use Rattle.bac_values.specs.Limits.{most_listed_values}
 use Rattle.toml.specs.Data.{Members, get_member}
 use Rattle.bac_values.specs.declared.object_kind.ObjectKind.{ObjectKind}
 use Rattle.bac_values.specs.declared.object_kind.ObjectKind.TheVariants.{MultiStateValue, CharacterStringValue, IntegerValue, PositiveIntegerValue}
@@ -25,13 +26,13 @@ state_number _ = 0
 unfoldable pub state_fault_keys_of : Value → Members → Result FaultKeys ItemFault
 state_fault_keys_of value ms = do
   states ← required (unsigned_in (state_number value) last_unsigned) (codes "states") ms
-  values ← or_else [] (list_in 0 32 (value_in MultiStateValue)) (codes "fault_values") ms
+  values ← or_else [] (list_in 0 most_listed_values (value_in MultiStateValue)) (codes "fault_values") ms
   Ok (record no_fault_keys { states = states; fault_values = values })
 
 -- that of a character string value
 unfoldable pub text_fault_keys_of : Members → Result FaultKeys ItemFault
 text_fault_keys_of ms = do
-  values ← or_else [] (list_in 0 32 (value_in CharacterStringValue)) (codes "fault_values") ms
+  values ← or_else [] (list_in 0 most_listed_values (value_in CharacterStringValue)) (codes "fault_values") ms
   Ok (record no_fault_keys { fault_values = values })
 
 -- both fault limits, or none: where one is there, the other is needed

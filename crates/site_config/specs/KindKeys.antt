@@ -1,5 +1,6 @@
 -- The alarm keys that only objects of some kinds have.
 use Rattle.std.specs.Prelude.{pos, true, false, Some, None, [], ◌∷◌, codes, Result, Ok}
+use Rattle.bac_values.specs.Limits.{most_listed_values}
 use Rattle.toml.specs.Data.{Members}
 use Rattle.bac_values.specs.declared.object_kind.ObjectKind.{ObjectKind}
 use Rattle.bac_values.specs.declared.object_kind.ObjectKind.TheVariants.{BinaryValue, MultiStateValue, BitStringValue, CharacterStringValue, IntegerValue, PositiveIntegerValue}
@@ -33,13 +34,13 @@ binary_keys_of ms = do
 -- those of a multi-state or a character string value
 unfoldable pub value_keys_of : ObjectKind → Members → Result KindKeys ItemFault
 value_keys_of kind ms = do
-  values ← required (list_in 1 32 (value_in kind)) (codes "alarm_values") ms
+  values ← required (list_in 1 most_listed_values (value_in kind)) (codes "alarm_values") ms
   Ok (record no_kind_keys { alarm_values = values })
 
 -- those of a bit string value
 unfoldable pub bits_keys_of : Members → Result KindKeys ItemFault
 bits_keys_of ms = do
-  values ← required (list_in 1 32 (value_in BitStringValue)) (codes "alarm_values") ms
+  values ← required (list_in 1 most_listed_values (value_in BitStringValue)) (codes "alarm_values") ms
   mask ← required bits_in (codes "mask") ms
   Ok (record no_kind_keys { alarm_values = values; mask = Some mask })
 

@@ -1,5 +1,6 @@
 -- How much a site may have.
 use Rattle.std.specs.Prelude.{ℕ, ◌+◌, ◌==◌, nat_lt, Bool, List, length, count_by, sum_by, unwrap_or, Result, Ok, Err, if◌then◌else◌}
+use Rattle.bac_values.specs.Limits.{most_classes, most_destinations, most_logs, most_objects, most_records}
 use Rattle.std.specs.BTreeMap.{BTreeMap, get}
 use Rattle.std.specs.List.{list_any}
 use Rattle.std.specs.Ordering.{nat_cmp}
@@ -23,9 +24,9 @@ count_of class destinations = count_by (names_class class) destinations
 abbrev pub count_in : BTreeMap ℕ ℕ → ℕ → ℕ
 count_in counts class = unwrap_or (get nat_cmp counts class) 0
 
--- more than 32 destinations name one class
+-- more destinations name one class than a class may have
 abbrev pub are_crowded : List DestinationSite → Bool
-are_crowded destinations = list_any (λ destination. nat_lt 32 (count_of destination.class.instance destinations)) destinations
+are_crowded destinations = list_any (λ destination. nat_lt most_destinations (count_of destination.class.instance destinations)) destinations
 
 abbrev pub size_of : LogSite → ℕ
 size_of log = log.size
@@ -33,9 +34,9 @@ size_of log = log.size
 -- by section, and then the records of all logs
 abbrev pub limits_of : Draft → Result (Unit {0}) SiteFault
 limits_of draft =
-    if nat_lt 256 (length draft.classes) then Err (TooMany (counted.Section Class)) else
+    if nat_lt most_classes (length draft.classes) then Err (TooMany (counted.Section Class)) else
     (if are_crowded draft.destinations then Err (TooMany (counted.Section Destination)) else
-    (if nat_lt 2048 (length draft.objects) then Err (TooMany (counted.Section Object)) else
-    (if nat_lt 2048 (length draft.objects + length draft.enrollments) then Err (TooMany (counted.Section Enrollment)) else
-    (if nat_lt 16 (length draft.logs) then Err (TooMany (counted.Section Log)) else
-    (if nat_lt 16384 (sum_by size_of draft.logs) then Err (TooMany Records) else Ok tt)))))
+    (if nat_lt most_objects (length draft.objects) then Err (TooMany (counted.Section Object)) else
+    (if nat_lt most_objects (length draft.objects + length draft.enrollments) then Err (TooMany (counted.Section Enrollment)) else
+    (if nat_lt most_logs (length draft.logs) then Err (TooMany (counted.Section Log)) else
+    (if nat_lt most_records (sum_by size_of draft.logs) then Err (TooMany Records) else Ok tt)))))

@@ -1,5 +1,6 @@
 -- Event logs (ANSI/ASHRAE 135-2020, 12.27).
 use Rattle.std.specs.Prelude.{true, false, codes, Result, Ok}
+use Rattle.bac_values.specs.Limits.{most_classes, most_records}
 use Rattle.toml.specs.Data.{Members, as_bool}
 use Rattle.bac_values.specs.declared.object_kind.ObjectKind.TheVariants as kinds
 use Rattle.event_log.specs.declared.log_site.LogSite.{LogSite}
@@ -15,8 +16,8 @@ unfoldable pub log_of : Members → Result LogSite ItemFault
 log_of ms = do
   instance ← required instance_in (codes "instance") ms
   name ← name_of (object_with kinds.EventLog instance) ms
-  size ← required (unsigned_in 1 16384) (codes "size") ms
+  size ← required (unsigned_in 1 most_records) (codes "size") ms
   stop ← or_else false as_bool (codes "stop_when_full") ms
   enable ← or_else true as_bool (codes "enable") ms
-  classes ← required (list_in 1 256 instance_in) (codes "classes") ms
+  classes ← required (list_in 1 most_classes instance_in) (codes "classes") ms
   Ok (record { object = object_with kinds.EventLog instance; name = name; size = size; stop_when_full = stop; enable = enable; classes = classes })

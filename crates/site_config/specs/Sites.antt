@@ -1,5 +1,6 @@
 -- Which site a text is, or its first fault.
 use Rattle.std.specs.Prelude.{ℕ, nat_lt, Option, Some, None, List, [], map, filter, fold, length, Result, Ok, Err, if◌then◌else◌}
+use Rattle.bac_values.specs.Limits.{most_site_octets}
 use Rattle.std.specs.BTreeMap.{insert_entry}
 use Rattle.std.specs.Map.{values_of}
 use Rattle.std.specs.Str.{is_utf8}
@@ -91,4 +92,4 @@ site_or_no_toml (Some document) = site_of_document document
 
 -- the site of a text, or its first fault
 unfoldable pub site_of : List ℕ → Result Site SiteFault
-site_of text = if nat_lt 1048576 (length text) then Err TooLong else site_or_no_toml (document_of text)
+site_of text = if nat_lt most_site_octets (length text) then Err TooLong else site_or_no_toml (document_of text)

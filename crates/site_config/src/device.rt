@@ -15,7 +15,7 @@ use crate::members::name_or;
 use crate::objects::identifier;
 use crate::values::LAST_INSTANCE;
 use alarm_core::DeviceSite;
-use bac_values::{NoMemory, ObjectKind, Text};
+use bac_values::{LEAST_OUTBOX, MOST_OUTBOX, NoMemory, ObjectKind, Text};
 use civil_stamp::{Zone, ZoneFault};
 use std::alloc::Global;
 use toml::{Table, Value};
@@ -130,7 +130,7 @@ pub fn device_of(alloc: Global, table: &Table) -> Result<DeviceSite, ItemFault>
     let zone_rule = zone_rule(alloc, table)?;
     let apdu_timeout = unsigned_or(alloc, table, "apdu_timeout", 1, 3_600_000, 3_000)?;
     let retries = retries(alloc, table)?;
-    let outbox = unsigned_or(alloc, table, "outbox", 64, 16_384, 256)?;
+    let outbox = unsigned_or(alloc, table, "outbox", LEAST_OUTBOX, MOST_OUTBOX, 256)?;
     Ok(DeviceSite {
         instance,
         name,

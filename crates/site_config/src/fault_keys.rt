@@ -1,4 +1,5 @@
 ghost use Rattle.std.specs.Prelude.{◌≡◌, ◌≤◌, [], IfOk, codes};
+ghost use Rattle.bac_values.specs.Limits.{most_listed_values};
 ghost use Rattle.toml.specs.View.{table_view};
 ghost use Rattle.toml_items.specs.Answers.{Gives};
 ghost use Rattle.site_config.specs.FaultKeys.{state_number, fault_limits_of, state_fault_keys_of, text_fault_keys_of, limit_fault_keys_of, fault_keys_of, no_fault_keys};
@@ -8,7 +9,7 @@ ghost use Rattle.toml_items.specs.Lists.{list_in};
 
 use crate::lists::values_in;
 use crate::members::limit;
-use bac_values::{Items, ObjectKind, Value};
+use bac_values::{Items, MOST_LISTED_VALUES, ObjectKind, Value};
 use std::alloc::Global;
 use toml::Table;
 use toml_items::{ItemFault, member_at, unsigned, valid_value};
@@ -38,12 +39,16 @@ fn no_fault_keys(alloc: Global) -> FaultKeys
     }
 }
 
-/// At most 32 fault values of the kind, or none.
+/// At most `MOST_LISTED_VALUES` fault values of the kind, or none.
 fn fault_values(alloc: Global, table: &Table, kind: ObjectKind) -> Result<Items<Value>, ItemFault>
-    ensures answer { Gives ItemFault.NoMemory result (or_else [] (list_in 0 32 (value_in kind)) (codes "fault_values") (table_view table.now)) }
+    ensures answer { Gives ItemFault.NoMemory result (or_else [] (list_in 0 most_listed_values (value_in kind)) (codes "fault_values") (table_view table.now)) }
 {
     match member_at(table, "fault_values") {
-        Some(value) => valid_value(alloc, "fault_values", values_in(alloc, value, kind, 0, 32)?),
+        Some(value) => valid_value(
+            alloc,
+            "fault_values",
+            values_in(alloc, value, kind, 0, MOST_LISTED_VALUES)?,
+        ),
         None => Ok(Items::of(Vec::new(alloc))),
     }
 }

@@ -1,4 +1,5 @@
 ghost use Rattle.std.specs.Prelude.{◌≡◌, ◌≤◌, [], IfOk, OnOk, All, Some, codes, length};
+ghost use Rattle.bac_values.specs.Limits.{most_listed_values};
 ghost use Rattle.toml.specs.View.{table_view};
 ghost use Rattle.toml_items.specs.Answers.{Gives};
 ghost use Rattle.site_config.specs.KindKeys.{limit_keys_of, binary_keys_of, value_keys_of, bits_keys_of, kind_keys_of, no_kind_keys};
@@ -9,7 +10,7 @@ ghost use Rattle.toml_items.specs.Lists.{list_in};
 use crate::lists::{value_in, values_in};
 use crate::members::limit;
 use crate::values::bits_in;
-use bac_values::{Bits, Items, ObjectKind, Value};
+use bac_values::{Bits, Items, MOST_LISTED_VALUES, ObjectKind, Value};
 use std::alloc::Global;
 use toml::Table;
 use toml_items::{ItemFault, required_member, two_flags_or_both, unsigned_or, valid_value};
@@ -83,12 +84,12 @@ fn binary_keys_of(alloc: Global, table: &Table) -> Result<KindKeys, ItemFault>
     })
 }
 
-/// The alarm values of the kind, 1 to 32.
+/// The alarm values of the kind, 1 to `MOST_LISTED_VALUES`.
 fn alarm_values(alloc: Global, table: &Table, kind: ObjectKind) -> Result<Items<Value>, ItemFault>
-    ensures answer { Gives ItemFault.NoMemory result (required (list_in 1 32 (value_in kind)) (codes "alarm_values") (table_view table.now)) }
+    ensures answer { Gives ItemFault.NoMemory result (required (list_in 1 most_listed_values (value_in kind)) (codes "alarm_values") (table_view table.now)) }
 {
     let value = required_member(alloc, table, "alarm_values")?;
-    let found = values_in(alloc, value, kind, 1, 32)?;
+    let found = values_in(alloc, value, kind, 1, MOST_LISTED_VALUES)?;
     valid_value(alloc, "alarm_values", found)
 }
 

@@ -18,7 +18,7 @@ use crate::notes::{exceed, members_of};
 use crate::order::in_order;
 use crate::references::least_dangling;
 use alarm_core::{ClassSite, Site};
-use bac_values::{Items, NoMemory, push};
+use bac_values::{Items, MOST_SITE_OCTETS, NoMemory, push};
 use notify_class::{Class, Destination};
 use std::alloc::Global;
 use toml::Table;
@@ -191,22 +191,19 @@ fn document_of(alloc: Global, text: &[u8]) -> Result<Table, SiteFault>
     }
 }
 
-/// How many octets a text may have.
-const LONGEST_TEXT: usize = 1_048_576;
-
 /// The site that a text is, or its first fault.
 #[tactic(auto, unfolding(crate::specs::Sites::site_of))]
 fn site_of_text(alloc: Global, text: &[u8]) -> Result<Site, SiteFault>
     ensures answer { Gives SiteFault.NoMemory result (site_of text.now) }
 {
-    if text.len() > LONGEST_TEXT {
+    if text.len() > MOST_SITE_OCTETS {
         return Err(SiteFault::TooLong);
     }
     let document = document_of(alloc, text)?;
     site_of_document(alloc, &document)
 }
 
-/// Reads the text of a site: TOML of at most 1,048,576 octets. The answer is the site that the text is, or the first fault
+/// Reads the text of a site: TOML of at most `MOST_SITE_OCTETS` octets. The answer is the site that the text is, or the first fault
 /// in the order of `docs/SITE.md`, unless memory is refused. The core can start from that site, the notifications of one tick
 /// always fit its empty outbox, and it keeps to the limits on which the size of a snapshot rests.
 pub fn read_site(alloc: Global, text: &[u8]) -> Result<Site, SiteFault>

@@ -1,4 +1,5 @@
 -- Events that are allowed have records.
+use Rattle.bac_values.specs.Limits.{most_destinations}
 use Rattle.std.proofs.Common.{◌≡◌, ℕ, ◌≤◌, Bool, true, false, cond, ltb, IsTrue, IsSomeAnd, List, length, Option, Some, None, Result, Ok, Err, refl, inl, inr}
 use Rattle.std.proofs.lemmas.Bool.{ltb-false}
 use Rattle.bac_values.specs.Moments.{IsMoment}
@@ -6,7 +7,7 @@ use Rattle.bac_values.specs.declared.object_kind.ObjectKind.{ObjectKind}
 use Rattle.bac_values.specs.declared.object_kind.ObjectKind.TheVariants.{BinaryValue, MultiStateValue, BitStringValue, CharacterStringValue, IntegerValue, PositiveIntegerValue}
 use Rattle.bac_values.specs.declared.value.Value.{Value}
 use Rattle.bac_values.specs.declared.value.Value.TheVariants as values
-use Rattle.notify_class.specs.Edits.{most_destinations, edit_verdict}
+use Rattle.notify_class.specs.Edits.{edit_verdict}
 use Rattle.notify_class.specs.declared.edit.EditFault.{EditFault}
 use Rattle.notify_class.specs.Recipients.{DestinationData}
 use Rattle.bac_values.specs.Address.{PeerData}

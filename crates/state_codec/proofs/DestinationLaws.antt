@@ -1,4 +1,5 @@
 -- Recipients: each is read exactly as it is written, and so are lists of them.
+use Rattle.bac_values.specs.Limits.{most_destinations}
 use Rattle.std.proofs.Common.{◌≡◌, ℕ, zero, suc, ◌^◌, ◌<◌, Bool, true, false, ltb, leb, ◌&&◌, List, [], ◌∷◌, ◌++◌, length, All, Option, Some, refl, sym, ap, subst, ◌∙◌, append_assoc, arith}
 use Rattle.std.specs.Int.{w32, to_be_bytes}
 use Rattle.std.specs.List.{flat_map}
@@ -7,7 +8,6 @@ use Rattle.std.proofs.lemmas.List.Concat.{flat_map-cons}
 use Rattle.std.proofs.lemmas.List.Elements.{All-nil, All-cons, All-head, All-tail}
 use Rattle.std.proofs.lemmas.Option.{cond_some}
 use Rattle.bac_values.specs.Address.{PeerData}
-use Rattle.notify_class.specs.Edits.{most_destinations}
 use Rattle.notify_class.specs.Recipients.{DestinationData}
 use Rattle.state_codec.specs.Records.{written_flag, written_flags, written_peer, written_destination, written_destinations, IsPeer, IsDestination, AreDestinations}
 use Rattle.state_codec.specs.ReadingSteps.{◌>>=◌, either_at, nothing_at, octet_at, number_at, flag_at, flags_at, peer_at, destination_of, destination_at, list_at, destinations_at}

@@ -1,4 +1,5 @@
 -- The posts of a site's outbox: the test of what was read tells what is so of every outbox.
+use Rattle.bac_values.specs.Limits.{most_peers}
 use Rattle.std.proofs.Common.{◌≡◌, ◌↔◌, IsTrue, ℕ, zero, suc, ◌≤◌, ◌&&◌, leb, Bool, true, false, true≢false, List, [], ◌∷◌, length, map, drop, refl, sym, ◌∙◌, ap, subst, arith}
 use Rattle.std.specs.List.{All, AllPairs, list_all}
 use Rattle.std.specs.Ordering.{is_lt}
@@ -9,7 +10,7 @@ use Rattle.std.proofs.lemmas.List.Elements.{All-nil, All-cons, All-head, All-tai
 use Rattle.bac_values.specs.Address.{PeerData}
 use Rattle.bac_values.specs.Orders.{is_among, peer_order, IsAscending}
 use Rattle.bac_values.specs.declared.note.Note.{Note}
-use Rattle.notify_class.specs.Edits.{peers_of as recipients_of}
+use Rattle.notify_class.specs.Edits.{recipient_peers}
 use Rattle.notify_class.specs.Recipients.{DestinationData}
 use Rattle.notify_class.specs.declared.class.Class.{Class}
 use Rattle.outbox.specs.declared.post.Post.{Post}
@@ -17,7 +18,6 @@ use Rattle.outbox.specs.Outboxes.{AreParts, AreSettings, IsOutbox, notes_told, p
 use Rattle.outbox.specs.Posts.{IsPost, TestsPosts, is_post, MailboxState}
 use Rattle.alarm_core.specs.Known.{Knows, KnowsClass}
 use Rattle.alarm_core.specs.declared.site.Site.{Site}
-use Rattle.notify_class.specs.Edits.{most_peers}
 use Rattle.state_codec.specs.SnapshotSteps.{are_posts_of, ascends, knows_class, knows_classes, may_have_posts, outbox_with}
 use Rattle.state_codec.proofs.Behind.{both_true}
 
@@ -143,15 +143,15 @@ peers_restored (post ∷ posts) notes = ap (λ (ps : List PeerData). post.peer �
 
 -- ---- recipients
 
-pub all_recipients : (known : List PeerData) (destinations : List DestinationData) → list_all (λ (it : DestinationData). is_among known it.peer) destinations ≡ list_all (is_among known) (recipients_of destinations)
+pub all_recipients : (known : List PeerData) (destinations : List DestinationData) → list_all (λ (it : DestinationData). is_among known it.peer) destinations ≡ list_all (is_among known) (recipient_peers destinations)
 all_recipients known [] = refl
 all_recipients known (it ∷ others) = ap (λ (b : Bool). is_among known it.peer && b) (all_recipients known others)
 
 pub classes_told : (known : List PeerData) (classes : List Class) → knows_classes known classes ≡ true → All (KnowsClass known) classes
-classes_told known = all_told (knows_class known) (KnowsClass known) (λ class. all_told (is_among known) (Knows known) (λ peer e. e) (recipients_of class.destinations))
+classes_told known = all_told (knows_class known) (KnowsClass known) (λ class. all_told (is_among known) (Knows known) (λ peer e. e) (recipient_peers class.destinations))
 
 pub told_classes : (known : List PeerData) (classes : List Class) → All (KnowsClass known) classes → knows_classes known classes ≡ true
-told_classes known = told_all (knows_class known) (KnowsClass known) (λ class. told_all (is_among known) (Knows known) (λ peer e. e) (recipients_of class.destinations))
+told_classes known = told_all (knows_class known) (KnowsClass known) (λ class. told_all (is_among known) (Knows known) (λ peer e. e) (recipient_peers class.destinations))
 
 -- ---- the posts of a site with some classes
 

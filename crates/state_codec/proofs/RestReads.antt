@@ -1,4 +1,5 @@
 -- Enrollments, classes, logs and posts: each is read exactly as it is written, and those that a site may have.
+use Rattle.bac_values.specs.Limits.{most_note_octets}
 use Rattle.std.proofs.Common.{IsTrue, ◌≡◌, ℕ, zero, suc, ◌^◌, ◌<◌, ◌≤◌, Bool, true, false, eqb, ltb, leb, ◌||◌, if◌then◌else◌, List, [], ◌∷◌, ◌++◌, length, All, refl, sym, ap, subst, ◌∙◌, arith}
 use Rattle.std.specs.Int.{w16, w32, w64, to_be_bytes}
 use Rattle.std.specs.List.{AllZip, flat_map}
@@ -13,7 +14,7 @@ use Rattle.event_log.specs.declared.log_record.LogRecord.{LogRecord}
 use Rattle.event_log.specs.declared.log_site.LogSite.{LogSite}
 use Rattle.notify_class.specs.Recipients.{DestinationData}
 use Rattle.notify_class.specs.declared.class.Class.{Class}
-use Rattle.outbox.specs.Posts.{most_octets, MailboxState}
+use Rattle.outbox.specs.Posts.{MailboxState}
 use Rattle.enrollment.specs.declared.enrollment_site.EnrollmentSite.{EnrollmentSite}
 use Rattle.alarm_core.specs.Logs.{SiteLogState}
 use Rattle.alarm_core.specs.SiteStates.{hundredths_shown}
@@ -60,13 +61,13 @@ class_reads listed =
 -- ---- octets of notifications
 
 abbrev IsBody : List ℕ → Type 0
-IsBody body = length body ≤ most_octets
+IsBody body = length body ≤ most_note_octets
 
 pub body_reads : Reads body_at written_body IsBody
 unfolding body_at
 body_reads =
-    reads_then (number_at w16) (λ count. either_at (leb count most_octets) (octets_at count) nothing_at) (to_be_bytes w16) (IsBelow (2 ^ 16)) (λ body. length body) as_they_are IsBody u16_reads (λ body short. omega (arith, short))
-    (λ count lt. reads_if (leb count most_octets) (octets_at count) as_they_are (HasLength count) (λ body. IsBody body × (length body ≡ count)) (λ few. octets_reads count)
+    reads_then (number_at w16) (λ count. either_at (leb count most_note_octets) (octets_at count) nothing_at) (to_be_bytes w16) (IsBelow (2 ^ 16)) (λ body. length body) as_they_are IsBody u16_reads (λ body short. omega (arith, short))
+    (λ count lt. reads_if (leb count most_note_octets) (octets_at count) as_they_are (HasLength count) (λ body. IsBody body × (length body ≡ count)) (λ few. octets_reads count)
     (λ body is. (le-leb _ _ (omega (arith, is.0, is.1)), is.1))
     (λ body few long. (omega (arith, leb-true _ _ few, long), long)))
 

@@ -1,4 +1,5 @@
 -- How long the parts of snapshots are, and so snapshots.
+use Rattle.bac_values.specs.Limits.{most_note_octets}
 use Rattle.std.proofs.Common.{◌≡◌, ℕ, suc, ◌+◌, ◌*◌, ◌≤◌, ◌<◌, Bool, true, false, cond, not, Option, Some, None, IfSome, is_some, List, [], ◌∷◌, ◌++◌, length, map, filter, find, count_by, get_or, take, sum_by, All, refl, sym, ap, ◌∙◌, subst, mul-add, mul-le-mul_right, arith}
 use Rattle.std.specs.List.{flat_map, AllZip}
 use Rattle.std.proofs.lemmas.List.{length-append}
@@ -27,7 +28,7 @@ use Rattle.object_table.specs.Rows.{is_object}
 use Rattle.object_table.specs.declared.object_site.ObjectSite.{ObjectSite}
 use Rattle.object_table.specs.declared.row.Row.{Row}
 use Rattle.outbox.specs.Outboxes.{unfinished_in}
-use Rattle.outbox.specs.Posts.{IsPost, MailboxState, most_octets}
+use Rattle.outbox.specs.Posts.{IsPost, MailboxState}
 use Rattle.enrollment.specs.declared.enrollment_site.EnrollmentSite.{EnrollmentSite}
 use Rattle.enrollment.specs.declared.subject.Subject.{Subject}
 use Rattle.enrollment.specs.Enrollments.{site_of}
@@ -189,15 +190,15 @@ abbrev entry_octets : Bool → ℕ
 entry_octets true = 1_042
 entry_octets false = 1_034
 
-entry_length : (rule : Bool) (entry : LogRecord) → (length entry.body ≤ most_octets) × FitsEntry rule entry → length (written_entry rule entry) ≤ entry_octets rule
+entry_length : (rule : Bool) (entry : LogRecord) → (length entry.body ≤ most_note_octets) × FitsEntry rule entry → length (written_entry rule entry) ≤ entry_octets rule
 entry_length true entry is = omega (arith, is.0, is.1.stamp, length-append entry.stamp.octets)
 entry_length false entry is = omega (arith, is.0, is.1.stamp, length-append entry.stamp.octets)
 
 log_length : (rule : Bool) (site : Site) (listed : LogSite) (kept : SiteLogState) → IsLogOf site listed kept → FitsLog rule kept → length (written_log rule kept) ≤ 9 + entry_octets rule * listed.size
 log_length rule site listed kept is fits =
     let records = kept.log.records in
-    let each : All (λ (entry : LogRecord). (length entry.body ≤ most_octets) × FitsEntry rule entry) records = λ k d lt. ((is.records k d lt).short, fits k d lt) in
-    let all : length (flat_map (written_entry rule) records) ≤ length records * entry_octets rule = at_most (written_entry rule) (λ (entry : LogRecord). (length entry.body ≤ most_octets) × FitsEntry rule entry) (entry_octets rule) (entry_length rule) records each in
+    let each : All (λ (entry : LogRecord). (length entry.body ≤ most_note_octets) × FitsEntry rule entry) records = λ k d lt. ((is.records k d lt).short, fits k d lt) in
+    let all : length (flat_map (written_entry rule) records) ≤ length records * entry_octets rule = at_most (written_entry rule) (λ (entry : LogRecord). (length entry.body ≤ most_note_octets) × FitsEntry rule entry) (entry_octets rule) (entry_length rule) records each in
     let few : length records ≤ listed.size = subst (λ size. length records ≤ size) is.size is.log.short in
     let more : length records * entry_octets rule ≤ listed.size * entry_octets rule = mul-le-mul_right (entry_octets rule) few in
     omega (arith, all, more)
@@ -216,12 +217,12 @@ logs_length rule site (one ∷ listed) (it ∷ kept) zipped fit =
 
 -- ---- the outbox
 
-note_length : (note : Note) → length note.body ≤ most_octets → length (written_note note) ≤ 1_027
+note_length : (note : Note) → length note.body ≤ most_note_octets → length (written_note note) ≤ 1_027
 note_length note short = omega (arith, short)
 
 post_length : (retries : ℕ) (post : MailboxState) → IsPost retries post × FitsPost post → length (written_post post) ≤ 28 + 1_027 * length post.notes
 post_length retries post is =
-    let notes : length (flat_map written_note post.notes) ≤ length post.notes * 1_027 = at_most written_note (λ (note : Note). length note.body ≤ most_octets) 1_027 note_length post.notes is.0.short in
+    let notes : length (flat_map written_note post.notes) ≤ length post.notes * 1_027 = at_most written_note (λ (note : Note). length note.body ≤ most_note_octets) 1_027 note_length post.notes is.0.short in
     let peer : length (written_peer post.peer) ≡ 16 = peer_length post.peer is.1.peer in
     omega (arith, notes, peer, length-append (written_peer post.peer))
 

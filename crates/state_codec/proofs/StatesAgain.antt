@@ -1,4 +1,5 @@
 -- The snapshot of a state that the site may have tells the parts of that state.
+use Rattle.bac_values.specs.Limits.{most_note_octets}
 use Rattle.std.proofs.Common.{IsTrue, IsNone, ◌≡◌, ◌&&◌, ◌||◌, ℕ, zero, suc, ◌-◌, ◌^◌, ◌<◌, ◌≤◌, leb, ltb, eqb, Bool, true, false, true≢false, cond, Option, Some, None, is_some, List, [], ◌∷◌, ◌++◌, filter, length, map, refl, sym, ap, subst, ◌∙◌, arith}
 use Rattle.std.specs.List.{All, AllZip, zip}
 use Rattle.std.proofs.lemmas.Bool.{le-leb, lt-ltb}
@@ -15,7 +16,7 @@ use Rattle.event_log.specs.declared.log_record.LogRecord.{LogRecord}
 use Rattle.event_log.specs.declared.log_site.LogSite.{LogSite}
 use Rattle.event_machine.specs.Summary.{AlarmState}
 use Rattle.outbox.specs.Outboxes.{IsOutbox, peers_of, unfinished_in}
-use Rattle.outbox.specs.Posts.{IsPost, MailboxState, TestsPosts, most_octets}
+use Rattle.outbox.specs.Posts.{IsPost, MailboxState, TestsPosts}
 use Rattle.enrollment.specs.Subjects.{is_detecting, subject_of_enrollment}
 use Rattle.enrollment.specs.declared.enrollment_site.EnrollmentSite.{EnrollmentSite}
 use Rattle.enrollment.specs.declared.subject.Subject.{Subject}
@@ -107,11 +108,11 @@ few_each most (post ∷ posts) le =
     let sum = sum_by-cons (λ (p : MailboxState). length p.notes) post posts in
     All-cons (HasFew most) post posts (omega (arith, sum, le)) (few_each most posts (omega (arith, sum, le)))
 
-notes_all : (peer : PeerData) (notes : List Note) → All (λ (note : Note). length note.body ≤ most_octets) notes → All (λ (note : Note). note.peer ≡ peer) notes → All (HasNote peer) notes
+notes_all : (peer : PeerData) (notes : List Note) → All (λ (note : Note). length note.body ≤ most_note_octets) notes → All (λ (note : Note). note.peer ≡ peer) notes → All (HasNote peer) notes
 notes_all peer [] short own = All-nil (HasNote peer)
 notes_all peer (note ∷ notes) short own =
-    All-cons (HasNote peer) note notes (All-head (λ (n : Note). n.peer ≡ peer) note notes own, All-head (λ (n : Note). length n.body ≤ most_octets) note notes short)
-    (notes_all peer notes (All-tail (λ (n : Note). length n.body ≤ most_octets) note notes short) (All-tail (λ (n : Note). n.peer ≡ peer) note notes own))
+    All-cons (HasNote peer) note notes (All-head (λ (n : Note). n.peer ≡ peer) note notes own, All-head (λ (n : Note). length n.body ≤ most_note_octets) note notes short)
+    (notes_all peer notes (All-tail (λ (n : Note). length n.body ≤ most_note_octets) note notes short) (All-tail (λ (n : Note). n.peer ≡ peer) note notes own))
 
 posts_all : (retries : ℕ) (posts : List MailboxState) → All (IsPost retries) posts → All FitsPost posts → All (HasFew 16_384) posts → All HasPost posts
 posts_all retries [] are fit few = All-nil HasPost

@@ -1,5 +1,6 @@
 -- What is so of all records.
 use Rattle.std.specs.Prelude.{◌≡◌, ℕ, ◌<◌, ◌≤◌, List, ◌++◌, length}
+use Rattle.bac_values.specs.Limits.{snapshot_octets_limit}
 use Rattle.bac_values.specs.Moments.{IsMoment}
 use Rattle.alarm_core.specs.Allowed.{IsAllowed}
 use Rattle.alarm_core.specs.State.{CoreState}
@@ -36,7 +37,7 @@ pub record SnapshotsAreShort : Type 0 where
 
 -- a site that keeps its limits needs fewer than 36,000,000 octets for a snapshot, and fewer than 72,000,000 for its device
 pub record BoundsAreLow : Type 0 where
-  pub snapshot : (site : Site) → IsSite site → KeepsLimits site → snapshot_bound site < 36_000_000
+  pub snapshot : (site : Site) → IsSite site → KeepsLimits site → snapshot_bound site < snapshot_octets_limit
   pub device : (site : Site) (text : ℕ) → IsSite site → KeepsLimits site → text ≤ most_text → need site text < 72_000_000
 
 -- octets are the snapshot of one state of a site at most; and a state has one snapshot

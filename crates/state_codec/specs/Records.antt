@@ -1,5 +1,6 @@
 -- Events in octets: the records of a journal. Numbers stand with their high octet first, and one part stands behind another.
 use Rattle.std.specs.Prelude.{◌≡◌, ℕ, ◌+◌, ◌*◌, ◌^◌, ◌<◌, ◌≤◌, Bool, List, [], ◌∷◌, ◌++◌, length, All, IsUtf8, FitsSigned}
+use Rattle.bac_values.specs.Limits.{most_destinations}
 use Rattle.std.specs.Int.{w16, w32, w64, to_be_bytes, cast_unsigned, from_bool}
 use Rattle.bac_values.specs.Address.{IsAddress, PeerData, padded}
 use Rattle.bac_values.specs.ApplicationTags.{boolean_tag, unsigned_tag, signed_tag, character_string_tag, bit_string_tag, enumerated_tag}
@@ -10,7 +11,6 @@ use Rattle.bac_values.specs.Moments.{IsMoment}
 use Rattle.std.specs.List.{flat_map}
 use Rattle.bac_values.specs.declared.value.Value.{Value}
 use Rattle.bac_values.specs.declared.value.Value.TheVariants as values
-use Rattle.notify_class.specs.Edits.{most_destinations}
 use Rattle.notify_class.specs.Recipients.{IsListedRecipient, DestinationData}
 use Rattle.bac_tags.specs.Places.{IsSpelledAt}
 use Rattle.alarm_core.specs.declared.event.Act.{Act}

@@ -1,5 +1,6 @@
 -- How long the snapshot of a site may become, and how large its journal's device has to be.
 use Rattle.std.specs.Prelude.{ℕ, ◌+◌, ◌*◌, Bool, if◌then◌else◌, length, is_some, count_by, sum_by}
+use Rattle.bac_values.specs.Limits.{most_site_octets}
 use Rattle.object_table.specs.declared.object_site.ObjectSite.{ObjectSite}
 use Rattle.alarm_core.specs.Limits.{size_of}
 use Rattle.alarm_core.specs.declared.site.Site.{Site}
@@ -70,7 +71,7 @@ batch_octets = 60_010
 
 -- the longest text of a site
 abbrev pub most_text : ℕ
-most_text = 1_048_576
+most_text = most_site_octets
 
 -- how many octets the device of a site has to have whose text has so many
 abbrev pub need : Site → ℕ → ℕ

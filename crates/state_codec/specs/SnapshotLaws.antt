@@ -1,5 +1,6 @@
 -- What stands in a snapshot: which rows, alarms, enrollments, classes, records and posts have octets there.
 use Rattle.std.specs.Prelude.{◌≡◌, ℕ, ◌^◌, ◌<◌, ◌≤◌, All, Bool, true, false, IfSome, List, Option, length}
+use Rattle.bac_values.specs.Limits.{most_note_octets}
 use Rattle.bac_values.specs.Address.{PeerData}
 use Rattle.bac_values.specs.declared.note.Note.{Note}
 use Rattle.bac_values.specs.declared.stamp.Stamp.{Stamp}
@@ -7,7 +8,7 @@ use Rattle.civil_stamp.specs.LocalTime.{ZoneData}
 use Rattle.algorithm_rules.specs.declared.table.Algorithm.{Algorithm}
 use Rattle.event_log.specs.declared.log_record.LogRecord.{LogRecord}
 use Rattle.notify_class.specs.declared.class.Class.{Class}
-use Rattle.outbox.specs.Posts.{most_octets, MailboxState}
+use Rattle.outbox.specs.Posts.{MailboxState}
 use Rattle.enrollment.specs.declared.enrollment_site.EnrollmentSite.{EnrollmentSite}
 use Rattle.event_machine.specs.Summary.{AlarmState}
 use Rattle.event_machine.specs.declared.run.Run.{Run}
@@ -71,12 +72,12 @@ pub record HasEntry (has_rule : Bool) (zone : ZoneData) (sequence : ℕ) (entry 
   pub stamp : IsStamp entry.stamp
   pub hundredths : AreHundredths has_rule zone entry.stamp entry.hundredths
   pub number : entry.sequence ≡ sequence
-  pub short : length entry.body ≤ most_octets
+  pub short : length entry.body ≤ most_note_octets
 
 -- ---- posts
 
 abbrev pub HasNote : PeerData → Note → Type 0
-HasNote peer note = (note.peer ≡ peer) × (length note.body ≤ most_octets)
+HasNote peer note = (note.peer ≡ peer) × (length note.body ≤ most_note_octets)
 
 pub record HasPost (post : MailboxState) : Type 0 where
   pub to : IsPeer post.peer

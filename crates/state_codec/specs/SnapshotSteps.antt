@@ -1,5 +1,6 @@
 -- How what a snapshot has of a site is read: the value at the front of octets and the octets behind it, or nothing.
 use Rattle.std.specs.Prelude.{◌≡◌, ◌^◌, ℕ, zero, suc, Result, Ok, Err, ℤ, pos, ◌==◌, ◌&&◌, ◌||◌, not, nat_lt, nat_le, bytes_eq, if◌then◌else◌, Bool, true, false, Option, Some, None, is_some, List, [], ◌∷◌, ◌++◌, length, map, filter}
+use Rattle.bac_values.specs.Limits.{most_peers, most_note_octets}
 use Rattle.std.specs.Int.{w16, w32, w64, cast_signed}
 use Rattle.std.specs.List.{list_all}
 use Rattle.std.specs.Option.{option_map_or}
@@ -32,12 +33,12 @@ use Rattle.event_machine.specs.declared.run.Run.{Run}
 use Rattle.event_log.specs.Log.{EventLogState, number_back}
 use Rattle.event_log.specs.declared.log_record.LogRecord.{LogRecord}
 use Rattle.event_log.specs.declared.log_site.LogSite.{LogSite}
-use Rattle.notify_class.specs.Edits.{most_peers, peers_of as recipients_of}
+use Rattle.notify_class.specs.Edits.{recipient_peers}
 use Rattle.notify_class.specs.Recipients.{DestinationData}
 use Rattle.notify_class.specs.declared.class.Class.{Class}
 use Rattle.notify_class.specs.declared.class_site.ClassSite.{ClassSite}
 use Rattle.outbox.specs.Outboxes.{OutboxState, peers_of, unfinished_in}
-use Rattle.outbox.specs.Posts.{is_post, most_octets, MailboxState}
+use Rattle.outbox.specs.Posts.{is_post, MailboxState}
 use Rattle.alarm_core.specs.Evaluations.{site_zone}
 use Rattle.alarm_core.specs.Logs.{SiteLogState, log_of}
 use Rattle.alarm_core.specs.Parts.{state_of_parts}
@@ -314,7 +315,7 @@ class_at class = made_at destinations_at (class_with class)
 
 -- at most as many octets as there may be, behind how many they are
 unfoldable pub body_at : List ℕ → Option (List ℕ × List ℕ)
-body_at = then_at (number_at w16) λ count. either_at (nat_le count most_octets) (octets_at count) nothing_at
+body_at = then_at (number_at w16) λ count. either_at (nat_le count most_note_octets) (octets_at count) nothing_at
 
 -- ---- logs
 
@@ -438,7 +439,7 @@ may_have_posts site posts =
 
 -- whether each recipient of some classes is known
 abbrev pub knows_class : List PeerData → Class → Bool
-knows_class known class = list_all (is_among known) (recipients_of class.destinations)
+knows_class known class = list_all (is_among known) (recipient_peers class.destinations)
 
 abbrev pub knows_classes : List PeerData → List Class → Bool
 knows_classes known classes = list_all (knows_class known) classes

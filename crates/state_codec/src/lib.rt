@@ -1,6 +1,7 @@
 //! Events and states in octets: the records and the snapshots that a journal keeps of them, each in one spelling.
 //!
-//! A reader takes what stands at the front of octets, and leaves what is behind it; so one part is read behind another.
+//! A reader takes what stands at the front of octets, and leaves what is behind it; so one part is read behind another. The
+//! numbers of 1, 2, 4 and 8 octets, the high one first, are for whoever reads and writes records beside these.
 #![tactic(auto)]
 
 mod act;
@@ -39,8 +40,11 @@ pub use laws::{
     allowed_event_has_record, bounds_are_low, reads_what_it_writes, records_are_short,
     records_have_one_spelling, snapshots_are_short, snapshots_have_one_spelling,
 };
+pub use parts::{take_octet, take_octets, take_u16, take_u32, take_u64};
+pub use reading::ReadFault;
 pub use reading_state::read_state;
 pub use recovering::{RecoverFault, recover};
 pub use sizes::{need, snapshot_bound};
 pub use state_types::state_fits;
+pub use writing::{put_count, put_long, put_octet_count, put_word};
 pub use writing_state::write_state;

@@ -6,9 +6,9 @@ ghost use Rattle.state_codec.specs.ReadingSteps.{Gives, flag_at, flags_at, numbe
 use crate::reading::ReadFault;
 use bac_values::{Bits, Mac, ObjectId, Peer};
 
-/// Takes the octet at the front.
+/// Takes the octet at the front, and leaves what is behind it.
 #[tactic(auto, unfolding(crate::specs::ReadingSteps::octet_at))]
-pub(crate) fn take_octet(bytes: &mut &[u8]) -> Result<u8, ReadFault>
+pub fn take_octet(bytes: &mut &[u8]) -> Result<u8, ReadFault>
     ensures exact { Gives (λ x. (x, bytes.new.now)) result (octet_at bytes.old.now) }
 {
     match *bytes {
@@ -22,7 +22,7 @@ pub(crate) fn take_octet(bytes: &mut &[u8]) -> Result<u8, ReadFault>
 
 /// Takes so many octets from the front.
 #[tactic(auto, unfolding(crate::specs::ReadingSteps::octets_at))]
-pub(crate) fn take_octets<'a>(bytes: &mut &'a [u8], count: usize) -> Result<&'a [u8], ReadFault>
+pub fn take_octets<'a>(bytes: &mut &'a [u8], count: usize) -> Result<&'a [u8], ReadFault>
     ensures exact { Gives (λ x. (x.now, bytes.new.now)) result (octets_at count bytes.old.now) }
     ensures whole { IfOk result (λ front. length front.now ≡ count) }
 {
@@ -36,7 +36,7 @@ pub(crate) fn take_octets<'a>(bytes: &mut &'a [u8], count: usize) -> Result<&'a 
 
 /// Takes the number of two octets at the front.
 #[tactic(auto, unfolding(crate::specs::ReadingSteps::number_at, crate::specs::ReadingSteps::octets_at))]
-pub(crate) fn take_u16(bytes: &mut &[u8]) -> Result<u16, ReadFault>
+pub fn take_u16(bytes: &mut &[u8]) -> Result<u16, ReadFault>
     ensures exact { Gives (λ x. (x, bytes.new.now)) result (number_at w16 bytes.old.now) }
 {
     let front = take_octets(bytes, 2)?;
@@ -45,7 +45,7 @@ pub(crate) fn take_u16(bytes: &mut &[u8]) -> Result<u16, ReadFault>
 
 /// Takes the number of four octets at the front.
 #[tactic(auto, unfolding(crate::specs::ReadingSteps::number_at, crate::specs::ReadingSteps::octets_at))]
-pub(crate) fn take_u32(bytes: &mut &[u8]) -> Result<u32, ReadFault>
+pub fn take_u32(bytes: &mut &[u8]) -> Result<u32, ReadFault>
     ensures exact { Gives (λ x. (x, bytes.new.now)) result (number_at w32 bytes.old.now) }
 {
     let front = take_octets(bytes, 4)?;
@@ -54,7 +54,7 @@ pub(crate) fn take_u32(bytes: &mut &[u8]) -> Result<u32, ReadFault>
 
 /// Takes the number of eight octets at the front.
 #[tactic(auto, unfolding(crate::specs::ReadingSteps::number_at, crate::specs::ReadingSteps::octets_at))]
-pub(crate) fn take_u64(bytes: &mut &[u8]) -> Result<u64, ReadFault>
+pub fn take_u64(bytes: &mut &[u8]) -> Result<u64, ReadFault>
     ensures exact { Gives (λ x. (x, bytes.new.now)) result (number_at w64 bytes.old.now) }
 {
     let front = take_octets(bytes, 8)?;

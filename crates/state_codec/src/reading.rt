@@ -2,7 +2,7 @@ use bac_values::NoMemory;
 
 /// Why a reader of the front of octets answers nothing.
 #[derive(Clone, Copy, Debug, PartialEq, Eq)]
-pub(crate) enum ReadFault {
+pub enum ReadFault {
     /// Nothing of its kind stands there.
     NothingThere,
     /// Memory was refused.

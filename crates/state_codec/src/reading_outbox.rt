@@ -11,13 +11,10 @@ use crate::parts::take_u16;
 use crate::reading::ReadFault;
 use crate::reading_posts::take_list;
 use alarm_core::{DeviceSite, Site};
-use bac_values::{NoMemory, Note, Peer, is_among, push};
+use bac_values::{MOST_PEERS, NoMemory, Note, Peer, is_among, push};
 use notify_class::{Class, Destination};
 use outbox::{Outbox, Post, tests_posts};
 use std::alloc::Global;
-
-/// The most peers that are known.
-const MOST_PEERS: usize = 8_192;
 
 /// Takes posts behind how many they are, and their notifications, one post's after the other's.
 #[tactic(auto, unfolding(crate::specs::SnapshotSteps::posts_at))]

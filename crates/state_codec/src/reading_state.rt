@@ -19,15 +19,12 @@ use crate::reading_site::{
 use crate::types::octets_fit;
 use crate::writing_state::{has_rule, version_of};
 use alarm_core::{Core, EnrollmentSite, Parts, Site, restores_what_it_tells, site_zone};
-use bac_values::{FIRST_MOMENT, Items, LAST_MOMENT, NoMemory};
+use bac_values::{FIRST_MOMENT, Items, LAST_MOMENT, MOST_EVENTS, NoMemory};
 use enrollment::{Enrollments, copy_of_enrollments};
 use event_machine::Alarm;
 use object_table::{Table, copy_of_objects};
 use outbox::tests_posts;
 use std::alloc::Global;
-
-/// How many events there may be, and one more.
-const TOO_MANY_EVENTS: u64 = 9_223_372_036_854_775_808;
 
 /// Takes the version of the site's snapshots.
 #[tactic(auto, unfolding(crate::specs::SnapshotSteps::version_at))]
@@ -48,7 +45,7 @@ fn take_events(bytes: &mut &[u8]) -> Result<u64, ReadFault>
     ensures exact { Gives (λ x. (x, bytes.new.now)) result (events_at bytes.old.now) }
 {
     let events = take_u64(bytes)?;
-    if events < TOO_MANY_EVENTS {
+    if events < MOST_EVENTS {
         Ok(events)
     } else {
         Err(ReadFault::NothingThere)

@@ -20,14 +20,11 @@ ghost use Rattle.state_codec.specs.Records.{SpellsEvent};
 use crate::{CodecFault, read_event, read_state};
 use alarm_core::{Core, Event, Site, StepFault};
 use alarm_journal::{Body, Opened};
-use bac_values::NoMemory;
+use bac_values::{MOST_EVENTS, NoMemory};
 use event_machine::Steps;
 use std::alloc::Global;
 use std::marker::Brand;
 use std::sync::ledger::{Blank, Ledger};
-
-/// How many events a history may have. One more is as good as no memory for it.
-const MOST_EVENTS: u64 = 1 << 63;
 
 /// Why no core is made of what a journal holds.
 #[derive(Clone, Copy, Debug, PartialEq, Eq)]

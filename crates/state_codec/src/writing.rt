@@ -1,7 +1,7 @@
 ghost use Rattle.std.specs.Prelude.{◌≡◌, ◌≤◌, ◌++◌, ◌∷◌, [], length, OnOk};
+ghost use Rattle.bac_values.specs.Limits.{most_destinations};
 ghost use Rattle.std.specs.Int.{to_be_bytes, w8, w16, w32, w64};
 ghost use Rattle.std.specs.List.{flat_map};
-ghost use Rattle.notify_class.specs.Edits.{most_destinations};
 ghost use Rattle.state_codec.specs.Records.{written_bits, written_destination, written_destinations, written_flag, written_flags, written_object, written_peer, written_station, written_text, written_value};
 
 use crate::value::{BIT_STRING, BOOLEAN, CHARACTER_STRING, ENUMERATED, SIGNED, UNSIGNED};
@@ -15,16 +15,16 @@ pub(crate) fn put_flag(out: &mut Vec<u8>, flag: bool) -> Result<(), NoMemory>
     push(out, u8::from(flag))
 }
 
-/// Appends a number of 32 bits.
-pub(crate) fn put_word(out: &mut Vec<u8>, number: u32) -> Result<(), NoMemory>
+/// Appends a number of 32 bits, in four octets, the high one first.
+pub fn put_word(out: &mut Vec<u8>, number: u32) -> Result<(), NoMemory>
     ensures written { OnOk result (out.new.items ≡ out.old.items ++ to_be_bytes w32 number) }
 {
     out.extend_from_slice(&number.to_be_bytes())?;
     Ok(())
 }
 
-/// Appends a number of 64 bits.
-pub(crate) fn put_long(out: &mut Vec<u8>, number: u64) -> Result<(), NoMemory>
+/// Appends a number of 64 bits, in eight octets, the high one first.
+pub fn put_long(out: &mut Vec<u8>, number: u64) -> Result<(), NoMemory>
     ensures written { OnOk result (out.new.items ≡ out.old.items ++ to_be_bytes w64 number) }
 {
     out.extend_from_slice(&number.to_be_bytes())?;
@@ -32,14 +32,14 @@ pub(crate) fn put_long(out: &mut Vec<u8>, number: u64) -> Result<(), NoMemory>
 }
 
 /// Appends the last octet of a count.
-pub(crate) fn put_octet_count(out: &mut Vec<u8>, count: usize) -> Result<(), NoMemory>
+pub fn put_octet_count(out: &mut Vec<u8>, count: usize) -> Result<(), NoMemory>
     ensures written { OnOk result (out.new.items ≡ out.old.items ++ to_be_bytes w8 count) }
 {
     push(out, (count % 256) as u8)
 }
 
-/// Appends the last two octets of a count.
-pub(crate) fn put_count(out: &mut Vec<u8>, count: usize) -> Result<(), NoMemory>
+/// Appends the last two octets of a count, the high one first.
+pub fn put_count(out: &mut Vec<u8>, count: usize) -> Result<(), NoMemory>
     ensures written { OnOk result (out.new.items ≡ out.old.items ++ to_be_bytes w16 count) }
 {
     let count = (count % 65_536) as u16;

@@ -150,6 +150,46 @@ fn answers_are_written(rt: HostRuntime) -> Result<(), Fail> {
 }
 
 #[test]
+fn errors_of_edits_name_the_first_element_that_failed(rt: HostRuntime) -> Result<(), Fail> {
+    // RemoveListElement: the first element isn't in the list.
+    let removing = change_list_error(rt.alloc(), 1, 9, 5, 81, 1)
+        .ok()
+        .ok_or("no memory")?;
+    same(
+        &rt,
+        &removing.as_slice(),
+        &[
+            0x50, 0x01, 0x09, 0x0e, 0x91, 0x05, 0x91, 0x51, 0x0f, 0x19, 0x01,
+        ]
+        .as_slice(),
+    );
+    // AddListElement: the property isn't a list, whatever its elements are.
+    let adding = change_list_error(rt.alloc(), 255, 8, 5, 22, 0)
+        .ok()
+        .ok_or("no memory")?;
+    same(
+        &rt,
+        &adding.as_slice(),
+        &[
+            0x50, 0xff, 0x08, 0x0e, 0x91, 0x05, 0x91, 0x16, 0x0f, 0x19, 0x00,
+        ]
+        .as_slice(),
+    );
+    let last = change_list_error(rt.alloc(), 1, 8, 3, 19, 0x0001_0000)
+        .ok()
+        .ok_or("no memory")?;
+    same(
+        &rt,
+        &last.as_slice(),
+        &[
+            0x50, 0x01, 0x08, 0x0e, 0x91, 0x03, 0x91, 0x13, 0x0f, 0x1b, 0x01, 0x00, 0x00,
+        ]
+        .as_slice(),
+    );
+    Ok(())
+}
+
+#[test]
 fn requests_are_written(rt: HostRuntime) -> Result<(), Fail> {
     let confirmed = request(rt.alloc(), 0, 2, &[0x09, 0x01])
         .ok()

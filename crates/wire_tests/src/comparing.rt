@@ -1,3 +1,5 @@
+// This file stands in each crate of tests, letter for letter the same: the kit lets nothing but a test stop a program, so no
+// crate can hold it for them all. `checks/levels` sees that none of them differs.
 ghost use Rattle.std.specs.Prelude.{◌≡◌, IsTrue};
 
 use std::fmt::Debug;

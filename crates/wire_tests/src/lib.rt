@@ -16,8 +16,12 @@ mod event_services_tests;
 #[cfg(test)]
 mod event_values_tests;
 #[cfg(test)]
+mod long_elements_tests;
+#[cfg(test)]
 mod parameters_tests;
 #[cfg(test)]
 mod property_services_tests;
+#[cfg(test)]
+mod recipients_tests;
 #[cfg(test)]
 mod standard_numbers_tests;

@@ -82,6 +82,7 @@ fn pdus_have_their_numbers(rt: HostRuntime) {
         (PduType::CONFIRMED_REQUEST, 0),
         (PduType::UNCONFIRMED_REQUEST, 1),
         (PduType::SIMPLE_ACK, 2),
+        (PduType::COMPLEX_ACK, 3),
         (PduType::ERROR, 5),
         (PduType::REJECT, 6),
         (PduType::ABORT, 7),

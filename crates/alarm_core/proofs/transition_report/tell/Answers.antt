@@ -4,7 +4,7 @@ use Rattle.event_log.specs.History.{Call}
 use Rattle.alarm_core.specs.Evaluations.{site_zone}
 use Rattle.alarm_core.specs.Logs.{SiteLogState}
 use Rattle.alarm_core.specs.ViewSteps.{notes_to, record_to, SiteViewData}
-use Rattle.alarm_core.proofs.Moved.{at_site, moved_all}
+use Rattle.alarm_core.proofs.MovesTold.{at_site, moved_all}
 use Rattle.alarm_core.proofs.ToldBy.{all_notes, all_records}
 use Rattle.alarm_core.proofs.transition_report.tell.Goals as goal
 

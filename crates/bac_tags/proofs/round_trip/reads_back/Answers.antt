@@ -1,4 +1,4 @@
-use Rattle.bac_tags.proofs.RoundTrip.{tag_back, unsigned_back, signed_back, object_back, boolean_back, bits_back, stamp_back, value_back}
+use Rattle.bac_tags.proofs.RoundTrip.{tag_back, unsigned_back, signed_back, object_back, boolean_back, bits_back, octet_string_back, time_back, stamp_back, value_back}
 use Rattle.bac_tags.proofs.round_trip.reads_back.Goals as goal
 
 pub returns-clause-tag : goal.returns-clause-tag
@@ -24,3 +24,9 @@ returns-clause-stamp c = stamp_back
 
 pub returns-clause-value : goal.returns-clause-value
 returns-clause-value c = value_back
+
+pub returns-clause-octet_string : goal.returns-clause-octet_string
+returns-clause-octet_string c = octet_string_back
+
+pub returns-clause-time : goal.returns-clause-time
+returns-clause-time c = time_back

@@ -5,11 +5,11 @@ use Rattle.bac_tags.proofs.Texts.{is_text, no_text}
 use Rattle.bac_tags.proofs.value.characters_in.Goals as goal
 
 pub returns-in_default-clause-value : goal.returns-in_default-clause-value
-returns-in_default-clause-value c = sym (no_text c.args.octets.now c.if-octets-gt256.false c.in_default.ensures.cases.0)
+returns-in_default-clause-value c = sym (no_text c.args.octets.now c.if-octets-gt-MOST_TEXT_OCTETS.false c.in_default.ensures.cases.0)
 
 pub returns-in-Ok-new-clause-value : goal.returns-in-Ok-new-clause-value
 returns-in-Ok-new-clause-value c =
-    ap values.Text (c.in-Ok-new.ensures.same ∙ c.in-Ok.ensures.cases.0) ∙ sym (is_text c.args.octets.now c.if-octets-gt256.false c.in-Ok.ensures.cases.1)
+    ap values.Text (c.in-Ok-new.ensures.same ∙ c.in-Ok.ensures.cases.0) ∙ sym (is_text c.args.octets.now c.if-octets-gt-MOST_TEXT_OCTETS.false c.in-Ok.ensures.cases.1)
 
 pub returns-in-Err-clause-no_memory : goal.returns-in-Err-clause-no_memory
-returns-in-Err-clause-no_memory c = subst IsText (sym (is_text c.args.octets.now c.if-octets-gt256.false c.in-Ok.ensures.cases.1)) tt
+returns-in-Err-clause-no_memory c = subst IsText (sym (is_text c.args.octets.now c.if-octets-gt-MOST_TEXT_OCTETS.false c.in-Ok.ensures.cases.1)) tt

@@ -1,14 +1,14 @@
+use Rattle.bac_values.specs.Limits.{most_note_octets}
 use Rattle.std.proofs.Common.{◌≡◌, ◌≤◌, List, length, All, Contains, ap, sym, subst, ◌∙◌}
 use Rattle.std.proofs.lemmas.List.Elements.{All-push}
 use Rattle.bac_values.specs.declared.note.Note.{Note}
-use Rattle.event_services.specs.NoteLengths.{most_octets}
-use Rattle.notify_class.specs.Edits.{peers_of}
+use Rattle.notify_class.specs.Edits.{recipient_peers}
 use Rattle.note_maker.proofs.NoteLaws.{notified, passed_over, all_to_recipients}
 use Rattle.note_maker.proofs.making.notes_of.Goals as goal
 use Rattle.note_maker.proofs.making.notes_of.Goals.{then-uses_at+in_ok-note_to+in_ok-push, else-uses_at}
 
 IsShortNote : Note → Type 0
-IsShortNote note = length note.body ≤ most_octets
+IsShortNote note = length note.body ≤ most_note_octets
 
 pub loop-destination-preserved : goal.loop-destination-preserved
 unfolding IsShortNote

@@ -1,7 +1,7 @@
 use Rattle.std.proofs.Common.{arith, ◌∙◌, Bool, not, take, ap}
 use Rattle.bac_values.specs.Orders.{is_among}
 use Rattle.notify_class.specs.Recipients.{DestinationData}
-use Rattle.notify_class.specs.Edits.{known_with, peers_of}
+use Rattle.notify_class.specs.Edits.{known_with, recipient_peers}
 use Rattle.notify_class.proofs.UnionLemmas.{length-new, length-known}
 use Rattle.notify_class.proofs.edit.new_peers.Goals as goal
 use Rattle.notify_class.proofs.edit.new_peers.Goals.{then-is_new, else-is_new}
@@ -14,7 +14,7 @@ loop-place-preserved c =
     let destinations = c.args.destinations.now in
     let place = c.loop-place.place in
     let destination = c.index-destinations-place.result in
-    let is_new : DestinationData → Bool = λ it. not (is_among (known_with known (peers_of (take place destinations))) it.peer) in
+    let is_new : DestinationData → Bool = λ it. not (is_among (known_with known (recipient_peers (take place destinations))) it.peer) in
     let same = ap is_new c.destination.view_is in
     elim c.if-is_new.branch [
       | then-is_new w ↦

@@ -1,6 +1,6 @@
 use Rattle.std.proofs.Common.{◌≡◌, ◌∙◌, ◌+◌, ◌∷◌, drop, sym, ap, arith}
 use Rattle.std.proofs.lemmas.List.{drop_more, length-drop}
-use Rattle.outbox.specs.Outboxes.{with_peers}
+use Rattle.outbox.specs.Outboxes.{mailboxes_with_all}
 use Rattle.outbox.proofs.Learning.{ascends_still}
 use Rattle.outbox.proofs.all.add_all.Goals as goal
 
@@ -18,7 +18,7 @@ loop-peer-preserved c =
     let room = c.loop-peer.invariant.room in
     let within = c.loop-peer-test.true in
     record {
-      added = ap (with_peers (drop (i + 1) peers)) c.add_one.ensures.added ∙ ap (λ ps. with_peers ps old) (sym next) ∙ c.loop-peer.invariant.added;
+      added = ap (mailboxes_with_all (drop (i + 1) peers)) c.add_one.ensures.added ∙ ap (λ ps. mailboxes_with_all ps old) (sym next) ∙ c.loop-peer.invariant.added;
       ascending = ascends_still p old c.add_one.new.mailboxes.items c.add_one.ensures.added c.loop-peer.invariant.ascending;
       room = omega (arith, before, behind, longer, wider, room, within);
     }

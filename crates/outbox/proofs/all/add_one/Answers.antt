@@ -1,7 +1,7 @@
 use Rattle.std.proofs.Common.{◌∙◌, List, sym, ap}
 use Rattle.std.specs.List.{insert}
 use Rattle.outbox.specs.Posts.{empty_post, MailboxState}
-use Rattle.outbox.specs.Outboxes.{with_peer}
+use Rattle.outbox.specs.Outboxes.{mailboxes_with}
 use Rattle.bac_values.proofs.Inserting.{made_sure}
 use Rattle.outbox.proofs.Learning.{at_place, at_gap}
 use Rattle.outbox.proofs.all.add_one.Goals as goal
@@ -16,9 +16,9 @@ returns-in-Err-clause-added c =
     ∙ ap (insert posts place) c.new.ensures.empty
     ∙ ap (λ (ps : List MailboxState). insert ps place (empty_post c.args.peer)) (sym seen)
     ∙ at_gap c.args.peer c.deref.result.now place c.in-Err.ensures.searched
-    ∙ ap (with_peer c.args.peer) seen
+    ∙ ap (mailboxes_with c.args.peer) seen
 
 pub returns-in_default-clause-added : goal.returns-in_default-clause-added
 returns-in_default-clause-added c =
     let seen = c.deref.ensures.value in
-    sym seen ∙ at_place c.args.peer c.deref.result.now c.in_default.field-0 c.in_default.ensures.searched (empty_post c.args.peer) ∙ ap (with_peer c.args.peer) seen
+    sym seen ∙ at_place c.args.peer c.deref.result.now c.in_default.field-0 c.in_default.ensures.searched (empty_post c.args.peer) ∙ ap (mailboxes_with c.args.peer) seen

@@ -13,7 +13,7 @@ loop-place-preserved c =
     let size = c.args.notes.now.ok.0 in
     record {
       near = omega arith;
-      appended = c.in_ok-push_send.ensures.pushed ∙ ap (λ xs. xs ++ send ∷ []) c.loop-place.invariant.appended ∙ append_assoc old front (send ∷ [])
+      appended = c.in_ok-push.ensures.added ∙ ap (λ xs. xs ++ send ∷ []) c.loop-place.invariant.appended ∙ append_assoc old front (send ∷ [])
           ∙ ap (λ s. old ++ (front ++ s ∷ [])) c.in_ok-send.ensures.datagram
           ∙ ap (λ xs. old ++ xs) (sym (one_more f notes c.args.places.start c.loop-place.place c.index.result.now (omega arith) (omega arith) c.index.ensures));
     }

@@ -9,7 +9,7 @@ use Rattle.alarm_core.specs.Logs.{HasNoLog}
 use Rattle.alarm_core.specs.State.{CoreState}
 use Rattle.alarm_core.proofs.Apart.{written_apart}
 use Rattle.alarm_core.proofs.DueCounts.{touching_raises}
-use Rattle.alarm_core.proofs.Moved.{at_site}
+use Rattle.alarm_core.proofs.MovesTold.{at_site}
 use Rattle.alarm_core.proofs.state.Core.change.Goals as goal
 
 no_more : (n m : ℕ) → n ≤ n + m

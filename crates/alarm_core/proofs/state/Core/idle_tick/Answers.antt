@@ -4,7 +4,7 @@ use Rattle.alarm_core.specs.History.{raised, tick_at, transition_of}
 use Rattle.alarm_core.specs.Evaluations.{site_moment}
 use Rattle.alarm_core.specs.CoreSteps.{evaluated_all, states_of, transitions_by}
 use Rattle.alarm_core.specs.Sites.{IsSite}
-use Rattle.alarm_core.proofs.Moved.{at_site, none_moved}
+use Rattle.alarm_core.proofs.MovesTold.{at_site, none_moved}
 use Rattle.alarm_core.proofs.Standing.{comes_after, idle-adds_none}
 use Rattle.alarm_core.proofs.state.Core.idle_tick.Goals as goal
 

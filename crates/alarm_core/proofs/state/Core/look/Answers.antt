@@ -10,7 +10,7 @@ use Rattle.alarm_core.specs.Logs.{records_of, SiteLogState}
 use Rattle.alarm_core.specs.Notes.{notes_of_transitions}
 use Rattle.alarm_core.specs.State.{CoreState}
 use Rattle.alarm_core.proofs.Looking.{looked_at}
-use Rattle.alarm_core.proofs.Moved.{at_site}
+use Rattle.alarm_core.proofs.MovesTold.{at_site}
 use Rattle.alarm_core.proofs.ToldKnown.{if_told_known, look_known}
 use Rattle.alarm_core.proofs.Undoing.{leads_nowhere}
 use Rattle.alarm_core.proofs.state.Core.look.Goals as goal

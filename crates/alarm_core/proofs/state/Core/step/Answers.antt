@@ -11,7 +11,7 @@ use Rattle.alarm_core.specs.Sites.{IsSite}
 use Rattle.alarm_core.specs.State.{CoreState}
 use Rattle.alarm_core.proofs.Acted.{stepped}
 use Rattle.alarm_core.proofs.Following.{represents_next}
-use Rattle.alarm_core.proofs.Moved.{at_site}
+use Rattle.alarm_core.proofs.MovesTold.{at_site}
 use Rattle.alarm_core.proofs.Moving.{counted}
 use Rattle.alarm_core.proofs.NeverFull.{tick_never_full}
 use Rattle.alarm_core.proofs.Notified.{notifications_after}

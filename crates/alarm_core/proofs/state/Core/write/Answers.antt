@@ -13,7 +13,7 @@ use Rattle.alarm_core.specs.State.{CoreState}
 use Rattle.alarm_core.specs.Verdicts.{Answers, queue_verdict}
 use Rattle.alarm_core.specs.declared.step.Done.{Done}
 use Rattle.alarm_core.proofs.Apart.{written_apart}
-use Rattle.alarm_core.proofs.Moved.{at_site}
+use Rattle.alarm_core.proofs.MovesTold.{at_site}
 use Rattle.alarm_core.proofs.Undoing.{leads_nowhere, starts_from}
 use Rattle.alarm_core.proofs.Written.{second_look, second_steps, written_moves, written_state, written_verdict}
 use Rattle.alarm_core.proofs.state.Core.write.Goals as goal

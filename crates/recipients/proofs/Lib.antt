@@ -1,0 +1,3 @@
+pub mod AddressReaders
+pub mod RecipientReaders
+pub mod WrittenPeers
