@@ -1,0 +1,184 @@
+"""alarm-site: looks at a site's text: whether it is one, what in it nobody wants, what it comes to in words, and how large its journal is."""
+import os
+import pathlib
+import re
+import subprocess
+import tempfile
+
+from . import plan, site_lint, site_text, words
+from .words import CANNOT_OPEN, DONE, Ends
+
+SITE_REFUSED = 3
+SECONDS = 60
+TOP = pathlib.Path(__file__).resolve().parent.parent.parent
+# Where the program is: in a checkout as it was built, and where a package has put it.
+PROGRAMS = [str(TOP / "crates" / "alarm_server" / "out" / "alarm_server"), str(TOP.parent / "libexec" / "alarm-server" / "alarm_server")]
+WHAT = """\
+Looks at a site's text before a server does.
+
+check has the program read it, where one is at hand, and else reads it by itself, by the rules of docs/SITE.md, and says which
+of both it was. A fault is told as the program tells it, with the line, the name and the reason; a site that is taken is looked
+over for what is allowed and hardly meant. describe says in words what is an alarm and who is told of it at which hour."""
+STATUSES = [
+    (0, "it is a site; check --strict: and there is no warning"),
+    (1, "the file can't be opened, or --strict and there are warnings"),
+    (2, "the words are none that it knows"),
+    (3, "it is no site"),
+    (5, "the program takes it, and this tool can't read it, as where it needs TOML 1.1"),
+]
+EXAMPLES = [
+    ("alarm-site check site.toml", "its first fault, or what in it is hardly meant"),
+    ("alarm-site describe site.toml", "what is an alarm, and a table of the week for each class"),
+    ("alarm-site size site.toml", "how many octets its journal has, part by part, and whether the outbox is large enough"),
+]
+
+
+def parser():
+    made = words.parser_of("alarm-site", WHAT, STATUSES, EXAMPLES)
+    commands = made.add_subparsers(metavar="COMMAND", required=True)
+    check = words.command_of(commands, "check", "says its first fault, and what in it is hardly meant", check_site)
+    check.add_argument("--strict", action="store_true", help="end with 1 where there are warnings")
+    describe = words.command_of(commands, "describe", "says in words what is an alarm and who is told when", describe_site)
+    size = words.command_of(commands, "size", "says how large its journal is, and what the outbox takes", size_site)
+    for command in (check, describe, size):
+        command.add_argument("site", metavar="SITE")
+        command.add_argument("--json", action="store_true", help="as JSON, a line for each fault and warning")
+    which = "the program (ALARM_SERVER_PROGRAM, else the one that was built or installed beside this tool); none: this tool's own reading alone"
+    for command in (check, size):
+        command.add_argument("--program", metavar="PROGRAM", help=which)
+    return made
+
+
+def octets_of(path):
+    with words.opened(path, "rb") as file:
+        return file.read()
+
+
+def program_of(given):
+    """The program that is at hand, or None."""
+    named = given.program or os.environ.get("ALARM_SERVER_PROGRAM")
+    if named == "none":
+        return None
+    if named and not os.access(named, os.X_OK):
+        raise Ends(CANNOT_OPEN, f"there is no program {named}")
+    return named or next((it for it in PROGRAMS if os.access(it, os.X_OK)), None)
+
+
+def program_says(program, path):
+    """What the program says of a site, by a session over an empty script: its refusal and the line, or how many octets its journal has."""
+    with tempfile.NamedTemporaryFile() as journal:
+        ran = subprocess.run(
+            [program, "session", path, journal.name], stdin=subprocess.DEVNULL, capture_output=True, timeout=SECONDS, check=False, text=True, errors="replace"
+        )
+    if found := re.fullmatch(r"site refused: (.*)\n(?:line (\d+)\n)?", ran.stderr):
+        return found[1], found[2] and int(found[2]), None
+    if found := re.fullmatch(r"journal refused: small-device 0 (\d+)\n", ran.stderr):
+        return None, None, int(found[1])
+    raise Ends(CANNOT_OPEN, f"{program} ended with {ran.returncode}: {ran.stderr.strip()}")
+
+
+def own_reading(octets):
+    """The site of a text, and the fault that this tool finds; one of both is None."""
+    try:
+        return site_text.read(octets), None
+    except site_text.SiteRefused as fault:
+        return None, fault
+
+
+# check
+
+
+def check_site(given):
+    octets, program = octets_of(given.site), program_of(given)
+    site, fault = own_reading(octets)
+    said_by = program or "this tool's own reading, no program is at hand"
+    if program:
+        told, line, _ = program_says(program, given.site)
+        if told is not None:
+            fault = fault_of(octets, told, line, fault)
+        elif fault:
+            raise Ends(words.UNREADABLE, f"{given.site}: {program} takes it, and this tool doesn't read it: {fault}, {fault.reason}; nothing else was looked at")
+        else:
+            fault = None
+    if fault:
+        show_fault(given, fault, said_by)
+        return SITE_REFUSED
+    found = site_lint.warnings_of(site)
+    for it in found:
+        show_warning(given, it)
+    if not given.json:
+        print(f"{given.site}: a site, says {said_by}; {plan.counted(len(found), 'warning')}")
+    return CANNOT_OPEN if given.strict and found else DONE
+
+
+def fault_of(octets, told, line, own):
+    """The program's refusal, with the line, the name and the reason that this tool finds for it."""
+    if own and own.told == told:
+        own.line = line or own.line
+        return own
+    place = re.fullmatch(r"\S+ (device|class|destination|object|enrollment|log) (\d+) (.*)", told)
+    at = site_text.Places(octets).line(place[1], int(place[2]), place[3]) if place else None
+    return site_text.SiteRefused(told, "docs/SITE.md says what is wanted", line or at)
+
+
+def show_fault(given, fault, said_by):
+    if given.json:
+        words.put(words.json_line({"site": given.site, "line": fault.line, "refused": fault.told, "name": fault.whose, "reason": fault.reason, "said_by": said_by}))
+        return
+    at = f":{fault.line}" if fault.line else ""
+    print(words.coloured(f"{given.site}{at}: site refused: {fault.told}", "red"))
+    print(f"  {fault.whose + ': ' if fault.whose else ''}{words.printable(fault.reason)}")
+    print(f"  said by {said_by}")
+
+
+def show_warning(given, it):
+    if given.json:
+        words.put(words.json_line({"site": given.site, "line": it.line, "warning": it.kind, "text": it.text}))
+        return
+    at = f":{it.line}" if it.line else ""
+    print(f"{given.site}{at}: {words.coloured('warning', 'yellow')}: {it.text} [{it.kind}]")
+
+
+# describe and size
+
+
+def read_site(given, octets):
+    site, fault = own_reading(octets)
+    if fault:
+        show_fault(given, fault, "this tool's own reading")
+    return site
+
+
+def describe_site(given):
+    site = read_site(given, octets_of(given.site))
+    if site is None:
+        return SITE_REFUSED
+    if given.json:
+        words.put(words.json_line(plan.told_of(site)))
+    else:
+        print("\n".join(plan.lines_of(site)))
+    return DONE
+
+
+def size_site(given):
+    octets = octets_of(given.site)
+    site = read_site(given, octets)
+    if site is None:
+        return SITE_REFUSED
+    program, need, least = program_of(given), site_text.need(site, len(octets)), site_text.notes_at_once(site)
+    said = program_says(program, given.site)[2] if program else None
+    if given.json:
+        parts = {what: count * each for what, count, each in site_text.parts_of_need(site, len(octets))}
+        words.put(words.json_line({"site": given.site, "octets": need, "program": said, "parts": parts, "outbox": site.device["outbox"], "notes_at_once": least}))
+        return DONE
+    rows = [[what, f"{count:,}", f"{each:,}", f"{count * each:,}"] for what, count, each in site_text.parts_of_need(site, len(octets))]
+    print("\n".join(words.table(["WHAT", "COUNT", "EACH", "OCTETS"], rows)))
+    agreed = "" if said is None else f"; so says {program}" if said == need else f"; {program} says {said:,}"
+    print(f"the smallest journal has {words.octets_text(need)}{agreed}")
+    times = f", {site.device['outbox'] / least:.1f} times as many as all objects at once make ({least})" if least else ""
+    print(f"the outbox has room for {site.device['outbox']} notifications{times}")
+    return DONE
+
+
+def main():
+    return words.run(parser())

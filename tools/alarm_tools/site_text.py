@@ -1,0 +1,275 @@
+"""A site's text, read by docs/SITE.md a second time, beside the program: what it says, or its first fault, with line and reason."""
+import collections
+import re
+import tomllib
+
+from . import names
+from .site_keys import SECTIONS
+from .zone import Zone
+
+MOST_OCTETS = 1_048_576
+Site = collections.namedtuple("Site", "device classes destinations objects enrollments logs zone places")
+SECTION_KINDS = {"device": "device", "class": "notification-class", "enrollment": "event-enrollment", "log": "event-log"}
+
+
+class SiteRefused(ValueError):
+    """The first fault of a text, as the program words it behind 'site refused: ', with its line, of whom it is, and the reason."""
+
+    def __init__(self, told, reason, line=None, whose=None):
+        super().__init__(told)
+        self.told, self.reason, self.line, self.whose = told, reason, line, whose
+
+
+# Where things stand.
+
+HEAD = re.compile(r"\s*(\[\[?)\s*([A-Za-z0-9_-]+|\"[^\"]*\")\s*\]\]?\s*(?:#.*)?")
+ASSIGNED = re.compile(r"\s*([A-Za-z0-9_-]+|\"[^\"]*\")\s*=")
+
+
+class Places:
+    """The lines of a text's sections, items and keys, by a look at how each line begins. It is a help for people, and no reading."""
+
+    def __init__(self, octets):
+        self.items, self.keys, at = {}, {}, ("", 0)
+        counts, quoted = collections.Counter(), None
+        for number, line in enumerate(octets.decode("utf-8", "replace").splitlines(), 1):
+            was_quoted = quoted
+            for mark in re.findall(r'"""|\'\'\'', line):
+                quoted = mark if quoted is None else None if quoted == mark else quoted
+            if was_quoted:
+                continue
+            if head := HEAD.fullmatch(line):
+                section = head[2].strip('"')
+                counts[section] += head[1] == "[["
+                at = section, counts[section]
+                self.items.setdefault(at, number)
+            elif key := ASSIGNED.match(line):
+                self.keys.setdefault((*at, key[1].strip('"')), number)
+
+    def line(self, section, item, key=None):
+        """The line of a key of an item, else that of the item, else None."""
+        if key is not None and (section, item, key) in self.keys:
+            return self.keys[section, item, key]
+        if section == "device" and ("", 0, key) in self.keys:
+            return self.keys["", 0, key]
+        return self.items.get((section, item)) or self.items.get((section, 1 - min(item, 1)))
+
+
+# Reading.
+
+
+def read(octets):
+    """The site of a text, with all defaults in their places; or SiteRefused with its first fault."""
+    if len(octets) > MOST_OCTETS:
+        raise SiteRefused("too-long", f"it has {len(octets)} octets, and at most {MOST_OCTETS} are read")
+    document, places = parsed(octets), Places(octets)
+    sections = {name: section_of(document, name, places) for name in SECTIONS}
+    site = Site(
+        sections["device"][0], sections["class"], sections["destination"], sections["object"], sections["enrollment"], sections["log"],
+        zone_of(sections["device"][0]), places,
+    )
+    for fault in (too_many, duplicate, dangling, notes):
+        fault(site)
+    return site
+
+
+def parsed(octets):
+    try:
+        document = tomllib.loads(octets.decode("utf-8"))
+    except UnicodeDecodeError as error:
+        raise SiteRefused("not-toml", "an octet that isn't UTF-8", octets[: error.start].count(b"\n") + 1) from None
+    except tomllib.TOMLDecodeError as error:
+        found = re.search(r"\(at line (\d+), column \d+\)", str(error))
+        line = int(found[1]) if found else octets.rstrip().count(b"\n") + 1
+        raise SiteRefused("not-toml", re.sub(r" \(at .*\)", "", str(error)), line) from None
+    except RecursionError:
+        raise SiteRefused("not-toml", "brackets within brackets, too many") from None
+    if any(isinstance(it, int) and not -(1 << 63) <= it < 1 << 63 for it in numbers_in(document)):
+        raise SiteRefused("not-toml", "a number outside 64 bits")
+    return document
+
+
+def numbers_in(value):
+    if isinstance(value, (dict, list)):
+        for it in value.values() if isinstance(value, dict) else value:
+            yield from numbers_in(it)
+    else:
+        yield value
+
+
+def section_of(document, section, places):
+    """The items of a section, each with its defaults, its number and its line."""
+    found = document.get(section, {} if section == "device" else [])
+    wanted = f"[{section}] is wanted, once" if section == "device" else f"[[{section}]] is wanted, in two brackets"
+    good = isinstance(found, dict) if section == "device" else isinstance(found, list) and all(isinstance(it, dict) for it in found)
+    if not good:
+        raise SiteRefused(f"bad-value {section} 0 {section}", wanted, places.line(section, 0))
+    if section == "device":
+        outside = [key for key in document if key not in SECTIONS]
+        return [item_of(section, 0, found, places, outside)]
+    return [item_of(section, number, it, places) for number, it in enumerate(found, 1)]
+
+
+def item_of(section, number, item, places, outside=()):
+    """An item, with the defaults of what it lacks; or its first fault."""
+    keys = SECTIONS[section](item)
+    known = {key.name for key in keys}
+    whose = whose_of(section, item)
+
+    def fault(word, key, reason):
+        told = key if len(key.encode()) <= 256 else ""
+        return SiteRefused(f"{word} {section} {number} {told}", reason, places.line(section, number, key), whose)
+
+    unknown = sorted([it for it in item if it not in known] + list(outside), key=str.encode)
+    if unknown:
+        raise fault("unknown", unknown[0], unknown_reason(section, unknown[0], item, outside))
+    for key in keys:
+        if key.name not in item:
+            if key.needed(item):
+                raise fault("missing", key.name, "it has to be there")
+        elif reason := key.reason(item[key.name], item):
+            raise fault("bad-value", key.name, reason)
+    filled = {key.name: item.get(key.name, key.default) for key in keys}
+    return filled | {"section": section, "number": number, "line": places.line(section, number), "object": identifier(section, item)}
+
+
+def identifier(section, item):
+    """The object that an item is, or None of a destination."""
+    kind = SECTION_KINDS.get(section) or item.get("kind")
+    return (names.OBJECT_NUMBERS[kind], item["instance"]) if section != "destination" else None
+
+
+def whose_of(section, item):
+    """Of whom a fault is, for people: its name, else its kind and instance."""
+    if isinstance(item.get("name"), str):
+        return f'"{item["name"]}"'
+    kind, instance = SECTION_KINDS.get(section) or item.get("kind"), item.get("instance", item.get("class"))
+    return f"{kind}:{instance}" if isinstance(kind, str) and isinstance(instance, int) else None
+
+
+def unknown_reason(section, key, item, outside):
+    if key in outside:
+        near = next((it for it in SECTIONS if it in key or key in it), None)
+        return f"there is no section {key}" + (f": {near} is one" if near else f": {', '.join(SECTIONS)} are")
+    if section == "object" and "class" not in item and any(it.name == key for it in SECTIONS[section](item | {"class": 0})):
+        return "it is a key of an object with a class, and this one has none"
+    if section == "object" and any(it.name == key for it in SECTIONS[section]({"class": 0})):
+        return f"an object of the kind {item.get('kind')} doesn't have it"
+    return f"it is no key of [[{section}]]" if section != "device" else "it is no key of [device]"
+
+
+def zone_of(device):
+    return Zone(rule=device["zone_rule"]) if device["zone_rule"] is not None else Zone(device["zone_minutes"])
+
+
+# What relates the items.
+
+
+def alarm_objects(site):
+    """The objects and enrollments that have a class."""
+    return [it for it in [*site.objects, *site.enrollments] if it["class"] is not None]
+
+
+def lists(site):
+    """The destinations of each class, by its instance."""
+    found = {it["instance"]: [] for it in site.classes}
+    for it in site.destinations:
+        found.setdefault(it["class"], []).append(it)
+    return found
+
+
+def too_many(site):
+    for section, count, most in [
+        ("class", len(site.classes), 256), ("destination", max(map(len, lists(site).values()), default=0), 32),
+        ("object", len(site.objects), 2048), ("enrollment", len(site.objects) + len(site.enrollments), 2048), ("log", len(site.logs), 16),
+    ]:
+        if count > most:
+            raise SiteRefused(f"too-many {section}", f"there are {count}, and at most {most} may be")
+    records = sum(it["size"] for it in site.logs)
+    if records > 16384:
+        raise SiteRefused("too-many records", f"the logs have room for {records} records together, and at most 16384 may be")
+
+
+def identified(site):
+    return [it for part in ([site.device], site.classes, site.objects, site.enrollments, site.logs) for it in part]
+
+
+def duplicate(site):
+    counts = collections.Counter(it["object"] for it in identified(site))
+    twice = min((it for it, count in counts.items() if count > 1), default=None)
+    if twice is not None:
+        lines = [it["line"] for it in identified(site) if it["object"] == twice]
+        text = " and ".join(f"line {line}" for line in lines[:2] if line)
+        raise SiteRefused(f"duplicate {names.object_text(twice)}", f"it is given twice: {text}", lines[-1])
+
+
+def dangling(site):
+    classes = {it["instance"] for it in site.classes}
+    values = {it["object"] for it in site.objects}
+    found = []
+    for it in [*alarm_objects(site), *site.destinations]:
+        if it["class"] not in classes:
+            found.append((it["object"] or (15, it["class"]), it, f"there is no class {it['class']}"))
+    for it in site.logs:
+        found += [(it["object"], it, f"there is no class {one}") for one in it["classes"] if one not in classes]
+    for it in site.enrollments:
+        found += [(it["object"], it, reason) for reason in reference_faults(it, values)]
+    if found:
+        least, it, reason = min(found, key=lambda row: row[0])
+        raise SiteRefused(f"dangling {names.object_text(least)}", reason, it["line"], whose_of(it["section"], it))
+
+
+def reference_faults(it, values):
+    """What is wrong with what an enrollment monitors."""
+    monitored = names.object_from(it["monitored"])
+    if monitored not in values:
+        yield f"there is no value object {it['monitored']}"
+    elif it["algorithm"] == "unsigned-range" and names.OBJECT_TYPES[monitored[0]] not in ("positive-integer-value", "multi-state-value"):
+        yield f"unsigned-range monitors a positive-integer-value or a multi-state-value, and not {it['monitored']}"
+    if "feedback" in it:
+        feedback = names.object_from(it["feedback"])
+        if feedback not in values:
+            yield f"there is no value object {it['feedback']}"
+        elif feedback[0] != monitored[0]:
+            yield f"{it['feedback']} isn't of the kind of {it['monitored']}"
+
+
+def notes_at_once(site):
+    """How many notifications there are where each object with a class is told once to each destination of its class."""
+    of_class = lists(site)
+    return sum(len(of_class[it["class"]]) for it in alarm_objects(site))
+
+
+def notes(site):
+    least = notes_at_once(site)
+    if least > site.device["outbox"]:
+        reason = f"the outbox has room for {site.device['outbox']} notifications, and one of each object to each of its destinations are {least}"
+        raise SiteRefused("too-many notes", reason, site.places.line("device", 0, "outbox"))
+
+
+# Names and sizes.
+
+
+def name_of(item):
+    """The Object_Name of an item of any section but a destination."""
+    return item["name"] if item["name"] is not None else names.object_text(item["object"])
+
+
+def names_in(site):
+    return {it["object"]: name_of(it) for it in identified(site)}
+
+
+def parts_of_need(site, text_octets):
+    """What a journal of a site takes, in octets: each part with how many there are and what each takes."""
+    records = sum(it["size"] for it in site.logs)
+    of_record = 1034 if site.device["zone_rule"] is None else 1042
+    rows = [
+        ("value objects", len(site.objects), 640), ("objects with an alarm", len(alarm_objects(site)), 256), ("classes", len(site.classes), 1986),
+        ("logs", len(site.logs), 18), ("records of logs", records, 2 * of_record), ("notifications that may wait", site.device["outbox"], 2054),
+    ]
+    return [("header, text and what any site has", 1, 22 + text_octets + 2 * (60_010 + 19 + 229_376)), *rows]
+
+
+def need(site, text_octets):
+    """How many octets the smallest journal of a site has (docs/JOURNAL.md)."""
+    return sum(count * each for _, count, each in parts_of_need(site, text_octets))
