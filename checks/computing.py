@@ -1,0 +1,63 @@
+"""Which definitions say how something is computed, and what of them may be named where something is meant: for checks/meaning, which
+says what the three lists are, and for checks/reading, which counts by them."""
+import os
+
+from contracts import crate_of, is_computing
+
+TIED = {
+    ("bvlc_npdu", "incoming_at"): "bvlc_npdu::unwrap",
+    ("apdu_frame", "apdu_of"): "apdu_frame::read_apdu",
+    ("event_services", "acknowledge_request_of"): "event_services::read_ack",
+    ("event_services", "information_request_of"): "event_services::read_information_request",
+    ("property_services", "read_property_of"): "property_services::read_read_property",
+    ("property_services", "write_property_of"): "property_services::read_write_property",
+    ("property_services", "read_range_of"): "property_services::read_read_range",
+    ("property_services", "who_is_of"): "property_services::read_who_is",
+    ("alarm_core", "first_state"): "alarm_core::Core::start",
+    ("alarm_core", "next_notes"): "alarm_core::stands_for_its_history",
+    ("alarm_core", "next_sends"): "alarm_core::stands_for_its_history",
+    ("alarm_core", "next_state"): "alarm_core::stands_for_its_history",
+    ("alarm_core", "next_transitions"): "alarm_core::stands_for_its_history",
+}
+
+BESIDE = {
+    "bac_tags::read_octets: exact": "found and only of each reader, which alone name it",
+    "bac_tags::read_value: only": "found, truncated, wrong_tag, bad_length and no_memory of the same call",
+    "bac_tags::or_invalid: exact": "invalid of required_unsigned, optional_unsigned and their like",
+    "bac_tags::required: exact": "missing and invalid of required_unsigned and required_object",
+    "bac_tags::optional: exact": "found, only and invalid of optional_unsigned and optional_object",
+    "bac_tags::nothing_follows: exact": "too_many of read_ack, of event_services, and its like",
+    "bac_tags::reads_back: *": "found and only of each reader",
+    "event_machine::Alarm::acknowledge: acknowledged": "course of the same call",
+    "event_machine::begin: begun": "course of the same call",
+    "event_machine::evaluate: alarm, moves, first": "course and course_moves of the same call",
+    "event_machine::is_still: still": "course of the same call",
+    "event_machine::is_settled: settled": "law of looks_are_skipped",
+    "event_services::read_notification: only": "found, refused, missing and no_memory of the same call",
+    "event_services::reads_back: notification": "found and only of read_notification",
+    "recipients::written_peers_are_read: read": "found and only of read_recipient",
+    "state_codec::take_octet: exact": "the octets in front, the highest first, as written of put_octet_count, put_count, put_word and put_long says",
+    "state_codec::take_octets: exact": "the octets in front, the highest first, as written of put_octet_count, put_count, put_word and put_long says",
+    "state_codec::take_u16: exact": "the octets in front, the highest first, as written of put_octet_count, put_count, put_word and put_long says",
+    "state_codec::take_u32: exact": "the octets in front, the highest first, as written of put_octet_count, put_count, put_word and put_long says",
+    "state_codec::take_u64: exact": "the octets in front, the highest first, as written of put_octet_count, put_count, put_word and put_long says",
+}
+
+TO_RENAME = {
+    ("alarm_core", "FollowingSteps"): "whether events may follow on one another is a relation; it never was refused",
+    ("alarm_server", "OpeningSteps"): "for which octets a run refuses its journal; it names floor_desk's OpeningSteps",
+    ("alarm_server", "ServingSteps"): "all that a server promises; it names floor_desk's OpeningSteps",
+    ("floor_desk", "OpeningSteps"): "for which octets a journal is refused; it names state_codec's DamageSteps",
+    ("script_lines", "FrontSteps"): "what the line in front says; it names ReadingSteps",
+    ("script_lines", "ReadingSteps"): "which octets are to come from a reader of lines is its model, and computes nothing",
+    ("state_codec", "DamageSteps"): "what damage is, as relations; it names alarm_core's FollowingSteps",
+}
+
+
+def file_of(path):
+    """A file of specs/ by its crate and its name."""
+    return crate_of(path), os.path.basename(path).removesuffix(".antt")
+
+
+def computes(path):
+    return is_computing(path) and file_of(path) not in TO_RENAME
