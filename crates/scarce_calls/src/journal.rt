@@ -7,6 +7,7 @@ use crate::missed::Missed;
 use crate::report::{DISK_FAULT, Text, say};
 use alarm_core::{Core, Site};
 use alarm_journal::{Job, OpenFault, Opened, Press};
+use bac_values::MOST_BATCH_OCTETS;
 use ground_io::{Filling, MemoryGround};
 use state_codec::{RecoverFault, recover};
 use std::alloc::Global;
