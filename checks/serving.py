@@ -1,6 +1,7 @@
 """A server that runs on this machine, and a client that asks it and is told of alarms, for checks/serve and bench/serve."""
 import json
 import os
+import random
 import re
 import resource
 import signal
@@ -18,6 +19,8 @@ KEPT = 5_000
 # How many datagrams a server takes at most.
 MANY = 1_000_000
 START = 1_700_000_000_000
+# The first of the ports that Linux gives to sockets which ask for none (ip_local_port_range).
+FIRST_OF_NO_NUMBER = 32_768
 
 
 def site_text(*sections):
@@ -79,11 +82,16 @@ def events_in(program, site, journal):
     return int(found[1])
 
 
-def free_port():
-    """A port of this machine that was free a moment ago."""
-    with socket.socket(socket.AF_INET, socket.SOCK_DGRAM) as found:
-        found.bind((HOST, 0))
-        return found.getsockname()[1]
+def free_port(kind=socket.SOCK_DGRAM):
+    """A port of this machine that was free a moment ago, and is below those of sockets that ask for none: no such socket takes it before a server does."""
+    while True:
+        port = random.SystemRandom().randrange(10_000, FIRST_OF_NO_NUMBER)
+        with socket.socket(socket.AF_INET, kind) as found:
+            try:
+                found.bind((HOST, port))
+                return port
+            except OSError:
+                pass
 
 
 def environment(port):

@@ -67,9 +67,7 @@ def lines_of_json(text):
 
 def free_port_of_tcp():
     """A port of this machine for HTTP that was free a moment ago."""
-    with socket.socket() as found:
-        found.bind((serving.HOST, 0))
-        return found.getsockname()[1]
+    return serving.free_port(socket.SOCK_STREAM)
 
 
 def until(holds, seconds=10.0):
