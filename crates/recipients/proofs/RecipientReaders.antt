@@ -45,7 +45,7 @@ found_by input place x (Err (Truncated end)) bytes le same e = absurd cc
 found_by input place x (Err (BadLength wrong)) bytes le same e = absurd cc
 found_by input place x (Err NoMemory) bytes le same e = absurd cc
 
-recipient_found : (input : List ℕ) (place : ℕ) (x : RecipientData × ℕ) → IsBytes input → place ≤ length input → recipient_at input place ≡ Ok x → Spelled SpellsRecipient input place x.0 x.1
+pub recipient_found : (input : List ℕ) (place : ℕ) (x : RecipientData × ℕ) → IsBytes input → place ≤ length input → recipient_at input place ≡ Ok x → Spelled SpellsRecipient input place x.0 x.1
 unfolding recipient_at
 recipient_found input place x bytes le e = found_by input place x (object_at input place (Some 0)) bytes le refl e
 
@@ -64,7 +64,7 @@ recipient_again input place octets (OfAddress address) end le s p =
     let other = other_object input place (record { header = s.front; rest = (s.inside ++ s.back) ++ drop end input; tag = opening 1; parts = parts; tagged = s.opened; other = opening_is_other }) in
     ap (or_address (enclosed_address_at input place)) other ∙ ap (λ (r : Result (AddressData × ℕ) TagFault). r >>= as_address) (enclosed_address_reader.again input place octets address end le s p)
 
-short_recipient : (input : List ℕ) (place : ℕ) (octets : List ℕ) (x : RecipientData) (end : ℕ) → IsBytes input → SpellsRecipient octets x → Stands input place octets end → SpellsShortRecipient octets x
+pub short_recipient : (input : List ℕ) (place : ℕ) (octets : List ℕ) (x : RecipientData) (end : ℕ) → IsBytes input → SpellsRecipient octets x → Stands input place octets end → SpellsShortRecipient octets x
 short_recipient input place octets (OfDevice object) end bytes s p = s
 short_recipient input place octets (OfAddress address) end bytes s p = as_short input place octets address end bytes s p
 

@@ -1,0 +1,4 @@
+pub mod Rows
+pub mod Narrowed
+pub mod Enclosed
+pub mod Filters

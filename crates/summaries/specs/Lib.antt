@@ -1,0 +1,4 @@
+pub mod Requests
+pub mod Refusals
+pub mod RequestSteps
+pub mod Summaries
