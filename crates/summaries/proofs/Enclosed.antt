@@ -6,9 +6,6 @@ use Rattle.bac_tags.specs.declared.fault.TagFault.TheVariants.{Truncated, WrongT
 use Rattle.bac_tags.specs.declared.malformed.Malformed.{Malformed}
 use Rattle.bac_tags.specs.EnclosingSteps.{closing_at, enclosed_at, opening_at}
 use Rattle.bac_tags.specs.EnclosingTags.{IsOtherTag, SpellsEnclosed, opening}
-use Rattle.bac_tags.specs.ParameterReadingSteps.{or_invalid}
-use Rattle.bac_tags.specs.Parameters.{IsThere}
-use Rattle.bac_tags.specs.Places.{IsSpelledAt}
 use Rattle.bac_tags.specs.ReadingSteps.{◌>>=◌}
 use Rattle.bac_tags.specs.Refusals.{invalid_tag}
 use Rattle.bac_tags.proofs.ElementAnswers.{Element}

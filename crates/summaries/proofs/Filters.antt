@@ -19,7 +19,7 @@ use Rattle.bac_tags.proofs.Answered.{Spelled}
 use Rattle.bac_tags.proofs.ElementAnswers.{Element, begins_before, ends_within, optional_ends, unsigned_optional}
 use Rattle.bac_tags.proofs.ElementReaders.{Reader, enclosed_reader, spelled_from, object_reader, spelled_to, tag_some, unsigned_reader}
 use Rattle.bac_tags.proofs.ParameterAnswers.{Answers, Both, Made, Whole, at_end, ended, mapped, said, then, whole_said}
-use Rattle.bac_tags.proofs.Standing.{IsBytes, Stands, Stands-back, Stands-from, Stands-front, Stands-then, Stands-within}
+use Rattle.bac_tags.proofs.Standing.{IsBytes, Stands, Stands-back, Stands-front, Stands-then, Stands-within}
 use Rattle.bac_tags.proofs.Steps.{bind_ok, ok_is}
 use Rattle.recipients.specs.Recipients.{OfAddress, OfDevice, RecipientData, SpellsRecipient}
 use Rattle.recipients.specs.RecipientSteps.{recipient_at}

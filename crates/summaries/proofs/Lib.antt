@@ -2,3 +2,8 @@ pub mod Rows
 pub mod Narrowed
 pub mod Enclosed
 pub mod Filters
+pub mod Each
+pub mod Counting
+pub mod Grouped
+pub mod Telling
+pub mod Asking

@@ -1,4 +1,4 @@
-use Rattle.std.proofs.Common.{rules, ◌≡◌, ◌+◌, ◌++◌, ◌<◌, ◌≤◌, List, ℕ, length, Some, sym, ◌∙◌, arith, drop}
+use Rattle.std.proofs.Common.{rules, ◌≡◌, ◌+◌, ◌++◌, sym, ◌∙◌, arith, drop}
 use Rattle.std.specs.List.{flat_map}
 use Rattle.bac_values.specs.declared.alarm_row.AlarmRow.{AlarmRow}
 use Rattle.summaries.specs.Summaries.{enrollment_with}
