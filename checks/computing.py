@@ -1,5 +1,5 @@
 """Which definitions say how something is computed, and what of them may be named where something is meant: for checks/meaning, which
-says what the three lists are, and for checks/reading, which counts by them."""
+says what the two lists are, and for checks/reading, which counts by them."""
 import os
 
 from contracts import crate_of, is_computing
@@ -13,6 +13,8 @@ TIED = {
     ("property_services", "write_property_of"): "property_services::read_write_property",
     ("property_services", "read_range_of"): "property_services::read_read_range",
     ("property_services", "who_is_of"): "property_services::read_who_is",
+    ("summaries", "enrollment_request_of"): "summaries::read_enrollment_request",
+    ("summaries", "groups_of"): "summaries::read_many_request",
     ("alarm_core", "first_state"): "alarm_core::Core::start",
     ("alarm_core", "next_notes"): "alarm_core::stands_for_its_history",
     ("alarm_core", "next_sends"): "alarm_core::stands_for_its_history",
@@ -43,21 +45,7 @@ BESIDE = {
     "state_codec::take_u64: exact": "the octets in front, the highest first, as written of put_octet_count, put_count, put_word and put_long says",
 }
 
-TO_RENAME = {
-    ("alarm_core", "FollowingSteps"): "whether events may follow on one another is a relation; it never was refused",
-    ("alarm_server", "OpeningSteps"): "for which octets a run refuses its journal; it names floor_desk's OpeningSteps",
-    ("alarm_server", "ServingSteps"): "all that a server promises; it names floor_desk's OpeningSteps",
-    ("floor_desk", "OpeningSteps"): "for which octets a journal is refused; it names state_codec's DamageSteps",
-    ("script_lines", "FrontSteps"): "what the line in front says; it names ReadingSteps",
-    ("script_lines", "ReadingSteps"): "which octets are to come from a reader of lines is its model, and computes nothing",
-    ("state_codec", "DamageSteps"): "what damage is, as relations; it names alarm_core's FollowingSteps",
-}
-
 
 def file_of(path):
     """A file of specs/ by its crate and its name."""
     return crate_of(path), os.path.basename(path).removesuffix(".antt")
-
-
-def computes(path):
-    return is_computing(path) and file_of(path) not in TO_RENAME

@@ -11,7 +11,7 @@ KINDS_OF_OBJECTS = {
 }
 PROPERTIES = [
     0, 1, 6, 7, 8, 11, 12, 17, 21, 22, 25, 28, 31, 35, 36, 37, 38, 44, 45, 52, 59, 62, 70, 72, 73, 75, 76, 77, 79, 80, 81, 83,
-    85, 86, 90, 98, 102, 103, 111, 112, 113, 117, 120, 121, 126, 130, 131, 132, 133, 139, 141, 144, 145, 155, 168, 351, 352,
+    85, 86, 90, 98, 102, 103, 105, 111, 112, 113, 117, 120, 121, 126, 130, 131, 132, 133, 139, 141, 144, 145, 155, 168, 351, 352,
     353, 354, 355, 356, 357, 371, 4194303,
 ]
 PEERS = ["10.0.0.9:47808", "10.0.0.5:47808", "10.0.0.6:47808", "10.0.0.7:47808", "10.0.0.9:1", "255.255.255.255:65535"]
@@ -134,9 +134,40 @@ def reference(draws):
     return tagged(0, object_octets(draws)) + tagged(1, shortest(draws.one_of(PROPERTIES))) + index
 
 
+def filters(draws):
+    """What a GetEnrollmentSummary asks for."""
+    parts = [tagged(0, bytes([draws.one_of([0, 0, 0, 1, 2, 2, 3])]))]
+    if draws.often(0.2):
+        address = bytes([10, 0, 0, draws.one_of([5, 6, 7])]) + (47808).to_bytes(2, "big")
+        who = tagged(0, object_octets(draws)) if draws.often(0.2) else b"\x1e\x21" + bytes([draws.below(8) // 7]) + b"\x65\x06" + address + b"\x1f"
+        parts.append(b"\x1e\x0e" + who + b"\x0f" + tagged(1, shortest(draws.below(3))) + b"\x1f")
+    if draws.often(0.3):
+        parts.append(tagged(2, bytes([draws.below(6)])))
+    if draws.often(0.2):
+        parts.append(tagged(3, shortest(draws.one_of([0, 1, 3, 11, 15, 16, 17, 19, draws.number()]))))
+    if draws.often(0.2):
+        parts.append(b"\x4e" + tagged(0, shortest(draws.below(200))) + tagged(1, shortest(draws.below(300))) + b"\x4f")
+    if draws.often(0.2):
+        parts.append(tagged(5, shortest(draws.one_of([7, 7, 8, draws.number()]))))
+    return b"".join(parts)
+
+
+def objects_asked(draws):
+    """What a ReadPropertyMultiple asks for: up to four objects, and up to six properties of each."""
+    return b"".join(
+        tagged(0, object_octets(draws)) + b"\x1e" + b"".join(property_asked(draws) for _ in range(1 + draws.below(6))) + b"\x1f"
+        for _ in range(1 + draws.below(4))
+    )
+
+
+def property_asked(draws):
+    index = tagged(1, shortest(draws.below(6))) if draws.often(0.2) else b""
+    return tagged(0, shortest(8 if draws.often(0.1) else draws.one_of(PROPERTIES))) + index
+
+
 def request_parameters(draws, moment):
     """A service and its parameters, mostly in its grammar."""
-    kind = draws.below(6)
+    kind = draws.below(9)
     if kind == 0:
         stamp = stamp_of(moment - draws.one_of([0, 0, 0, 1, 1000, 10000]))
         state = shortest(draws.below(6))
@@ -158,6 +189,12 @@ def request_parameters(draws, moment):
         return 26, (log if draws.often(0.8) else reference(draws)) + spelled
     if kind == 4:
         return 29, tagged(0, object_octets(draws)) if draws.often(0.5) else b""
+    if kind == 5:
+        return 3, b"" if draws.often(0.9) else draws.octets(4)
+    if kind == 6:
+        return 4, filters(draws)
+    if kind == 7:
+        return 14, objects_asked(draws)
     return draws.below(256), draws.octets(20)
 
 
@@ -304,4 +341,5 @@ SITE_PIECES = [
     b"#", b"\n", b"\r", b"\x00", b"\xff", b"\xe2\x82\xac", b"true", b"0", b"1", b"-1", b"1.5", b"4194302", b"4194303", b"4294967295", b"4294967296",
     b"9223372036854775807", b"9223372036854775808", b'"integer-value"', b'"binary-value:1"', b'"10.0.0.5:47808"', b'"111"', b'"\\u00e4"', b'"\\ud800"',
     b"[1, 2, 3]", b"[[1]]", b"{ a = 1 }", b"1979-05-27", b"inf", b"0x10", b"1_000", b"a.b = 1", b"class = 7", b"\nclass = 7\n", b"\nlow = 20\n",
+    b"[[binding]]", b'\ninhibit_ref = "binary-value:1"\n', b'\ntexts = ["a", "", "b"]\n', b"\ndevice = 1001\n",
 ]

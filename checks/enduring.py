@@ -78,29 +78,18 @@ class Load:
 
     # Many on their way at once.
 
-    def receive(self, seconds):
-        """Takes the next answer to a write of the counter."""
-        message = self.client.receive(time.monotonic() + seconds)
-        if not message:
-            return False
-        good = (message.kind, message.number) == ("simple-ack", bacnet.WRITE_PROPERTY) and message.invoke in self.flying
-        bacnet.want(good, f"a write was answered with {message}")
-        self.writes.answer(self.flying.pop(message.invoke))
-        self.answered += 1
-        return True
-
     def send(self):
         number = self.writes.send()
         invoke = self.client.send_request(lambda it: bacnet.write_property(it, COUNTER, bacnet.PRESENT_VALUE, bacnet.signed(number)))
-        self.flying[invoke] = number
+        self.flying[invoke] = COUNTER, number
 
     def write_many(self, count):
         for _ in range(count):
             while len(self.flying) >= IN_FLIGHT:
-                bacnet.want(self.receive(serving.ANSWER), "a write isn't answered")
+                bacnet.want(kills.receive(self, serving.ANSWER), "a write isn't answered")
             self.send()
         while self.flying:
-            bacnet.want(self.receive(serving.ANSWER), "a write isn't answered")
+            bacnet.want(kills.receive(self, serving.ANSWER), "a write isn't answered")
 
     # One after the other.
 
@@ -295,8 +284,8 @@ class Load:
         while server.runs():
             while len(self.flying) < IN_FLIGHT:
                 self.send()
-            self.receive(0.05)
-        while self.receive(0.05):
+            kills.receive(self, 0.05)
+        while kills.receive(self, 0.05):
             pass
         killer.join()
 

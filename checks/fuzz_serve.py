@@ -30,7 +30,9 @@ TIMEOUT = 50
 RECIPIENTS, SEEN = 3, 4
 OF_A_VALUE, OF_A_LOG, OF_A_CLASS = [85, 36, 103, 111, 81, 130, 0, 35, 45, 59, 25, 52, 113, 354, 7, 6], [133, 141, 145], [102]
 OBJECT_NAME, TIME_DELAY, TIME_DELAY_NORMAL = 77, 113, 356
-READ_RANGE, SERVICES = 26, (0, 12, 15, 26, 29)
+READ_RANGE, SERVICES = 26, (0, 3, 4, 12, 14, 15, 26, 29)
+# The services that have a result, and those that are answered with no Error.
+WITH_RESULTS, WITHOUT_ERRORS = (3, 4, 12, 14, 26, 29), (3, 4, 14)
 MAXIMA = [50, 128, 206, 480, 1024, 1476]
 # The values that valid writes give an object of a kind, as elements.
 VALUES = {
@@ -149,8 +151,8 @@ class Ledger:
         service = None if is_segment else asked[3]
         want(kind not in ("simple-ack", "complex-ack", "error") or apdu[2] == service, text)
         want(kind != "simple-ack" or len(apdu) == 3 and service in (0, 15), text)
-        want(kind != "complex-ack" or len(apdu) <= MAXIMA[min(asked[1] & 15, 5)] and service in (12, 26, 29), text)
-        want(kind != "error" or len(apdu) == 7 and service in SERVICES, text)
+        want(kind != "complex-ack" or len(apdu) <= MAXIMA[min(asked[1] & 15, 5)] and service in WITH_RESULTS, text)
+        want(kind != "error" or len(apdu) == 7 and service in SERVICES and service not in WITHOUT_ERRORS, text)
         want(kind != "reject" or len(apdu) == 3 and apdu[2] in ((4, 5, 7) if service in SERVICES else (9,)), text)
         want(kind != "abort" or len(apdu) == 3 and apdu[0] == 0x71 and apdu[2] in ((4,) if is_segment else (0, 4)), text)
         want(is_segment <= (kind == "abort"), text)

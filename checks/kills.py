@@ -38,6 +38,20 @@ class Writes:
         return number in self.sent and self.answered.get(number, self.latest) >= self.latest
 
 
+def receive(load, seconds):
+    """Takes the next answer to what a load has on its way, if one comes: it has to be that of a write. Says whether one came."""
+    message = load.client.receive(time.monotonic() + seconds)
+    if not message:
+        return False
+    good = (message.kind, message.number) == ("simple-ack", bacnet.WRITE_PROPERTY) and message.invoke in load.flying
+    bacnet.want(good, f"a write was answered with {message}")
+    the_object, number = load.flying.pop(message.invoke)
+    if the_object == COUNTER:
+        load.writes.answer(number)
+    load.answered += 1
+    return True
+
+
 class Load:
     """What a client keeps on its way: writes to the counter, and one to the tank, in alarm and not in turn, once that was told."""
 
@@ -52,19 +66,6 @@ class Load:
         bacnet.want(invoke not in self.flying, f"250 requests came behind one that isn't answered, with the invoke ID {invoke}")
         self.flying[invoke] = the_object, number
 
-    def receive(self, seconds):
-        """Takes the next answer, if one comes: its write has to be on its way. Says whether one came."""
-        message = self.client.receive(time.monotonic() + seconds)
-        if not message:
-            return False
-        good = (message.kind, message.number) == ("simple-ack", bacnet.WRITE_PROPERTY) and message.invoke in self.flying
-        bacnet.want(good, f"a write was answered with {message}")
-        the_object, number = self.flying.pop(message.invoke)
-        if the_object == COUNTER:
-            self.writes.answer(number)
-        self.answered += 1
-        return True
-
     def move_tank(self):
         now = time.monotonic()
         if len(self.client.notes) > self.told_of or now > self.next_alarm:
@@ -78,8 +79,8 @@ class Load:
             while len(self.flying) < IN_FLIGHT:
                 self.send(COUNTER, self.writes.send())
             self.move_tank()
-            self.receive(0.05)
-        while self.receive(0.02):
+            receive(self, 0.05)
+        while receive(self, 0.02):
             pass
 
     def go_on(self, told):

@@ -17,8 +17,8 @@ PROPERTIES = {
     77: "object-name", 79: "object-type", 81: "out-of-service", 85: "present-value", 86: "priority", 102: "recipient-list",
     103: "reliability", 107: "segmentation-supported", 111: "status-flags", 113: "time-delay", 120: "vendor-identifier",
     126: "buffer-size", 130: "event-time-stamps", 131: "log-buffer", 133: "enable", 141: "record-count", 144: "stop-when-full",
-    145: "total-record-count", 353: "event-detection-enable", 354: "event-algorithm-inhibit", 356: "time-delay-normal",
-    357: "reliability-evaluation-inhibit",
+    145: "total-record-count", 351: "event-message-texts", 352: "event-message-texts-config", 353: "event-detection-enable",
+    354: "event-algorithm-inhibit", 355: "event-algorithm-inhibit-ref", 356: "time-delay-normal", 357: "reliability-evaluation-inhibit",
 }
 PROPERTY_NUMBERS = {name: number for number, name in PROPERTIES.items()}
 

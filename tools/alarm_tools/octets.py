@@ -30,7 +30,7 @@ Element = collections.namedtuple("Element", "number context content")
 
 # A notification (13.8, 13.9). `from_state` and `ack_required` may be None; `values` are the elements of the event values.
 Notification = collections.namedtuple(
-    "Notification", "process device object stamp of_class priority event_type notify_type ack_required from_state to_state values"
+    "Notification", "process device object stamp of_class priority event_type notify_type ack_required from_state to_state values text", defaults=[None]
 )
 
 # The answer to a ReadRange: its records are their numbers, None where they aren't told, their stamps and their notifications.
@@ -330,6 +330,7 @@ def notification_in(found):
     return Notification(
         number_of(of[0]), object_of(of[1]), object_of(of[2]), stamp_in(of[3].content[0]), number_of(of[4]), number_of(of[5]),
         number_of(of[6]), number_of(of[8]), optional[0], optional[1], number_of(of[11]), of[12].content if 12 in of else None,
+        text_of(of[7]) if 7 in of else None,
     )
 
 

@@ -34,6 +34,10 @@ def lines_of(site):
         yield ""
         full = "then takes nothing more" if it["stop_when_full"] else "then drops its oldest"
         yield f"{of(it)} keeps the last {it['size']} notifications of {', '.join(f'class {one}' for one in it['classes'])}, and {full}"
+    if site.bindings:
+        yield ""
+        yield "Devices that a request may name as recipients"
+        yield from (f"  {names.object_text(it['object'])} at {it['address']}" for it in site.bindings)
 
 
 def counted(count, what):
@@ -104,7 +108,8 @@ def rule_text(site, it):
     text = RULES[it.get("kind") or it["algorithm"]](site, it)
     told = [] if it["enable"] == "111" else [f"told and logged: {', '.join(what for what, flag in zip(WHAT, it['enable']) if flag == '1') or 'nothing'}"]
     meant = ["an event, and no alarm"] if it["notify"] == "event" else []
-    return "; ".join([text + fault_text(it), *meant, *told])
+    quiet = [f"never while {called(site, it['inhibit_ref'])} is active"] if it["inhibit_ref"] is not None else []
+    return "; ".join([text + fault_text(it), *quiet, *meant, *told])
 
 
 def after(it):

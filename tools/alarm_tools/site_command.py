@@ -116,7 +116,7 @@ def fault_of(octets, told, line, own):
     if own and own.told == told:
         own.line = line or own.line
         return own
-    place = re.fullmatch(r"\S+ (device|class|destination|object|enrollment|log) (\d+) (.*)", told)
+    place = re.fullmatch(r"\S+ (device|class|destination|object|enrollment|log|binding) (\d+) (.*)", told)
     at = site_text.Places(octets).line(place[1], int(place[2]), place[3]) if place else None
     return site_text.SiteRefused(told, "docs/SITE.md says what is wanted", line or at)
 

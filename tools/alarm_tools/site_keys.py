@@ -154,6 +154,14 @@ def reference(value, _):
     return None if good else "KIND:INSTANCE is wanted, as \"integer-value:3\""
 
 
+def inhibiting(value, item):
+    """The binary value that inhibits, where inhibit isn't given beside it."""
+    if "inhibit" in item:
+        return "inhibit is there too: one of both is"
+    good = reference(value, item) is None and value.startswith("binary-value:")
+    return None if good else "binary-value:INSTANCE is wanted, as \"binary-value:3\""
+
+
 # The sections.
 
 INSTANCE = Key("instance", whole(0, LAST_INSTANCE), yes, None)
@@ -186,6 +194,7 @@ FAULT_VALUES = [Key("fault_values", listed(0, 32, of_kind), no, [])]
 ALARM = [
     Key("notify", one_of("alarm", "event"), no, "alarm"), Key("enable", digits(3), no, "111"), Key("time_delay", whole(0, UNSIGNED), no, 0),
     Key("time_delay_normal", whole(0, UNSIGNED), no, None), Key("detection", truth, no, True), Key("inhibit", truth, no, False),
+    Key("inhibit_ref", inhibiting, no, None), Key("texts", three(text), no, []),
 ]
 LIMITS = [
     Key("low", of_kind, yes, None), Key("high", of_kind, yes, None), Key("deadband", whole(0, UNSIGNED), no, 0),
@@ -201,6 +210,7 @@ LOG = [
     INSTANCE, NAME, Key("size", whole(1, 16384), yes, None), Key("stop_when_full", truth, no, False), Key("enable", truth, no, True),
     Key("classes", listed(1, 256, CLASS), yes, None),
 ]
+BINDING = [Key("device", whole(0, LAST_INSTANCE), yes, None), Key("address", address, yes, None)]
 
 
 def value_keys(item):
@@ -228,5 +238,5 @@ def enrollment_keys(item):
 
 SECTIONS = {
     "device": lambda _: DEVICE, "class": lambda _: CLASSES, "destination": lambda _: DESTINATIONS, "object": value_keys,
-    "enrollment": enrollment_keys, "log": lambda _: LOG,
+    "enrollment": enrollment_keys, "log": lambda _: LOG, "binding": lambda _: BINDING,
 }

@@ -8,8 +8,8 @@ from .site_keys import SECTIONS
 from .zone import Zone
 
 MOST_OCTETS = 1_048_576
-Site = collections.namedtuple("Site", "device classes destinations objects enrollments logs zone places")
-SECTION_KINDS = {"device": "device", "class": "notification-class", "enrollment": "event-enrollment", "log": "event-log"}
+Site = collections.namedtuple("Site", "device classes destinations objects enrollments logs bindings zone places")
+SECTION_KINDS = {"device": "device", "class": "notification-class", "enrollment": "event-enrollment", "log": "event-log", "binding": "device"}
 
 
 class SiteRefused(ValueError):
@@ -66,7 +66,7 @@ def read(octets):
     sections = {name: section_of(document, name, places) for name in SECTIONS}
     site = Site(
         sections["device"][0], sections["class"], sections["destination"], sections["object"], sections["enrollment"], sections["log"],
-        zone_of(sections["device"][0]), places,
+        sections["binding"], zone_of(sections["device"][0]), places,
     )
     for fault in (too_many, duplicate, dangling, notes):
         fault(site)
@@ -134,16 +134,16 @@ def item_of(section, number, item, places, outside=()):
 
 
 def identifier(section, item):
-    """The object that an item is, or None of a destination."""
+    """The object that an item is, the device that it binds, or None of a destination."""
     kind = SECTION_KINDS.get(section) or item.get("kind")
-    return (names.OBJECT_NUMBERS[kind], item["instance"]) if section != "destination" else None
+    return (names.OBJECT_NUMBERS[kind], item["device" if section == "binding" else "instance"]) if section != "destination" else None
 
 
 def whose_of(section, item):
     """Of whom a fault is, for people: its name, else its kind and instance."""
     if isinstance(item.get("name"), str):
         return f'"{item["name"]}"'
-    kind, instance = SECTION_KINDS.get(section) or item.get("kind"), item.get("instance", item.get("class"))
+    kind, instance = SECTION_KINDS.get(section) or item.get("kind"), item.get("instance", item.get("class", item.get("device")))
     return f"{kind}:{instance}" if isinstance(kind, str) and isinstance(instance, int) else None
 
 
@@ -182,6 +182,7 @@ def too_many(site):
     for section, count, most in [
         ("class", len(site.classes), 256), ("destination", max(map(len, lists(site).values()), default=0), 32),
         ("object", len(site.objects), 2048), ("enrollment", len(site.objects) + len(site.enrollments), 2048), ("log", len(site.logs), 16),
+        ("binding", len(site.bindings), 256),
     ]:
         if count > most:
             raise SiteRefused(f"too-many {section}", f"there are {count}, and at most {most} may be")
@@ -195,10 +196,12 @@ def identified(site):
 
 
 def duplicate(site):
-    counts = collections.Counter(it["object"] for it in identified(site))
+    # The device's own number may be bound to an address too.
+    given = [*identified(site)[1:], *site.bindings]
+    counts = collections.Counter(it["object"] for it in given)
     twice = min((it for it, count in counts.items() if count > 1), default=None)
     if twice is not None:
-        lines = [it["line"] for it in identified(site) if it["object"] == twice]
+        lines = [it["line"] for it in given if it["object"] == twice]
         text = " and ".join(f"line {line}" for line in lines[:2] if line)
         raise SiteRefused(f"duplicate {names.object_text(twice)}", f"it is given twice: {text}", lines[-1])
 
@@ -212,6 +215,9 @@ def dangling(site):
             found.append((it["object"] or (15, it["class"]), it, f"there is no class {it['class']}"))
     for it in site.logs:
         found += [(it["object"], it, f"there is no class {one}") for one in it["classes"] if one not in classes]
+    for it in alarm_objects(site):
+        if it["inhibit_ref"] is not None and names.object_from(it["inhibit_ref"]) not in values:
+            found.append((it["object"], it, f"there is no value object {it['inhibit_ref']}"))
     for it in site.enrollments:
         found += [(it["object"], it, reason) for reason in reference_faults(it, values)]
     if found:

@@ -27,6 +27,7 @@ COMMON = ["object-identifier", "object-name", "object-type"]
 OF_VALUES = COMMON + ["present-value", "status-flags", "event-state", "reliability", "out-of-service", "reliability-evaluation-inhibit"]
 OF_ALARMS = [
     "event-enable", "event-algorithm-inhibit", "acked-transitions", "notify-type", "event-detection-enable", "notification-class", "event-time-stamps",
+    "event-algorithm-inhibit-ref", "event-message-texts", "event-message-texts-config",
 ]
 OF_LIMITS = ["high-limit", "low-limit", "deadband", "limit-enable"]
 OF_KIND = {
@@ -91,8 +92,10 @@ def value_of(the_object, number, found, index=None):
         return [destination_words(it) for it in octets.destinations_of(found)]
     if name == "event-time-stamps":
         return octets.number_of(found[0]) if index == 0 else [stamp_text(octets.stamp_in(it)) for it in found]
+    if name == "event-algorithm-inhibit-ref":
+        return names.object_text(octets.object_of(found[0]))
     values = [named_value(the_object, name, plain(it), it.number) for it in found]
-    is_list = name in ("object-list", "alarm-values", "fault-values", "priority") and index is None
+    is_list = name in ("object-list", "alarm-values", "fault-values", "priority", "event-message-texts", "event-message-texts-config") and index is None
     return values if is_list or len(values) != 1 else values[0]
 
 
@@ -184,7 +187,7 @@ def notification_words(note, name=None):
         "time": stamp_text(note.stamp), "object": names.object_text(note.object), "name": name, "notify": names.named(names.NOTIFY_TYPES, note.notify_type),
         "from": None if note.from_state is None else names.named(names.STATES, note.from_state), "to": names.named(names.STATES, note.to_state),
         "event_type": names.named(names.EVENT_TYPES, note.event_type), "values": event_values(note), "class": note.of_class, "priority": note.priority,
-        "ack_required": None if note.ack_required is None else bool(note.ack_required), "device": note.device[1], "process": note.process,
+        "ack_required": None if note.ack_required is None else bool(note.ack_required), "device": note.device[1], "process": note.process, "text": note.text,
     }
     return {key: it for key, it in told.items() if it is not None}
 
@@ -200,7 +203,8 @@ def notification_text(told):
         return f"acknowledged: {of} {told['to']} at {told['time']}, class {told['class']}"
     values = ", ".join(f"{key} {event_value_text(it)}" for key, it in told["values"].items() if key != "flags")
     asks = ", to be acknowledged" if told.get("ack_required") else ""
-    return f"{told['notify']}: {of} {told.get('from', '?')} -> {told['to']} at {told['time']}, {values}, class {told['class']}, priority {told['priority']}{asks}"
+    says = f', "{told["text"]}"' if "text" in told else ""
+    return f"{told['notify']}: {of} {told.get('from', '?')} -> {told['to']} at {told['time']}, {values}, class {told['class']}, priority {told['priority']}{asks}{says}"
 
 
 # What is to be written, from words.

@@ -86,7 +86,7 @@ module _ (state : CoreState) (object : ObjectIdData) (number : ℕ) (value : Val
   RowTakes row = IsSomeAnd row (λ (r : Row). IsTrue (takes_value number value r.site))
 
   abbrev SiteTakes : Option EnrollmentSite → Type 0
-  SiteTakes site = IsSomeAnd site (λ (s : EnrollmentSite). IsTrue (sites.takes_value number value))
+  SiteTakes site = IsSomeAnd site (λ (s : EnrollmentSite). IsTrue (sites.takes_value number value s))
 
   abbrev LogTakes : Option SiteLogState → Type 0
   LogTakes kept = IsSomeAnd kept (λ (k : SiteLogState). IsTrue (logs.takes_value number value))

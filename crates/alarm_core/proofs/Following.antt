@@ -9,7 +9,7 @@ use Rattle.alarm_core.specs.declared.event.StepFault.TheVariants.{Full}
 use Rattle.alarm_core.specs.Allowed.{Represents}
 use Rattle.alarm_core.specs.CoreSteps.{next_state}
 use Rattle.alarm_core.specs.Deliveries.{outbox_after}
-use Rattle.alarm_core.specs.FollowingSteps.{MayFollow, state_over}
+use Rattle.alarm_core.specs.Following.{MayFollow, state_over}
 use Rattle.alarm_core.specs.Laws.{StandsOverEvents}
 use Rattle.alarm_core.specs.Sites.{IsSite}
 use Rattle.alarm_core.specs.State.{CoreState, state_of}

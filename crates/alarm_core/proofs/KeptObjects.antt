@@ -1,5 +1,5 @@
 -- A value object stays one when a property is written to a value that the object takes.
-use Rattle.std.proofs.Common.{◌≡◌, ℕ, ◌^◌, ◌<◌, ℤ, pos, Bool, true, false, true≢false, ◌&&◌, ◌==◌, Option, Some, None, IsTrue, is_some, length, refl, sym, ap, ◌∙◌, subst, arith, FitsSigned}
+use Rattle.std.proofs.Common.{◌≡◌, ℕ, ◌^◌, ◌<◌, ℤ, pos, Bool, true, false, true≢false, ◌&&◌, ◌==◌, Option, Some, None, IsSome, IsTrue, is_none, is_some, length, refl, sym, ap, ◌∙◌, subst, arith, FitsSigned}
 use Rattle.std.specs.Int.{w32, FitsUnsigned}
 use Rattle.std.proofs.lemmas.Int.{ints}
 use Rattle.std.proofs.lemmas.Bool.Decides.{nat_tests}
@@ -32,13 +32,20 @@ limits_same (Some PositiveIntegerValue) a b l h d f k =
     record { low = subst (IsWithin (Some PositiveIntegerValue)) (sym l) k.low; high = subst (IsWithin (Some PositiveIntegerValue)) (sym h) k.high; flags = ap length f ∙ k.flags }
 limits_same _ a b l h d f k = record { low = l ∙ k.low; high = h ∙ k.high; deadband = d ∙ k.deadband; flags = f ∙ k.flags }
 
-has_with : (kind : Option ObjectKind) (site written : ObjectSite) → IsRewritten site written → HasAlarmKeys kind site → length written.enable ≡ 3 → KeepsLimits kind written →
+-- Event_Algorithm_Inhibit is FALSE where an object is inhibited by reference
+abbrev KeepsInhibit : ObjectSite → ObjectSite → Type 0
+KeepsInhibit site written = IsSome site.inhibit_ref → written.inhibit ≡ false
+
+has_with : (kind : Option ObjectKind) (site written : ObjectSite) → IsRewritten site written → HasAlarmKeys kind site → length written.enable ≡ 3 → KeepsInhibit site written → KeepsLimits kind written →
     KeepsAlarmValue kind written.alarm_value → HasAlarmKeys kind written
-has_with kind site written e h enable limits alarm =
+has_with kind site written e h enable inhibit limits alarm =
     let old : HasAlarmKeys kind (with_settings_of written site) =
     record {
       notify = h.notify;
       enable = enable;
+      inhibit = inhibit;
+      reference = h.reference;
+      texts = h.texts;
       limits = limits_same kind written (with_settings_of written site) refl refl refl refl limits;
       alarm_value = alarm;
       alarm_values = h.alarm_values;
@@ -56,6 +63,8 @@ lacks_with site value out inhibit h = record {
   time_delay_normal = h.time_delay_normal;
   detection = h.detection;
   inhibit = h.inhibit;
+  inhibit_ref = h.inhibit_ref;
+  texts = h.texts;
   limits = record { low = h.limits.low; high = h.limits.high; deadband = h.limits.deadband; flags = h.limits.flags };
   alarm_value = h.alarm_value;
   alarm_values = h.alarm_values;
@@ -67,15 +76,15 @@ any_keys : (kind : Option ObjectKind) (class : Option ℕ) (site : ObjectSite) (
     KeepsAlarmKeys kind class (record site { value = value; out_of_service = out; reliability_inhibit = inhibit })
 any_keys kind (Some class) site value out inhibit h =
     let written : ObjectSite = record site { value = value; out_of_service = out; reliability_inhibit = inhibit } in
-    has_with kind site written refl h h.enable (limits_same kind site written refl refl refl refl h.limits) h.alarm_value
+    has_with kind site written refl h h.enable h.inhibit (limits_same kind site written refl refl refl refl h.limits) h.alarm_value
 any_keys kind None site value out inhibit h = lacks_with site value out inhibit h
 
 -- where one is written, of an object with a class
 some_keys : (kind : Option ObjectKind) (class : Option ℕ) (site written : ObjectSite) → is_some class ≡ true → IsRewritten site written → KeepsAlarmKeys kind class site → length written.enable ≡ 3 →
-    (KeepsLimits kind site → KeepsLimits kind written) → written.alarm_value ≡ site.alarm_value → KeepsAlarmKeys kind class written
-some_keys kind (Some class) site written there e h enable limits alarm =
-    has_with kind site written e h enable (limits h.limits) (subst (KeepsAlarmValue kind) (sym alarm) h.alarm_value)
-some_keys kind None site written there e h enable limits alarm = absurd (true≢false (sym there))
+    (KeepsInhibit site site → KeepsInhibit site written) → (KeepsLimits kind site → KeepsLimits kind written) → written.alarm_value ≡ site.alarm_value → KeepsAlarmKeys kind class written
+some_keys kind (Some class) site written there e h enable inhibit limits alarm =
+    has_with kind site written e h enable (inhibit h.inhibit) (limits h.limits) (subst (KeepsAlarmValue kind) (sym alarm) h.alarm_value)
+some_keys kind None site written there e h enable inhibit limits alarm = absurd (true≢false (sym there))
 
 -- ---- its present value
 
@@ -167,12 +176,16 @@ pub both : (s t : Bool) → (s && t) ≡ true → (s ≡ true) × (t ≡ true)
 both true t h = (refl, h)
 both false t h = absurd (true≢false (sym h))
 
+pub not_both : {X : Type 0} (x : Option X) → is_none x ≡ true → is_some x ≡ true → ⊥
+not_both None none some = true≢false (sym some)
+not_both (Some y) none some = true≢false (sym none)
+
 module _ (site : ObjectSite) (h : IsObject site) where
   -- no limit is written
   others_same : (written : ObjectSite) → IsRewritten site written → written.value ≡ site.value → is_some site.class ≡ true → length written.enable ≡ 3 →
-      (KeepsLimits (kind_in site) site → KeepsLimits (kind_in site) written) → written.alarm_value ≡ site.alarm_value → IsObjectOf (kind_in site) written
-  others_same written e value there enable limits alarm =
-      object_same (kind_in site) site written e value h (some_keys (kind_in site) site.class site written there e h.alarm enable limits alarm)
+      (KeepsInhibit site site → KeepsInhibit site written) → (KeepsLimits (kind_in site) site → KeepsLimits (kind_in site) written) → written.alarm_value ≡ site.alarm_value → IsObjectOf (kind_in site) written
+  others_same written e value there enable inhibit limits alarm =
+      object_same (kind_in site) site written e value h (some_keys (kind_in site) site.class site written there e h.alarm enable inhibit limits alarm)
 
   three : length site.enable ≡ 3
   three = three_flags_of (kind_in site) site h
@@ -187,34 +200,36 @@ module _ (site : ObjectSite) (h : IsObject site) where
       object_same (kind_in site) site (record site { reliability_inhibit = truth }) refl refl h (any_keys (kind_in site) site.class site site.value site.out_of_service truth h.alarm)
   known_kept TimeDelay (Unsigned seconds) fits taken =
       let written : ObjectSite = record site { time_delay = seconds } in
-      others_same written refl refl (both (is_some site.class) true taken).0 three (limits_same (kind_in site) site written refl refl refl refl) refl
+      others_same written refl refl (both (is_some site.class) true taken).0 three (λ keeps. keeps) (limits_same (kind_in site) site written refl refl refl refl) refl
   known_kept TimeDelayNormal (Unsigned seconds) fits taken =
       let written : ObjectSite = record site { time_delay_normal = Some seconds } in
       let has = (both (is_some site.class && is_some site.time_delay_normal) true taken).0 in
-      others_same written refl refl (both (is_some site.class) (is_some site.time_delay_normal) has).0 three (limits_same (kind_in site) site written refl refl refl refl) refl
+      others_same written refl refl (both (is_some site.class) (is_some site.time_delay_normal) has).0 three (λ keeps. keeps) (limits_same (kind_in site) site written refl refl refl refl) refl
   known_kept HighLimit (Signed limit) fits taken =
       let tests = both (is_some site.class && has_limits (kind_in site)) (is_number (kind_in site) (Signed limit)) taken in
-      others_same (record site { high = limit }) refl refl (both (is_some site.class) (has_limits (kind_in site)) tests.0).0 three (high_signed (kind_in site) site limit fits tests.1) refl
+      others_same (record site { high = limit }) refl refl (both (is_some site.class) (has_limits (kind_in site)) tests.0).0 three (λ keeps. keeps) (high_signed (kind_in site) site limit fits tests.1) refl
   known_kept HighLimit (Unsigned limit) fits taken =
       let tests = both (is_some site.class && has_limits (kind_in site)) (is_number (kind_in site) (Unsigned limit)) taken in
-      others_same (record site { high = pos limit }) refl refl (both (is_some site.class) (has_limits (kind_in site)) tests.0).0 three (high_unsigned (kind_in site) site limit fits tests.1) refl
+      others_same (record site { high = pos limit }) refl refl (both (is_some site.class) (has_limits (kind_in site)) tests.0).0 three (λ keeps. keeps) (high_unsigned (kind_in site) site limit fits tests.1) refl
   known_kept LowLimit (Signed limit) fits taken =
       let tests = both (is_some site.class && has_limits (kind_in site)) (is_number (kind_in site) (Signed limit)) taken in
-      others_same (record site { low = limit }) refl refl (both (is_some site.class) (has_limits (kind_in site)) tests.0).0 three (low_signed (kind_in site) site limit fits tests.1) refl
+      others_same (record site { low = limit }) refl refl (both (is_some site.class) (has_limits (kind_in site)) tests.0).0 three (λ keeps. keeps) (low_signed (kind_in site) site limit fits tests.1) refl
   known_kept LowLimit (Unsigned limit) fits taken =
       let tests = both (is_some site.class && has_limits (kind_in site)) (is_number (kind_in site) (Unsigned limit)) taken in
-      others_same (record site { low = pos limit }) refl refl (both (is_some site.class) (has_limits (kind_in site)) tests.0).0 three (low_unsigned (kind_in site) site limit fits tests.1) refl
+      others_same (record site { low = pos limit }) refl refl (both (is_some site.class) (has_limits (kind_in site)) tests.0).0 three (λ keeps. keeps) (low_unsigned (kind_in site) site limit fits tests.1) refl
   known_kept Deadband (Unsigned deadband) fits taken =
       let has = both (is_some site.class) (has_limits (kind_in site)) (both (is_some site.class && has_limits (kind_in site)) true taken).0 in
-      others_same (record site { deadband = deadband }) refl refl has.0 three (with_deadband (kind_in site) site deadband has.1) refl
+      others_same (record site { deadband = deadband }) refl refl has.0 three (λ keeps. keeps) (with_deadband (kind_in site) site deadband has.1) refl
   known_kept LimitEnable (Bits flags) fits taken =
       let has = both (is_some site.class) (has_limits (kind_in site)) (both (is_some site.class && has_limits (kind_in site)) (flags.size == 2) taken).0 in
-      others_same (record site { limit_enable = two_flags flags }) refl refl has.0 three (with_flags (kind_in site) site flags has.1) refl
+      others_same (record site { limit_enable = two_flags flags }) refl refl has.0 three (λ keeps. keeps) (with_flags (kind_in site) site flags has.1) refl
   known_kept AlarmValue value fits taken = alarm_written site AlarmValue value refl taken h
   known_kept EventEnable (Bits flags) fits taken =
       let written : ObjectSite = record site { enable = three_flags flags } in
-      others_same written refl refl (both (is_some site.class) (flags.size == 3) taken).0 refl (limits_same (kind_in site) site written refl refl refl refl) refl
+      others_same written refl refl (both (is_some site.class) (flags.size == 3) taken).0 refl (λ keeps. keeps) (limits_same (kind_in site) site written refl refl refl refl) refl
   known_kept EventAlgorithmInhibit (Truth truth) fits taken =
       let written : ObjectSite = record site { inhibit = truth } in
-      others_same written refl refl (both (is_some site.class) true taken).0 three (limits_same (kind_in site) site written refl refl refl refl) refl
+      let tests = both (is_some site.class) (is_none site.inhibit_ref && true) taken in
+      let free = (both (is_none site.inhibit_ref) true tests.1).0 in
+      others_same written refl refl tests.0 three (λ before referred. absurd (not_both site.inhibit_ref free referred)) (limits_same (kind_in site) site written refl refl refl refl) refl
   known_kept _ _ fits taken = h

@@ -1,5 +1,5 @@
 -- The value objects and the enrollments of a site keep to what it says of them, whatever writes they take.
-use Rattle.std.proofs.Common.{◌≡◌, ℕ, ◌<◌, inl, inr, ◌&&◌, ◌==◌, Bool, true, false, true≢false, if◌then◌else◌, Option, Some, None, IsTrue, IsSomeAnd, is_some, List, [], ◌∷◌, length, map, get_or, refl, sym, ap, ◌∙◌, subst}
+use Rattle.std.proofs.Common.{◌≡◌, ℕ, ◌<◌, inl, inr, ◌&&◌, ◌==◌, Bool, true, false, true≢false, if◌then◌else◌, Option, Some, None, IsTrue, IsSomeAnd, is_none, is_some, List, [], ◌∷◌, length, map, get_or, refl, sym, ap, ◌∙◌, subst, arith}
 use Rattle.std.specs.List.{All, AllZip}
 use Rattle.std.proofs.lemmas.Bool.{eqb-true}
 use Rattle.std.proofs.lemmas.List.Elements.{All-nil, All-cons, All-head, All-tail}
@@ -24,7 +24,7 @@ use Rattle.object_table.specs.Writes as rows
 use Rattle.enrollment.specs.declared.enrollment_property.EnrollmentProperty.{EnrollmentProperty}
 use Rattle.enrollment.specs.declared.enrollment_property.EnrollmentProperty.TheVariants as of_enrollments
 use Rattle.enrollment.specs.declared.enrollment_site.EnrollmentSite.{EnrollmentSite}
-use Rattle.enrollment.specs.Enrollments.{IsEnrollment}
+use Rattle.enrollment.specs.Enrollments.{IsEnrollment, identifier_of, site_of}
 use Rattle.enrollment.specs.Objects.{ObjectsState}
 use Rattle.enrollment.specs.Properties as enrollment_properties
 use Rattle.enrollment.specs.Writes as enrollments
@@ -40,10 +40,10 @@ use Rattle.alarm_core.specs.Logs.{takes}
 use Rattle.alarm_core.specs.SiteStates.{IsEnrollmentOf, IsRowOf}
 use Rattle.alarm_core.specs.Sites.{IsSite}
 use Rattle.alarm_core.specs.State.{state_of}
-use Rattle.alarm_core.proofs.KeptObjects.{IsRewritten, both, known_kept}
+use Rattle.alarm_core.proofs.KeptObjects.{IsRewritten, both, known_kept, not_both}
 use Rattle.alarm_core.proofs.OwnSubjects.{found_itself}
-use Rattle.alarm_core.proofs.Stays.{row_objects_after, written_row, written_site}
-use Rattle.alarm_core.proofs.TypesApart.{no_enrollment, no_log}
+use Rattle.alarm_core.proofs.Stays.{row_objects_after, site_objects_after, written_row, written_site}
+use Rattle.alarm_core.proofs.TypesApart.{HasNoValue, no_enrollment, no_log, no_row}
 
 -- ---- one row
 
@@ -190,7 +190,7 @@ module _ (site : Site) (is : IsSite site) (history : List Event) (change : Chang
           let row = get_or (values_after site history).rows k d in
           let object = same_object change.object row.site.object same in
           let other = is_other_kind row.site (in_zip site.objects (values_after site history).rows zip k d low) in
-          absurd (subst (λ found. IsSomeAnd found (λ s. IsTrue (enrollments.takes change.what))) (no_enrollment site history change.object is.enrollments (λ e. other (ap (λ (o : ObjectIdData). o.number) object ∙ e))) taken)
+          absurd (subst (λ found. IsSomeAnd found (λ s. IsTrue (enrollments.takes change.what s))) (no_enrollment site history change.object is.enrollments (λ e. other (ap (λ (o : ObjectIdData). o.number) object ∙ e))) taken)
       by_taken (inr taken) k d low same =
           let row = get_or (values_after site history).rows k d in
           let object = same_object change.object row.site.object same in
@@ -223,44 +223,113 @@ module _ (site : Site) (is : IsSite site) where
 
 -- ---- the enrollments over a history
 
-enrollment_set : (property : EnrollmentProperty) (value : Value) (site listed : EnrollmentSite) → IsEnrollmentOf listed site → IsEnrollmentOf listed (enrollments.set_known property value site)
-enrollment_set of_enrollments.EventEnable (Bits flags) site listed is = record { same = ap (λ (s : EnrollmentSite). record s { enable = three_flags flags }) is.same; enable = refl }
-enrollment_set of_enrollments.EventAlgorithmInhibit (Truth truth) site listed is = record { same = ap (λ (s : EnrollmentSite). record s { inhibit = truth }) is.same; enable = is.enable }
-enrollment_set _ _ site listed is = is
+enrollment_set : (property : EnrollmentProperty) (value : Value) (site listed : EnrollmentSite) → IsTrue (enrollments.takes_known site (Some property) value) → IsEnrollmentOf listed site →
+    IsEnrollmentOf listed (enrollments.set_known property value site)
+enrollment_set of_enrollments.EventEnable (Bits flags) site listed taken is = record { same = ap (λ (s : EnrollmentSite). record s { enable = three_flags flags }) is.same; enable = refl; inhibit = is.inhibit }
+enrollment_set of_enrollments.EventAlgorithmInhibit (Truth truth) site listed taken is =
+    let free : is_none site.inhibit_ref ≡ true = (both (is_none site.inhibit_ref) true taken).0 in
+    let same : listed.inhibit_ref ≡ site.inhibit_ref = sym (ap (λ (s : EnrollmentSite). s.inhibit_ref) is.same) in
+    record {
+      same = ap (λ (s : EnrollmentSite). record s { inhibit = truth }) is.same;
+      enable = is.enable;
+      inhibit = λ referred. absurd (not_both site.inhibit_ref free (subst (λ (r : Option ObjectIdData). is_some r ≡ true) same referred));
+    }
+enrollment_set _ _ site listed taken is = is
 
-enrollment_by : (property : Option EnrollmentProperty) (value : Value) (site listed : EnrollmentSite) → IsEnrollmentOf listed site → IsEnrollmentOf listed (enrollments.set_by property value site)
-enrollment_by None value site listed is = is
-enrollment_by (Some property) value site listed is = enrollment_set property value site listed is
+enrollment_by : (property : Option EnrollmentProperty) (value : Value) (site listed : EnrollmentSite) → IsTrue (enrollments.takes_known site property value) → IsEnrollmentOf listed site →
+    IsEnrollmentOf listed (enrollments.set_by property value site)
+enrollment_by None value site listed taken is = is
+enrollment_by (Some property) value site listed taken is = enrollment_set property value site listed taken is
 
-enrollment_changed : (what : What) (site listed : EnrollmentSite) → IsEnrollmentOf listed site → IsEnrollmentOf listed (enrollments.changed what site)
-enrollment_changed (Property property value) site listed is = enrollment_by (enrollment_properties.property_of property.0) value site listed is
-enrollment_changed (FieldFault reliability) site listed is = is
+enrollment_changed : (what : What) (site listed : EnrollmentSite) → IsTrue (enrollments.takes what site) → IsEnrollmentOf listed site → IsEnrollmentOf listed (enrollments.changed what site)
+enrollment_changed (Property property value) site listed taken is = enrollment_by (enrollment_properties.property_of property.0) value site listed taken is
+enrollment_changed (FieldFault reliability) site listed taken is = is
 
-enrollment_written : (change : Change) (site listed : EnrollmentSite) → IsEnrollmentOf listed site → IsEnrollmentOf listed (written_site change site)
-enrollment_written change site listed is =
-    elim (is_object change.object site.object) as (λ b. IsEnrollmentOf listed (if b then enrollments.changed change.what site else site)) [
-      | true ↦ enrollment_changed change.what site listed is
-      | false ↦ is
-    ]
+-- a change that an enrollment takes where it has the enrollment's identifier
+abbrev TakesAsOwn : Change → EnrollmentSite → Type 0
+TakesAsOwn change site = is_object change.object site.object ≡ true → IsTrue (enrollments.takes change.what site)
 
-enrollments_written : (change : Change) (listed sites : List EnrollmentSite) → AllZip IsEnrollmentOf listed sites → AllZip IsEnrollmentOf listed (enrollments.written change sites)
-enrollments_written change [] [] is = tt
-enrollments_written change [] (site ∷ sites) is = absurd is
-enrollments_written change (one ∷ listed) [] is = absurd is
-enrollments_written change (one ∷ listed) (site ∷ sites) is = (enrollment_written change site one is.0, enrollments_written change listed sites is.1)
+enrollment_written : (change : Change) (site listed : EnrollmentSite) → TakesAsOwn change site → IsEnrollmentOf listed site → IsEnrollmentOf listed (written_site change site)
+enrollment_written change site listed taken is = by_object (is_object change.object site.object) refl
+  where
+    by_object : (b : Bool) → is_object change.object site.object ≡ b → IsEnrollmentOf listed (if b then enrollments.changed change.what site else site)
+    by_object true e = enrollment_changed change.what site listed (taken e) is
+    by_object false e = is
 
-enrollments_with : (listed : List EnrollmentSite) (act : Act) (values : ObjectsState) → AllZip IsEnrollmentOf listed values.enrollments → AllZip IsEnrollmentOf listed (values_with act values).enrollments
-enrollments_with listed (Write change) values is = enrollments_written change listed values.enrollments is
-enrollments_with listed Tick values is = is
-enrollments_with listed (Ack object transition named) values is = is
-enrollments_with listed Pump values is = is
-enrollments_with listed (Answer peer invoke kind) values is = is
-enrollments_with listed (Edit number recipients) values is = is
+enrollments_written : (change : Change) (listed sites : List EnrollmentSite) → All (TakesAsOwn change) sites → AllZip IsEnrollmentOf listed sites → AllZip IsEnrollmentOf listed (enrollments.written change sites)
+enrollments_written change [] [] taken is = tt
+enrollments_written change [] (site ∷ sites) taken is = absurd is
+enrollments_written change (one ∷ listed) [] taken is = absurd is
+enrollments_written change (one ∷ listed) (site ∷ sites) taken is = (
+  enrollment_written change site one (All-head (TakesAsOwn change) site sites taken) is.0,
+  enrollments_written change listed sites (All-tail (TakesAsOwn change) site sites taken) is.1,
+)
 
-first_enrollments : (sites : List EnrollmentSite) → All IsEnrollment sites → AllZip IsEnrollmentOf sites sites
-first_enrollments [] all = tt
-first_enrollments (site ∷ sites) all = (record { same = refl; enable = (All-head IsEnrollment site sites all).enable }, first_enrollments sites (All-tail IsEnrollment site sites all))
+-- each has the type of enrollments
+abbrev HasOwnType : EnrollmentSite → Type 0
+HasOwnType site = site.object.number ≡ 9
 
-pub enrollments_kept : (site : Site) → IsSite site → (history : List Event) → AllZip IsEnrollmentOf site.enrollments (values_after site history).enrollments
-enrollments_kept site is [] = first_enrollments site.enrollments is.enrollments
-enrollments_kept site is (event ∷ older) = enrollments_with site.enrollments event.act (values_after site older) (enrollments_kept site is older)
+own_types : (listed sites : List EnrollmentSite) → All IsEnrollment listed → AllZip IsEnrollmentOf listed sites → All HasOwnType sites
+own_types [] [] allowed is = All-nil HasOwnType
+own_types [] (site ∷ sites) allowed is = absurd is
+own_types (one ∷ listed) [] allowed is = absurd is
+own_types (one ∷ listed) (site ∷ sites) allowed is =
+    All-cons HasOwnType site sites (ap (λ (s : EnrollmentSite). s.object.number) is.0.same ∙ (All-head IsEnrollment one listed allowed).number)
+    (own_types listed sites (All-tail IsEnrollment one listed allowed) is.1)
+
+-- the type of enrollments is none of logs, and has no value
+nine : ◌≡◌ {A = ℕ} 9 25 → ⊥
+nine same = omega (arith, same)
+
+no_value : HasNoValue 9
+no_value site is = true≢false (sym is)
+
+module _ (site : Site) (is : IsSite site) (history : List Event) (change : Change) where
+  abbrev kept_sites : List EnrollmentSite
+  kept_sites = (values_after site history).enrollments
+
+  taken_as_own : IsAllowed (state_of site history) (Write change) → AllZip IsEnrollmentOf site.enrollments kept_sites → All (TakesAsOwn change) kept_sites
+  taken_as_own allowed zip = λ k d low same. by_taken allowed k d low same
+    where
+      ascends : Ascends (map identifier_of kept_sites)
+      ascends = subst Ascends (sym (site_objects_after site history)) is.enrollments_ascend
+
+      is_change : (k : ℕ) (d : EnrollmentSite) → k < length kept_sites → is_object change.object (get_or kept_sites k d).object ≡ true → site_of change.object kept_sites ≡ Some (get_or kept_sites k d)
+      is_change k d low same =
+          let one = get_or kept_sites k d in
+          subst (λ object. site_of object kept_sites ≡ Some one) (same_object change.object one.object same) (found_itself identifier_of kept_sites ascends k d low)
+
+      own_type : (k : ℕ) (d : EnrollmentSite) → k < length kept_sites → is_object change.object (get_or kept_sites k d).object ≡ true → change.object.number ≡ 9
+      own_type k d low same =
+          ap (λ (o : ObjectIdData). o.number) (sym (same_object change.object (get_or kept_sites k d).object same)) ∙ own_types site.enrollments kept_sites is.enrollments zip k d low
+
+      by_taken : IsAllowed (state_of site history) (Write change) → (k : ℕ) (d : EnrollmentSite) → k < length kept_sites → is_object change.object (get_or kept_sites k d).object ≡ true →
+          IsTrue (enrollments.takes change.what (get_or kept_sites k d))
+      by_taken (inl (inl taken)) k d low same =
+          let none = no_row site history change.object is.objects (subst HasNoValue (sym (own_type k d low same)) no_value) in
+          absurd (subst (λ found. IsSomeAnd found (λ (row : Row). IsTrue (rows.takes change.what row.site))) none taken)
+      by_taken (inl (inr taken)) k d low same = subst (λ found. IsSomeAnd found (λ one. IsTrue (enrollments.takes change.what one))) (is_change k d low same) taken
+      by_taken (inr taken) k d low same =
+          let type = own_type k d low same in
+          absurd (subst (λ found. IsSomeAnd found (λ kept. IsTrue (takes change.what))) (no_log site history change.object is.logs (λ log. nine (sym type ∙ log))) taken)
+
+module _ (site : Site) (is : IsSite site) where
+  enrollments_with : (act : Act) (history : List Event) → IsAllowed (state_of site history) act → AllZip IsEnrollmentOf site.enrollments (values_after site history).enrollments →
+      AllZip IsEnrollmentOf site.enrollments (values_with act (values_after site history)).enrollments
+  enrollments_with (Write change) history allowed zip =
+      enrollments_written change site.enrollments (values_after site history).enrollments (taken_as_own site is history change allowed zip) zip
+  enrollments_with Tick history allowed zip = zip
+  enrollments_with (Ack object transition named) history allowed zip = zip
+  enrollments_with Pump history allowed zip = zip
+  enrollments_with (Answer peer invoke kind) history allowed zip = zip
+  enrollments_with (Edit number recipients) history allowed zip = zip
+
+  first_enrollments : (sites : List EnrollmentSite) → All IsEnrollment sites → AllZip IsEnrollmentOf sites sites
+  first_enrollments [] all = tt
+  first_enrollments (one ∷ sites) all =
+      let first = All-head IsEnrollment one sites all in
+      (record { same = refl; enable = first.enable; inhibit = first.inhibit }, first_enrollments sites (All-tail IsEnrollment one sites all))
+
+  pub enrollments_kept : (history : List Event) → IsHistory site history → AllZip IsEnrollmentOf site.enrollments (values_after site history).enrollments
+  enrollments_kept [] h = first_enrollments site.enrollments is.enrollments
+  enrollments_kept (event ∷ older) h = enrollments_with event.act older h.2 (enrollments_kept older h.4)

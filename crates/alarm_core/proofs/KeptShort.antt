@@ -3,12 +3,12 @@ use Rattle.std.proofs.Common.{◌≡◌, ℕ, zero, suc, ◌≤◌, ℤ, Bool, t
 use Rattle.std.specs.List.{All, flat_map, slice_get}
 use Rattle.std.specs.Option.{IfSome, option_and_then, option_map, option_to_list}
 use Rattle.std.proofs.lemmas.List.Elements.{All-nil, All-cons, All-head, All-tail, All-append}
-use Rattle.bac_values.specs.EventStates.{transition_to}
 use Rattle.bac_values.specs.Identifier.{ObjectIdData}
 use Rattle.bac_values.specs.declared.event_state.EventState.{EventState}
 use Rattle.bac_values.specs.declared.note.Note.{Note}
 use Rattle.bac_values.specs.declared.reliability.Reliability.{Reliability}
 use Rattle.bac_values.specs.declared.status_flags.StatusFlags.{StatusFlags}
+use Rattle.bac_values.specs.EventStates.{place_of_transition, transition_to}
 use Rattle.bac_values.specs.declared.transition.Transition.{Transition}
 use Rattle.bac_values.specs.declared.value.Value.{Value}
 use Rattle.bac_values.specs.declared.value.Value.TheVariants as values
@@ -21,9 +21,11 @@ use Rattle.event_machine.specs.declared.moves.Move.{Move}
 use Rattle.event_services.specs.declared.notification.Notification.{Notification}
 use Rattle.event_services.specs.NoteLengths.{AreShort, HasShortText, IsShort as IsShortValue}
 use Rattle.event_services.specs.NoteRanges.{IfAny}
-use Rattle.event_services.specs.Notifications.{told_to, written_event, written_notification, written_states, written_text_in, written_values}
-use Rattle.event_services.proofs.NoteLengthLaws.{parts_octets}
-use Rattle.bac_tags.specs.ParameterWriting.{written_if_given}
+use Rattle.event_services.specs.Notifications.{told_to, written_event, written_kind, written_notification, written_states, written_text_in, written_values}
+use Rattle.event_services.specs.NoteTails.{written_occurrence}
+use Rattle.event_services.proofs.NoteLengthLaws.{before_octets, parts_octets}
+use Rattle.bac_tags.specs.ParameterWriting.{written_enclosed, written_if_given}
+use Rattle.bac_tags.specs.Writing.{written_object, written_stamp, written_unsigned}
 use Rattle.note_maker.specs.Notes.{note_to, notes_for}
 use Rattle.note_maker.specs.Shapes.{acknowledgement_notification}
 use Rattle.note_maker.specs.Told.{algorithm_values, as_signed, as_unsigned, bitstring_told, command_told, exceeded_limit, one_value, range_told, reliability_values, signed_told, state_told, text_in, text_told, told_alarm, unsigned_told, values_at}
@@ -36,6 +38,7 @@ use Rattle.enrollment.specs.Enrollments.{site_of}
 use Rattle.enrollment.specs.Objects.{ObjectsState, facts_at, reliability_at}
 use Rattle.enrollment.specs.Snapshots.{algorithm_with, facts_by_site, facts_of_enrollment, facts_of_row, value_in}
 use Rattle.enrollment.specs.Subjects.{subject_in}
+use Rattle.enrollment.specs.Texts.{if_not_empty, texts_by, texts_in}
 use Rattle.object_table.specs.declared.row.Row.{Row}
 use Rattle.object_table.specs.Rows.{is_object, row_of}
 use Rattle.alarm_core.specs.declared.event.Act.{Act}
@@ -43,9 +46,9 @@ use Rattle.alarm_core.specs.declared.event.Act.TheVariants.{Tick, Write, Ack, Pu
 use Rattle.alarm_core.specs.declared.site.Site.{Site}
 use Rattle.alarm_core.specs.Deliveries.{notes_by}
 use Rattle.alarm_core.specs.Evaluations.{site_stamp, site_zone}
-use Rattle.alarm_core.specs.Fits.{FitsObject, FitsValue}
+use Rattle.alarm_core.specs.Fits.{FitsEnrollment, FitsObject, FitsText, FitsValue}
 use Rattle.alarm_core.specs.History.{StateTransition}
-use Rattle.alarm_core.specs.Notes.{IsShort, addressed, move_of, notes_of_acknowledgement, notes_of_transition, notes_of_transitions, notification_of, source_of, told_flags, told_value, values_of, with_class}
+use Rattle.alarm_core.specs.Notes.{IsShort, addressed, move_of, notes_of_acknowledgement, notes_of_transition, notes_of_transitions, notification_of, source_of, text_of, told_flags, told_value, values_of, with_class}
 use Rattle.alarm_core.proofs.NotesGo.{found}
 
 -- ---- one notification
@@ -53,20 +56,34 @@ use Rattle.alarm_core.proofs.NotesGo.{found}
 note_short : (note : Notification) → length note.stamp.octets ≡ 8 → IfAny HasShortText note.text → IfAny AreShort note.values → length (written_notification note) ≤ 1_024
 unfolding written_notification
 note_short note eight text told =
-    let event = written_event note in
+    let process = written_unsigned (Some 0) note.process in
+    let device = written_object (Some 1) note.device in
+    let object = written_object (Some 2) note.object in
+    let stamp = written_enclosed 3 (written_enclosed 2 (written_stamp note.stamp)) in
+    let kind = written_kind note in
+    let event = written_occurrence note in
     let message = written_if_given (written_text_in 7) note.text in
     let states = written_states note in
     let rest = written_if_given written_values note.values in
-    let all = parts_octets note [] ([] ++ event) (([] ++ event) ++ message) ((([] ++ event) ++ message) ++ states) (((([] ++ event) ++ message) ++ states) ++ rest) refl refl refl refl refl eight text told in
+    let all = (((([] ++ event) ++ message) ++ states) ++ rest) in
+    let room = parts_octets note [] ([] ++ event) (([] ++ event) ++ message) ((([] ++ event) ++ message) ++ states) all refl refl refl refl refl eight text told in
     omega (
       arith,
-      all,
-      length-append ((([] ++ event) ++ message) ++ states) rest,
-      length-append (([] ++ event) ++ message) states,
-      length-append ([] ++ event) message,
-      length-append event (message ++ (states ++ rest)),
-      length-append message (states ++ rest),
-      length-append states rest,
+      before_octets note.process all room,
+      length-append process all,
+      length-append ((event ++ message) ++ states) rest,
+      length-append (event ++ message) states,
+      length-append event message,
+      length-append ((device ++ object) ++ stamp) kind,
+      length-append (device ++ object) stamp,
+      length-append device object,
+      length-append ((written_event note ++ message) ++ states) rest,
+      length-append (written_event note ++ message) states,
+      length-append (written_event note) message,
+      length-append (((process ++ device) ++ object) ++ stamp) kind,
+      length-append ((process ++ device) ++ object) stamp,
+      length-append (process ++ device) object,
+      length-append process device,
     )
 
 stamp_size : (zone : ZoneData) (moment : ℕ) → length (local_stamp zone moment).octets ≡ 8
@@ -163,17 +180,29 @@ told_by : (by_fault : Bool) (algorithm : Algorithm) (facts : Facts) (made : Move
 told_by true algorithm facts made cause reliability flags present fits present_fits = one_if_any present present_fits
 told_by false algorithm facts made cause reliability flags present fits present_fits = algorithm_short algorithm facts made cause flags fits
 
+-- ---- the text of a transition
+
+not_empty_short : (text : List ℕ) → FitsText text → IfAny HasShortText (if_not_empty text)
+not_empty_short [] fits = tt
+not_empty_short (octet ∷ octets) fits = fits
+
+told_short : (texts : List (List ℕ)) (place : ℕ) → All FitsText texts → IfAny HasShortText (option_and_then if_not_empty (slice_get texts place))
+told_short [] place all = tt
+told_short (text ∷ texts) zero all = not_empty_short text (All-head FitsText text texts all)
+told_short (text ∷ texts) (suc place) all = told_short texts place (All-tail FitsText text texts all)
+
 -- ---- the properties of all objects
 
 abbrev pub FitsRow : Row → Type 0
 FitsRow row = FitsObject row.site
 
-abbrev pub AllFit : ObjectsState → Type 0
-AllFit objects = All FitsRow objects.rows
+pub record AllFit (objects : ObjectsState) : Type 0 where
+  pub rows : All FitsRow objects.rows
+  pub enrollments : All FitsEnrollment objects.enrollments
 
 module _ (objects : ObjectsState) (fit : AllFit objects) where
   row_fits : (object : ObjectIdData) → IfSome (row_of object objects.rows) FitsRow
-  row_fits object = found FitsRow (λ (row : Row). is_object object row.site.object) objects.rows fit
+  row_fits object = found FitsRow (λ (row : Row). is_object object row.site.object) objects.rows fit.rows
 
   value_by : (row : Option Row) → IfSome row FitsRow → IfSome (option_map (λ (r : Row). r.site.value) row) FitsValue
   value_by None fits = tt
@@ -199,14 +228,25 @@ module _ (objects : ObjectsState) (fit : AllFit objects) where
   facts_by_fit object None = facts_of_fit (row_of object objects.rows) (row_fits object)
   facts_by_fit object (Some site) = seen_fit site (value_in objects.rows site.monitored) (value_fits site.monitored)
 
+  texts_by_fit : (site : Option EnrollmentSite) (row : Option Row) → IfSome site FitsEnrollment → IfSome row FitsRow → All FitsText (texts_by site row)
+  texts_by_fit (Some site) row site_fits row_fits = site_fits
+  texts_by_fit None (Some row) site_fits row_fits = row_fits.texts
+  texts_by_fit None None site_fits row_fits = All-nil FitsText
+
+  texts_fit : (object : ObjectIdData) → All FitsText (texts_in object objects)
+  texts_fit object =
+      texts_by_fit (site_of object objects.enrollments) (row_of object objects.rows)
+      (found FitsEnrollment (λ (site : EnrollmentSite). is_object object site.object) objects.enrollments fit.enrollments) (row_fits object)
+
   facts_fit : (object : ObjectIdData) → IfSome (facts_at object objects) FitsFacts
   facts_fit object = facts_by_fit object (site_of object objects.enrollments)
 
 -- ---- a transition
 
--- what is told of it is short
-abbrev pub TellsShort : StateTransition → Type 0
-TellsShort transition = IfAny AreShort (values_of transition)
+-- what is told of it is short: its text, and its values
+pub record TellsShort (transition : StateTransition) : Type 0 where
+  pub text : IfAny HasShortText (text_of transition)
+  pub values : IfAny AreShort (values_of transition)
 
 present_fits : (listed : Option EnrollmentSite) (transition : StateTransition) → AllFit transition.values → IfSome (told_value listed transition) FitsValue
 present_fits None transition fit = value_fits transition.values fit transition.object
@@ -225,11 +265,14 @@ tells_by transition (Some facts) fits fit =
     fits (present_fits listed transition fit)
 
 pub tells_short : (transition : StateTransition) → AllFit transition.values → TellsShort transition
-tells_short transition fit = tells_by transition (facts_at transition.object transition.values) (facts_fit transition.values fit transition.object) fit
+tells_short transition fit = record {
+  text = told_short (texts_in transition.object transition.values) (place_of_transition (transition_to transition.to)) (texts_fit transition.values fit transition.object);
+  values = tells_by transition (facts_at transition.object transition.values) (facts_fit transition.values fit transition.object) fit;
+}
 
 -- its record
 pub record_short : (site : Site) (transition : StateTransition) (subject : Subject) (class : Class) → TellsShort transition → length (written_notification (notification_of site transition subject class)) ≤ 1_024
-record_short site transition subject class short = note_short (notification_of site transition subject class) (stamp_size (site_zone site) transition.moment) tt short
+record_short site transition subject class short = note_short (notification_of site transition subject class) (stamp_size (site_zone site) transition.moment) short.text short.values
 
 -- ---- the notes
 
@@ -246,7 +289,7 @@ module _ (site : Site) (classes : List Class) where
   transition_notes : (transition : StateTransition) → TellsShort transition → All IsShort (notes_of_transition site classes transition)
   transition_notes transition short =
       told_all (λ (to : Subject × Class). notes_for (notification_of site transition to.0 to.1) to.1.destinations (transition_to transition.to) transition.moment (site_zone site))
-      (λ to. to_all (notification_of site transition to.0 to.1) (chosen_destinations to.1.destinations (transition_to transition.to) transition.moment (site_zone site)) (stamp_size (site_zone site) transition.moment) tt short)
+      (λ to. to_all (notification_of site transition to.0 to.1) (chosen_destinations to.1.destinations (transition_to transition.to) transition.moment (site_zone site)) (stamp_size (site_zone site) transition.moment) short.text short.values)
       (addressed classes transition)
 
   transitions_notes : (transitions : List StateTransition) → All TellsShort transitions → All IsShort (notes_of_transitions site classes transitions)

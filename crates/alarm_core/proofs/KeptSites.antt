@@ -19,6 +19,11 @@ use Rattle.object_table.specs.Properties.{property_of}
 use Rattle.object_table.specs.Rows.{is_object, rows_of}
 use Rattle.object_table.specs.Writes as rows
 use Rattle.enrollment.specs.Objects.{ObjectsState}
+use Rattle.enrollment.specs.Properties as enrollment_properties
+use Rattle.enrollment.specs.Writes as enrollments
+use Rattle.enrollment.specs.declared.enrollment_property.EnrollmentProperty.{EnrollmentProperty}
+use Rattle.enrollment.specs.declared.enrollment_property.EnrollmentProperty.TheVariants as of_enrollments
+use Rattle.enrollment.specs.declared.enrollment_site.EnrollmentSite.{EnrollmentSite}
 use Rattle.alarm_core.specs.declared.event.Act.{Act}
 use Rattle.alarm_core.specs.declared.event.Act.TheVariants.{Tick, Write, Ack, Pump, Answer, Edit}
 use Rattle.alarm_core.specs.declared.event.Event.{Event}
@@ -27,14 +32,14 @@ use Rattle.alarm_core.specs.Allowed.{IsHistory}
 use Rattle.alarm_core.specs.Classes.{classes_after}
 use Rattle.alarm_core.specs.Deliveries.{event_notes, notifications_of}
 use Rattle.alarm_core.specs.Evaluations.{zone_with}
-use Rattle.alarm_core.specs.Fits.{FitsAct, FitsEvent, FitsObject, FitsSite, FitsValue, FitsWhat}
+use Rattle.alarm_core.specs.Fits.{FitsAct, FitsEnrollment, FitsEvent, FitsObject, FitsSite, FitsValue, FitsWhat}
 use Rattle.alarm_core.specs.History.{event_looks, joined, transition_of, values_after, values_with}
 use Rattle.alarm_core.specs.Laws.{KeepsToItsSite}
 use Rattle.alarm_core.specs.Logs.{kept_log_of}
 use Rattle.alarm_core.specs.Notes.{IsShort}
 use Rattle.alarm_core.specs.SiteStates.{IsLogOf, IsRecordOf, hundredths_or_none, hundredths_shown}
 use Rattle.alarm_core.specs.Sites.{IsLogSite, IsSite}
-use Rattle.alarm_core.proofs.KeptClasses.{classes_kept, peers_kept_few}
+use Rattle.alarm_core.proofs.KeptClasses.{classes_kept, lists_kept, peers_kept_few}
 use Rattle.alarm_core.proofs.KeptLogs.{TellsSuch, such_log}
 use Rattle.alarm_core.proofs.KeptLooks.{GivesSuch, event_such, joined_such}
 use Rattle.alarm_core.proofs.KeptOutbox.{outbox_kept, recipients_known}
@@ -46,20 +51,20 @@ use Rattle.alarm_core.proofs.KeptStamps.{fixed_hundredths}
 -- ---- the values of the objects fit their types
 
 set_fits : (property : ObjectProperty) (value : Value) (site : ObjectSite) → FitsValue value → FitsObject site → FitsObject (rows.set_known property value site)
-set_fits PresentValue value site fits old = record { value = fits; alarm_values = old.alarm_values }
-set_fits OutOfService (Truth truth) site fits old = record { value = old.value; alarm_values = old.alarm_values }
-set_fits ReliabilityEvaluationInhibit (Truth truth) site fits old = record { value = old.value; alarm_values = old.alarm_values }
-set_fits TimeDelay (Unsigned seconds) site fits old = record { value = old.value; alarm_values = old.alarm_values }
-set_fits TimeDelayNormal (Unsigned seconds) site fits old = record { value = old.value; alarm_values = old.alarm_values }
-set_fits HighLimit (Signed limit) site fits old = record { value = old.value; alarm_values = old.alarm_values }
-set_fits HighLimit (Unsigned limit) site fits old = record { value = old.value; alarm_values = old.alarm_values }
-set_fits LowLimit (Signed limit) site fits old = record { value = old.value; alarm_values = old.alarm_values }
-set_fits LowLimit (Unsigned limit) site fits old = record { value = old.value; alarm_values = old.alarm_values }
-set_fits Deadband (Unsigned deadband) site fits old = record { value = old.value; alarm_values = old.alarm_values }
-set_fits LimitEnable (Bits flags) site fits old = record { value = old.value; alarm_values = old.alarm_values }
-set_fits AlarmValue value site fits old = record { value = old.value; alarm_values = old.alarm_values }
-set_fits EventEnable (Bits flags) site fits old = record { value = old.value; alarm_values = old.alarm_values }
-set_fits EventAlgorithmInhibit (Truth truth) site fits old = record { value = old.value; alarm_values = old.alarm_values }
+set_fits PresentValue value site fits old = record { value = fits; alarm_values = old.alarm_values; texts = old.texts }
+set_fits OutOfService (Truth truth) site fits old = record { value = old.value; alarm_values = old.alarm_values; texts = old.texts }
+set_fits ReliabilityEvaluationInhibit (Truth truth) site fits old = record { value = old.value; alarm_values = old.alarm_values; texts = old.texts }
+set_fits TimeDelay (Unsigned seconds) site fits old = record { value = old.value; alarm_values = old.alarm_values; texts = old.texts }
+set_fits TimeDelayNormal (Unsigned seconds) site fits old = record { value = old.value; alarm_values = old.alarm_values; texts = old.texts }
+set_fits HighLimit (Signed limit) site fits old = record { value = old.value; alarm_values = old.alarm_values; texts = old.texts }
+set_fits HighLimit (Unsigned limit) site fits old = record { value = old.value; alarm_values = old.alarm_values; texts = old.texts }
+set_fits LowLimit (Signed limit) site fits old = record { value = old.value; alarm_values = old.alarm_values; texts = old.texts }
+set_fits LowLimit (Unsigned limit) site fits old = record { value = old.value; alarm_values = old.alarm_values; texts = old.texts }
+set_fits Deadband (Unsigned deadband) site fits old = record { value = old.value; alarm_values = old.alarm_values; texts = old.texts }
+set_fits LimitEnable (Bits flags) site fits old = record { value = old.value; alarm_values = old.alarm_values; texts = old.texts }
+set_fits AlarmValue value site fits old = record { value = old.value; alarm_values = old.alarm_values; texts = old.texts }
+set_fits EventEnable (Bits flags) site fits old = record { value = old.value; alarm_values = old.alarm_values; texts = old.texts }
+set_fits EventAlgorithmInhibit (Truth truth) site fits old = record { value = old.value; alarm_values = old.alarm_values; texts = old.texts }
 set_fits _ _ site fits old = old
 
 set_by_fits : (property : Option ObjectProperty) (value : Value) (site : ObjectSite) → FitsValue value → FitsObject site → FitsObject (rows.set_by property value site)
@@ -81,8 +86,33 @@ written_fit change (row ∷ table) fits all =
     All-cons FitsRow new (rows.written change table)
     (written_by (is_object change.object row.site.object) change.what row fits (All-head FitsRow row table all)) (written_fit change table fits (All-tail FitsRow row table all))
 
+-- no write changes the texts of an enrollment
+enrollment_known : (property : EnrollmentProperty) (value : Value) (site : EnrollmentSite) → FitsEnrollment site → FitsEnrollment (enrollments.set_known property value site)
+enrollment_known of_enrollments.EventEnable (Bits flags) site fits = fits
+enrollment_known of_enrollments.EventAlgorithmInhibit (Truth truth) site fits = fits
+enrollment_known _ _ site fits = fits
+
+enrollment_by : (property : Option EnrollmentProperty) (value : Value) (site : EnrollmentSite) → FitsEnrollment site → FitsEnrollment (enrollments.set_by property value site)
+enrollment_by None value site fits = fits
+enrollment_by (Some property) value site fits = enrollment_known property value site fits
+
+enrollment_changed : (what : What) (site : EnrollmentSite) → FitsEnrollment site → FitsEnrollment (enrollments.changed what site)
+enrollment_changed (Property property value) site fits = enrollment_by (enrollment_properties.property_of property.0) value site fits
+enrollment_changed (FieldFault reliability) site fits = fits
+
+enrollment_written : (b : Bool) (what : What) (site : EnrollmentSite) → FitsEnrollment site → FitsEnrollment (if b then enrollments.changed what site else site)
+enrollment_written true what site fits = enrollment_changed what site fits
+enrollment_written false what site fits = fits
+
+enrollments_fit : (change : Change) (sites : List EnrollmentSite) → All FitsEnrollment sites → All FitsEnrollment (enrollments.written change sites)
+enrollments_fit change [] all = All-nil FitsEnrollment
+enrollments_fit change (site ∷ sites) all =
+    let new : EnrollmentSite = if is_object change.object site.object then enrollments.changed change.what site else site in
+    All-cons FitsEnrollment new (enrollments.written change sites)
+    (enrollment_written (is_object change.object site.object) change.what site (All-head FitsEnrollment site sites all)) (enrollments_fit change sites (All-tail FitsEnrollment site sites all))
+
 act_fits : (act : Act) (values : ObjectsState) → FitsAct act → AllFit values → AllFit (values_with act values)
-act_fits (Write change) values fits all = written_fit change values.rows fits all
+act_fits (Write change) values fits all = record { rows = written_fit change values.rows fits all.rows; enrollments = enrollments_fit change values.enrollments all.enrollments }
 act_fits Tick values fits all = all
 act_fits (Ack object transition named) values fits all = all
 act_fits Pump values fits all = all
@@ -96,7 +126,7 @@ first_fit (site ∷ sites) all =
 
 module _ (site : Site) (typed : FitsSite site) where
   all_fit : (history : List Event) → All FitsEvent history → AllFit (values_after site history)
-  all_fit [] fits = first_fit site.objects typed
+  all_fit [] fits = record { rows = first_fit site.objects typed.objects; enrollments = typed.enrollments }
   all_fit (event ∷ older) fits = act_fits event.act (values_after site older) (All-head FitsEvent event older fits) (all_fit older (All-tail FitsEvent event older fits))
 
   -- ---- the notes are short
@@ -140,17 +170,18 @@ module _ (site : Site) (typed : FitsSite site) where
 
 pub keeps_to_its_site : KeepsToItsSite
 keeps_to_its_site = record {
-  keeps = λ site is limits typed history h fits few. record {
+  keeps = λ site is typed history h fits few. record {
     site_is = refl;
     events = few;
     moment = moment_kept site is history h;
     begun = begun_by site history h;
     rows = rows_kept site is history h fits;
-    enrollments = enrollments_kept site is history;
+    enrollments = enrollments_kept site is history h;
     alarms = alarms_kept site is history h fits;
-    classes = classes_kept site limits history h;
+    classes = classes_kept site is history h;
+    room = (lists_kept site is history h).room;
     known = recipients_known site history;
-    peers = peers_kept_few site limits history h;
+    peers = peers_kept_few site is history h;
     outbox = outbox_kept site is history h (all_short site typed history fits);
     limit = refl;
     timeout = refl;

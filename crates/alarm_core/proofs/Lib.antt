@@ -2,6 +2,9 @@ pub mod Searches
 pub mod Flattened
 pub mod Stays
 pub mod OwnSubjects
+pub mod ByNumber
+pub mod MemberCounts
+pub mod ListShown
 pub mod KnownPeers
 pub mod NotesGo
 pub mod Delivering
@@ -11,6 +14,8 @@ pub mod Rounds
 pub mod Undoing
 pub mod Untouched
 pub mod Places
+pub mod Halving
+pub mod BehindLast
 pub mod FirstAlarms
 pub mod DueCounts
 pub mod Agreeing
@@ -41,6 +46,9 @@ pub mod Listed
 pub mod Counting
 pub mod Accepted
 pub mod LastLists
+pub mod ObjectLists
+pub mod EvaluationCounts
+pub mod Raised
 pub mod Restored
 pub mod RestoredCore
 pub mod Adding
@@ -53,6 +61,8 @@ pub mod KeptObjects
 pub mod KeptRows
 pub mod KeptPoints
 pub mod KeptClasses
+pub mod KeptLists
+pub mod ClassesThere
 pub mod KeptOutbox
 pub mod KeptLooks
 pub mod KeptLogs

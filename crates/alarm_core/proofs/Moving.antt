@@ -1,5 +1,5 @@
 -- As many looks are made as objects move, and as a write touches.
-use Rattle.std.proofs.Common.{◌≡◌, ◌≢◌, ℕ, suc, ◌+◌, ◌<◌, ◌≤◌, Bool, true, false, true≢false, ◌||◌, if◌then◌else◌, Option, Some, List, [], ◌∷◌, length, filter, get_or, map, refl, ap, ◌∙◌, sym, subst, arith}
+use Rattle.std.proofs.Common.{◌≡◌, ◌≢◌, ℕ, zero, suc, ◌+◌, ◌<◌, ◌≤◌, Bool, true, false, true≢false, ◌||◌, if◌then◌else◌, Option, Some, List, [], ◌∷◌, length, filter, get_or, map, refl, ap, ◌∙◌, sym, subst, arith}
 use Rattle.std.specs.List.{All}
 use Rattle.std.specs.Option.{option_map}
 use Rattle.std.proofs.lemmas.List.Elements.{All-head, All-tail}
@@ -34,12 +34,13 @@ use Rattle.alarm_core.specs.Moving.{is_any, moves_at_look, moving_of, moving_ove
 use Rattle.alarm_core.specs.Sites.{IsSite}
 use Rattle.alarm_core.specs.State.{CoreState, DetectedObjectState, alarms_of, detected_object_of}
 use Rattle.alarm_core.specs.Subjects.{detecting_subjects, subjects_of}
-use Rattle.alarm_core.specs.DueSteps.{AscendByObject, all_once, detections_of, due_count, due_of, due_steps, is_among, object_of, touched_by}
+use Rattle.alarm_core.specs.DueSteps.{AscendByObject, DueOnesMove, all_once, detections_of, due_count, due_of, due_steps, is_among, object_of, touched_by}
 use Rattle.alarm_core.proofs.Courses.{HaveCourses, courses_before, have_courses}
 use Rattle.alarm_core.proofs.DueCounts.{at_most_one}
 use Rattle.alarm_core.proofs.Firing.{AllStand, Stands, all_stand, fires, settles}
 use Rattle.alarm_core.proofs.Places.{ascend_still, below, some_ascend}
 use Rattle.alarm_core.proofs.Standing.{look_stands, stands, transitions_one}
+use Rattle.alarm_core.proofs.Still.{map-none}
 use Rattle.alarm_core.proofs.Untouched.{alike, all_once-cons, all_once-nil, one_once-is, sees_the_same, untouched_by}
 
 -- whether an object moves at a look, and how many do
@@ -62,6 +63,20 @@ some_move f (move ∷ moves) some = refl
 pub due_moves : (at : LocalMomentData) (values : ObjectsState) (detected : DetectedObjectState) → Stands values detected → is_due at.moment (due_of values detected) ≡ true → does_move at values detected ≡ true
 due_moves at values detected stands due = some_move (object_transition detected.object detected.alarm.cause) (change_at at values detected).moves (fires at values detected stands due)
 
+-- so does each that is due, after a history
+due_one_moves : (at : LocalMomentData) (values : ObjectsState) (alarms : List DetectedObjectState) → AllStand values alarms → (index : ℕ) (d : DetectedObjectState) → index < length alarms →
+    is_due at.moment (due_of values (get_or alarms index d)) ≡ true → transitions_by at values (get_or alarms index d) ≢ []
+due_one_moves at values [] all index d within due = absurd (omega (arith, within))
+due_one_moves at values (detected ∷ alarms) all zero d within due =
+    λ none. fires at values detected all.0 due (map-none (object_transition detected.object detected.alarm.cause) (change_at at values detected).moves none)
+due_one_moves at values (detected ∷ alarms) all (suc i) d within due = due_one_moves at values alarms all.1 i d (omega (arith, within)) due
+
+pub due_ones_move : (at : LocalMomentData) (history : List Event) (state : CoreState) → IsSite state.site → Represents state history → DueOnesMove at state.values state.alarms
+due_ones_move at history state is r =
+    let site = state.site in
+    subst (λ (s : CoreState). DueOnesMove at s.values s.alarms) (sym r.shows)
+    (due_one_moves at (values_after site history) (alarms_of site (occurrences_of site history)) (all_stand site is history r.is_history))
+
 -- one that counts where another does counts no less
 at_least : (one other : Bool) → (one ≡ true → other ≡ true) → (if one then 1 else 0) ≤ (if other then 1 else 0)
 at_least true true follows = omega arith
@@ -80,7 +95,7 @@ due_movers at values (detected ∷ alarms) all =
     omega (arith, first, rest)
 
 -- an object that a write doesn't touch does at a look what it did
-pub looked_untouched : (at : LocalMomentData) (change : Change) (values : ObjectsState) (detected : DetectedObjectState) → IsUntouched change detected.object values.enrollments →
+pub looked_untouched : (at : LocalMomentData) (change : Change) (values : ObjectsState) (detected : DetectedObjectState) → IsUntouched change detected.object values →
     change_at at (written change values) detected ≡ change_at at values detected
 looked_untouched at change values detected untouched =
     let same = sees_the_same change detected.object values untouched in
@@ -91,7 +106,7 @@ looked_untouched at change values detected untouched =
     ∙ ap (look (reliability_at detected.object values) (is_inhibited detected.object values)) same.facts)
 
 second_one : (is : Bool) (at : LocalMomentData) (change : Change) (values : ObjectsState) (detected : DetectedObjectState) → Stands values detected →
-    is_among (touched_by change.object values.enrollments) detected.object ≡ is →
+    is_among (touched_by change.object values) detected.object ≡ is →
     (if is_due at.moment (if is then Some 0 else due_of values detected) then 1 else 0) ≤ (if does_move at (written change values) detected then 1 else 0) + (if is then 1 else 0)
 second_one true at change values detected stands is =
     let most = at_most_one (is_due at.moment (Some 0)) in
@@ -104,11 +119,11 @@ second_one false at change values detected stands is =
     omega (arith, first)
 
 pub second_movers : (at : LocalMomentData) (change : Change) (values : ObjectsState) (alarms : List DetectedObjectState) → AllStand values alarms →
-    let touched = touched_by change.object values.enrollments in
+    let touched = touched_by change.object values in
     due_count at.moment (all_once touched alarms (map (due_of values) alarms)) ≤ movers at (written change values) alarms + touched_in touched alarms
-second_movers at change values [] all = subst (λ (timers : List (Option ℕ)). due_count at.moment timers ≤ 0 + 0) (sym (all_once-nil (touched_by change.object values.enrollments))) (omega arith)
+second_movers at change values [] all = subst (λ (timers : List (Option ℕ)). due_count at.moment timers ≤ 0 + 0) (sym (all_once-nil (touched_by change.object values))) (omega arith)
 second_movers at change values (detected ∷ alarms) all =
-    let touched = touched_by change.object values.enrollments in
+    let touched = touched_by change.object values in
     let due = due_of values detected in
     let dues = map (due_of values) alarms in
     let one = second_one (is_among touched detected.object) at change values detected all.0 refl in
@@ -221,7 +236,7 @@ counted_by site moment (Write change) values w courses all ascending =
     let at = site_moment site moment in
     let after = written change values in
     let now = AllEvaluated moment values ∷ w in
-    let touched = touched_by change.object values.enrollments in
+    let touched = touched_by change.object values in
     let between = evaluated_all at values (alarms_of site w) in
     let before = courses_before site moment (after ∷ []) now courses in
     let first = due_movers at values (alarms_of site w) all in

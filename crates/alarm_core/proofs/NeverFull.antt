@@ -6,15 +6,14 @@ use Rattle.alarm_core.specs.declared.event.Event.{Event}
 use Rattle.alarm_core.specs.Allowed.{Represents}
 use Rattle.alarm_core.specs.Deliveries.{outbox_after}
 use Rattle.alarm_core.specs.History.{tick_at}
-use Rattle.alarm_core.specs.Room.{HasRoom}
 use Rattle.alarm_core.specs.Sites.{IsSite}
 use Rattle.alarm_core.specs.State.{CoreState}
 use Rattle.alarm_core.specs.Verdicts.{step_verdict}
 use Rattle.alarm_core.proofs.Standing.{stands}
 
-pub tick_never_full : (history : List Event) (state : CoreState) (event : Event) → IsSite state.site → HasRoom state.site → Represents state history →
+pub tick_never_full : (history : List Event) (state : CoreState) (event : Event) → IsSite state.site → Represents state history →
     unfinished_in state.outbox.posts ≡ 0 → event.act ≡ Tick → step_verdict event state ≡ Ok tt
-tick_never_full history state event is room r none tick =
+tick_never_full history state event is r none tick =
     let empty : unfinished_in (outbox_after state.site history).posts ≡ 0 = subst (λ (s : CoreState). unfinished_in s.outbox.posts ≡ 0) r.shows none in
     let same : event ≡ tick_at event.moment = λ k. record { moment = event.moment; act = tick k } in
-    ap (λ e. step_verdict e state) same ∙ (ap (step_verdict (tick_at event.moment)) r.shows ∙ stands.ticks_fit state.site is room history r.is_history empty event.moment)
+    ap (λ e. step_verdict e state) same ∙ (ap (step_verdict (tick_at event.moment)) r.shows ∙ stands.ticks_fit state.site is history r.is_history empty event.moment)

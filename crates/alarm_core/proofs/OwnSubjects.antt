@@ -81,7 +81,7 @@ module _ (site : Site) (is : IsSite site) where
       let listed = get_or site.enrollments k d in
       let rows = rows_of site.objects in
       let found : site_of listed.object site.enrollments ≡ Some listed = found_itself identifier_of site.enrollments is.enrollments_ascend k d low in
-      let there : is_some (row_of listed.monitored rows) ≡ true = (is.referred k d low).monitored in
+      let there : is_some (row_of listed.monitored rows) ≡ true = (is.referred.enrollments k d low).monitored in
       record {
         found = ap (λ one. subject_by one (row_of listed.object rows)) found;
         facts = ap (λ one. is_some (facts_by_site one listed.object rows)) found

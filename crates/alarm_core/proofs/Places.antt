@@ -171,7 +171,7 @@ module _ {X Y : Type 0} (R : X → X → Type 0) (f : Y → X) where
   unmapped x [] h = All-nil (λ y. R x (f y))
   unmapped x (y ∷ ys) h = All-cons (λ z. R x (f z)) y ys (All-head (R x) (f y) (map f ys) h) (unmapped x ys (All-tail (R x) (f y) (map f ys) h))
 
-  map_pairs : (ys : List Y) → AllPairs R (map f ys) → AllPairs (λ a b. R (f a) (f b)) ys
+  pub map_pairs : (ys : List Y) → AllPairs R (map f ys) → AllPairs (λ a b. R (f a) (f b)) ys
   map_pairs [] h = λ i j d before low. absurd (omega (arith, low))
   map_pairs (y ∷ ys) h =
       AllPairs-cons (λ a b. R (f a) (f b)) y ys (unmapped (f y) ys (λ j d low. h 0 (suc j) d (omega arith) (omega (arith, low))))

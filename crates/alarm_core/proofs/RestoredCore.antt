@@ -16,7 +16,7 @@ use Rattle.enrollment.specs.declared.subject.Subject.{Subject}
 use Rattle.alarm_core.specs.declared.parts.Parts.{Parts}
 use Rattle.alarm_core.specs.declared.site.Site.{Site}
 use Rattle.alarm_core.specs.Logs.{SiteLogState}
-use Rattle.alarm_core.specs.Parts.{detected_by, detected_with, kept_by, state_of_parts}
+use Rattle.alarm_core.specs.Parts.{detected_by, detected_with, kept_by, state_of_parts, values_of_parts}
 use Rattle.alarm_core.specs.Sites.{IsSite}
 use Rattle.alarm_core.specs.State.{DetectedObjectState}
 use Rattle.alarm_core.specs.Subjects.{alarm_subjects, has_class, subjects_of}
@@ -101,7 +101,7 @@ restored_ascend site alarms is =
 -- ---- what it shows
 
 pub restored_shows : (site copy : Site) (parts : Parts) (values : ObjectsState) (told : List AlarmState) (alarms : List DetectedObjectState) (classes : List Class) (held : List EventLogState) (logs : List SiteLogState) →
-    copy ≡ site → values ≡ record { rows = parts.table; enrollments = parts.enrollments } →
+    copy ≡ site → values ≡ values_of_parts parts →
     told ≡ parts.alarms → alarms ≡ flat_map (detected_by site) (zip (alarm_subjects site) told) →
     classes ≡ parts.classes →
     held ≡ parts.logs → logs ≡ map kept_by (zip site.logs held) →

@@ -180,6 +180,7 @@ restores_parts site state is keeps =
     let ascending = pairs_kept object_of has_class Below (subjects_of site) (stands.ascending site is) in
     let logs : length (map log_of state.logs) ≡ length state.logs = length-map state.logs log_of in
     record {
+      references = refl;
       alarms = subst (λ s. AllZip MayHave subjects (map alarm (alarm_subjects s))) (sym same) (may_have site state subjects state.alarms told ascending);
       logs = logs ∙ AllZip-long (IsLogOf site) site.logs state.logs keeps.logs;
       state = subst (IsStateOf site) (sym (restores_state site state is keeps)) keeps;

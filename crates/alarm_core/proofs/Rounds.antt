@@ -354,6 +354,7 @@ pub record NextMover (at : LocalMomentData) (values : ObjectsState) (from next :
   pub within : next < length alarms
   pub low : from ≤ next
   pub same : made_of at values (take next alarms) ≡ made_of at values (take from alarms)
+  pub due : (d : DetectedObjectState) → is_due at.moment (due_of values (get_or alarms next d)) ≡ true
 
 pub record MovesNext (at : LocalMomentData) (values : ObjectsState) (from offset next : ℕ) (alarms : List DetectedObjectState) : Type 0 where
   pub index : ℕ
@@ -361,6 +362,7 @@ pub record MovesNext (at : LocalMomentData) (values : ObjectsState) (from offset
   pub low : from ≤ index
   pub within : index < length alarms
   pub same : made_of at values (take index alarms) ≡ made_of at values (take from alarms)
+  pub due : (d : DetectedObjectState) → is_due at.moment (due_of values (get_or alarms index d)) ≡ true
 
 moves_one : (at : LocalMomentData) (values : ObjectsState) (offset next : ℕ) (detected : DetectedObjectState) (alarms : List DetectedObjectState) →
     (position_from (is_due at.moment) (offset + 1) (map (due_of values) alarms) ≡ Some next → MovesNext at values 0 (offset + 1) next alarms) →
@@ -368,7 +370,7 @@ moves_one : (at : LocalMomentData) (values : ObjectsState) (offset next : ℕ) (
     MovesNext at values 0 offset next (detected ∷ alarms)
 moves_one at values offset next detected alarms rest true is found =
     let here : offset ≡ next = cc in
-    record { index = 0; is = omega (arith, here); low = omega arith; within = omega arith; same = refl }
+    record { index = 0; is = omega (arith, here); low = omega arith; within = omega arith; same = refl; due = λ d. is }
 moves_one at values offset next detected alarms rest false is found =
     let moves = rest found in
     record {
@@ -377,6 +379,7 @@ moves_one at values offset next detected alarms rest false is found =
       low = omega arith;
       within = omega (arith, moves.within);
       same = made_quiet at values detected (take moves.index alarms) (quiet_transitions at values detected is) ∙ moves.same;
+      due = λ d. moves.due d;
     }
 
 moves_next : (at : LocalMomentData) (values : ObjectsState) (from offset next : ℕ) (alarms : List DetectedObjectState) →
@@ -398,6 +401,7 @@ moves_next at values (suc i) offset next (detected ∷ alarms) found =
       low = omega (arith, moves.low);
       within = omega (arith, moves.within);
       same = made_cons at values detected (take moves.index alarms) (take i alarms) moves.same;
+      due = λ d. moves.due d;
     }
 
 pub next_mover : (at : LocalMomentData) (values : ObjectsState) (moment from next : ℕ) (alarms : List DetectedObjectState) (timers : List (Option ℕ)) → moment ≡ at.moment →
@@ -412,6 +416,7 @@ next_mover at values moment from next alarms timers is exact found =
       within = omega (arith, here, moves.within);
       low = omega (arith, here, moves.low);
       same = ap (λ k. made_of at values (take k alarms)) here ∙ moves.same;
+      due = λ d. ap (λ k. is_due at.moment (due_of values (get_or alarms k d))) here ∙ moves.due d;
     }
 
 no_one : (at : LocalMomentData) (values : ObjectsState) (offset : ℕ) (detected : DetectedObjectState) (alarms : List DetectedObjectState) →

@@ -11,6 +11,7 @@ use Rattle.notify_class.specs.Recipients.{DestinationData}
 use Rattle.notify_class.specs.declared.class.Class.{Class}
 use Rattle.enrollment.specs.declared.subject.Subject.{Subject}
 use Rattle.alarm_core.specs.Classes.{class_in, edited, is_member}
+use Rattle.alarm_core.specs.ListLimits.{instances}
 
 -- ---- sums
 
@@ -81,9 +82,6 @@ by_class (class ∷ classes) subjects =
     omega (arith, one_class class classes subjects, by_class classes subjects, sum_by-cons (λ (c : Class). members_in subjects c.instance * length c.destinations) class classes)
 
 -- ---- an edit of one class
-
-abbrev pub instances : List Class → List ℕ
-instances classes = map (λ (class : Class). class.instance) classes
 
 abbrev pub IsBelow : ℕ → ℕ → Type 0
 IsBelow earlier later = earlier < later

@@ -31,7 +31,6 @@ use Rattle.alarm_core.specs.State.{DetectedObjectState, alarms_of, state_of, det
 use Rattle.alarm_core.specs.Allowed.{Comes, IsAllowed, IsHistory, Represents}
 use Rattle.alarm_core.specs.CoreSteps.{acked, after_looks, alarms_with, change_by, evaluated, evaluated_all, first_detected, first_state, logs_with, next_looks, next_notes, next_state, next_transitions, outbox_with, state_of_detected, states_of, transitions_all, transitions_by, transitions_of_looks}
 use Rattle.alarm_core.specs.Laws.{StandsForItsHistory}
-use Rattle.alarm_core.specs.Room.{HasRoom}
 use Rattle.alarm_core.specs.RunStarts.{run_starts_in, run_starts_of, runs_in}
 use Rattle.alarm_core.specs.Sites.{IsSite}
 use Rattle.alarm_core.specs.Verdicts.{step_verdict}
@@ -221,10 +220,10 @@ stands_start site =
     ∙ ap (with_all (alarms_of site []) (outbox_after site [])) (first_logs_same site))
 
 -- a tick where nothing is unfinished
-stands_ticks : (site : Site) → IsSite site → HasRoom site → (history : List Event) → IsHistory site history → unfinished_in (outbox_after site history).posts ≡ 0 →
+stands_ticks : (site : Site) → IsSite site → (history : List Event) → IsHistory site history → unfinished_in (outbox_after site history).posts ≡ 0 →
     (moment : ℕ) → step_verdict (tick_at moment) (state_of site history) ≡ Ok tt
-stands_ticks site is room history is_history none moment =
-    let fits = tick_fits site room is history is_history moment in
+stands_ticks site is history is_history none moment =
+    let fits = tick_fits site is history is_history moment in
     within_verdict (next_notes (tick_at moment) (state_of site history)) (outbox_after site history) (λ over. omega (arith, over.1, none, fits))
 
 -- the runs of the alarms

@@ -1,8 +1,7 @@
 -- What writes never change: which objects there are, their classes, and to which objects enrollments refer.
-use Rattle.std.proofs.Common.{◌≡◌, ℕ, true, false, if◌then◌else◌, Option, Some, None, is_some, List, [], ◌∷◌, map, IsSome, refl, ap, ◌∙◌, sym, subst}
+use Rattle.std.proofs.Common.{◌≡◌, ℕ, true, false, if◌then◌else◌, Option, Some, None, is_some, List, [], ◌∷◌, map, refl, ap, ◌∙◌, sym}
 use Rattle.std.proofs.Math.Path.{fun_ext}
-use Rattle.std.specs.Option.{IfSome, option_and_then, option_map}
-use Rattle.std.proofs.lemmas.List.Elements.{All-map, All-weaker}
+use Rattle.std.specs.Option.{option_and_then, option_map}
 use Rattle.std.proofs.lemmas.Simd.{map-map}
 use Rattle.bac_values.specs.Identifier.{ObjectIdData}
 use Rattle.bac_values.specs.declared.value.Value.{Value}
@@ -15,14 +14,14 @@ use Rattle.object_table.specs.declared.object_property.ObjectProperty.TheVariant
 use Rattle.object_table.specs.declared.object_site.ObjectSite.{ObjectSite}
 use Rattle.object_table.specs.declared.row.Row.{Row}
 use Rattle.object_table.specs.Properties.{property_of}
-use Rattle.object_table.specs.Rows.{first_row, is_object, object_in, object_of, row_of, rows_of}
+use Rattle.object_table.specs.Rows.{first_row, is_object, object_in, object_of, row_of}
 use Rattle.object_table.specs.Writes as rows
 use Rattle.enrollment.specs.declared.enrollment_property.EnrollmentProperty.{EnrollmentProperty}
 use Rattle.enrollment.specs.declared.enrollment_property.EnrollmentProperty.TheVariants as of_enrollments
 use Rattle.enrollment.specs.declared.enrollment_site.EnrollmentSite.{EnrollmentSite}
 use Rattle.enrollment.specs.Enrollments.{identifier_of, site_of}
 use Rattle.enrollment.specs.Properties as enrollment_properties
-use Rattle.enrollment.specs.Snapshots.{HasObjects, Holds, algorithm_by_site, algorithm_with, facts_by_site, facts_of_enrollment, facts_of_object, facts_of_site, value_in}
+use Rattle.enrollment.specs.Snapshots.{algorithm_by_site, algorithm_with, facts_by_site, facts_of_enrollment, facts_of_object, facts_of_site, value_in}
 use Rattle.enrollment.specs.Writes as enrollments
 use Rattle.enrollment.specs.declared.subject.Subject.{Subject}
 use Rattle.enrollment.specs.Objects.{facts_at, ObjectsState, written}
@@ -146,28 +145,6 @@ algorithm_by change object (Some site) = (written_keeps_site change site).algori
 pub algorithm_stays : (object : ObjectIdData) (change : Change) (sites : List EnrollmentSite) → algorithm_with object (enrollments.written change sites) ≡ algorithm_with object sites
 algorithm_stays object change sites = ap (λ found. algorithm_by_site found object) (site_of-written object change sites) ∙ algorithm_by change object (site_of object sites)
 
--- ---- the objects to which enrollments refer stay there
-
-feedback_there : (change : Change) (table : List Row) (before after : Option ObjectIdData) → after ≡ before → IfSome before (λ feedback. IsSome (row_of feedback table)) → IfSome after (λ feedback. IsSome (row_of feedback (rows.written change table)))
-feedback_there change table before None same there = tt
-feedback_there change table None (Some feedback) same there = cc
-feedback_there change table (Some other) (Some feedback) same there =
-    let one : feedback ≡ other = cc in
-    row_there feedback change table ∙ subst (λ object. IsSome (row_of object table)) (sym one) there
-
-has_objects : (change : Change) (table : List Row) (site : EnrollmentSite) → HasObjects table site → HasObjects (rows.written change table) (written_site change site)
-has_objects change table site there = record {
-  monitored = row_there (written_site change site).monitored change table
-      ∙ subst (λ object. IsSome (row_of object table)) (sym (written_keeps_site change site).monitored) there.monitored;
-  feedback = feedback_there change table site.feedback (written_site change site).feedback (written_keeps_site change site).feedback there.feedback;
-}
-
-pub holds_still : (change : Change) (values : ObjectsState) → Holds values.rows values.enrollments → Holds (written change values).rows (written change values).enrollments
-holds_still change values holds =
-    let table = rows.written change values.rows in
-    All-map (HasObjects table) (written_site change) values.enrollments
-    (All-weaker (HasObjects values.rows) (λ site. HasObjects table (written_site change site)) (has_objects change values.rows) values.enrollments holds)
-
 -- ---- what an event algorithm looks at stays there
 
 sees : (site : EnrollmentSite) (table : List Row) → is_some (facts_of_site site table) ≡ is_some (row_of site.monitored table)
@@ -244,15 +221,3 @@ row_objects_after site history =
 
 pub site_objects_after : (site : Site) (history : List Event) → map identifier_of (values_after site history).enrollments ≡ map identifier_of site.enrollments
 site_objects_after site history = same_after (λ values. map identifier_of values.enrollments) (λ change values. site_objects change values.enrollments) site history
-
-holds_with : (act : Act) (values : ObjectsState) → Holds values.rows values.enrollments → Holds (values_with act values).rows (values_with act values).enrollments
-holds_with (Write change) values holds = holds_still change values holds
-holds_with Tick values holds = holds
-holds_with (Ack acknowledged transition named) values holds = holds
-holds_with Pump values holds = holds
-holds_with (Answer peer invoke kind) values holds = holds
-holds_with (Edit number recipients) values holds = holds
-
-pub holds_after : (site : Site) → Holds (rows_of site.objects) site.enrollments → (history : List Event) → Holds (values_after site history).rows (values_after site history).enrollments
-holds_after site holds [] = holds
-holds_after site holds (event ∷ older) = holds_with event.act (values_after site older) (holds_after site holds older)

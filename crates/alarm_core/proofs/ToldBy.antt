@@ -18,12 +18,11 @@ use Rattle.bac_values.specs.declared.transition.Transition.{Transition}
 use Rattle.bac_values.specs.declared.value.Value.{Value}
 use Rattle.algorithm_rules.specs.declared.table.Algorithm.{Algorithm}
 use Rattle.algorithm_rules.specs.Facts.{Facts}
-use Rattle.event_machine.specs.declared.moves.Move.{Move}
 use Rattle.event_services.specs.declared.notification.EventValues.{EventValues}
 use Rattle.event_services.specs.declared.notification.Notification.{Notification}
 use Rattle.note_maker.specs.declared.source.Source.{Source}
 use Rattle.note_maker.specs.Notes.{notes_for}
-use Rattle.note_maker.specs.Shapes.{acknowledgement_notification, transition_notification}
+use Rattle.note_maker.specs.Shapes.{acknowledgement_notification}
 use Rattle.note_maker.specs.Told.{values_at}
 use Rattle.notify_class.specs.declared.class.Class.{Class}
 use Rattle.object_table.specs.Rows.{is_object}
@@ -120,11 +119,6 @@ module _ (seen : SiteViewData) (transition : StateTransition) where
       ∙ sym (ap (λ found. as_told seen transition (found_as seen transition found)) u
       ∙ (ap (λ b. as_told seen transition (if b then with_class seen.classes subject else None)) enabled
       ∙ ap (λ c. as_told seen transition (paired subject c)) f))
-
-  pub notified : (subject : Subject) (class : Class) (source : Source) (stamp : Stamp) (told : Option EventValues) (made : Move) →
-      source ≡ source_of seen.site subject → stamp ≡ site_stamp seen.site transition.moment → told ≡ values_of transition → made ≡ move_of transition →
-      transition_notification source class made stamp told ≡ notification_of seen.site transition subject class
-  notified subject class source stamp told made p q r s = λ k. transition_notification (p k) class (s k) (q k) (r k)
 
   -- its notes, and its record in a log
   pub notes_same : (at : LocalMomentData) → at ≡ site_moment seen.site transition.moment → flat_map (notes_to at) (option_to_list (addressed_in seen transition)) ≡ notes_of_transition seen.site seen.classes transition

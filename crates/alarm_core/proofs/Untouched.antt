@@ -5,15 +5,12 @@ use Rattle.bac_values.specs.Identifier.{ObjectIdData}
 use Rattle.bac_values.specs.declared.reliability.Reliability.{Reliability}
 use Rattle.algorithm_rules.specs.Facts.{Facts}
 use Rattle.object_table.specs.declared.change.Change.{Change}
-use Rattle.object_table.specs.declared.row.Row.{Row}
-use Rattle.enrollment.specs.declared.enrollment_site.EnrollmentSite.{EnrollmentSite}
 use Rattle.std.specs.List.{list_any}
-use Rattle.object_table.specs.Rows.{is_object, row_of}
-use Rattle.enrollment.specs.Watchers.{watchers}
-use Rattle.enrollment.specs.Enrollments.{site_of}
+use Rattle.object_table.specs.Rows.{is_object}
+use Rattle.enrollment.specs.Watchers.{referrers_in, watchers}
 use Rattle.enrollment.specs.Laws.{IsUntouched}
 use Rattle.enrollment.specs.Objects.{ObjectsState, facts_at, reliability_at, written}
-use Rattle.enrollment.specs.Subjects.{inhibit_of, is_inhibited, subject_by}
+use Rattle.enrollment.specs.Subjects.{is_inhibited}
 use Rattle.enrollment.proofs.Untouched.{watchers_are_all_that_refer}
 use Rattle.alarm_core.specs.State.{DetectedObjectState}
 use Rattle.alarm_core.specs.DueSteps.{AreEarly, IsEarly, all_once, due_by, due_of, is_among, once, sight_with, touched_by}
@@ -23,16 +20,12 @@ pub record SeesTheSame (object : ObjectIdData) (values others : ObjectsState) : 
   pub reliability : reliability_at object others ≡ reliability_at object values
   pub inhibited : is_inhibited object others ≡ is_inhibited object values
 
-pub sees_the_same : (change : Change) (object : ObjectIdData) (values : ObjectsState) → IsUntouched change object values.enrollments → SeesTheSame object values (written change values)
+pub sees_the_same : (change : Change) (object : ObjectIdData) (values : ObjectsState) → IsUntouched change object values → SeesTheSame object values (written change values)
 sees_the_same change object values untouched =
-    let same = watchers_are_all_that_refer change object values.enrollments values.rows untouched in
-    record {
-      facts = same.facts;
-      reliability = same.reliability;
-      inhibited = ap (λ (site : Option EnrollmentSite). inhibit_of (subject_by site (row_of object (written change values).rows))) same.site ∙ ap (λ (row : Option Row). inhibit_of (subject_by (site_of object values.enrollments) row)) same.row;
-    }
+    let same = watchers_are_all_that_refer change object values untouched in
+    record { facts = same.facts; reliability = same.reliability; inhibited = same.inhibited }
 
-pub due_untouched : (change : Change) (detected : DetectedObjectState) (values : ObjectsState) → IsUntouched change detected.object values.enrollments → due_of (written change values) detected ≡ due_of values detected
+pub due_untouched : (change : Change) (detected : DetectedObjectState) (values : ObjectsState) → IsUntouched change detected.object values → due_of (written change values) detected ≡ due_of values detected
 due_untouched change detected values untouched =
     let same = sees_the_same change detected.object values untouched in
     let point = λ (reliability : Reliability) (inhibited : Bool) (facts : Facts). record (sight_with detected.object values facts) { reliability = reliability; inhibited = inhibited } in
@@ -86,27 +79,27 @@ pub one_once-is : (touched : List ObjectIdData) (object : ObjectIdData) (due : O
 one_once-is [] object due = refl
 one_once-is (first ∷ touched) object due = once_by (is_object first object) touched object due (stays_once touched object) (one_once-is touched object due)
 
-pub untouched_by : (change : Change) (detected : DetectedObjectState) (values : ObjectsState) → is_among (touched_by change.object values.enrollments) detected.object ≡ false →
-    IsUntouched change detected.object values.enrollments
+pub untouched_by : (change : Change) (detected : DetectedObjectState) (values : ObjectsState) → is_among (touched_by change.object values) detected.object ≡ false →
+    IsUntouched change detected.object values
 untouched_by change detected values is =
-    let sites = watchers change.object values.enrollments in
+    let sites = watchers change.object (referrers_in values) in
     let parts = or_none (is_object change.object detected.object) (is_among sites detected.object) is in
     record {
       other = parts.0;
       no_watcher = λ k d within. alike detected.object (slice_index_or sites k d) ∙ any_none (λ (one : ObjectIdData). is_object one detected.object) sites parts.1 k d within;
     }
 
-early_one : (change : Change) (values : ObjectsState) (detected : DetectedObjectState) (is : Bool) → is_among (touched_by change.object values.enrollments) detected.object ≡ is →
+early_one : (change : Change) (values : ObjectsState) (detected : DetectedObjectState) (is : Bool) → is_among (touched_by change.object values) detected.object ≡ is →
     IsEarly (written change values) detected (if is then Some 0 else due_of values detected)
 early_one change values detected true is = inr refl
 early_one change values detected false is = inl (sym (due_untouched change detected values (untouched_by change detected values is)))
 
 -- with the touched ones set at once, no timer is late after the write
 pub early_touched : (change : Change) (values : ObjectsState) (alarms : List DetectedObjectState) →
-    AreEarly (written change values) alarms (all_once (touched_by change.object values.enrollments) alarms (map (due_of values) alarms))
-early_touched change values [] = subst (AreEarly (written change values) []) (sym (all_once-nil (touched_by change.object values.enrollments))) tt
+    AreEarly (written change values) alarms (all_once (touched_by change.object values) alarms (map (due_of values) alarms))
+early_touched change values [] = subst (AreEarly (written change values) []) (sym (all_once-nil (touched_by change.object values))) tt
 early_touched change values (detected ∷ alarms) =
-    let touched = touched_by change.object values.enrollments in
+    let touched = touched_by change.object values in
     let due = due_of values detected in
     let one = early_one change values detected (is_among touched detected.object) refl in
     subst (AreEarly (written change values) (detected ∷ alarms)) (sym (all_once-cons touched detected alarms due (map (due_of values) alarms)))

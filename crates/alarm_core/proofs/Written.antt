@@ -171,8 +171,8 @@ second_look old between now moment change transitions b e n v a t =
 -- as many looks are due at the second one as after the first one of a core whose view this is
 pub second_steps : (old between : CoreState) (at : LocalMomentData) (object : ObjectIdData) → between ≡ record old { alarms = between.alarms } →
     between.alarms ≡ evaluated_all (site_moment old.site at.moment) old.values old.alarms → at ≡ site_moment old.site at.moment →
-    due_count at.moment (all_once (touched_by object between.values.enrollments) between.alarms (dues_of (detections_of between)))
-    ≡ due_count at.moment (all_once (touched_by object old.values.enrollments) (evaluated_all at old.values old.alarms) (map (due_of old.values) (evaluated_all at old.values old.alarms)))
+    due_count at.moment (all_once (touched_by object between.values) between.alarms (dues_of (detections_of between)))
+    ≡ due_count at.moment (all_once (touched_by object old.values) (evaluated_all at old.values old.alarms) (map (due_of old.values) (evaluated_all at old.values old.alarms)))
 second_steps old between at object b e here =
     let alarms = e ∙ ap (λ a. evaluated_all a old.values old.alarms) (sym here) in
-    ap (λ (s : CoreState). due_count at.moment (all_once (touched_by object s.values.enrollments) s.alarms (dues_of (detections_of s)))) (b ∙ (λ k. record old { alarms = alarms k }))
+    ap (λ (s : CoreState). due_count at.moment (all_once (touched_by object s.values) s.alarms (dues_of (detections_of s)))) (b ∙ (λ k. record old { alarms = alarms k }))

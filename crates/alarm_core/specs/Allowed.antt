@@ -1,24 +1,23 @@
 -- Which events may come after a state, and what it means that a state represents a history.
-use Rattle.std.specs.Prelude.{◌≡◌, ◌⊎◌, ◌≤◌, ℕ, ◌+◌, ◌*◌, ◌-◌, ◌==◌, ◌||◌, not, IsTrue, IsSome, Ok, List, [], ◌∷◌, length, filter, count_by, sum_by}
+use Rattle.std.specs.Prelude.{◌≡◌, ◌⊎◌, ◌≤◌, ℕ, ◌-◌, ◌==◌, ◌||◌, not, IsTrue, IsSome, Ok, List, [], ◌∷◌, filter, sum_by}
 use Rattle.bac_values.specs.Moments.{IsMoment}
 use Rattle.bac_values.specs.Pdus.{abort_pdu, error_pdu, reject_pdu, simple_ack_pdu}
 use Rattle.event_machine.specs.Finding.{MayAcknowledge}
 use Rattle.notify_class.specs.Edits.{edit_verdict}
 use Rattle.notify_class.specs.declared.class.Class.{Class}
-use Rattle.object_table.specs.declared.row.Row.{Row}
 use Rattle.outbox.specs.Outboxes.{has_in_flight, peers_of, unfinished_in}
-use Rattle.enrollment.specs.declared.enrollment_site.EnrollmentSite.{EnrollmentSite}
 use Rattle.enrollment.specs.Objects.{IsTaken}
 use Rattle.alarm_core.specs.declared.event.Act.{Act}
 use Rattle.alarm_core.specs.declared.event.Act.TheVariants.{Tick, Write, Ack, Pump, Answer, Edit}
 use Rattle.alarm_core.specs.declared.event.Event.{Event}
 use Rattle.alarm_core.specs.declared.site.Site.{Site}
-use Rattle.alarm_core.specs.Classes.{class_in, is_member}
+use Rattle.alarm_core.specs.Classes.{class_in}
 use Rattle.alarm_core.specs.Deliveries.{outbox_after}
 use Rattle.alarm_core.specs.History.{last_moment_of}
 use Rattle.alarm_core.specs.State.{state_of, CoreState}
 use Rattle.alarm_core.specs.Found.{found_in}
 use Rattle.alarm_core.specs.Logs.{IsTakenByLog}
+use Rattle.alarm_core.specs.Room.{members_at, share_at}
 use Rattle.alarm_core.specs.Sites.{IsSite}
 
 -- the kinds of PDU by which a confirmed request is answered (20.1.2): SimpleACK, Error, Reject and Abort
@@ -27,12 +26,11 @@ IsAnswer kind = IsTrue (kind == simple_ack_pdu || (kind == error_pdu || (kind ==
 
 -- how many objects have a class
 abbrev pub members_of : CoreState → ℕ → ℕ
-members_of state number =
-    count_by (λ (row : Row). is_member row.site.class number) state.values.rows + count_by (λ (enrollment : EnrollmentSite). enrollment.class == number) state.site.enrollments
+members_of state number = members_at state.site number
 
 -- how many notifications one transition of each of its objects gives at most
 abbrev pub share_of : CoreState → Class → ℕ
-share_of state class = members_of state class.instance * length class.destinations
+share_of state class = share_at state.site class
 
 -- what the other classes leave of the outbox
 abbrev pub room_beside : CoreState → ℕ → ℕ

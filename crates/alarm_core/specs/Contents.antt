@@ -7,6 +7,7 @@ use Rattle.object_table.specs.declared.row.Row.{Row}
 use Rattle.object_table.specs.Rows.{is_object, row_of}
 use Rattle.enrollment.specs.declared.enrollment_site.EnrollmentSite.{EnrollmentSite}
 use Rattle.enrollment.specs.Enrollments.{site_of}
+use Rattle.enrollment.specs.Subjects.{is_inhibited}
 use Rattle.property_values.specs.declared.content.Content.{Content}
 use Rattle.property_values.specs.declared.content.ReadFault.{ReadFault}
 use Rattle.notify_class.specs.declared.class_site.ClassSite.{ClassSite}
@@ -39,8 +40,8 @@ other_content site classes object number =
     else class_or_other site classes object number (listed_class object site.classes)
 
 abbrev pub content_by : CoreState → ObjectIdData → ℕ → Option EnrollmentSite → Option Row → Option SiteLogState → Result Content ReadFault
-content_by state object number (Some site) row kept = enrollment_content (alarm_in state object) site state.values.rows number
-content_by state object number None (Some row) kept = row_content (alarm_in state object) row number
+content_by state object number (Some site) row kept = enrollment_content (alarm_in state object) (is_inhibited object state.values) site state.values.rows number
+content_by state object number None (Some row) kept = row_content (alarm_in state object) (is_inhibited object state.values) row number
 content_by state object number None None (Some kept) = log_content kept.site kept.log number
 content_by state object number None None None = other_content state.site state.classes object number
 

@@ -4,8 +4,7 @@ use Rattle.std.specs.List.{list_any}
 use Rattle.std.specs.Option.{option_map}
 use Rattle.held_timers.specs.Dues.{is_due}
 use Rattle.object_table.specs.Rows.{Ascends, is_object}
-use Rattle.enrollment.specs.declared.enrollment_site.EnrollmentSite.{EnrollmentSite}
-use Rattle.enrollment.specs.Watchers.{watchers}
+use Rattle.enrollment.specs.Watchers.{referrers_in, watchers}
 use Rattle.bac_values.specs.Identifier.{ObjectIdData}
 use Rattle.algorithm_rules.specs.Facts.{Facts}
 use Rattle.algorithm_rules.specs.declared.table.Algorithm.{Algorithm}
@@ -21,7 +20,7 @@ use Rattle.alarm_core.specs.declared.due_looks.Former.{Former}
 use Rattle.alarm_core.specs.declared.event.Act.{Act}
 use Rattle.alarm_core.specs.declared.event.Act.TheVariants.{Tick, Write}
 use Rattle.alarm_core.specs.State.{CoreState, DetectedObjectState}
-use Rattle.alarm_core.specs.CoreSteps.{evaluated_all}
+use Rattle.alarm_core.specs.CoreSteps.{evaluated_all, transitions_by}
 
 -- what is seen of an object, whatever the moment
 abbrev pub sight_with : ObjectIdData → ObjectsState → Facts → Point
@@ -52,9 +51,9 @@ AreEarly values [] [] = ⊤
 AreEarly values (detected ∷ alarms) (due ∷ timers) = IsEarly values detected due × AreEarly values alarms timers
 AreEarly values _ _ = ⊥
 
--- a write touches the written object, and its watchers
-abbrev pub touched_by : ObjectIdData → List EnrollmentSite → List ObjectIdData
-touched_by changed sites = changed ∷ watchers changed sites
+-- a write touches the written object, and its watchers: all objects and enrollments that refer to it
+abbrev pub touched_by : ObjectIdData → ObjectsState → List ObjectIdData
+touched_by changed objects = changed ∷ watchers changed (referrers_in objects)
 
 abbrev pub is_among : List ObjectIdData → ObjectIdData → Bool
 is_among touched object = list_any (λ one. is_object one object) touched
@@ -73,6 +72,11 @@ all_once (object ∷ later) alarms timers = all_once later alarms (once object a
 abbrev pub due_count : ℕ → List (Option ℕ) → ℕ
 due_count moment [] = 0
 due_count moment (due ∷ timers) = (if is_due moment due then 1 else 0) + due_count moment timers
+
+-- each object that is due moves as it is evaluated
+abbrev pub DueOnesMove : LocalMomentData → ObjectsState → List DetectedObjectState → Type 0
+DueOnesMove at values alarms = (index : ℕ) (d : DetectedObjectState) → index < length alarms → is_due at.moment (due_of values (slice_index_or alarms index d)) ≡ true →
+    transitions_by at values (slice_index_or alarms index d) ≢ []
 
 -- the objects of some alarms, and alarms that ascend by them
 abbrev pub object_of : DetectedObjectState → ObjectIdData
@@ -131,7 +135,7 @@ abbrev pub due_steps : LocalMomentData → Act → DetectionsState → ℕ
 due_steps at Tick state = due_count at.moment (dues_of state)
 due_steps at (Write change) state =
     let between = evaluated_all at state.values state.alarms in
-    due_count at.moment (dues_of state) + due_count at.moment (all_once (touched_by change.object state.values.enrollments) between (map (due_of state.values) between))
+    due_count at.moment (dues_of state) + due_count at.moment (all_once (touched_by change.object state.values) between (map (due_of state.values) between))
 due_steps at act state = 0
 
 -- what a change takes back, if there is one

@@ -1,31 +1,34 @@
--- What makes the definitions believable: the next state is that of the longer history, and the run starts are in it; the state that a history leaves keeps to its site; when a tick is never refused; which number a refusal tells; which peers are known; and which changes are allowed.
-use Rattle.std.specs.Prelude.{◌≡◌, ◌↔◌, ◌<◌, ℕ, ◌+◌, ◌^◌, Bool, true, false, IsTrue, IsOk, None, List, [], ◌∷◌, ◌++◌, length, map, reverse, All, Contains, Ok, Err}
+-- What makes the definitions believable: the next state is that of the longer history, and the run starts are in it; the state that a history leaves keeps to its site; when a tick is never refused; which number a refusal tells; which peers are known, and that classes are there; which changes are allowed; and that Object_List ascends.
+use Rattle.std.specs.Prelude.{◌≡◌, ◌↔◌, ◌<◌, ℕ, ◌+◌, Bool, true, false, IsTrue, IsOk, IsSome, Some, None, List, [], ◌∷◌, ◌++◌, length, map, reverse, All, Contains, Ok, Err}
 use Rattle.bac_values.specs.Address.{PeerData}
 use Rattle.bac_values.specs.Identifier.{ObjectIdData}
+use Rattle.bac_values.specs.Limits.{most_events}
 use Rattle.bac_values.specs.Orders.{IsAscending}
 use Rattle.bac_values.specs.Properties.{present_value_property}
 use Rattle.bac_values.specs.declared.value.Value.{Value}
 use Rattle.object_table.specs.Rows.{Ascends}
 use Rattle.object_table.specs.Verdicts.{checked_fault, checked_set, fault_change, property_change}
 use Rattle.outbox.specs.Outboxes.{unfinished_in}
-use Rattle.enrollment.specs.Subjects.{object_of}
+use Rattle.property_values.specs.DeviceProperties.{object_list}
+use Rattle.enrollment.specs.declared.subject.Subject.{Subject}
+use Rattle.enrollment.specs.Subjects.{object_of, subject_in}
 use Rattle.alarm_core.specs.declared.event.Act.{Act}
 use Rattle.alarm_core.specs.declared.event.Act.TheVariants.{Tick, Write, Ack}
 use Rattle.alarm_core.specs.declared.event.Event.{Event}
 use Rattle.alarm_core.specs.declared.event.StepFault.TheVariants.{Full}
 use Rattle.alarm_core.specs.declared.site.Site.{Site}
 use Rattle.alarm_core.specs.Fits.{FitsEvent, FitsSite}
-use Rattle.alarm_core.specs.History.{tick_at, transitions_of}
-use Rattle.alarm_core.specs.Limits.{KeepsLimits}
+use Rattle.alarm_core.specs.History.{tick_at, transitions_of, values_after}
 use Rattle.alarm_core.specs.State.{state_of, CoreState}
 use Rattle.alarm_core.specs.Allowed.{Comes, IsAllowed, IsHistory, Represents}
-use Rattle.alarm_core.specs.Classes.{known_peers_of, listed_peers}
+use Rattle.alarm_core.specs.Classes.{classes_after, known_peers_of, listed_peers}
 use Rattle.alarm_core.specs.Deliveries.{event_sends, notifications_of, outbox_after}
+use Rattle.alarm_core.specs.Devices.{identifiers_of}
 use Rattle.alarm_core.specs.CoreSteps.{first_state, next_notes, next_sends, next_state, next_transitions}
-use Rattle.alarm_core.specs.FollowingSteps.{AreAllowed, state_over}
+use Rattle.alarm_core.specs.Following.{AreAllowed, state_over}
 use Rattle.alarm_core.specs.RunStarts.{run_starts_in, run_starts_of}
+use Rattle.alarm_core.specs.Notes.{class_for}
 use Rattle.alarm_core.specs.Reading.{write_of}
-use Rattle.alarm_core.specs.Room.{HasRoom}
 use Rattle.alarm_core.specs.SiteStates.{IsStateOf}
 use Rattle.alarm_core.specs.Sites.{IsSite}
 use Rattle.alarm_core.specs.Subjects.{subjects_of}
@@ -43,8 +46,8 @@ pub record StandsForItsHistory : Type 0 where
   pub run_starts : (site : Site) (history : List Event) → run_starts_in (state_of site history) ≡ run_starts_of site history
   -- the objects that have event detection stand in the order of their identifiers
   pub ascending : (site : Site) → IsSite site → Ascends (map object_of (subjects_of site))
-  -- where the classes have instances of their own and leave room, and no notification is unfinished, a tick is never refused
-  pub ticks_fit : (site : Site) → IsSite site → HasRoom site → (history : List Event) → IsHistory site history → unfinished_in (outbox_after site history).posts ≡ 0 →
+  -- where no notification is unfinished, a tick is never refused
+  pub ticks_fit : (site : Site) → IsSite site → (history : List Event) → IsHistory site history → unfinished_in (outbox_after site history).posts ≡ 0 →
       (moment : ℕ) → step_verdict (tick_at moment) (state_of site history) ≡ Ok tt
 
 -- an act that may give notifications
@@ -62,6 +65,11 @@ pub record CountsTheLongerHistory : Type 0 where
   pub full : (site : Site) (event : Event) (history : List Event) → Comes site event history → (would limit : ℕ) →
       (step_verdict event (state_of site history) ≡ Err (Full would limit))
       ↔ ((would ≡ unfinished_in (outbox_after site (event ∷ history)).posts) × (limit ≡ site.device.outbox) × (limit < would))
+
+-- the class of an object that has one is there after every history, so its notifications have a class
+pub record ClassesAreThere : Type 0 where
+  pub there : (site : Site) → IsSite site → (history : List Event) (object : ObjectIdData) (subject : Subject) → subject_in object (values_after site history) ≡ Some subject → IsSome subject.class →
+      IsSome (class_for subject (classes_after site history))
 
 -- the peers that are known after a history are those of the site's lists and of every edit, and each stands there once
 pub record KnowsListedPeers : Type 0 where
@@ -81,7 +89,11 @@ abbrev pub StandsOverEvents : Type 0
 StandsOverEvents = (state : CoreState) (history events : List Event) → IsSite state.site → Represents state history → AreAllowed state events →
     Represents (state_over state events) (reverse events ++ history)
 
--- The state that a history leaves is one that the state of its site may be: of a site that keeps to its limits, of fewer than 2^63 events, and of values that fit their types.
+-- The state that a history leaves is one that the state of its site may be: of fewer than 2^63 events, and of values that fit their types.
 pub record KeepsToItsSite : Type 0 where
-  pub keeps : (site : Site) → IsSite site → KeepsLimits site → FitsSite site → (history : List Event) → IsHistory site history → All FitsEvent history → length history < 2 ^ 63 →
+  pub keeps : (site : Site) → IsSite site → FitsSite site → (history : List Event) → IsHistory site history → All FitsEvent history → length history < most_events →
       IsStateOf site (state_of site history)
+
+-- Object_List ascends (12.11)
+abbrev pub ObjectListAscends : Type 0
+ObjectListAscends = (site : Site) → IsSite site → Ascends (object_list (identifiers_of site))

@@ -1,4 +1,5 @@
 pub mod Values
+pub mod Bindings
 pub mod Sites
 pub mod Subjects
 pub mod Evaluations
@@ -13,17 +14,20 @@ pub mod State
 pub mod Found
 pub mod Allowed
 pub mod Room
+pub mod ListLimits
+pub mod Places
 pub mod CoreSteps
 pub mod DueSteps
 pub mod Moving
 pub mod ViewSteps
 pub mod RunStarts
-pub mod FollowingSteps
+pub mod Following
 pub mod Laws
 pub mod EnrollmentProperties
 pub mod Contents
 pub mod Reading
 pub mod Information
+pub mod AlarmRows
 pub mod LastLists
 pub mod Verdicts
 pub mod SiteStates

@@ -1,7 +1,7 @@
 -- How many looks at objects an event is worth: one for each move of an object at a look, and for a write one for each object that it touches.
 use Rattle.std.specs.Prelude.{ℕ, ◌+◌, Bool, true, false, List, [], ◌∷◌, filter, length}
 use Rattle.enrollment.specs.Objects.{ObjectsState}
-use Rattle.enrollment.specs.Watchers.{watchers}
+use Rattle.enrollment.specs.Watchers.{referrers_in, watchers}
 use Rattle.enrollment.specs.declared.subject.Subject.{Subject}
 use Rattle.alarm_core.specs.declared.event.Act.{Act}
 use Rattle.alarm_core.specs.declared.event.Act.TheVariants.{Write}
@@ -30,9 +30,9 @@ moving_over site moment (values ∷ later) older =
 abbrev pub moving_of : Site → Event → List Event → ℕ
 moving_of site event older = moving_over site event.moment (looks_of event.act (values_after site older)) (occurrences_of site older)
 
--- a write touches the written object, and each of its watchers
+-- a write touches the written object, and each of its watchers: all objects and enrollments that refer to it
 abbrev pub touched_with : Act → ObjectsState → ℕ
-touched_with (Write change) values = 1 + length (watchers change.object values.enrollments)
+touched_with (Write change) values = 1 + length (watchers change.object (referrers_in values))
 touched_with act values = 0
 
 abbrev pub touched_of : Site → Event → List Event → ℕ

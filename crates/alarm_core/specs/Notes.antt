@@ -1,10 +1,10 @@
 -- What is told of an event-state transition and of an acknowledgement, and to whom (ANSI/ASHRAE 135-2020, 13.2.5 and 13.5).
 use Rattle.std.specs.Prelude.{ℕ, ◌≤◌, length, Bool, false, if◌then◌else◌, Option, Some, None, List}
-use Rattle.bac_values.specs.Limits.{most_note_octets}
 use Rattle.std.specs.List.{flat_map}
 use Rattle.std.specs.Option.{option_and_then, option_map, option_to_list}
 use Rattle.bac_values.specs.EventStates.{transition_to}
 use Rattle.bac_values.specs.Identifier.{ObjectIdData}
+use Rattle.bac_values.specs.Limits.{most_note_octets}
 use Rattle.bac_values.specs.declared.event_state.EventState.{EventState}
 use Rattle.bac_values.specs.declared.note.Note.{Note}
 use Rattle.bac_values.specs.declared.status_flags.StatusFlags.{StatusFlags}
@@ -27,6 +27,7 @@ use Rattle.enrollment.specs.Snapshots.{algorithm_with, value_in}
 use Rattle.enrollment.specs.Objects.{facts_at, reliability_at}
 use Rattle.enrollment.specs.declared.subject.Subject.{Subject}
 use Rattle.enrollment.specs.Subjects.{is_enabled, subject_in}
+use Rattle.enrollment.specs.Texts.{texts_in, told_text}
 use Rattle.alarm_core.specs.declared.site.Site.{Site}
 use Rattle.alarm_core.specs.Classes.{class_in}
 use Rattle.alarm_core.specs.Devices.{device_object}
@@ -78,9 +79,14 @@ values_of transition =
     (λ facts. values_at (algorithm_with transition.object transition.values.enrollments) facts (move_of transition) transition.cause (reliability_at transition.object transition.values) (told_flags listed transition) (told_value listed transition))
     (facts_at transition.object transition.values)
 
+-- the text that is told of it: the object's for a transition to the state that it enters
+abbrev pub text_of : StateTransition → Option (List ℕ)
+text_of transition = told_text (transition_to transition.to) (texts_in transition.object transition.values)
+
 -- the notification of a transition, before it is told to a process
 abbrev pub notification_of : Site → StateTransition → Subject → Class → Notification
-notification_of site transition subject class = transition_notification (source_of site subject) class (move_of transition) (site_stamp site transition.moment) (values_of transition)
+notification_of site transition subject class =
+    transition_notification (source_of site subject) class (move_of transition) (site_stamp site transition.moment) (values_of transition) (text_of transition)
 
 -- an object with its class
 abbrev pub with_class : List Class → Subject → Option (Subject × Class)

@@ -4,6 +4,8 @@ use Rattle.std.specs.List.{AllZip}
 use Rattle.event_log.specs.Log.{EventLogState}
 use Rattle.event_log.specs.declared.log_site.LogSite.{LogSite}
 use Rattle.event_machine.specs.Summary.{AlarmState, new_alarm}
+use Rattle.enrollment.specs.Objects.{ObjectsState}
+use Rattle.enrollment.specs.References.{enrollments_in}
 use Rattle.enrollment.specs.Subjects.{is_detecting}
 use Rattle.enrollment.specs.declared.subject.Subject.{Subject}
 use Rattle.alarm_core.specs.declared.parts.Parts.{Parts}
@@ -31,13 +33,17 @@ detected_by site pair = if is_detecting pair.0 then detected_with site pair.0 pa
 abbrev pub kept_by : LogSite × EventLogState → SiteLogState
 kept_by pair = record { site = pair.0; log = pair.1 }
 
+-- the properties of all objects
+abbrev pub values_of_parts : Parts → ObjectsState
+values_of_parts parts = record { rows = parts.table; enrollments = parts.enrollments.sites }
+
 -- the state that parts tell: the alarms are those of the objects with a notification class and of the enrollments, by ascending identifier, and the logs are in the site's order
 abbrev pub state_of_parts : Site → Parts → CoreState
 state_of_parts site parts = record {
   site = site;
   events = parts.events;
   last_moment = parts.last_moment;
-  values = record { rows = parts.table; enrollments = parts.enrollments };
+  values = values_of_parts parts;
   alarms = flat_map (detected_by site) (zip (alarm_subjects site) parts.alarms);
   classes = parts.classes;
   outbox = parts.outbox;
@@ -48,8 +54,9 @@ state_of_parts site parts = record {
 abbrev pub MayHave : Subject → AlarmState → Type 0
 MayHave subject alarm = is_detecting subject ≡ false → alarm ≡ new_alarm
 
--- parts of which a core of a site may be made
+-- parts of which a core of a site may be made; the enrollments know who refers to an object
 pub record ArePartsOf (site : Site) (parts : Parts) : Type 0 where
+  pub references : parts.enrollments ≡ enrollments_in (values_of_parts parts)
   pub alarms : AllZip MayHave (alarm_subjects site) parts.alarms
   pub logs : length parts.logs ≡ length site.logs
   pub state : IsStateOf site (state_of_parts site parts)
@@ -60,7 +67,7 @@ parts_of state = record {
   events = state.events;
   last_moment = state.last_moment;
   table = state.values.rows;
-  enrollments = state.values.enrollments;
+  enrollments = enrollments_in state.values;
   alarms = map (λ (subject : Subject). alarm_in state subject.object) (alarm_subjects state.site);
   classes = state.classes;
   logs = map log_of state.logs;

@@ -13,6 +13,7 @@ use Rattle.enrollment.specs.Enrollments.{site_of}
 use Rattle.enrollment.specs.Verdicts.{write_by_site}
 use Rattle.property_values.specs.declared.content.Content.{Content}
 use Rattle.property_values.specs.declared.content.ReadFault.{ReadFault}
+use Rattle.property_values.specs.declared.content.ReadFault.TheVariants.{Error, NoMemory}
 use Rattle.property_values.specs.LogProperties.{log_write}
 use Rattle.property_values.specs.Properties.{as_write_fault}
 use Rattle.property_values.specs.Reading.{part_in, size_of}
@@ -29,9 +30,17 @@ abbrev pub denied_by : Result (Unit {0}) WriteFault → Result Change WriteFault
 denied_by (Err fault) = Err fault
 denied_by (Ok passed) = Err write_access_denied
 
+-- the length of a property that is an array, or why there is no property
+abbrev pub size_in : Result Content ReadFault → Result (Option ℕ) ReadFault
+size_in (Err fault) = Err fault
+size_in (Ok content) = Ok (size_of content)
+
+abbrev pub denied_with : Result (Option ℕ) ReadFault → Option ℕ → Result Change WriteFault
+denied_with (Err fault) index = Err (as_write_fault fault)
+denied_with (Ok size) index = denied_by (index_verdict size index)
+
 abbrev pub denied : Result Content ReadFault → Option ℕ → Result Change WriteFault
-denied (Err fault) index = Err (as_write_fault fault)
-denied (Ok content) index = denied_by (index_verdict (size_of content) index)
+denied content index = denied_with (size_in content) index
 
 abbrev pub write_by : CoreState → Option EnrollmentSite → Option Row → Option SiteLogState → ObjectIdData → ℕ → Option ℕ → Value → Result Change WriteFault
 write_by state (Some site) row kept object number index value = write_by_site (Some site) object number index value
@@ -46,3 +55,9 @@ write_of state object number index value = write_by state (site_of object state.
 -- the answer is that one, unless memory is refused
 abbrev pub AnswersWrite : Result Change WriteFault → Result Change WriteFault → Type 0
 AnswersWrite answer write = (answer ≡ write) ⊎ (answer ≡ Err write_faults.NoMemory)
+
+-- so it is of a length
+abbrev pub AnswersSize : Result (Option ℕ) ReadFault → Result (Option ℕ) ReadFault → Type 0
+AnswersSize (Ok size) found = found ≡ Ok size
+AnswersSize (Err (Error class code)) found = found ≡ Err (Error class code)
+AnswersSize (Err NoMemory) found = Unit {0}

@@ -1,10 +1,10 @@
 -- What the state of a site keeps to, whatever happened: the states that a snapshot of the site may hold.
-use Rattle.std.specs.Prelude.{◌≡◌, ◌≤◌, ◌<◌, ◌^◌, ℕ, ℤ, pos, ◌==◌, Bool, true, IsTrue, IsSome, IfSome, IsNone, Option, Some, is_some, if◌then◌else◌, List, length, All}
-use Rattle.bac_values.specs.Limits.{most_destinations, most_peers, most_note_octets}
+use Rattle.std.specs.Prelude.{◌≡◌, ◌≤◌, ◌<◌, ℕ, ℤ, pos, ◌==◌, Bool, true, false, IsTrue, IsSome, IfSome, IsNone, Option, Some, is_some, if◌then◌else◌, List, length, All}
 use Rattle.std.specs.List.{AllZip, list_any}
 use Rattle.std.specs.Option.{option_map_or}
 use Rattle.bac_values.specs.EventStates.{event_states, number_of_state, transition_to}
 use Rattle.bac_values.specs.Identifier.{ObjectIdData}
+use Rattle.bac_values.specs.Limits.{most_destinations, most_events, most_note_octets, most_peers}
 use Rattle.bac_values.specs.Moments.{IsMoment}
 use Rattle.bac_values.specs.declared.event_state.EventState.{EventState}
 use Rattle.bac_values.specs.declared.event_state.EventState.TheVariants.{Normal, Fault, Offnormal}
@@ -36,6 +36,7 @@ use Rattle.alarm_core.specs.declared.site.Site.{Site}
 use Rattle.alarm_core.specs.Evaluations.{site_zone}
 use Rattle.alarm_core.specs.Known.{KnowsClass}
 use Rattle.alarm_core.specs.Logs.{SiteLogState}
+use Rattle.alarm_core.specs.Room.{LeaveRoom}
 use Rattle.alarm_core.specs.State.{CoreState, DetectedObjectState}
 use Rattle.alarm_core.specs.Subjects.{ack_required_of, detecting_subjects}
 
@@ -65,10 +66,11 @@ pub record IsRowOf (site : ObjectSite) (row : Row) : Type 0 where
   pub delay : is_some row.site.time_delay_normal ≡ is_some site.time_delay_normal
   pub takes : IsRow row
 
--- an enrollment of a site, as writes may have left it
+-- an enrollment of a site, as writes may have left it; one that is inhibited by reference keeps its Event_Algorithm_Inhibit
 pub record IsEnrollmentOf (site written : EnrollmentSite) : Type 0 where
   pub same : written ≡ record site { enable = written.enable; inhibit = written.inhibit }
   pub enable : length written.enable ≡ 3
+  pub inhibit : IsSome site.inhibit_ref → written.inhibit ≡ false
 
 -- ---- alarms
 
@@ -149,16 +151,17 @@ pub record IsLogOf (site : Site) (listed : LogSite) (kept : SiteLogState) : Type
 
 -- ---- all of it
 
--- The state of a site: fewer than 2^63 events, the last one not before the start; its objects, classes and logs as above; and an outbox with the site's settings, which has a post for each recipient.
+-- The state of a site: fewer than 2^63 events, the last one not before the start; its objects, classes and logs as above, with lists that leave room in the outbox; and an outbox with the site's settings, which has a post for each recipient.
 pub record IsStateOf (site : Site) (state : CoreState) : Type 0 where
   pub site_is : state.site ≡ site
-  pub events : state.events < 2 ^ 63
+  pub events : state.events < most_events
   pub moment : IsMoment state.last_moment
   pub begun : site.device.start ≤ state.last_moment
   pub rows : AllZip IsRowOf site.objects state.values.rows
   pub enrollments : AllZip IsEnrollmentOf site.enrollments state.values.enrollments
   pub alarms : AllZip (IsDetectedOf site state) (detecting_subjects site) state.alarms
   pub classes : AllZip IsClassOf site.classes state.classes
+  pub room : LeaveRoom site state.classes
   pub known : All (KnowsClass (peers_of state.outbox.posts)) state.classes
   pub peers : length state.outbox.posts ≤ most_peers
   pub outbox : IsOutbox state.outbox

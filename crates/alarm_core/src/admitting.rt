@@ -1,14 +1,16 @@
 ghost use Rattle.std.specs.Prelude.{◌≡◌, ◌==◌, ◌↔◌, ◌+◌, ◌^◌, ◌-◌, ◌≤◌, IsSome, IsTrue, Ok, min, not, map, filter, fold};
+ghost use Rattle.bac_values.specs.Limits.{most_outbox};
 ghost use Rattle.bac_values.specs.Moments.{IsMoment};
 ghost use Rattle.notify_class.specs.Edits.{edit_verdict};
 ghost use Rattle.notify_class.specs.declared.class.Class.{Class as Listed};
 ghost use Rattle.outbox.specs.Outboxes.{peers_of as peers_of_posts};
 ghost use Rattle.alarm_core.specs.Allowed.{IsAllowed, IsAnswer, members_of, room_beside, share_of};
-ghost use Rattle.alarm_core.specs.Classes.{class_in, is_member};
+ghost use Rattle.alarm_core.specs.Classes.{class_in};
 ghost use Rattle.alarm_core.specs.Logs.{IsTakenByLog};
 
+use crate::class_search::place_of_class;
 use crate::logs::{SiteLog, kept_log};
-use crate::notifications::class_in;
+use crate::members::{added, few_members};
 use crate::{Act, Core, Event};
 use bac_values::{FIRST_MOMENT, LAST_MOMENT, PduType};
 use event_machine::may_acknowledge;
@@ -39,38 +41,15 @@ fn is_taken_by_log(logs: &[SiteLog], change: &Change) -> bool
     kept_log(logs, change.object).is_some() && log_takes(&change.what)
 }
 
-// Whether a class that an object may have is the one with an instance.
-fn is_member(class: Option<u32>, instance: u32) -> bool
-    ensures member { result ≡ is_member class instance }
-{
-    class == Some(instance)
-}
-
-fn added(sum: u64, share: u64) -> u64
-    ensures sum { result ≡ min (sum + share) (2 ^ 64 - 1) }
-{
-    sum.saturating_add(share)
-}
-
 impl Core {
-    // How many objects have a class.
-    fn members(&self, class: u32) -> u64
+    /// How many objects have a class: those of a class that is there were counted at the start.
+    pub(crate) fn members(&self, class: u32) -> u32
         ensures members { result ≡ members_of self.now class }
     {
-        let objects = self
-            .table()
-            .rows()
-            .iter()
-            .filter(|row| is_member(row.site.class, class))
-            .count();
-        let enrollments = self
-            .site()
-            .enrollments
-            .as_slice()
-            .iter()
-            .filter(|enrollment| enrollment.class == class)
-            .count();
-        objects as u64 + enrollments as u64
+        match place_of_class(self.classes(), class) {
+            Ok(place) => self.members[place],
+            Err(_place) => few_members(&self.site, class),
+        }
     }
 
     // How many notifications one transition of each object of a class gives at most, as far as 64 bits go.
@@ -78,8 +57,7 @@ impl Core {
         ensures share { result ≡ min (share_of self.now class.now) (2 ^ 64 - 1) }
     {
         let recipients = class.destinations.as_slice().len();
-        self.members(class.instance)
-            .saturating_mul(recipients as u64)
+        u64::from(self.members(class.instance)).saturating_mul(recipients as u64)
     }
 
     // What the other classes need of the outbox, as far as 64 bits go.
@@ -94,10 +72,10 @@ impl Core {
             .fold(0, added)
     }
 
-    // What the other classes leave of the outbox.
-    fn room_beside(&self, class: u32) -> u32
+    /// What the other classes leave of the outbox.
+    pub(crate) fn room_beside(&self, class: u32) -> u32
         ensures room { result ≡ room_beside self.now class }
-        ensures within { result ≤ 16_384 }
+        ensures within { result ≤ most_outbox }
     {
         let room = u64::from(self.site().device.outbox);
         room.saturating_sub(self.shares_beside(class)) as u32
@@ -107,15 +85,14 @@ impl Core {
     fn fits(&self, class: u32, destinations: &[Destination]) -> bool
         ensures fits { IsTrue result ↔ (edit_verdict (peers_of_posts self.now.outbox.posts) destinations.now (members_of self.now class) (room_beside self.now class) ≡ Ok tt) }
     {
-        let members = self.members(class).min(u64::from(u32::MAX)) as u32;
-        let room = self.room_beside(class);
+        let (members, room) = (self.members(class), self.room_beside(class));
         check_edit(self.known_peers(), destinations, members, room).is_ok()
     }
 
     fn has_class(&self, class: u32) -> bool
         ensures there { IsTrue result ↔ IsSome (class_in class self.now.classes) }
     {
-        class_in(class, self.classes()).is_some()
+        self.class(class).is_some()
     }
 
     // Whether the act may come next.

@@ -1,23 +1,34 @@
 ghost use Rattle.std.specs.Prelude.{◌≡◌, IfOk, map};
-ghost use Rattle.notify_class.specs.declared.class.Class.{Class as Listed};
 ghost use Rattle.notify_class.specs.declared.class_site.ClassSite.{ClassSite as Named};
 ghost use Rattle.alarm_core.specs.Classes.{edited};
+ghost use Rattle.alarm_core.specs.ListLimits.{InstancesAscend};
 
 use crate::ClassSite;
+use crate::class_search::place_of_class;
 use bac_values::{Items, NoMemory, push};
 use notify_class::{Class, Destination};
 use std::alloc::Global;
+
+/// The same list once more.
+pub(crate) fn copy_of_list(
+    alloc: Global,
+    destinations: &[Destination],
+) -> Result<Items<Destination>, NoMemory>
+    ensures same { IfOk result (λ copy. copy ≡ destinations.now) }
+{
+    Ok(Items::of(destinations.to_vec(alloc)?))
+}
 
 // A class with this list.
 fn class_with(alloc: Global, class: &Class, destinations: &[Destination]) -> Result<Class, NoMemory>
     ensures class { IfOk result (λ made. made ≡ record class.now { destinations = destinations.now }) }
 {
-    let destinations = destinations.to_vec(alloc)?;
+    let destinations = copy_of_list(alloc, destinations)?;
     Ok(Class {
         instance: class.instance,
         priority: class.priority,
         ack_required: class.ack_required,
-        destinations: Items::of(destinations),
+        destinations,
     })
 }
 
@@ -33,33 +44,12 @@ pub(crate) fn classes_of(alloc: Global, sites: &[ClassSite]) -> Result<Vec<Class
     Ok(classes)
 }
 
-// A class after an edit of the one with this instance.
-fn edited(
-    alloc: Global,
-    instance: u32,
-    destinations: &[Destination],
-    class: &Class,
-) -> Result<Class, NoMemory>
-    ensures class { IfOk result (λ made. made ≡ edited instance destinations.now class.now) }
+/// Gives the class with this instance another list, if it is among classes that ascend. No memory is taken.
+pub(crate) fn put_list(classes: &mut Vec<Class>, instance: u32, destinations: Items<Destination>)
+    requires ascending { InstancesAscend classes.old.items }
+    ensures classes { classes.new.items ≡ map (edited instance destinations) classes.old.items }
 {
-    if class.instance == instance {
-        return class_with(alloc, class, destinations);
+    if let Ok(place) = place_of_class(classes, instance) {
+        classes[place].destinations = destinations;
     }
-    class_with(alloc, class, class.destinations.as_slice())
-}
-
-/// The classes after an edit of the one with this instance.
-pub(crate) fn edited_classes(
-    alloc: Global,
-    instance: u32,
-    destinations: &[Destination],
-    classes: &[Class],
-) -> Result<Vec<Class>, NoMemory>
-    ensures classes { IfOk result (λ made. made.items ≡ map (edited instance destinations.now) classes.now) }
-{
-    let mut made = Vec::new(alloc);
-    for class in classes {
-        push(&mut made, edited(alloc, instance, destinations, class)?)?;
-    }
-    Ok(made)
 }

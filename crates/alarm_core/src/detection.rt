@@ -1,4 +1,4 @@
-ghost use Rattle.std.specs.Prelude.{◌≡◌, ◌≤◌, ◌↔◌, [], None, IfOk, IfSome, IsTrue, OnErr, length, suc};
+ghost use Rattle.std.specs.Prelude.{◌≡◌, ◌≤◌, ◌↔◌, ◌⊎◌, [], None, IfOk, IfSome, IsFalse, IsTrue, OnErr, length, suc};
 ghost use Rattle.bac_values.specs.Limits.{most_listed_values};
 ghost use Rattle.std.specs.Option.{option_map};
 ghost use Rattle.bac_values.specs.Moments.{IsMoment};
@@ -12,14 +12,14 @@ use algorithm_rules::Algorithm;
 use bac_values::{ObjectId, Transition, Value};
 use civil_stamp::LocalMoment;
 use enrollment::{Objects, Subject};
-use event_machine::{Alarm, Changed, Steps, begin, evaluate, is_settled, is_still, next_due};
+use event_machine::{Alarm, Changed, Steps, begin, evaluate, is_settled, next_due};
 use std::marker::Model;
 use std::sync::ledger::Ledger;
 
 /// An object whose event detection is enabled: its event algorithm, which transitions its class wants acknowledged, and its
 /// alarm.
 #[derive(Clone, Copy)]
-pub(crate) struct DetectedObject {
+pub struct DetectedObject {
     object: ObjectId,
     algorithm: Algorithm,
     ack_required: [bool; 3],
@@ -59,6 +59,7 @@ fn evaluate_by<L: Ledger>(
     ensures alarm { alarm.new ≡ (change_by algorithm (option_map (λ input. point_of input.now.snapshot input.now.point) input.entry) alarm.old).alarm }
     ensures moves { moves_in result ≡ (change_by algorithm (option_map (λ input. point_of input.now.snapshot input.now.point) input.entry) alarm.old).moves }
     ensures step { steps.new ≤ suc steps.old }
+    ensures counted { ((moves_in result ≡ []) × (steps.new ≡ steps.old)) ⊎ (steps.new ≡ suc steps.old) }
 {
     let Some(input) = input else {
         return Changed {
@@ -69,16 +70,11 @@ fn evaluate_by<L: Ledger>(
     evaluate(alarm, &input.snapshot, &input.point, steps)
 }
 
-// Whether one object wouldn't move, if it is there.
-fn is_still_by(algorithm: Algorithm, input: Option<&EvaluationInput<'_>>, alarm: &Alarm) -> bool
-    requires algorithm { IfSome input (λ input. input.now.snapshot.algorithm ≡ algorithm) }
-    requires few { IfSome input (λ input. length input.now.snapshot.alarm_values.now ≤ most_listed_values) }
-    ensures still { IsTrue result ↔ ((change_by algorithm (option_map (λ input. point_of input.now.snapshot input.now.point) input.entry) alarm.now).moves ≡ []) }
+// Whether nothing moved.
+fn moves_none(changed: &Changed) -> bool
+    ensures none { IsTrue result ↔ (moves_in changed.now ≡ []) }
 {
-    match input {
-        Some(input) => is_still(alarm, &input.snapshot, &input.point),
-        None => true,
-    }
+    changed.first.is_none() && changed.second.is_none()
 }
 
 // When one object is next to be looked at, if it is there.
@@ -135,14 +131,21 @@ impl DetectedObject {
     }
 
     /// The object.
-    pub(crate) fn object(&self) -> ObjectId
+    pub fn object(&self) -> ObjectId
         ensures object { result ≡ self.now.object }
     {
         self.object
     }
 
+    /// Its event algorithm.
+    pub(crate) fn algorithm(&self) -> Algorithm
+        ensures algorithm { result ≡ self.now.algorithm }
+    {
+        self.algorithm
+    }
+
     /// Its alarm.
-    pub(crate) fn alarm(&self) -> &Alarm
+    pub fn alarm(&self) -> &Alarm
         ensures alarm { result.now ≡ self.now.alarm }
     {
         &self.alarm
@@ -158,18 +161,28 @@ impl DetectedObject {
         ensures evaluated { self.new ≡ evaluated at.now objects.now self.old }
         ensures moves { moves_in result ≡ (change_at at.now objects.now self.old).moves }
         ensures step { steps.new ≤ suc steps.old }
+        ensures counted { ((moves_in result ≡ []) × (steps.new ≡ steps.old)) ⊎ (steps.new ≡ suc steps.old) }
     {
         let (object, algorithm, ack_required) = (self.object, self.algorithm, self.ack_required);
         let input = evaluation_input(objects, algorithm, object, at, ack_required);
         evaluate_by(algorithm, input.as_ref(), &mut self.alarm, steps)
     }
 
-    /// Whether the object wouldn't move as it is evaluated once more.
-    pub(crate) fn is_still(&self, objects: &Objects, at: &LocalMoment) -> bool
+    /// Whether the object wouldn't move as it is evaluated once more. It is evaluated to see that, which is a step.
+    pub(crate) fn is_still<L: Ledger>(
+        &self,
+        objects: &Objects,
+        at: &LocalMoment,
+        steps: &mut Steps<L>,
+    ) -> bool
         ensures still { IsTrue result ↔ ((change_at at.now objects.now self.now).moves ≡ []) }
+        ensures step { steps.new ≤ suc steps.old }
+        ensures grows { steps.old ≤ steps.new }
+        ensures counted { IsFalse result → steps.new ≡ suc steps.old }
     {
-        let input = evaluation_input(objects, self.algorithm, self.object, at, self.ack_required);
-        is_still_by(self.algorithm, input.as_ref(), &self.alarm)
+        let mut next = *self;
+        let changed = next.evaluate(objects, at, steps);
+        moves_none(&changed)
     }
 
     /// The moment at which the object is next to be looked at, if there is one: at once where it isn't settled, and else when

@@ -1,11 +1,11 @@
-ghost use Rattle.std.specs.Prelude.{◌≡◌, ◌↔◌, ◌<◌, ◌≤◌, ◌+◌, ◌^◌, [], IfOk, IsTrue, OnErr, OnOk, length, map};
+ghost use Rattle.std.specs.Prelude.{◌≡◌, ◌↔◌, ◌<◌, ◌≤◌, ◌+◌, ◌^◌, [], if◌then◌else◌, IfOk, IsFalse, IsTrue, OnErr, OnOk, length, map};
 ghost use Rattle.std.specs.List.{flat_map};
 ghost use Rattle.enrollment.specs.Objects.{IsTaken, written};
 ghost use Rattle.alarm_core.specs.CoreSteps.{acked, evaluated_all, transitions_by};
-ghost use Rattle.alarm_core.specs.DueSteps.{AscendByObject, DetectionsState, LeadsBack, all_once, due_count, due_of, dues_of, start_of, touched_by};
+ghost use Rattle.alarm_core.specs.DueSteps.{AscendByObject, DetectionsState, DueOnesMove, LeadsBack, all_once, due_count, due_of, dues_of, start_of, touched_by};
 
 use crate::detection::{DetectedObject, place_of};
-use crate::due_looks::{Round, Timed, are_still, look_at_due, put_back, touch_all};
+use crate::due_looks::{Round, Timed, are_still, evaluate_due, put_back, touch_all};
 use bac_values::{NoMemory, ObjectId, Transition};
 use civil_stamp::LocalMoment;
 use enrollment::Objects;
@@ -106,6 +106,7 @@ impl Detections {
     pub(crate) fn alarms(&self) -> &[DetectedObject]
         ensures alarms { result.now ≡ self.now.alarms }
         ensures ascending { AscendByObject result.now }
+        ensures few { length result.now < 2 ^ 32 }
     {
         self.timed.alarms.as_slice()
     }
@@ -131,7 +132,7 @@ impl Detections {
         ensures steps { steps.new ≤ steps.old + due_count at.now.moment (dues_of self.old) }
     {
         round.transitions.clear();
-        look_at_due(&mut self.timed, &self.objects, at, steps, round)
+        evaluate_due(&mut self.timed, &self.objects, at, steps, round)
     }
 
     /// Makes a change, and looks at all objects that are due then, at the written one and at its watchers. It gives the
@@ -152,17 +153,18 @@ impl Detections {
         ensures takes { IfOk result (λ undo. IsTaken undo self.new.values) }
         ensures same { OnErr result (self.new.values ≡ self.old.values) }
         ensures undoes { LeadsBack round.new.formers.items (start_of round.old.formers.items self.old) self.new }
-        ensures steps { steps.new ≤ steps.old + due_count at.now.moment (all_once (touched_by change.object self.old.values.enrollments) self.old.alarms (dues_of self.old)) }
+        ensures steps { steps.new ≤ steps.old + due_count at.now.moment (all_once (touched_by change.object self.old.values) self.old.alarms (dues_of self.old)) }
     {
         round.transitions.clear();
-        let (object, sites) = (change.object, self.objects.enrollments());
-        let touched = touch_all(&mut self.timed, object, sites.watchers_of(object), round);
+        let object = change.object;
+        let watchers = self.objects.watchers_of(object);
+        let touched = touch_all(&mut self.timed, object, watchers, round);
         if let Err(fault) = touched {
             put_back(&mut self.timed, &mut round.formers, &self.objects, at);
             return Err(fault);
         }
         let undo = self.objects.apply(change);
-        match look_at_due(&mut self.timed, &self.objects, at, steps, round) {
+        match evaluate_due(&mut self.timed, &self.objects, at, steps, round) {
             Ok(()) => Ok(undo),
             Err(fault) => {
                 take_back(&mut self.objects, undo);
@@ -172,11 +174,14 @@ impl Detections {
         }
     }
 
-    /// Whether no object would move as all are looked at.
-    pub(crate) fn is_still(&self, at: &LocalMoment) -> bool
+    /// Whether no object would move as all are looked at. Those that are due are evaluated, up to one that would.
+    pub(crate) fn are_still<L: Ledger>(&self, at: &LocalMoment, steps: &mut Steps<L>) -> bool
         ensures still { IsTrue result ↔ (flat_map (transitions_by at.now self.now.values) self.now.alarms ≡ []) }
+        ensures grows { steps.old ≤ steps.new }
+        ensures counted { IsFalse result → steps.old < steps.new }
+        ensures first { DueOnesMove at.now self.now.values self.now.alarms → steps.new ≤ steps.old + (if result then 0 else 1) }
     {
-        are_still(&self.timed, &self.objects, at)
+        are_still(&self.timed, &self.objects, at, steps)
     }
 
     /// Undoes looks, between which nothing was written. No memory is taken.

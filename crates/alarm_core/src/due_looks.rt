@@ -1,7 +1,7 @@
-ghost use Rattle.std.specs.Prelude.{◌≡◌, ◌↔◌, ◌<◌, ◌≤◌, ◌∷◌, ◌+◌, ◌++◌, ◌^◌, [], suc, IsTrue, OnErr, OnOk, length, map, slice_set, ℕ};
+ghost use Rattle.std.specs.Prelude.{◌≡◌, ◌↔◌, ◌<◌, ◌≤◌, ◌∷◌, ◌+◌, ◌++◌, ◌^◌, [], suc, if◌then◌else◌, IsFalse, IsTrue, OnErr, OnOk, length, map, slice_set, ℕ};
 ghost use Rattle.std.specs.List.{flat_map};
 ghost use Rattle.alarm_core.specs.CoreSteps.{evaluated, evaluated_all, transitions_by};
-ghost use Rattle.alarm_core.specs.DueSteps.{AreEarly, AscendByObject, DetectionsState, Undoes, all_once, due_count, due_of, object_of, once, restored};
+ghost use Rattle.alarm_core.specs.DueSteps.{AreEarly, AscendByObject, DetectionsState, DueOnesMove, Undoes, all_once, due_count, due_of, object_of, once, restored};
 
 use crate::detection::{DetectedObject, place_of};
 use crate::transition::{ObjectTransition, add_transition};
@@ -48,8 +48,8 @@ impl Round {
     }
 }
 
-// Looks at the object at an index, and sets its timer anew.
-fn look_at<L: Ledger>(
+// Evaluates the object at an index, and sets its timer anew.
+fn evaluate_at<L: Ledger>(
     timed: &mut Timed,
     former: Former,
     objects: &Objects,
@@ -79,8 +79,8 @@ fn look_at<L: Ledger>(
     Ok(())
 }
 
-/// Looks at the objects that are due, by ascending index. A timer may be set at once: then its object is looked at.
-pub(crate) fn look_at_due<L: Ledger>(
+/// Evaluates the objects that are due, by ascending index. A timer may be set at once: then its object is evaluated.
+pub(crate) fn evaluate_due<L: Ledger>(
     timed: &mut Timed,
     objects: &Objects,
     at: &LocalMoment,
@@ -105,7 +105,7 @@ pub(crate) fn look_at_due<L: Ledger>(
             index,
             detected: timed.alarms[index as usize],
         };
-        look_at(timed, former, objects, at, steps, round)?;
+        evaluate_at(timed, former, objects, at, steps, round)?;
         from = index + 1;
     }
     Ok(())
@@ -178,16 +178,24 @@ pub(crate) fn put_back(
     }
 }
 
-/// Whether no object would move, by those that are due.
-pub(crate) fn are_still(timed: &Timed, objects: &Objects, at: &LocalMoment) -> bool
+/// Whether no object would move, by those that are due, which are evaluated by ascending index up to one that would.
+pub(crate) fn are_still<L: Ledger>(
+    timed: &Timed,
+    objects: &Objects,
+    at: &LocalMoment,
+    steps: &mut Steps<L>,
+) -> bool
     requires few { length timed.now.alarms.items < 2 ^ 32 }
     requires exact { timed.now.timers ≡ map (due_of objects.now) timed.now.alarms.items }
     ensures still { IsTrue result ↔ (flat_map (transitions_by at.now objects.now) timed.now.alarms.items ≡ []) }
+    ensures grows { steps.old ≤ steps.new }
+    ensures counted { IsFalse result → steps.old < steps.new }
+    ensures first { DueOnesMove at.now objects.now timed.now.alarms.items → steps.new ≤ steps.old + (if result then 0 else 1) }
 {
     let moment = at.moment();
     let mut from = 0;
     while let Some(index) = timed.timers.due_from(moment, from) {
-        if !timed.alarms[index as usize].is_still(objects, at) {
+        if !timed.alarms[index as usize].is_still(objects, at, steps) {
             return false;
         }
         from = index + 1;

@@ -8,7 +8,8 @@ use bac_values::{EventState, NoMemory, PropertyId, Reliability};
 use enrollment::{EnrollmentProperty, EnrollmentSite};
 use event_machine::Alarm;
 use property_values::{
-    Content, array_of_stamps, boolean, enumerated, four_flags, object, text, three_flags, unsigned,
+    Content, array_of_stamps, array_of_texts, boolean, enumerated, four_flags, object,
+    reference_to, text, texts_that_came, three_flags, unsigned,
 };
 use std::alloc::Global;
 
@@ -26,10 +27,11 @@ fn enrollment_property(
     alloc: Global,
     alarm: &Alarm,
     reliability: Reliability,
+    inhibited: bool,
     site: &EnrollmentSite,
     property: EnrollmentProperty,
 ) -> Result<Content, NoMemory>
-    ensures content { IfOk result (λ content. content ≡ enrollment_property alarm.now reliability site.now property) }
+    ensures content { IfOk result (λ content. content ≡ enrollment_property alarm.now reliability inhibited site.now property) }
 {
     match property {
         EnrollmentProperty::ObjectIdentifier => object(alloc, site.object),
@@ -39,30 +41,42 @@ fn enrollment_property(
         EnrollmentProperty::EventState => enumerated(alloc, u32::from(alarm.state().number())),
         EnrollmentProperty::Reliability => enumerated(alloc, u32::from(reliability.number())),
         EnrollmentProperty::EventEnable => three_flags(alloc, site.enable),
-        EnrollmentProperty::EventAlgorithmInhibit => boolean(alloc, site.inhibit),
+        EnrollmentProperty::EventAlgorithmInhibit => boolean(alloc, inhibited),
+        EnrollmentProperty::EventAlgorithmInhibitRef => reference_to(alloc, site.inhibit_ref),
         EnrollmentProperty::AckedTransitions => three_flags(alloc, alarm.acked()),
         EnrollmentProperty::NotifyType => enumerated(alloc, u32::from(site.notify)),
         EnrollmentProperty::EventDetectionEnable => boolean(alloc, site.detection),
         EnrollmentProperty::NotificationClass => unsigned(alloc, site.class),
         EnrollmentProperty::EventTimeStamps => array_of_stamps(alloc, &alarm.stamps()),
+        EnrollmentProperty::EventMessageTexts => {
+            texts_that_came(alloc, alarm, site.texts.as_slice())
+        }
+        EnrollmentProperty::EventMessageTextsConfig => {
+            array_of_texts(alloc, site.texts.as_slice())
+        }
         EnrollmentProperty::EventType => {
             enumerated(alloc, u32::from(site.algorithm.event_type()))
         }
     }
 }
 
-/// What a property of an event enrollment is, by the enrollment's alarm and its reliability, or that there is none.
+/// What a property of an event enrollment is, by the enrollment's alarm, its reliability and whether it is inhibited, or that
+/// there is none.
 pub(crate) fn enrollment_content(
     alloc: Global,
     alarm: &Alarm,
     reliability: Reliability,
+    inhibited: bool,
     site: &EnrollmentSite,
     property: PropertyId,
 ) -> Result<Content, ReadFault>
-    ensures content { AnswersContent result (known_enrollment_content alarm.now reliability site.now (property_of property.0)) }
+    ensures content { AnswersContent result (known_enrollment_content alarm.now reliability inhibited site.now (property_of property.0)) }
 {
     let Some(known) = EnrollmentProperty::of_number(property.0) else {
         return Err(ReadFault::UNKNOWN_PROPERTY);
     };
-    Ok(enrollment_property(alloc, alarm, reliability, site, known)?)
+    if !site.has(known) {
+        return Err(ReadFault::UNKNOWN_PROPERTY);
+    }
+    Ok(enrollment_property(alloc, alarm, reliability, inhibited, site, known)?)
 }

@@ -1,5 +1,7 @@
-ghost use Rattle.std.specs.Prelude.{◌≡◌, IfOk};
+ghost use Rattle.std.specs.Prelude.{◌≡◌, ◌≤◌, IfOk, drop, filter, length};
 ghost use Rattle.std.specs.Option.{option_and_then, option_copied, option_map};
+ghost use Rattle.alarm_core.specs.DueSteps.{AscendByObject};
+ghost use Rattle.alarm_core.specs.ListLimits.{InstancesAscend};
 ghost use Rattle.alarm_core.specs.Notes.{class_for};
 ghost use Rattle.alarm_core.specs.Information.{enable_of, has_more, is_active, is_behind, is_told, notify_of, priority_of, summaries_of, summary_of};
 
@@ -37,7 +39,31 @@ fn is_told(last: Option<&ObjectId>, detected: &DetectedObject) -> bool
     is_behind(last, detected.object()) && is_active(detected)
 }
 
-fn notify_of(subject: Option<&Subject>) -> u8
+// How many alarms of those that ascend aren't behind the last object, if there is one: found by halving.
+fn passed(alarms: &[DetectedObject], last: Option<&ObjectId>) -> usize
+    requires ascending { AscendByObject alarms.now }
+    ensures within { result ≤ length alarms.now }
+    ensures told { filter (is_told (option_map (λ last. last.now) last.entry)) alarms.now ≡ filter (is_told (option_map (λ last. last.now) last.entry)) (drop result alarms.now) }
+{
+    let Some(last) = last else {
+        return 0;
+    };
+    match alarms.binary_search_by_key(last, |detected| detected.object()) {
+        Ok(place) => place + 1,
+        Err(place) => place,
+    }
+}
+
+// The alarms behind the last object, if there is one, of those that ascend.
+fn behind_last<'a>(alarms: &'a [DetectedObject], last: Option<&ObjectId>) -> &'a [DetectedObject]
+    requires ascending { AscendByObject alarms.now }
+    ensures told { filter (is_told (option_map (λ last. last.now) last.entry)) result.now ≡ filter (is_told (option_map (λ last. last.now) last.entry)) alarms.now }
+{
+    &alarms[passed(alarms, last)..]
+}
+
+/// Notify_Type of a subject, if there is one.
+pub(crate) fn notify_of(subject: Option<&Subject>) -> u8
     ensures notify { result ≡ notify_of (option_copied subject.entry) }
 {
     match subject {
@@ -66,6 +92,7 @@ fn priority_of(class: Option<&Class>) -> [u8; 3]
 
 // The notification class of a subject, if there is one.
 fn class_of<'a>(subject: Option<&Subject>, classes: &'a [Class]) -> Option<&'a Class>
+    requires ascending { InstancesAscend classes.now }
     ensures class { option_copied result ≡ option_and_then (λ s. class_for s classes.now) (option_copied subject.entry) }
 {
     match subject {
@@ -104,9 +131,10 @@ impl Core {
         ensures more { IfOk result (λ told. told.1 ≡ has_more last room self.now) }
     {
         let last = last.as_ref();
+        let behind = behind_last(self.detections.alarms(), last);
         let mut summaries = Vec::new(alloc);
         let mut left = room / 61;
-        for detected in self.detections.alarms() {
+        for detected in behind {
             if !is_told(last, detected) {
                 continue;
             }

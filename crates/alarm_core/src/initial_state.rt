@@ -22,12 +22,12 @@ pub(crate) fn first_objects(alloc: Global, site: &Site) -> Result<Objects, NoMem
     requires site { IsSite site.now }
     ensures objects { IfOk result (λ objects. objects ≡ first_values site.now) }
 {
-    let objects = copy_of_objects(alloc, site.objects.as_slice())?;
-    let enrollments = copy_of_enrollments(alloc, site.enrollments.as_slice())?;
-    Ok(Objects::new(
-        Table::new(alloc, objects)?,
-        Enrollments::new(alloc, enrollments)?,
-    ))
+    let listed = copy_of_objects(alloc, site.objects.as_slice())?;
+    let table = Table::new(alloc, listed)?;
+    let listed = copy_of_enrollments(alloc, site.enrollments.as_slice())?;
+    let enrollments = Enrollments::new(alloc, listed, site.objects.as_slice())?;
+    let objects = Objects::new(table, enrollments);
+    Ok(objects)
 }
 
 fn has_instance(listed: &ClassSite, instance: u32) -> bool

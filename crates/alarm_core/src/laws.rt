@@ -1,10 +1,10 @@
 ghost use Rattle.alarm_core.specs.LastLists.{ReadsTheLastList};
-ghost use Rattle.alarm_core.specs.Laws.{AllowsWhatChecksAccept, CountsTheLongerHistory, KeepsToItsSite, KnowsListedPeers, StandsForItsHistory, StandsOverEvents};
+ghost use Rattle.alarm_core.specs.Laws.{AllowsWhatChecksAccept, ClassesAreThere, CountsTheLongerHistory, KeepsToItsSite, KnowsListedPeers, ObjectListAscends, StandsForItsHistory, StandsOverEvents};
 ghost use Rattle.alarm_core.specs.Parts.{RestoresWhatItTells};
 
 /// Going on from event to event, as they come, gives the state and the event-state transitions that looking back over the
 /// whole history gives, its notifications and what it sends; the run starts that looking back gives are in that state; and
-/// where the classes leave room, a tick with no unfinished notification is never refused as full.
+/// a tick with no unfinished notification is never refused as full.
 pub fn stands_for_its_history()
     ensures history { StandsForItsHistory }
 {}
@@ -30,6 +30,11 @@ pub fn knows_listed_peers()
     ensures peers { KnowsListedPeers }
 {}
 
+/// The class of an object that has one is there after every history, whatever is edited.
+pub fn classes_are_there()
+    ensures classes { ClassesAreThere }
+{}
+
 /// A change is allowed exactly where a check accepts it: of a property where a write of it is answered with no error, and of
 /// what gives an object's value where the check of a fault from the field accepts it.
 pub fn allows_what_checks_accept()
@@ -47,4 +52,9 @@ pub fn stands_over_events()
 /// are within their limits.
 pub fn keeps_to_its_site()
     ensures states { KeepsToItsSite }
+{}
+
+/// Object_List ascends by the identifiers of its objects.
+pub fn object_list_ascends()
+    ensures list { ObjectListAscends }
 {}

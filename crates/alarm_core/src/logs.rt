@@ -1,6 +1,7 @@
 ghost use Rattle.std.specs.Prelude.{◌≡◌, ◌==◌, ◌∷◌, ◌++◌, All, List, IfOk, IsSome, IsTrue, OnOk, map, Vec as Records};
 ghost use Rattle.std.specs.declared.alloc.Global.{Global};
 ghost use Rattle.std.specs.List.{flat_map, list_any};
+ghost use Rattle.std.specs.List.Sorted.{IsNonDecreasing, IsPermutation};
 ghost use Rattle.std.specs.Option.{option_map, option_to_list};
 ghost use Rattle.bac_values.specs.Identifier.{number_of_kind};
 ghost use Rattle.bac_values.specs.declared.object_kind.ObjectKind.TheVariants.{EventLog as Logging};
@@ -16,7 +17,6 @@ use crate::{LogSite, Site};
 use bac_values::{NoMemory, ObjectId, PropertyId, Stamp, Value, push};
 use civil_stamp::LocalMoment;
 use event_log::{EventLog, copy_of_log};
-use event_services::write_notification;
 use notify_class::Class;
 use object_table::{Change, What};
 use std::alloc::Global;
@@ -26,13 +26,13 @@ use std::vec::IntoIter;
 /// A record that a log is to be given: its local date and time, its hundredths of a second since 1970 at UTC, and the octets
 /// of the notification.
 #[derive(Drop)]
-pub(crate) struct Entry {
+pub(crate) struct RecordToLog {
     pub(crate) stamp: Stamp,
     pub(crate) hundredths: u64,
     pub(crate) body: Vec<u8>,
 }
 
-impl Model for Entry {
+impl Model for RecordToLog {
     ghost use Rattle.event_log.specs.History.{Call, Recorded};
 
     ghost Value = { Call };
@@ -40,22 +40,35 @@ impl Model for Entry {
     ghost view = { λ entry. Recorded (record { stamp = entry.stamp; hundredths = entry.hundredths; body = entry.body.items }) };
 }
 
-// Whether the instance of a class is among some.
-fn lists_class(instances: &[u32], class: &Class) -> bool
-    ensures same { result ≡ list_any (λ instance. instance == class.now.instance) instances.now }
+// Some instances, ascending.
+fn ascending(alloc: Global, instances: &[u32]) -> Result<Vec<u32>, NoMemory>
+    ensures ascending { IfOk result (λ sorted. IsNonDecreasing sorted.items) }
+    ensures same { IfOk result (λ sorted. IsPermutation instances.now sorted.items) }
 {
-    instances.iter().any(|instance| *instance == class.instance)
+    let mut sorted = instances.to_vec(alloc)?;
+    sorted.sort_unstable();
+    Ok(sorted)
 }
 
-/// A log of a site, and what it holds.
+// Whether the instance of a class is among some that ascend: found by halving.
+fn lists_class(instances: &[u32], class: &Class) -> bool
+    requires ascending { IsNonDecreasing instances.now }
+    ensures same { result ≡ list_any (λ instance. instance == class.now.instance) instances.now }
+{
+    instances.binary_search(&class.instance).is_ok()
+}
+
+/// A log of a site, and what it holds. The instances of its classes are there once more, ascending.
 #[derive(Drop)]
 pub struct SiteLog {
     site: LogSite,
+    recorded: Vec<u32>,
     log: EventLog,
 }
 
 impl Model for SiteLog {
     ghost use Rattle.std.specs.Prelude.{◌≡◌};
+    ghost use Rattle.std.specs.List.Sorted.{IsNonDecreasing, IsPermutation};
     ghost use Rattle.bac_values.specs.Identifier.{number_of_kind};
     ghost use Rattle.bac_values.specs.declared.object_kind.ObjectKind.TheVariants.{EventLog as Logging};
     ghost use Rattle.alarm_core.specs.Logs.{SiteLogState};
@@ -64,7 +77,11 @@ impl Model for SiteLog {
 
     ghost view = { λ kept. record { site = kept.site; log = kept.log } };
 
-    ghost invariant = { λ kept. kept.site.object.number ≡ number_of_kind Logging };
+    ghost invariant = { λ kept. record {
+      number : kept.site.object.number ≡ number_of_kind Logging;
+      ascending : IsNonDecreasing kept.recorded.items;
+      recorded : IsPermutation kept.site.classes kept.recorded.items;
+    } };
 }
 
 impl SiteLog {
@@ -73,10 +90,8 @@ impl SiteLog {
         requires listed { IsLogSite site.now }
         ensures first { IfOk result (λ kept. kept ≡ first_kept site.now) }
     {
-        Ok(SiteLog {
-            site: copy_of_log(alloc, site)?,
-            log: EventLog::new(alloc, site.size, site.stop_when_full, site.enable)?,
-        })
+        let log = EventLog::new(alloc, site.size, site.stop_when_full, site.enable)?;
+        SiteLog::restored(alloc, site, log)
     }
 
     /// A log of a site, with what it holds.
@@ -88,8 +103,11 @@ impl SiteLog {
         requires listed { IsLogSite site.now }
         ensures restored { IfOk result (λ kept. kept ≡ record { site = site.now; log = log }) }
     {
+        let site = copy_of_log(alloc, site)?;
+        let recorded = ascending(alloc, site.classes.as_slice())?;
         Ok(SiteLog {
-            site: copy_of_log(alloc, site)?,
+            site,
+            recorded,
             log,
         })
     }
@@ -113,7 +131,7 @@ impl SiteLog {
     pub(crate) fn records_class(&self, class: &Class) -> bool
         ensures same { result ≡ records_class self.now.site class.now }
     {
-        lists_class(self.site.classes.as_slice(), class)
+        lists_class(&self.recorded, class)
     }
 
     // The record that a notification gives it at a moment, if it records the class.
@@ -122,14 +140,14 @@ impl SiteLog {
         alloc: Global,
         addressed: &Addressed<'_>,
         at: &LocalMoment,
-    ) -> Result<Option<Entry>, NoMemory>
+    ) -> Result<Option<RecordToLog>, NoMemory>
         ensures record { IfOk result (λ entry. option_to_list entry ≡ record_to at.now self.now.site addressed.now) }
     {
         if !self.records_class(addressed.class) {
             return Ok(None);
         }
-        let body = write_notification(alloc, &addressed.facts)?;
-        Ok(Some(Entry {
+        let body = addressed.facts.octets(alloc)?;
+        Ok(Some(RecordToLog {
             stamp: at.stamp(),
             hundredths: at.moment() / 10,
             body,
@@ -142,7 +160,7 @@ impl SiteLog {
         alloc: Global,
         addressed: &[Addressed<'_>],
         at: &LocalMoment,
-    ) -> Result<Vec<Entry>, NoMemory>
+    ) -> Result<Vec<RecordToLog>, NoMemory>
         ensures records { IfOk result (λ entries. entries.items ≡ flat_map (record_to at.now self.now.site) addressed.now) }
     {
         let mut entries = Vec::new(alloc);
@@ -154,7 +172,7 @@ impl SiteLog {
     }
 
     /// Takes these records, one after the other. No memory is taken.
-    pub(crate) fn enter(&mut self, entries: Vec<Entry>)
+    pub(crate) fn enter(&mut self, entries: Vec<RecordToLog>)
         ensures log { self.new ≡ record self.old { log = after_calls entries.items self.old.log } }
     {
         for entry in entries {
@@ -219,7 +237,7 @@ pub(crate) fn kept_log(logs: &[SiteLog], object: ObjectId) -> Option<&SiteLog>
     logs.iter().find(|kept| is_log(kept, object))
 }
 
-fn add_entry(entries: &mut Vec<Entry>, entry: Option<Entry>) -> Result<(), NoMemory>
+fn add_entry(entries: &mut Vec<RecordToLog>, entry: Option<RecordToLog>) -> Result<(), NoMemory>
     ensures added { OnOk result (entries.new.items ≡ entries.old.items ++ option_to_list entry) }
 {
     match entry {
@@ -234,7 +252,7 @@ pub(crate) fn records_of_all(
     logs: &[SiteLog],
     addressed: &[Addressed<'_>],
     at: &LocalMoment,
-) -> Result<Vec<Vec<Entry>>, NoMemory>
+) -> Result<Vec<Vec<RecordToLog>>, NoMemory>
     ensures records { IfOk result (λ lists. map (λ list. list.items) lists.items ≡ map (λ (kept : SiteLogState). flat_map (record_to at.now kept.site) addressed.now) logs.now) }
 {
     let mut lists = Vec::new(alloc);
@@ -246,7 +264,7 @@ pub(crate) fn records_of_all(
 }
 
 // A log takes the next records.
-fn enter_next(kept: &mut SiteLog, lists: &mut IntoIter<Vec<Entry>>)
+fn enter_next(kept: &mut SiteLog, lists: &mut IntoIter<Vec<RecordToLog>>)
     ensures entered { (list : Records Call Global) (later : List (Records Call Global)) → lists.old.rest.items ≡ list ∷ later →
         (kept.new ≡ record kept.old { log = after_calls list.items kept.old.log }) × (lists.new.rest.items ≡ later) }
 {
@@ -256,7 +274,7 @@ fn enter_next(kept: &mut SiteLog, lists: &mut IntoIter<Vec<Entry>>)
 }
 
 /// Each log takes its records. No memory is taken.
-pub(crate) fn enter_all(logs: &mut Vec<SiteLog>, entries: Vec<Vec<Entry>>)
+pub(crate) fn enter_all(logs: &mut Vec<SiteLog>, entries: Vec<Vec<RecordToLog>>)
     ensures logs { (calls : SiteLogState → List Call) → map (λ list. list.items) entries.items ≡ map calls logs.old.items →
         logs.new.items ≡ map (λ (kept : SiteLogState). record kept { log = after_calls (calls kept) kept.log }) logs.old.items }
 {

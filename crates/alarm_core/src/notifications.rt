@@ -1,4 +1,4 @@
-ghost use Rattle.std.specs.Prelude.{◌≡◌, ◌==◌, ◌++◌, All, IfOk, OnOk};
+ghost use Rattle.std.specs.Prelude.{◌≡◌, ◌++◌, All, IfOk, OnOk};
 ghost use Rattle.std.specs.List.{flat_map};
 ghost use Rattle.std.specs.Option.{option_copied, option_to_list};
 ghost use Rattle.event_services.specs.Notifications.{IsTold};
@@ -6,23 +6,26 @@ ghost use Rattle.note_maker.specs.EventTypes.{transition_type};
 ghost use Rattle.enrollment.specs.Enrollments.{site_of};
 ghost use Rattle.enrollment.specs.Snapshots.{algorithm_with};
 ghost use Rattle.enrollment.specs.Subjects.{subject_in};
-ghost use Rattle.alarm_core.specs.Classes.{class_in};
+ghost use Rattle.alarm_core.specs.ListLimits.{InstancesAscend};
 ghost use Rattle.alarm_core.specs.History.{state_in};
 ghost use Rattle.alarm_core.specs.CoreSteps.{states_of};
 ghost use Rattle.alarm_core.specs.DueSteps.{AscendByObject};
-ghost use Rattle.alarm_core.specs.Notes.{IsShort, class_for, flags_at, notes_of_acknowledgement, notification_of, out_of_service_in, source_of, told_flags, told_value, values_of};
+ghost use Rattle.alarm_core.specs.Notes.{IsShort, class_for, flags_at, notes_of_acknowledgement, notification_of, out_of_service_in, source_of, text_of, told_flags, told_value, values_of};
 ghost use Rattle.alarm_core.specs.Sites.{IsSite};
 ghost use Rattle.alarm_core.specs.ViewSteps.{addressed_in, notes_to, transition_in};
 
+use crate::class_search::class_among;
 use crate::detection::{DetectedObject, detected_object};
 use crate::identifiers::device_object;
 use crate::transition::ObjectTransition;
 use crate::view::{Addressed, SiteView};
 use crate::{EnrollmentSite, Site};
-use bac_values::{EventState, NoMemory, Note, ObjectId, StatusFlags, Transition, Value, push};
+use bac_values::{
+    EventState, NoMemory, Note, ObjectId, StatusFlags, Text, Transition, Value, push,
+};
 use civil_stamp::LocalMoment;
 use enrollment::Subject;
-use event_services::{EventValues, Notification};
+use event_services::{EventValues, Notification, WrittenNotification};
 use note_maker::{
     Source, acknowledgement_notification, notes_of, status_flags, transition_notification,
     values_of,
@@ -44,25 +47,13 @@ fn source_of(site: &Site, subject: &Subject) -> Source
     }
 }
 
-fn has_instance(class: &Class, instance: u32) -> bool
-    ensures same { result ≡ (class.now.instance == instance) }
-{
-    class.instance == instance
-}
-
-/// The class with this instance.
-pub(crate) fn class_in(instance: u32, classes: &[Class]) -> Option<&Class>
-    ensures class { option_copied result ≡ class_in instance classes.now }
-{
-    classes.iter().find(|class| has_instance(class, instance))
-}
-
-/// The notification class of an object.
+/// The notification class of an object, among classes that ascend.
 pub(crate) fn class_for<'a>(subject: &Subject, classes: &'a [Class]) -> Option<&'a Class>
+    requires ascending { InstancesAscend classes.now }
     ensures class { option_copied result ≡ class_for subject.now classes.now }
 {
     match subject.class {
-        Some(instance) => class_in(instance, classes),
+        Some(instance) => class_among(classes, instance),
         None => None,
     }
 }
@@ -150,6 +141,23 @@ fn told_values(
     values_of(&snapshot, made, cause, reliability, flags, value)
 }
 
+fn copy_of_text(text: &Text) -> Result<Text, NoMemory>
+    ensures same { IfOk result (λ copy. copy ≡ text.now) }
+{
+    Ok(text.clone()?)
+}
+
+// The text that is told of a transition: the object's for one to the state that it enters.
+fn text_of(view: &SiteView<'_>, transition: &ObjectTransition) -> Result<Option<Text>, NoMemory>
+    ensures text { IfOk result (λ text. text ≡ text_of (transition_in view.now transition.now)) }
+{
+    let kind = transition.made.to.transition();
+    match view.objects.message_text(transition.object, kind) {
+        Some(text) => Ok(Some(copy_of_text(text)?)),
+        None => Ok(None),
+    }
+}
+
 // The notification of a transition, before it is told to a process.
 fn notification_of(
     view: &SiteView<'_>,
@@ -162,13 +170,15 @@ fn notification_of(
     ensures told { IfOk result (λ facts. IsTold facts.event_type facts.values) }
 {
     let values = told_values(view, transition)?;
+    let text = text_of(view, transition)?;
     let source = source_of(view.site, subject);
-    let stamp = view.at.stamp();
-    Ok(transition_notification(&source, class, transition.made, stamp, values))
+    let (made, stamp) = (transition.made, view.at.stamp());
+    Ok(transition_notification(&source, class, made, stamp, values, text))
 }
 
 // The notification of a transition with the class whose recipients are told, if there is one.
 fn addressed_notification<'a>(
+    alloc: Global,
     view: &SiteView<'a>,
     transition: &ObjectTransition,
 ) -> Result<Option<Addressed<'a>>, NoMemory>
@@ -185,6 +195,7 @@ fn addressed_notification<'a>(
         return Ok(None);
     };
     let facts = notification_of(view, transition, &subject, class)?;
+    let facts = WrittenNotification::new(alloc, facts)?;
     Ok(Some(Addressed { class, kind, facts }))
 }
 
@@ -211,7 +222,7 @@ pub(crate) fn addressed_notifications<'a>(
 {
     let mut list = Vec::new(alloc);
     for transition in transitions {
-        let addressed = addressed_notification(view, transition)?;
+        let addressed = addressed_notification(alloc, view, transition)?;
         add_addressed(&mut list, addressed)?;
     }
     Ok(list)
@@ -266,5 +277,6 @@ pub(crate) fn notes_of_acknowledgement(
     };
     let source = source_of(view.site, &subject);
     let facts = acknowledgement_notification(&source, class, named, view.at.stamp());
+    let facts = WrittenNotification::new(alloc, facts)?;
     notes_of(alloc, &facts, class, transition, view.at)
 }

@@ -15,7 +15,7 @@ pub struct Parts {
     pub last_moment: u64,
     /// The value objects, ascending, as the writes have left them.
     pub table: Table,
-    /// The event enrollments, ascending, as the writes have left them.
+    /// The event enrollments, ascending, as the writes have left them, which know who refers to an object.
     pub enrollments: Enrollments,
     /// The alarms of the value objects with a notification class and of the enrollments, by ascending identifier.
     pub alarms: Items<Alarm>,

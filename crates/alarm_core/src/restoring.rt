@@ -9,8 +9,10 @@ ghost use Rattle.alarm_core.specs.Subjects.{alarm_subjects, has_class};
 
 use crate::detection::DetectedObject;
 use crate::detections::Detections;
+use crate::identifiers::listed_identifiers;
 use crate::initial_state::ack_required_of;
 use crate::logs::SiteLog;
+use crate::members::members_of;
 use crate::site::copy_of_site;
 use crate::state::site_zone;
 use crate::{Core, LogSite, Parts, Site};
@@ -29,23 +31,15 @@ fn has_class(subject: &Subject) -> bool
     subject.class.is_some()
 }
 
-// One more, if it has alarms.
-fn add_subject(subjects: &mut Vec<Subject>, subject: &Subject) -> Result<(), NoMemory>
-    ensures added { OnOk result (subjects.new.items ≡ subjects.old.items ++ (if has_class subject.now then subject.now ∷ [] else [])) }
-{
-    if has_class(subject) {
-        push(subjects, *subject)?;
-    }
-    Ok(())
-}
-
 // Those that have alarms.
 fn with_class(alloc: Global, subjects: &[Subject]) -> Result<Vec<Subject>, NoMemory>
     ensures those { IfOk result (λ those. those.items ≡ filter has_class subjects.now) }
 {
     let mut those = Vec::new(alloc);
     for subject in subjects {
-        add_subject(&mut those, subject)?;
+        if has_class(subject) {
+            push(&mut those, *subject)?;
+        }
     }
     Ok(those)
 }
@@ -192,18 +186,21 @@ impl Core {
         let objects = Objects::new(table, enrollments);
         let alarms = restored_alarms(alloc, site, alarms.as_slice())?;
         let detections = Detections::new(alloc, objects, alarms, &at)?;
+        let identifiers = listed_identifiers(alloc, site)?;
         let classes = classes.into_vec();
+        let members = members_of(alloc, site, &classes)?;
         let peers = known_peers(alloc, &outbox)?;
         let logs = restored_logs(alloc, site, logs.into_vec())?;
         let site = copy_of_site(alloc, site)?;
         Ok(Core {
-            alloc,
             site,
+            identifiers,
             zone,
             events,
             last_moment,
             detections,
             classes,
+            members,
             peers,
             outbox,
             logs,

@@ -1,16 +1,19 @@
-ghost use Rattle.std.specs.Prelude.{◌≡◌, All, IfOk, IfSome};
+ghost use Rattle.std.specs.Prelude.{◌≡◌, ◌==◌, All, IfOk, IfSome, None, OnErr, find};
 ghost use Rattle.std.specs.List.{list_any};
 ghost use Rattle.std.specs.Option.{option_copied};
 ghost use Rattle.bac_values.specs.Identifier.{number_of_kind};
+ghost use Rattle.notify_class.specs.declared.class_site.ClassSite.{ClassSite as Named};
 ghost use Rattle.object_table.specs.Rows.{is_object};
+ghost use Rattle.enrollment.specs.Enrollments.{AscendById};
 ghost use Rattle.alarm_core.specs.Devices.{listed_class};
 ghost use Rattle.alarm_core.specs.Found.{class_object, device_object, is_other_object};
-ghost use Rattle.alarm_core.specs.Sites.{HasInstance};
+ghost use Rattle.alarm_core.specs.Places.{IsAt};
+ghost use Rattle.alarm_core.specs.Sites.{ClassesAscend, HasInstance, IsSite, LogsAscend};
 
 use bac_values::{Items, NoMemory, ObjectId, ObjectKind};
 use enrollment::{EnrollmentSite, copy_of_enrollments};
 use event_log::{LogSite, copy_of_logs};
-use notify_class::{ClassSite, copy_of_classes};
+use notify_class::{Binding, ClassSite, copy_of_classes};
 use object_table::{ObjectSite, copy_of_objects};
 use property_values::DeviceSite;
 use std::alloc::Global;
@@ -28,6 +31,8 @@ pub struct Site {
     pub enrollments: Items<EnrollmentSite>,
     /// The event logs.
     pub logs: Items<LogSite>,
+    /// The devices that a request may name as recipients, with their peers.
+    pub bindings: Items<Binding>,
 }
 
 fn copy_of_device(site: &DeviceSite) -> Result<DeviceSite, NoMemory>
@@ -46,6 +51,7 @@ pub(crate) fn copy_of_site(alloc: Global, site: &Site) -> Result<Site, NoMemory>
         objects: Items::of(copy_of_objects(alloc, site.objects.as_slice())?),
         enrollments: Items::of(copy_of_enrollments(alloc, site.enrollments.as_slice())?),
         logs: copy_of_logs(alloc, site.logs.as_slice())?,
+        bindings: Items::of(site.bindings.as_slice().to_vec(alloc)?),
     })
 }
 
@@ -63,55 +69,59 @@ pub(crate) fn is_device(site: &Site, object: ObjectId) -> bool
     is_of_kind(object, ObjectKind::Device, site.device.instance)
 }
 
-fn is_class(listed: &ClassSite, object: ObjectId) -> bool
-    ensures same { result ≡ is_object object (class_object listed.now) }
+// Where the class with this instance stands among classes that ascend: found by halving.
+fn place_of_listed(classes: &[ClassSite], instance: u32) -> Result<usize, usize>
+    requires ascending { ClassesAscend classes.now }
+    ensures found { IfOk result (IsAt (λ (listed : Named). listed.class.instance == instance) classes.now) }
+    ensures absent { OnErr result (find (λ (listed : Named). listed.class.instance == instance) classes.now ≡ None) }
 {
-    is_of_kind(object, ObjectKind::NotificationClass, listed.class.instance)
+    classes.binary_search_by_key(&instance, |listed| listed.class.instance)
 }
 
-fn is_enrollment(listed: &EnrollmentSite, object: ObjectId) -> bool
-    ensures same { result ≡ is_object object listed.now.object }
-{
-    listed.object == object
-}
-
-fn is_log(listed: &LogSite, object: ObjectId) -> bool
-    ensures same { result ≡ is_object object listed.now.object }
-{
-    listed.object == object
-}
-
-/// The notification class with this identifier.
+/// The notification class with this identifier, among classes that ascend.
 pub(crate) fn listed_class(classes: &[ClassSite], object: ObjectId) -> Option<&ClassSite>
     requires instances { All HasInstance classes.now }
+    requires ascending { ClassesAscend classes.now }
     ensures class { option_copied result ≡ listed_class object classes.now }
     ensures instance { IfSome result (λ listed. HasInstance listed.now) }
 {
-    classes.iter().find(|listed| is_class(listed, object))
+    if object.number() != ObjectKind::NotificationClass.number() {
+        return None;
+    }
+    match place_of_listed(classes, object.instance()) {
+        Ok(place) => Some(&classes[place]),
+        Err(_place) => None,
+    }
 }
 
 fn some_class(classes: &[ClassSite], object: ObjectId) -> bool
-    ensures some { result ≡ list_any (λ (listed : ClassSite). is_object object (class_object listed)) classes.now }
+    requires instances { All HasInstance classes.now }
+    requires ascending { ClassesAscend classes.now }
+    ensures some { result ≡ list_any (λ (listed : Named). is_object object (class_object listed)) classes.now }
 {
-    classes.iter().any(|listed| is_class(listed, object))
+    listed_class(classes, object).is_some()
 }
 
 fn some_enrollment(enrollments: &[EnrollmentSite], object: ObjectId) -> bool
+    requires ascending { AscendById enrollments.now }
     ensures some { result ≡ list_any (λ (listed : EnrollmentSite). is_object object listed.object) enrollments.now }
 {
     enrollments
-        .iter()
-        .any(|listed| is_enrollment(listed, object))
+        .binary_search_by_key(&object, |listed| listed.object)
+        .is_ok()
 }
 
 fn some_log(logs: &[LogSite], object: ObjectId) -> bool
+    requires ascending { LogsAscend logs.now }
     ensures some { result ≡ list_any (λ (listed : LogSite). is_object object listed.object) logs.now }
 {
-    logs.iter().any(|listed| is_log(listed, object))
+    logs.binary_search_by_key(&object, |listed| listed.object)
+        .is_ok()
 }
 
 /// Whether a site has the object beside its value objects.
 pub(crate) fn is_other_object(site: &Site, object: ObjectId) -> bool
+    requires site { IsSite site.now }
     ensures other { result ≡ is_other_object site.now object }
 {
     is_device(site, object)

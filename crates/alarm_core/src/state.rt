@@ -1,26 +1,30 @@
-ghost use Rattle.std.specs.Prelude.{◌≡◌, ◌↔◌, [], All, IfOk, IsTrue, max};
+ghost use Rattle.std.specs.Prelude.{◌≡◌, ◌↔◌, ◌<◌, ◌^◌, length, [], All, IfOk, IsTrue, max};
 ghost use Rattle.std.specs.Option.{option_copied};
 ghost use Rattle.bac_values.specs.Moments.{IsMoment};
 ghost use Rattle.bac_values.specs.Orders.{IsAscending, peers_with};
 ghost use Rattle.outbox.specs.Outboxes.{has_in_flight, is_idle, new_outbox, peers_of as peers_of_posts, pumped, sends_of};
+ghost use Rattle.enrollment.specs.References.{enrollments_in};
 ghost use Rattle.event_machine.specs.Finding.{as_finding};
 ghost use Rattle.alarm_core.specs.Allowed.{Represents};
 ghost use Rattle.alarm_core.specs.Classes.{peers_in};
 ghost use Rattle.alarm_core.specs.CoreSteps.{first_state, states_of};
 ghost use Rattle.alarm_core.specs.Evaluations.{site_zone};
 ghost use Rattle.alarm_core.specs.Found.{alarm_in, device_object, found_in, has_object, is_other_object};
+ghost use Rattle.alarm_core.specs.ListLimits.{KeepLists};
 ghost use Rattle.alarm_core.specs.Logs.{log_in};
 ghost use Rattle.alarm_core.specs.Sites.{IsSite};
 
 use crate::Site;
 use crate::class_peers::peers_in;
 use crate::classes::classes_of;
-use crate::detection::detected_object;
+use crate::detection::{DetectedObject, detected_object};
 use crate::detections::Detections;
-use crate::identifiers::device_object;
+use crate::identifiers::{device_object, listed_identifiers};
 use crate::initial_state::first_detections;
 use crate::logs::{SiteLog, first_logs, kept_log};
+use crate::members::members_of;
 use crate::site::{copy_of_site, is_other_object};
+use crate::taking::raised_moment;
 use bac_values::{NoMemory, ObjectId, Peer, PeerList};
 use civil_stamp::{LocalMoment, Zone};
 use enrollment::Enrollments;
@@ -36,24 +40,29 @@ use std::marker::Model;
 /// recipient, as its events have left them.
 #[derive(Drop)]
 pub struct Core {
-    pub(crate) alloc: Global,
     pub(crate) site: Site,
+    pub(crate) identifiers: Vec<ObjectId>,
     pub(crate) zone: Zone,
     pub(crate) events: u64,
     pub(crate) last_moment: u64,
     pub(crate) detections: Detections,
     pub(crate) classes: Vec<Class>,
+    pub(crate) members: Vec<u32>,
     pub(crate) peers: PeerList,
     pub(crate) outbox: Outbox,
     pub(crate) logs: Vec<SiteLog>,
 }
 
 impl Model for Core {
-    ghost use Rattle.std.specs.Prelude.{◌≡◌, All};
+    ghost use Rattle.std.specs.Prelude.{◌≡◌, All, map};
     ghost use Rattle.bac_values.specs.Moments.{IsMoment};
     ghost use Rattle.outbox.specs.Outboxes.{peers_of};
+    ghost use Rattle.property_values.specs.DeviceProperties.{object_list};
+    ghost use Rattle.alarm_core.specs.Devices.{identifiers_of};
+    ghost use Rattle.alarm_core.specs.Room.{members_of_class};
     ghost use Rattle.alarm_core.specs.Known.{KnowsClass};
     ghost use Rattle.alarm_core.specs.Evaluations.{site_zone};
+    ghost use Rattle.alarm_core.specs.ListLimits.{KeepLists};
     ghost use Rattle.alarm_core.specs.Logs.{HasNoLog};
     ghost use Rattle.alarm_core.specs.Sites.{IsSite};
     ghost use Rattle.alarm_core.specs.State.{CoreState};
@@ -78,6 +87,9 @@ impl Model for Core {
       limit : core.outbox.limit ≡ core.site.device.outbox;
       peers : core.peers ≡ peers_of core.outbox.posts;
       known : All (KnowsClass core.peers) core.classes.items;
+      lists : KeepLists core.site core.classes.items core.peers;
+      members : core.members.items ≡ map (members_of_class core.site) core.classes.items;
+      identifiers : core.identifiers.items ≡ object_list (identifiers_of core.site);
       apart : HasNoLog core.detections.values;
     } };
 }
@@ -136,20 +148,23 @@ impl Core {
         let zone = site_zone(site);
         let start = site.device.start;
         let at = LocalMoment::new(start, &zone);
+        let identifiers = listed_identifiers(alloc, site)?;
         let classes = classes_of(alloc, site.classes.as_slice())?;
+        let members = members_of(alloc, site, &classes)?;
         let queues = first_queues(alloc, site, &classes)?;
         let logs = first_logs(alloc, site)?;
         let kept = copy_of_site(alloc, site)?;
         let detections = first_detections(alloc, site, &at)?;
         let (peers, outbox) = queues;
         Ok(Core {
-            alloc,
             site: kept,
+            identifiers,
             zone,
             events: 0,
             last_moment: start,
             detections,
             classes,
+            members,
             peers,
             outbox,
             logs,
@@ -179,13 +194,21 @@ impl Core {
     }
 
     /// The alarm of an object; one whose event detection isn't enabled has that of an object that never moved.
-    pub(crate) fn alarm_of(&self, object: ObjectId) -> Alarm
+    pub fn alarm_of(&self, object: ObjectId) -> Alarm
         ensures alarm { result ≡ alarm_in self.now object }
     {
         match detected_object(self.detections.alarms(), object) {
             Some(detected) => *detected.alarm(),
             None => Alarm::new(),
         }
+    }
+
+    /// The objects whose event detection is enabled, with their alarms.
+    pub fn alarms(&self) -> &[DetectedObject]
+        ensures alarms { result.now ≡ self.now.alarms }
+        ensures few { length result.now < 2 ^ 32 }
+    {
+        self.detections.alarms()
     }
 
     /// How many events there were.
@@ -210,16 +233,17 @@ impl Core {
         self.detections.objects().table()
     }
 
-    /// The event enrollments, ascending, as the writes have left them.
+    /// The event enrollments, ascending, as the writes have left them, which know who refers to an object.
     pub fn enrollments(&self) -> &Enrollments
-        ensures enrollments { result.now ≡ self.now.values.enrollments }
+        ensures enrollments { result.now ≡ enrollments_in self.now.values }
     {
         self.detections.objects().enrollments()
     }
 
-    /// The notification classes, ascending, with their lists as the edits have left them.
+    /// The notification classes, ascending, with their lists as the edits have left them, which keep to the limits.
     pub fn classes(&self) -> &[Class]
         ensures classes { result.now ≡ self.now.classes }
+        ensures keep { KeepLists self.now.site self.now.classes (peers_of_posts self.now.outbox.posts) }
     {
         self.classes.as_slice()
     }
@@ -263,7 +287,7 @@ impl Core {
         ensures nothing { IsTrue result ↔ ((sends_of (max moment self.now.last_moment) self.now.outbox ≡ [])
             × (pumped (max moment self.now.last_moment) self.now.outbox ≡ self.now.outbox)) }
     {
-        self.outbox.idle(moment.max(self.last_moment))
+        self.outbox.idle(raised_moment(moment, self.last_moment))
     }
 
     /// Whether a notification to this peer with this invoke ID is in flight.

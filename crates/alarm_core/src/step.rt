@@ -1,12 +1,13 @@
-ghost use Rattle.std.specs.Prelude.{◌≡◌, ◌↔◌, ◌<◌, ◌≤◌, ◌^◌, ◌∷◌, ◌+◌, ◌++◌, [], All, List, None, Ok, max, map, IfOk, IfSome, IsFalse, IsTrue, OnErr, OnOk};
+ghost use Rattle.std.specs.Prelude.{◌≡◌, ◌↔◌, ◌<◌, ◌≤◌, ◌∷◌, ◌+◌, ◌++◌, [], All, List, None, Ok, max, map, IfOk, IfSome, IsFalse, IsTrue, OnErr, OnOk};
 ghost use Rattle.std.specs.List.{flat_map};
+ghost use Rattle.bac_values.specs.Limits.{most_events};
 ghost use Rattle.bac_values.specs.Moments.{IsMoment};
 ghost use Rattle.notify_class.specs.Edits.{recipient_peers};
 ghost use Rattle.outbox.specs.Outboxes.{AreKnown, answered, learned, pumped, queued, sends_of, unfinished_in};
 ghost use Rattle.enrollment.specs.Objects.{IsTaken, written};
 ghost use Rattle.event_log.specs.declared.log_site.LogSite.{LogSite as LogPlace};
 ghost use Rattle.event_log.specs.History.{Call};
-ghost use Rattle.alarm_core.specs.declared.event.Act.TheVariants.{Tick, Write, Ack};
+ghost use Rattle.alarm_core.specs.declared.event.Act.TheVariants.{Tick, Write, Ack, Edit};
 ghost use Rattle.alarm_core.specs.declared.event.Event.{Event as Happening};
 ghost use Rattle.alarm_core.specs.Allowed.{IsAllowed, Represents};
 ghost use Rattle.alarm_core.specs.Classes.{edited};
@@ -18,16 +19,16 @@ ghost use Rattle.alarm_core.specs.History.{event_at, moved_by, raised, tick_at, 
 ghost use Rattle.alarm_core.specs.Logs.{call_of_change, kept_log, records_of, SiteLogState};
 ghost use Rattle.alarm_core.specs.Moving.{moving_of, touched_of};
 ghost use Rattle.alarm_core.specs.Notes.{IsShort, notes_of_transitions};
-ghost use Rattle.alarm_core.specs.Room.{HasRoom};
 ghost use Rattle.alarm_core.specs.Verdicts.{Answers, queue_verdict, step_verdict};
 ghost use Rattle.alarm_core.specs.ViewSteps.{seen_in};
 
 use crate::class_peers::recipient_peers;
-use crate::classes::edited_classes;
+use crate::classes::{copy_of_list, put_list};
 use crate::due_looks::Round;
 use crate::logs::{change_all, enter_all, kept_log};
 use crate::note_queue::queue_all;
 use crate::notifications::{add_notes, notes_of_acknowledgement};
+use crate::taking::raised_moment;
 use crate::transition::ObjectTransition;
 use crate::transition_report::{Told, add_moves, tell};
 use crate::view::SiteView;
@@ -37,6 +38,7 @@ use civil_stamp::LocalMoment;
 use event_machine::Steps;
 use notify_class::Destination;
 use object_table::{Change, copy_of_change};
+use std::alloc::Global;
 use std::sync::ledger::Ledger;
 
 /// What an act reports.
@@ -47,8 +49,8 @@ struct Done {
 }
 
 impl Core {
-    // A moment with its local date and time at the site.
-    fn at(&self, moment: u64) -> LocalMoment
+    /// A moment with its local date and time at the site.
+    pub(crate) fn at(&self, moment: u64) -> LocalMoment
         requires moment { IsMoment moment }
         ensures moment { result.moment ≡ moment }
         ensures zone { result.zone ≡ site_zone self.now.site }
@@ -71,7 +73,12 @@ impl Core {
     }
 
     // What is told of the transitions of the last look.
-    fn told(&self, at: &LocalMoment, transitions: &[ObjectTransition]) -> Result<Told, NoMemory>
+    fn told(
+        &self,
+        alloc: Global,
+        at: &LocalMoment,
+        transitions: &[ObjectTransition],
+    ) -> Result<Told, NoMemory>
         requires zone { at.now.zone ≡ site_zone self.now.site }
         ensures moves { IfOk result (λ told. told.moves.items ≡ map moved_by (seen_in at.now.moment self.now transitions.now)) }
         ensures notes { IfOk result (λ told. told.notes.items ≡ notes_of_transitions self.now.site self.now.classes (seen_in at.now.moment self.now transitions.now)) }
@@ -80,12 +87,13 @@ impl Core {
         ensures short { IfOk result (λ told. All IsShort told.notes.items) }
     {
         let view = self.view(at);
-        tell(self.alloc, &view, &self.logs, transitions)
+        tell(alloc, &view, &self.logs, transitions)
     }
 
     // One more look at the objects that are due, and what is told of it.
     fn look<L: Ledger>(
         &mut self,
+        alloc: Global,
         at: &LocalMoment,
         steps: &mut Steps<L>,
         round: &mut Round,
@@ -105,11 +113,12 @@ impl Core {
         ensures steps { steps.new ≤ steps.old + due_count at.now.moment (dues_of (detections_of self.old)) }
     {
         self.detections.evaluate(at, steps, round)?;
-        self.told(at, &round.transitions)
+        self.told(alloc, at, &round.transitions)
     }
 
     fn tick<L: Ledger>(
         &mut self,
+        alloc: Global,
         at: &LocalMoment,
         steps: &mut Steps<L>,
         round: &mut Round,
@@ -124,12 +133,12 @@ impl Core {
         ensures verdict { Answers result (step_verdict (tick_at at.now.moment) self.old) }
         ensures steps { steps.new ≤ steps.old + due_count at.now.moment (dues_of (detections_of self.old)) }
     {
-        let told = self.look(at, steps, round)?;
-        queue_all(self.alloc, &mut self.outbox, told.notes)?;
+        let told = self.look(alloc, at, steps, round)?;
+        queue_all(alloc, &mut self.outbox, told.notes)?;
         enter_all(&mut self.logs, told.records);
         Ok(Done {
             moves: told.moves,
-            sends: Vec::new(self.alloc),
+            sends: Vec::new(alloc),
         })
     }
 
@@ -161,7 +170,7 @@ impl Core {
         ensures takes { IfOk result (λ undo. IfSome undo (λ undo. IsTaken undo self.new.values)) }
         ensures same { OnErr result (self.new.values ≡ self.old.values) }
         ensures undoes { LeadsBack round.new.formers.items (start_of round.old.formers.items (detections_of self.old)) (detections_of self.new) }
-        ensures steps { steps.new ≤ steps.old + due_count at.now.moment (all_once (touched_by change.now.object self.old.values.enrollments) self.old.alarms (dues_of (detections_of self.old))) }
+        ensures steps { steps.new ≤ steps.old + due_count at.now.moment (all_once (touched_by change.now.object self.old.values) self.old.alarms (dues_of (detections_of self.old))) }
     {
         if self.is_of_log(change) {
             self.detections.evaluate(at, steps, round)?;
@@ -177,6 +186,7 @@ impl Core {
     // with the change between.
     fn finish_write(
         &mut self,
+        alloc: Global,
         before: Told,
         change: &Change,
         at: &LocalMoment,
@@ -199,20 +209,21 @@ impl Core {
         ensures same { OnErr result (self.new ≡ self.old) }
         ensures verdict { Answers result (queue_verdict (before.notes.items ++ notes_of_transitions self.old.site self.old.classes (seen_in at.now.moment self.old transitions.now)) self.old.outbox) }
     {
-        let after = self.told(at, transitions)?;
+        let after = self.told(alloc, at, transitions)?;
         let (mut moves, mut notes) = (before.moves, before.notes);
         add_moves(&mut moves, after.moves)?;
         add_notes(&mut notes, after.notes)?;
-        queue_all(self.alloc, &mut self.outbox, notes)?;
+        queue_all(alloc, &mut self.outbox, notes)?;
         enter_all(&mut self.logs, before.records);
         change_all(&mut self.logs, change);
         enter_all(&mut self.logs, after.records);
-        let sends = Vec::new(self.alloc);
+        let sends = Vec::new(alloc);
         Ok(Done { moves, sends })
     }
 
     fn write<L: Ledger>(
         &mut self,
+        alloc: Global,
         at: &LocalMoment,
         change: &Change,
         steps: &mut Steps<L>,
@@ -229,9 +240,9 @@ impl Core {
         ensures verdict { Answers result (step_verdict (event_at at.now.moment (Write change.now)) self.old) }
         ensures steps { steps.new ≤ steps.old + due_steps at.now (Write change.now) (detections_of self.old) }
     {
-        let before = self.look(at, steps, round)?;
+        let before = self.look(alloc, at, steps, round)?;
         let undo = self.change(change, at, steps, round)?;
-        match self.finish_write(before, change, at, &round.transitions) {
+        match self.finish_write(alloc, before, change, at, &round.transitions) {
             Ok(done) => Ok(done),
             Err(fault) => {
                 if let Some(undo) = undo {
@@ -244,6 +255,7 @@ impl Core {
 
     fn acknowledge(
         &mut self,
+        alloc: Global,
         at: &LocalMoment,
         object: ObjectId,
         transition: Transition,
@@ -257,16 +269,16 @@ impl Core {
         ensures verdict { Answers result (step_verdict (event_at at.now.moment (Ack object transition named)) self.old) }
     {
         let view = self.view(at);
-        let told = notes_of_acknowledgement(self.alloc, &view, object, transition, named)?;
-        queue_all(self.alloc, &mut self.outbox, told)?;
+        let told = notes_of_acknowledgement(alloc, &view, object, transition, named)?;
+        queue_all(alloc, &mut self.outbox, told)?;
         self.detections.acknowledge(object, transition);
         Ok(Done {
-            moves: Vec::new(self.alloc),
-            sends: Vec::new(self.alloc),
+            moves: Vec::new(alloc),
+            sends: Vec::new(alloc),
         })
     }
 
-    fn pump(&mut self, moment: u64) -> Result<Done, StepFault>
+    fn pump(&mut self, alloc: Global, moment: u64) -> Result<Done, StepFault>
         requires moment { IsMoment moment }
         ensures state { OnOk result (self.new ≡ record self.old { outbox = pumped moment self.old.outbox }) }
         ensures moves { IfOk result (λ done. done.moves.items ≡ []) }
@@ -274,26 +286,32 @@ impl Core {
         ensures same { OnErr result (self.new ≡ self.old) }
         ensures verdict { Answers result (Ok tt) }
     {
-        let sends = self.outbox.pump(self.alloc, moment)?;
+        let sends = self.outbox.pump(alloc, moment)?;
         Ok(Done {
-            moves: Vec::new(self.alloc),
+            moves: Vec::new(alloc),
             sends,
         })
     }
 
-    fn answer(&mut self, peer: &Peer, invoke: u8) -> Done
+    fn answer(&mut self, alloc: Global, peer: &Peer, invoke: u8) -> Done
         ensures state { self.new ≡ record self.old { outbox = answered peer.now invoke self.old.outbox } }
         ensures moves { result.moves.items ≡ [] }
         ensures sends { result.sends.items ≡ [] }
     {
         let _answered = self.outbox.answer(peer, invoke);
         Done {
-            moves: Vec::new(self.alloc),
-            sends: Vec::new(self.alloc),
+            moves: Vec::new(alloc),
+            sends: Vec::new(alloc),
         }
     }
 
-    fn edit(&mut self, class: u32, destinations: &[Destination]) -> Result<Done, StepFault>
+    fn edit(
+        &mut self,
+        alloc: Global,
+        class: u32,
+        destinations: &[Destination],
+    ) -> Result<Done, StepFault>
+        requires allowed { IsAllowed self.old (Edit class destinations.now) }
         ensures state { OnOk result (self.new ≡ record self.old {
           classes = map (edited class destinations.now) self.old.classes;
           outbox = learned (recipient_peers destinations.now) self.old.outbox;
@@ -303,21 +321,22 @@ impl Core {
         ensures same { OnErr result (self.new ≡ self.old) }
         ensures verdict { Answers result (Ok tt) }
     {
-        let classes = edited_classes(self.alloc, class, destinations, &self.classes)?;
-        let others = recipient_peers(self.alloc, destinations)?;
-        let peers = self.peers.with(self.alloc, &others)?;
-        self.outbox.learn(self.alloc, &others)?;
-        self.classes = classes;
+        let list = copy_of_list(alloc, destinations)?;
+        let others = recipient_peers(alloc, destinations)?;
+        let peers = self.peers.with(alloc, &others)?;
+        self.outbox.learn(alloc, &others)?;
+        put_list(&mut self.classes, class, list);
         self.peers = peers;
         Ok(Done {
-            moves: Vec::new(self.alloc),
-            sends: Vec::new(self.alloc),
+            moves: Vec::new(alloc),
+            sends: Vec::new(alloc),
         })
     }
 
     // What an event does. Where it is refused, some objects have been looked at.
     fn attempt<L: Ledger>(
         &mut self,
+        alloc: Global,
         at: &LocalMoment,
         act: &Act,
         steps: &mut Steps<L>,
@@ -335,25 +354,26 @@ impl Core {
         ensures steps { steps.new ≤ steps.old + due_steps at.now act.now (detections_of self.old) }
     {
         match act {
-            Act::Tick => self.tick(at, steps, round),
-            Act::Write { change } => self.write(at, change, steps, round),
+            Act::Tick => self.tick(alloc, at, steps, round),
+            Act::Write { change } => self.write(alloc, at, change, steps, round),
             Act::Ack {
                 object,
                 transition,
                 state,
-            } => self.acknowledge(at, *object, *transition, *state),
-            Act::Pump => self.pump(at.moment()),
-            Act::Answer { peer, invoke, .. } => Ok(self.answer(peer, *invoke)),
+            } => self.acknowledge(alloc, at, *object, *transition, *state),
+            Act::Pump => self.pump(alloc, at.moment()),
+            Act::Answer { peer, invoke, .. } => Ok(self.answer(alloc, peer, *invoke)),
             Act::Edit {
                 class,
                 destinations,
-            } => self.edit(*class, destinations.as_slice()),
+            } => self.edit(alloc, *class, destinations.as_slice()),
         }
     }
 
     // What an event does. Nothing of it is left where it is refused.
     fn act<L: Ledger>(
         &mut self,
+        alloc: Global,
         at: &LocalMoment,
         act: &Act,
         steps: &mut Steps<L>,
@@ -367,8 +387,8 @@ impl Core {
         ensures verdict { Answers result (step_verdict (event_at at.now.moment act.now) self.old) }
         ensures steps { steps.new ≤ steps.old + due_steps at.now act.now (detections_of self.old) }
     {
-        let mut round = Round::new(self.alloc);
-        match self.attempt(at, act, steps, &mut round) {
+        let mut round = Round::new(alloc);
+        match self.attempt(alloc, at, act, steps, &mut round) {
             Ok(done) => Ok(done),
             Err(fault) => {
                 self.detections.undo(&mut round, at);
@@ -379,17 +399,17 @@ impl Core {
 
     /// Takes an event, whose moment is raised to the last one. A fault changes nothing: notifications that don't fit the
     /// outbox are `Full`, with the number that would then wait and the one that may. A tick is never `Full` where nothing
-    /// waits and the site's classes leave room for one transition of each of their objects. Each look at an object is a step:
-    /// there are at most as many as objects move at the looks of the event, and for a write one more for each object that it
-    /// touches.
+    /// waits. Each look at an object is a step: there are at most as many as objects move at the looks of the event, and for a
+    /// write one more for each object that it touches.
     pub fn step<L: Ledger>(
         &mut self,
+        alloc: Global,
         event: &Event,
         steps: &mut Steps<L>,
     ) -> Result<Outcome, StepFault>
         requires moment { IsMoment event.now.moment }
         requires allowed { IsAllowed self.old event.now.act }
-        requires few { self.old.events < 2 ^ 63 }
+        requires few { self.old.events < most_events }
         ensures state { OnOk result (self.new ≡ next_state (raised self.old.last_moment event.now) self.old) }
         ensures moment { IfOk result (λ outcome. outcome.moment ≡ max event.now.moment self.old.last_moment) }
         ensures moves { IfOk result (λ outcome. outcome.moves ≡ map moved_by (next_transitions (raised self.old.last_moment event.now) self.old)) }
@@ -404,14 +424,14 @@ impl Core {
         ensures notifications { (history : List Happening) → Represents self.old history →
             notifications_of self.old.site (raised self.old.last_moment event.now ∷ history)
             ≡ notifications_of self.old.site history ++ next_notes (raised self.old.last_moment event.now) self.old }
-        ensures ticks_fit { HasRoom self.old.site → (history : List Happening) → Represents self.old history → unfinished_in self.old.outbox.posts ≡ 0 →
+        ensures ticks_fit { (history : List Happening) → Represents self.old history → unfinished_in self.old.outbox.posts ≡ 0 →
             event.now.act ≡ Tick → step_verdict (raised self.old.last_moment event.now) self.old ≡ Ok tt }
         ensures counts { (history : List Happening) → Represents self.old history →
             steps.new ≤ steps.old + (moving_of self.old.site (raised self.old.last_moment event.now) history + touched_of self.old.site (raised self.old.last_moment event.now) history) }
     {
-        let moment = event.moment.max(self.last_moment);
+        let moment = raised_moment(event.moment, self.last_moment);
         let at = self.at(moment);
-        let done = self.act(&at, &event.act, steps)?;
+        let done = self.act(alloc, &at, &event.act, steps)?;
         self.events += 1;
         self.last_moment = moment;
         Ok(Outcome {
@@ -419,16 +439,5 @@ impl Core {
             moves: Items::of(done.moves),
             sends: Items::of(done.sends),
         })
-    }
-
-    /// Whether no object would move at the look of a moment, raised to the last one.
-    pub fn idle_tick(&self, moment: u64) -> bool
-        requires moment { IsMoment moment }
-        ensures still { IsTrue result ↔ (next_transitions (raised self.now.last_moment (tick_at moment)) self.now ≡ []) }
-        ensures history { (history : List Happening) → Represents self.now history →
-            (IsTrue result ↔ (transitions_of self.now.site (raised self.now.last_moment (tick_at moment) ∷ history) ≡ transitions_of self.now.site history)) }
-    {
-        let moment = moment.max(self.last_moment);
-        self.detections.is_still(&self.at(moment))
     }
 }

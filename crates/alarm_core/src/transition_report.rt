@@ -4,7 +4,7 @@ ghost use Rattle.alarm_core.specs.Logs.{records_of, SiteLogState};
 ghost use Rattle.alarm_core.specs.Notes.{IsShort, notes_of_transitions};
 ghost use Rattle.alarm_core.specs.ViewSteps.{moved_of, transition_in};
 
-use crate::logs::{Entry, SiteLog, records_of_all};
+use crate::logs::{RecordToLog, SiteLog, records_of_all};
 use crate::notifications::{addressed_notifications, notes_of_all};
 use crate::transition::ObjectTransition;
 use crate::view::SiteView;
@@ -16,7 +16,7 @@ use std::alloc::Global;
 pub(crate) struct Told {
     pub(crate) moves: Vec<Moved>,
     pub(crate) notes: Vec<Note>,
-    pub(crate) records: Vec<Vec<Entry>>,
+    pub(crate) records: Vec<Vec<RecordToLog>>,
 }
 
 fn moved_of(transition: &ObjectTransition) -> Moved

@@ -3,7 +3,7 @@ use crate::detection::DetectedObject;
 use bac_values::Transition;
 use civil_stamp::LocalMoment;
 use enrollment::Objects;
-use event_services::Notification;
+use event_services::WrittenNotification;
 use notify_class::Class;
 use std::marker::Model;
 
@@ -23,6 +23,7 @@ impl<'a> Model for SiteView<'a> {
     ghost use Rattle.alarm_core.specs.Evaluations.{site_zone};
     ghost use Rattle.alarm_core.specs.CoreSteps.{states_of};
     ghost use Rattle.alarm_core.specs.DueSteps.{AscendByObject};
+    ghost use Rattle.alarm_core.specs.ListLimits.{InstancesAscend};
     ghost use Rattle.alarm_core.specs.Sites.{IsSite};
     ghost use Rattle.alarm_core.specs.ViewSteps.{SiteViewData};
 
@@ -40,6 +41,7 @@ impl<'a> Model for SiteView<'a> {
       site : IsSite view.site.now;
       zone : view.at.now.zone ≡ site_zone view.site.now;
       ascending : AscendByObject view.alarms.now;
+      classes : InstancesAscend view.classes.now;
     } };
 }
 
@@ -48,16 +50,13 @@ impl<'a> Model for SiteView<'a> {
 pub(crate) struct Addressed<'a> {
     pub(crate) class: &'a Class,
     pub(crate) kind: Transition,
-    pub(crate) facts: Notification,
+    pub(crate) facts: WrittenNotification,
 }
 
 impl<'a> Model for Addressed<'a> {
-    ghost use Rattle.event_services.specs.Notifications.{IsTold};
     ghost use Rattle.alarm_core.specs.ViewSteps.{AddressedData};
 
     ghost Value = { AddressedData };
 
     ghost view = { λ told. record { class = told.class.now; kind = told.kind; facts = told.facts } };
-
-    ghost invariant = { λ told. IsTold told.facts.event_type told.facts.values };
 }

@@ -7,7 +7,7 @@ use Rattle.ground_io.specs.declared.entry.Entry.TheVariants.{Synced}
 use Rattle.ground_io.proofs.Crashes.{only_read, adds_both, disk_adds, always_weaker}
 use Rattle.alarm_journal.specs.Journal.{Site, Content, nothing, OpensTo, opened_from, heading}
 use Rattle.alarm_journal.specs.Opened.{Shows}
-use Rattle.alarm_journal.specs.Press.{Settled, IsSound, Begun, IsBlank, Blank, Reopens, ReopensSynced, Answers, WasBlank, IsOpening}
+use Rattle.alarm_journal.specs.Press.{Settled, IsAtMostSynced, IsSound, Begun, IsBlank, Blank, MayFormat, Reopens, ReopensSynced, Answers, WasBlank, IsOpening}
 use Rattle.alarm_journal.specs.Protocol.{AddsSome, Leads, two_writes, IsTwoCutShort}
 use Rattle.alarm_journal.specs.declared.layout.Layout.{Layout}
 use Rattle.alarm_journal.specs.declared.open_fault.OpenFault.{OpenFault}
@@ -117,6 +117,25 @@ was_blank a r None entries ar blank rf = tt
 was_blank a None (Some f) entries ar blank rf = absurd rf
 was_blank None (Some r) (Some f) entries ar blank rf = absurd ar
 was_blank (Some a) (Some r) (Some f) entries ar blank rf = ((λ is shut. blank.gate (ap (λ (l : List ℕ). get_or l 0 0) (contents_then a r ar) ∙ shut)), (λ shut. refl))
+
+-- what came was at most the first sync
+pub at_most : (entries : List Entry) (a f : Option Told) → IsAtMostSynced entries → Adds a f entries → AddsSome IsAtMostSynced a f
+at_most entries a None is adds = tt
+at_most entries None (Some f) is adds = absurd adds
+at_most entries (Some a) (Some f) is adds = (entries, is, adds)
+
+-- a blank device of the needed size may be formatted
+pub may_format : (size need : ℕ) (P : List Entry → Type 0) (a r f : Option Told) → need ≤ size → Adds a r (Synced ∷ []) → Blank r → AddsSome P r f → MayFormat size need a f
+may_format size need P None r f fits ar blank some = fits
+may_format size need P (Some a) r None fits ar blank some = fits
+may_format size need P (Some a) None (Some f) fits ar blank some = absurd some
+may_format size need P (Some a) (Some r) (Some f) fits ar blank some = (fits, λ shut. blank.gate (ap (λ (l : List ℕ). get_or l 0 0) (contents_then a r ar) ∙ shut))
+
+-- what adds some entries adds some
+pub adds_those : (entries : List Entry) (a f : Option Told) → Adds a f entries → AddsSome (λ _. Unit {0}) a f
+adds_those entries a None adds = tt
+adds_those entries None (Some f) adds = absurd adds
+adds_those entries (Some a) (Some f) adds = (entries, tt, adds)
 
 -- the writes of a formatting that was cut short, behind the sync
 pub opening_cut : (text : List ℕ) (size : ℕ) (a r f : Option Told) → Adds a r (Synced ∷ []) → AddsSome (λ entries. (entries ≡ []) ⊎ IsTwoCutShort 1 (heading text size) 0 (1 ∷ []) entries) r f → AddsSome (IsOpening text size) a f

@@ -10,7 +10,7 @@ use Rattle.ground_io.specs.Sent.{AreQuiet}
 use Rattle.alarm_journal.specs.Protocol.{Leads, two_writes, IsTwoCutShort}
 use Rattle.alarm_journal.specs.declared.layout.Layout.{Layout}
 use Rattle.alarm_journal.specs.declared.open_fault.OpenFault.{OpenFault}
-use Rattle.alarm_journal.specs.declared.open_fault.OpenFault.TheVariants.{DiskFault, NoMemory, SmallDevice}
+use Rattle.alarm_journal.specs.declared.open_fault.OpenFault.TheVariants.{Damaged, DiskFault, Foreign, NoMemory, SmallDevice}
 
 -- a press: its ground, and where its journal lies
 pub record PressState (G : Type 0) : Type 0 where
@@ -145,6 +145,24 @@ IsBelow size need fault = (fault ≡ DiskFault) ⊎ (fault ≡ SmallDevice size 
 -- The writes of an opening: none but the first sync, or behind it the two of a blank device's formatting.
 abbrev pub IsOpening : List ℕ → ℕ → List Entry → Type 0
 IsOpening text size entries = (entries ≡ []) ⊎ ((entries ≡ Synced ∷ []) ⊎ ((more : List Entry) × ((more ≡ two_writes 1 (heading text size) 0 (1 ∷ [])) ⊎ IsTwoCutShort 1 (heading text size) 0 (1 ∷ []) more) × (entries ≡ Synced ∷ more)))
+
+-- A journal isn't opened for what its device is: a device whose call failed, or want of memory, tells nothing of that.
+abbrev pub IsRefusal : OpenFault → Type 0
+IsRefusal DiskFault = ⊥
+IsRefusal (SmallDevice size need) = Unit {0}
+IsRefusal (Foreign at) = Unit {0}
+IsRefusal (Damaged at) = Unit {0}
+IsRefusal NoMemory = ⊥
+
+-- A device may be formatted: it is as large as it must be, and its gate isn't open, where it tells.
+abbrev pub MayFormat : ℕ → ℕ → Option Told → Option Told → Type 0
+MayFormat size need (Some old) (Some new) = (need ≤ size) × (slice_index (disk_of old).contents 0 ≢ 1)
+MayFormat size need None new = need ≤ size
+MayFormat size need old None = need ≤ size
+
+-- no write came, and at most the first sync
+abbrev pub IsAtMostSynced : List Entry → Type 0
+IsAtMostSynced entries = (entries ≡ []) ⊎ (entries ≡ Synced ∷ [])
 
 -- The octets that an opening has just synced: a blank device, or one with an open gate; nothing is loose.
 pub record IsBlank (told : Told) : Type 0 where

@@ -1,11 +1,12 @@
-ghost use Rattle.std.specs.Prelude.{◌≡◌, ◌⊎◌, ◌+◌, ◌-◌, ◌/◌, ◌%◌, ◌≤◌, ◌<◌, if◌then◌else◌, slice_index, [], ◌∷◌, ℕ, length, IfOk, IfErr, OnOk, OnErr, MatchResult, IsTrue, ◌↔◌, Ok, Err, false};
+ghost use Rattle.std.specs.Prelude.{◌≡◌, ◌⊎◌, ◌+◌, ◌-◌, ◌/◌, ◌%◌, ◌≤◌, ◌<◌, if◌then◌else◌, slice_index, [], ◌∷◌, ℕ, length, IfOk, IfErr, OnOk, OnErr, MatchResult, IsFalse, IsTrue, ◌↔◌, Ok, Err, false};
 ghost use Rattle.bac_values.specs.Limits.{most_site_octets};
 ghost use Rattle.ground_io.specs.Counts.{HasCause};
 ghost use Rattle.ground_io.specs.Trace.{Adds};
+ghost use Rattle.ground_io.specs.declared.entry.Entry.TheVariants.{Synced};
 ghost use Rattle.alarm_journal.specs.Areas.{IsLaid};
 ghost use Rattle.alarm_journal.specs.Journal.{OpensTo, heading, nothing};
 ghost use Rattle.alarm_journal.specs.Opened.{Shows, StandsAt, content_in};
-ghost use Rattle.alarm_journal.specs.Press.{Answers, Begun, Blank, IsBelow, IsOpening, IsSmall, IsSound, Reopens, ReopensSynced, Settled, WasBlank, start_of};
+ghost use Rattle.alarm_journal.specs.Press.{Answers, Begun, Blank, IsAtMostSynced, IsBelow, IsOpening, IsRefusal, IsSmall, IsSound, MayFormat, Reopens, ReopensSynced, Settled, WasBlank, start_of};
 ghost use Rattle.alarm_journal.specs.Protocol.{AddsSome, IsTwoCutShort, Leads, two_writes};
 ghost use Rattle.alarm_journal.specs.declared.open_fault.OpenFault.TheVariants.{DiskFault, NoMemory};
 
@@ -135,6 +136,9 @@ pub(crate) fn open_device<G: Ground>(
         (λ _. ReopensSynced (record { text = text.now; need = need }) (G.told device.old) (G.told device.new))
         (λ _. Reopens (record { text = text.now; need = need }) (G.told device.old) (G.told device.new)) }
     ensures writes { AddsSome (IsOpening text.now (G.size device.old)) (G.told device.old) (G.told device.new) }
+    ensures formats { MayFormat (G.size device.old) need (G.told device.old) (G.told device.new) ⊎ AddsSome IsAtMostSynced (G.told device.old) (G.told device.new) }
+    ensures begun { IfOk result (λ read. IsFalse read.1.fresh → Adds (G.told device.old) (G.told device.new) (Synced ∷ [])) }
+    ensures refused { IfErr result (λ fault. IsRefusal fault → Adds (G.told device.old) (G.told device.new) (Synced ∷ [])) }
 {
     device.sync()?;
     let size = device.size()?;

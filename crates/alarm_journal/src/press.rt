@@ -1,11 +1,12 @@
-ghost use Rattle.std.specs.Prelude.{◌≡◌, ◌<◌, ◌≤◌, ◌+◌, ◌-◌, ◌/◌, All, List, [], ◌∷◌, ℕ, length, IfOk, IfErr, IsTrue, MatchResult, Ok, Err, map, ⊤};
+ghost use Rattle.std.specs.Prelude.{◌≡◌, ◌⊎◌, ◌<◌, ◌≤◌, ◌+◌, ◌-◌, ◌/◌, All, List, [], ◌∷◌, ℕ, length, IfOk, IfErr, IsFalse, IsTrue, MatchResult, Ok, Err, map, ⊤};
 ghost use Rattle.bac_values.specs.Limits.{most_site_octets};
 ghost use Rattle.ground_io.specs.Counts.{HasCause};
 ghost use Rattle.ground_io.specs.Trace.{Adds};
+ghost use Rattle.ground_io.specs.declared.entry.Entry.TheVariants.{Synced};
 ghost use Rattle.alarm_journal.specs.Emissions.{EmitsAll};
 ghost use Rattle.alarm_journal.specs.Journal.{Content, Site, batches_of, framed, nothing, only_snapshot, with_batch};
 ghost use Rattle.alarm_journal.specs.Opened.{EndsOnDevice, LieBetween, Shows, StandsAt, content_in, sum_of};
-ghost use Rattle.alarm_journal.specs.Press.{Answers, Between, IsBelow, IsOpening, IsSmall, Lasts, Reopens, ReopensSynced, Settled, Throughout, WasBlank, behind_batch, behind_snapshot, other_of, room_of, selector_of, start_of};
+ghost use Rattle.alarm_journal.specs.Press.{Answers, Between, IsAtMostSynced, IsBelow, IsOpening, IsRefusal, IsSmall, Lasts, MayFormat, Reopens, ReopensSynced, Settled, Throughout, WasBlank, behind_batch, behind_snapshot, other_of, room_of, selector_of, start_of};
 ghost use Rattle.alarm_journal.specs.Protocol.{AddsSome, IsTwoCutShort, two_writes};
 ghost use Rattle.alarm_journal.specs.declared.open_fault.OpenFault.TheVariants.{DiskFault};
 
@@ -118,6 +119,14 @@ impl<G: Ground> Press<G> {
         ensures writes { MatchResult result
             (λ read. AddsSome (IsOpening site_text.now (G.size device)) (G.told device) (G.told read.0.device))
             (λ refused. AddsSome (IsOpening site_text.now (G.size device)) (G.told device) (G.told refused.0)) }
+
+        // A blank device of the needed size alone is formatted. One that isn't blank, and one that is refused for what it is,
+        // was synced, and nothing else.
+        ensures formats { MatchResult result
+            (λ read. MayFormat (G.size device) need (G.told device) (G.told read.0.device) ⊎ AddsSome IsAtMostSynced (G.told device) (G.told read.0.device))
+            (λ refused. MayFormat (G.size device) need (G.told device) (G.told refused.0) ⊎ AddsSome IsAtMostSynced (G.told device) (G.told refused.0)) }
+        ensures begun { IfOk result (λ read. IsFalse read.1.fresh → Adds (G.told device) (G.told read.0.device) (Synced ∷ [])) }
+        ensures refused { IfErr result (λ refused. IsRefusal refused.1 → Adds (G.told device) (G.told refused.0) (Synced ∷ [])) }
 
         ensures same { MatchResult result (λ read. G.size read.0.device ≡ G.size device) (λ refused. G.size refused.0 ≡ G.size device) }
         ensures emitted { MatchResult result (λ read. G.emit_faults read.0.device ≡ G.emit_faults device) (λ refused. G.emit_faults refused.0 ≡ G.emit_faults device) }

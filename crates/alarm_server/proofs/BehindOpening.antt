@@ -16,9 +16,11 @@ use Rattle.alarm_core.specs.Sites.{IsSite}
 use Rattle.alarm_core.specs.State.{CoreState}
 use Rattle.alarm_server.specs.declared.status.Status.{Status}
 use Rattle.alarm_server.specs.declared.status.Status.TheVariants.{Done, Usage, SiteRefused, ScriptRefused, ReadFault, EmitFault, DiskFault, JournalRefused, NoMemory, LinkFault}
-use Rattle.floor_desk.specs.Emission.{Emits}
+use Rattle.state_codec.specs.Emission.{Emits}
 use Rattle.alarm_server.specs.Emission.{Ends, lost, sent}
-use Rattle.floor_desk.specs.Keeping.{HoldsHistory, StoodFor}
+use Rattle.state_codec.specs.Keeping.{HoldsHistory, StoodFor}
+use Rattle.state_codec.specs.Openings.{OpenedTo}
+use Rattle.alarm_server.specs.Openings.{IsPlayed}
 use Rattle.alarm_server.specs.Keeping.{KeepsOpened, KeepsReport}
 use Rattle.alarm_server.specs.Pieces.{piece_text}
 use Rattle.alarm_server.specs.Report.{front_pieces, report_of}
@@ -37,6 +39,20 @@ tells_before journal site history (Some old) mid None entries goes stood = absur
 tells_before journal site history (Some old) None (Some new) entries (more, adds, are) stood = absurd adds
 tells_before journal site history (Some old) (Some mid) (Some new) entries goes stood = stood
 
+opened_before : (site : Site) (octets : List ℕ) (state : CoreState) (old mid new : Option Told) (entries : List Entry) → Emits mid new entries → OpenedTo site octets old mid state → OpenedTo site octets old new state
+opened_before site octets state None mid new entries goes opened = tt
+opened_before site octets state (Some old) mid None entries goes opened = tt
+opened_before site octets state (Some old) None (Some new) entries (more, adds, are) opened = absurd adds
+opened_before site octets state (Some old) (Some mid) (Some new) entries goes opened = opened
+
+-- a fault of an opening comes before the script is played
+pub not_played : (fault : OpenFault) → IsPlayed (of_open_fault fault) → ⊥
+not_played open_fault.DiskFault played = played
+not_played (open_fault.SmallDevice size need) played = played
+not_played (open_fault.Foreign at) played = played
+not_played (open_fault.Damaged at) played = played
+not_played open_fault.NoMemory played = played
+
 module _ {X : Type 0} (text : X → List ℕ) where
   pub tells_ended : (journal : Journal) (site : Site) (history : List Event) (ended : Status) (pieces : List X) (old mid new : Option Told) → Ends Emits text ended pieces mid new → StoodFor journal site history old new → StoodFor journal site history old mid
   tells_ended journal site history Done pieces old mid new goes = tells_before journal site history old mid new (sent text pieces) goes
@@ -49,6 +65,19 @@ module _ {X : Type 0} (text : X → List ℕ) where
   tells_ended journal site history (JournalRefused fault) pieces old mid new goes = tells_before journal site history old mid new [] goes
   tells_ended journal site history LinkFault pieces old mid new goes = tells_before journal site history old mid new [] goes
   tells_ended journal site history NoMemory pieces old mid new (front, back, whole, goes) = tells_before journal site history old mid new (sent text front) goes
+
+  -- what was opened before some emissions was opened before them, where it still tells
+  pub opened_ended : (site : Site) (octets : List ℕ) (state : CoreState) (ended : Status) (pieces : List X) (old mid new : Option Told) → Ends Emits text ended pieces mid new → OpenedTo site octets old mid state → OpenedTo site octets old new state
+  opened_ended site octets state Done pieces old mid new goes = opened_before site octets state old mid new (sent text pieces) goes
+  opened_ended site octets state Usage pieces old mid new goes = opened_before site octets state old mid new [] goes
+  opened_ended site octets state (SiteRefused fault) pieces old mid new goes = opened_before site octets state old mid new [] goes
+  opened_ended site octets state (ScriptRefused line) pieces old mid new goes = opened_before site octets state old mid new (sent text pieces) goes
+  opened_ended site octets state ReadFault pieces old mid new (front, back, whole, goes) = opened_before site octets state old mid new (sent text front) goes
+  opened_ended site octets state EmitFault pieces old mid new (front, next, back, whole, goes) = opened_before site octets state old mid new (sent text front ++ lost text next) goes
+  opened_ended site octets state DiskFault pieces old mid new (front, back, whole, goes) = opened_before site octets state old mid new (sent text front) goes
+  opened_ended site octets state (JournalRefused fault) pieces old mid new goes = opened_before site octets state old mid new [] goes
+  opened_ended site octets state LinkFault pieces old mid new goes = opened_before site octets state old mid new [] goes
+  opened_ended site octets state NoMemory pieces old mid new (front, back, whole, goes) = opened_before site octets state old mid new (sent text front) goes
 
   -- what goes out behind the opening is all that goes out
   ends_behind : (ended : Status) (pieces : List X) (old mid new : Option Told) → Emits old mid [] → Ends Emits text ended pieces mid new → Ends Emits text ended pieces old new
@@ -72,6 +101,11 @@ module _ {X : Type 0} (text : X → List ℕ) where
   ends_refused open_fault.NoMemory pieces old new quiet = ([], pieces, refl, quiet)
 
 -- ---- a session behind it
+
+pub opens_session : (site : Site) (octets : List ℕ) (core : CoreState) (ended : Status) (old mid new : Option Told) (text : Option (List ℕ)) → OpenedTo site octets old mid core → IfSome text (λ t. Ends Emits piece_text ended (session_over core (lines_of t)) mid new)
+    → IfSome text (λ t. (state : CoreState) × OpenedTo site octets old new state)
+opens_session site octets core ended old mid new None opened ends = tt
+opens_session site octets core ended old mid new (Some t) opened ends = (core, opened_ended piece_text site octets core ended (session_over core (lines_of t)) old mid new ends opened)
 
 module _ (journal : Journal) (site : Site) (is : IsSite site) (core : CoreState) (own : core.site ≡ site) (layout : Layout) (history : List Event) (ended : Status) (old mid new : Option Told) (stood : StoodFor journal site history old new) (quiet : Emits old mid []) (represents : StoodFor journal site history old mid → Represents core history) where
   -- its report goes on from the history

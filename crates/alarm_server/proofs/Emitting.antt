@@ -8,7 +8,7 @@ use Rattle.ground_io.specs.Sent.{emissions, sent_after, sent_with}
 use Rattle.ground_io.specs.Trace.{Told, Adds}
 use Rattle.alarm_server.specs.declared.emission.Unsent.{Unsent}
 use Rattle.alarm_server.specs.declared.emission.Unsent.TheVariants.{Lost, NoMemory}
-use Rattle.floor_desk.specs.Emission.{Emits}
+use Rattle.state_codec.specs.Emission.{Emits}
 use Rattle.alarm_server.specs.Emission.{sent, lost, SendsUpTo}
 use Rattle.alarm_server.proofs.Sending.{Composes, adds}
 

@@ -14,9 +14,9 @@ use Rattle.alarm_core.specs.Allowed.{Represents}
 use Rattle.alarm_core.specs.State.{CoreState}
 use Rattle.service_desk.specs.Answers.{event_of}
 use Rattle.alarm_server.specs.declared.emission.Unsent.{Unsent}
-use Rattle.floor_desk.specs.Emission.{Emits}
+use Rattle.state_codec.specs.Emission.{Emits}
 use Rattle.alarm_server.specs.Emission.{Ends, sent, SendsUpTo}
-use Rattle.floor_desk.specs.Keeping.{Commits, HoldsHistory, Rests}
+use Rattle.state_codec.specs.Keeping.{Commits, HoldsHistory, Rests}
 use Rattle.alarm_server.specs.Keeping.{KeepsLines}
 use Rattle.alarm_server.specs.Pieces.{answer_for, piece_text}
 use Rattle.alarm_server.specs.Report.{history_by, history_with}

@@ -16,8 +16,8 @@ use Rattle.script_lines.specs.declared.line.Line.{Line}
 use Rattle.alarm_core.specs.declared.event.Event.{Event}
 use Rattle.alarm_core.specs.declared.site.Site.{Site}
 use Rattle.state_codec.specs.Contents.{ImageStands, StandsForHistory}
-use Rattle.floor_desk.specs.Emission.{Emits}
-use Rattle.floor_desk.specs.Keeping.{Commits}
+use Rattle.state_codec.specs.Emission.{Emits}
+use Rattle.state_codec.specs.Keeping.{Commits}
 use Rattle.alarm_server.specs.Keeping.{KeepsLines, KeepsReport, LeavesLines, LeavesReport}
 use Rattle.alarm_server.specs.Report.{history_over, history_with}
 
@@ -70,6 +70,13 @@ along_few P Q most to sent disk [] few all = λ image may. to sent image few (al
 along_few P Q most to sent disk (entry ∷ entries) few all =
     (λ image may. to sent image (omega (arith, few, sent_grows entry sent, sent_grow entries (sent_with entry sent))) (all.0 image may), along_few P Q most to (sent_with entry sent) (after_entry entry disk) entries few all.1)
 
+-- the same where at least so many were sent before
+pub along_least : (P : List Entry → List ℕ → Type 0) (Q : List ℕ → Type 0) (least : ℕ) → ((sent : List Entry) (image : List ℕ) → least ≤ length sent → Q image → P sent image)
+    → (sent : List Entry) (disk : Disk) (entries : List Entry) → least ≤ length sent → Always Q disk entries → Along P sent disk entries
+along_least P Q least to sent disk [] some all = λ image may. to sent image some (all image may)
+along_least P Q least to sent disk (entry ∷ entries) some all =
+    (λ image may. to sent image some (all.0 image may), along_least P Q least to (sent_with entry sent) (after_entry entry disk) entries (omega (arith, some, sent_grows entry sent)) all.1)
+
 -- the same entries led from one to the other
 same_entries : (old new : Told) (first second : List Entry) → Adds (Some old) (Some new) first → Adds (Some old) (Some new) second → first ≡ second
 same_entries old new first second one two = append_cancel_left old.trace first second (sym one.1 ∙ two.1)
@@ -79,16 +86,17 @@ module _ (journal : Journal) (site : Site) where
 
   -- among more lines
   more_lines : (history : List Event) (first second : List Line) (before : ℕ) (sent : List Entry) (image : List ℕ) → LeavesLines journal site history first before sent image → LeavesLines journal site history (first ++ second) before sent image
-  more_lines history first second before sent image (count, most, few, stands) =
-      (count, omega (arith, most, length-append first second), few, subst (λ (ls : List Line). ImageStands journal site image (history_over site history ls)) (sym (take-append-le count first second most)) stands)
+  more_lines history first second before sent image (count, most, few, ahead, stands) =
+      (count, omega (arith, most, length-append first second), few, ahead, subst (λ (ls : List Line). ImageStands journal site image (history_over site history ls)) (sym (take-append-le count first second most)) stands)
 
   -- behind other lines, whose pieces were all sent
   behind_lines : (history : List Event) (first second : List Line) (before : ℕ) (pieces sent : List Entry) (image : List ℕ) → length pieces ≡ before + length first
       → LeavesLines journal site (history_over site history first) second 0 sent image → LeavesLines journal site history (first ++ second) before (pieces ++ sent) image
-  behind_lines history first second before pieces sent image all (count, most, few, stands) = (
+  behind_lines history first second before pieces sent image all (count, most, few, ahead, stands) = (
     length first + count,
     omega (arith, most, length-append first second),
     omega (arith, few, all, length-append pieces sent),
+    omega (arith, ahead, all, length-append pieces sent),
     subst (λ (h : List Event). ImageStands journal site image h)
         (sym (history-append site first (take count second) history) ∙ ap (λ (ls : List Line). history_over site history ls) (sym (take-append-add first second count))) stands,
   )
@@ -125,8 +133,8 @@ module _ (journal : Journal) (site : Site) where
       Q image = ImageStands journal site image history ⊎ ImageStands journal site image (history_with site history line)
 
       to : (sent : List Entry) (image : List ℕ) → length sent ≤ 0 → Q image → P sent image
-      to sent image few (inl stands) = (0, omega arith, omega (arith, few), subst (λ (h : List Event). ImageStands journal site image h) (sym (history-none site history)) stands)
-      to sent image few (inr stands) = (1, omega arith, omega (arith, few), subst (λ (h : List Event). ImageStands journal site image h) (sym (history-one site history line)) stands)
+      to sent image few (inl stands) = (0, omega arith, omega (arith, few), omega arith, subst (λ (h : List Event). ImageStands journal site image h) (sym (history-none site history)) stands)
+      to sent image few (inr stands) = (1, omega arith, omega (arith, few), omega arith, subst (λ (h : List Event). ImageStands journal site image h) (sym (history-one site history line)) stands)
 
       quiet : (entries : List Entry) → AreQuiet entries → length (sent_after entries []) ≤ 0
       quiet entries are = omega (arith, ap (λ (l : List Entry). length l) (quiet_sends_nothing [] entries are))
@@ -143,7 +151,7 @@ module _ (journal : Journal) (site : Site) where
       let nothing : sent_after entries [] ≡ [] = ap emissions (same_entries old mid entries quiet adds adds_quiet) ∙ none in
       let sent : length (sent_after others []) ≤ 1 = omega (arith, few, ap (λ (l : List Entry). length l) (ap emissions (same_entries mid new others more adds_too goes) ∙ are)) in
       let to : (s : List Entry) (image : List ℕ) → length s ≤ 1 → OpensTo journal image after → P s image =
-      λ s image one opens. (1, omega arith, omega (arith, one), record { content = after; opens = opens; stands = subst (λ (h : List Event). StandsForHistory site after h) (sym (history-one site history line)) stands }) in
+      λ s image one opens. (1, omega arith, omega (arith, one), omega arith, record { content = after; opens = opens; stands = subst (λ (h : List Event). StandsForHistory site after h) (sym (history-one site history line)) stands }) in
       let two : Along P [] (disk_of mid) others = along_few P (λ image. OpensTo journal image after) 1 to [] (disk_of mid) others sent always in
       let there : Along P (sent_after entries []) (disk_after entries (disk_of old)) others = subst (λ (s : List Entry). Along P s (disk_after entries (disk_of old)) others) (sym nothing) (subst (λ (d : Disk). Along P [] d others) (disk_adds old mid entries adds) two) in
       (entries ++ others, adds_both (Some old) (Some mid) (Some new) entries others adds adds_too, along-append P [] (disk_of old) entries others along there)
@@ -159,12 +167,12 @@ module _ (journal : Journal) (site : Site) where
       let P = LeavesLines journal site history [] 1 in
       let sent : length (sent_after entries []) ≤ 1 = omega (arith, few, ap (λ (l : List Entry). length l) (ap emissions (same_entries old new entries more adds goes) ∙ are)) in
       let to : (s : List Entry) (image : List ℕ) → length s ≤ 1 → OpensTo journal image content → P s image =
-      λ s image one opens. (0, omega arith, omega (arith, one), record { content = content; opens = opens; stands = subst (λ (h : List Event). StandsForHistory site content h) (sym (history-none site history)) stands }) in
+      λ s image one opens. (0, omega arith, omega (arith, one), omega arith, record { content = content; opens = opens; stands = subst (λ (h : List Event). StandsForHistory site content h) (sym (history-none site history)) stands }) in
       (entries, adds, along_few P (λ image. OpensTo journal image content) 1 to [] (disk_of old) entries sent always)
 
   -- as many lines at least as have had their piece sent
   pub report_of_lines : (history : List Event) (lines : List Line) (before : ℕ) (sent : List Entry) (image : List ℕ) → LeavesLines journal site history lines before sent image → LeavesReport journal site history lines before sent image
-  report_of_lines history lines before sent image (count, most, few, stands) = (count, most, omega (arith, few), stands)
+  report_of_lines history lines before sent image (count, most, few, ahead, stands) = (count, most, omega (arith, few), ahead, stands)
 
   -- a front of the lines was played, and nothing else was done
   pub front_kept : (history : List Event) (first second : List Line) (before : ℕ) (old new : Option Told) → KeepsLines journal site history first before old new → KeepsReport journal site history (first ++ second) before old new
@@ -176,19 +184,20 @@ module _ (journal : Journal) (site : Site) where
       (entries, adds, along_under (LeavesLines journal site history first before) Q [] to [] (disk_of old) entries along)
 
   -- all lines were played, and then the end was sent, while the same stood
-  pub all_kept : (history : List Event) (lines : List Line) (before : ℕ) (content : Content) (old mid new : Option Told) → StandsForHistory site content (history_over site history lines)
+  pub all_kept : (history : List Event) (lines : List Line) (before : ℕ) (content : Content) (old mid new : Option Told) (pieces : List Entry) → Emits old mid pieces → length pieces ≡ before + length lines → StandsForHistory site content (history_over site history lines)
       → KeepsLines journal site history lines before old mid → Throughout journal content mid new → KeepsReport journal site history lines before old new
-  all_kept history lines before content old mid None stands kept all = tt
-  all_kept history lines before content old None (Some new) stands kept all = absurd all
-  all_kept history lines before content None (Some mid) (Some new) stands kept all = absurd kept
-  all_kept history lines before content (Some old) (Some mid) (Some new) stands (entries, adds, along) (others, adds_too, always) =
+  all_kept history lines before content old mid None pieces goes out stands kept all = tt
+  all_kept history lines before content old None (Some new) pieces goes out stands kept all = absurd all
+  all_kept history lines before content None (Some mid) (Some new) pieces goes out stands kept all = absurd kept
+  all_kept history lines before content (Some old) (Some mid) (Some new) pieces (more, goes, are) out stands (entries, adds, along) (others, adds_too, always) =
       let Q = LeavesReport journal site history lines before in
       let sent : List Entry = sent_after entries [] in
       let every : take (length lines) lines ≡ lines = take_all (length lines) lines (omega arith) in
-      let to : (s : List Entry) (image : List ℕ) → length s ≤ length (sent_after others sent) → OpensTo journal image content → Q s image =
-      λ s image few opens. (length lines, omega arith, omega arith, record { content = content; opens = opens; stands = subst (λ (ls : List Line). StandsForHistory site content (history_over site history ls)) (sym every) stands }) in
+      let count : length sent ≡ before + length lines = ap (λ (l : List Entry). length l) (ap emissions (same_entries old mid entries more adds goes) ∙ are) ∙ out in
+      let to : (s : List Entry) (image : List ℕ) → length sent ≤ length s → OpensTo journal image content → Q s image =
+      λ s image least opens. (length lines, omega arith, omega arith, omega (arith, least, count), record { content = content; opens = opens; stands = subst (λ (ls : List Line). StandsForHistory site content (history_over site history ls)) (sym every) stands }) in
       let one : Along Q [] (disk_of old) entries = along_under (LeavesLines journal site history lines before) Q [] (λ s image. report_of_lines history lines before s image) [] (disk_of old) entries along in
-      let two : Along Q sent (disk_of mid) others = along_few Q (λ image. OpensTo journal image content) (length (sent_after others sent)) to sent (disk_of mid) others (omega arith) always in
+      let two : Along Q sent (disk_of mid) others = along_least Q (λ image. OpensTo journal image content) (length sent) to sent (disk_of mid) others (omega arith) always in
       let there : Along Q sent (disk_after entries (disk_of old)) others = subst (λ (d : Disk). Along Q sent d others) (disk_adds old mid entries adds) two in
       (entries ++ others, adds_both (Some old) (Some mid) (Some new) entries others adds adds_too, along-append Q [] (disk_of old) entries others one there)
 
@@ -198,5 +207,5 @@ module _ (journal : Journal) (site : Site) where
   untouched history lines before content (Some told) stands lasts = (
     [],
     adds_none (Some told),
-    λ image may. (0, omega arith, omega arith, record { content = content; opens = lasts image may; stands = subst (λ (h : List Event). StandsForHistory site content h) (sym (history-none site history)) stands }),
+    λ image may. (0, omega arith, omega arith, omega arith, record { content = content; opens = lasts image may; stands = subst (λ (h : List Event). StandsForHistory site content h) (sym (history-none site history)) stands }),
   )

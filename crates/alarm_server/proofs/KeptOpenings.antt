@@ -14,7 +14,7 @@ use Rattle.script_lines.specs.declared.line.Line.{Line}
 use Rattle.alarm_core.specs.declared.event.Event.{Event}
 use Rattle.alarm_core.specs.declared.site.Site.{Site}
 use Rattle.state_codec.specs.Contents.{ImageStands, StandsForHistory}
-use Rattle.floor_desk.specs.Keeping.{StoodFor}
+use Rattle.state_codec.specs.Keeping.{StoodFor}
 use Rattle.alarm_server.specs.Keeping.{KeepsOpened, KeepsReport, LeavesReport}
 use Rattle.alarm_server.proofs.KeptLines.{along_few, history-none}
 
@@ -25,6 +25,7 @@ module _ (journal : Journal) (site : Site) where
     0,
     omega arith,
     omega (arith, few),
+    omega arith,
     record { content = stood.content; opens = same ∙ stood.opens; stands = subst (λ (h : List Event). StandsForHistory site stood.content h) (sym (history-none site history)) stood.stands },
   )
 

@@ -19,9 +19,9 @@ use Rattle.alarm_core.specs.State.{CoreState}
 use Rattle.alarm_server.specs.declared.emission.Unsent.{Unsent}
 use Rattle.alarm_server.specs.declared.emission.Unsent.TheVariants.{Lost, NoMemory}
 use Rattle.alarm_server.specs.declared.tally.Tally.{Tally}
-use Rattle.floor_desk.specs.Emission.{Emits}
+use Rattle.state_codec.specs.Emission.{Emits}
 use Rattle.alarm_server.specs.Emission.{sent, lost, SendsUpTo}
-use Rattle.floor_desk.specs.Keeping.{HoldsHistory, Rests}
+use Rattle.state_codec.specs.Keeping.{HoldsHistory, Rests}
 use Rattle.alarm_server.specs.Keeping.{KeepsLines, KeepsReport}
 use Rattle.alarm_server.specs.Pieces.{open_piece, piece_of, piece_text}
 use Rattle.alarm_server.specs.Report.{history_over, history_with}
@@ -175,7 +175,7 @@ module _ (start : CoreState) (text come : Option (List ℕ)) (first layout : Lay
       lines = p.progress.lines
 
       keeps : KeepsReport journal start.site history lines 1 old new'
-      keeps = let (content, rests, stood) = kept_now.holds in all_kept journal start.site history lines 1 content old new new' stood kept_now.keeps (throughout content rests)
+      keeps = let (content, rests, stood) = kept_now.holds in all_kept journal start.site history lines 1 content old new new' (sent piece_text (front start lines)) p.progress.out (front-length start lines) stood kept_now.keeps (throughout content rests)
 
       at_end : (text come come' : Option (List ℕ)) → WhereTold text come (Remains lines number) → WhereTold come come' (ReadsLine Session number number' (Ok None)) → IfSome text (λ t. KeepsReport journal start.site history (spelled_in Session 0 (lines_of t)) 1 old new')
       at_end None come come' remains read = tt

@@ -8,7 +8,7 @@ use Rattle.alarm_server.specs.declared.status.Status.{Status}
 use Rattle.alarm_server.specs.declared.status.Status.TheVariants.{Done, Usage, SiteRefused, ScriptRefused, ReadFault, EmitFault, DiskFault, JournalRefused, NoMemory, LinkFault}
 use Rattle.alarm_server.specs.OnFile.{RefusesFile}
 use Rattle.alarm_server.specs.ServedSites.{IsUnserved}
-use Rattle.alarm_server.specs.ServingSteps.{IsNoSite}
+use Rattle.alarm_server.specs.Serving.{IsNoSite}
 use Rattle.alarm_server.specs.Status.{IsSiteFault}
 
 pub each_some : {A : Type 0} (o : Option A) (P : A → Type 0) → ((x : A) → P x) → IfSome o P

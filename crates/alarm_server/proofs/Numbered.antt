@@ -17,7 +17,7 @@ use Rattle.script_lines.specs.declared.line.Grammar.TheVariants.{Session as Sess
 use Rattle.script_lines.specs.Script.{lines_of}
 use Rattle.site_config.specs.declared.fault.SiteFault.{SiteFault}
 use Rattle.site_config.specs.Sites.{site_of}
-use Rattle.floor_desk.specs.Emission.{Emits}
+use Rattle.state_codec.specs.Emission.{Emits}
 use Rattle.alarm_server.specs.declared.command.Command.{Command}
 use Rattle.alarm_server.specs.declared.command.Command.TheVariants.{Trial, Session, Workload}
 use Rattle.alarm_server.specs.declared.status.Status.{Status}

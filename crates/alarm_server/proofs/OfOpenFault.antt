@@ -3,7 +3,7 @@ use Rattle.std.proofs.Common.{◌≡◌, ℕ, Err, IsErrOf, refl}
 use Rattle.ground_io.specs.Counts.{HasCause}
 use Rattle.alarm_journal.specs.declared.open_fault.OpenFault.{OpenFault}
 use Rattle.alarm_journal.specs.declared.open_fault.OpenFault.TheVariants.{DiskFault, SmallDevice, Foreign, Damaged, NoMemory}
-use Rattle.floor_desk.specs.Keeping.{IsJournalRefusal}
+use Rattle.alarm_journal.specs.Press.{IsRefusal}
 use Rattle.alarm_server.specs.declared.status.Status.TheVariants as status
 use Rattle.alarm_server.specs.Status.{IsSessionFault, of_open_fault}
 
@@ -15,7 +15,7 @@ is_session_fault (Damaged at) = tt
 is_session_fault NoMemory = tt
 
 -- the journal is refused for what its octets are, and for nothing else
-pub refusal_is : (fault refusal : OpenFault) → of_open_fault fault ≡ status.JournalRefused refusal → IsJournalRefusal fault × (fault ≡ refusal)
+pub refusal_is : (fault refusal : OpenFault) → of_open_fault fault ≡ status.JournalRefused refusal → IsRefusal fault × (fault ≡ refusal)
 refusal_is DiskFault refusal same = absurd cc
 refusal_is (SmallDevice size need) refusal same = (tt, cc)
 refusal_is (Foreign at) refusal same = (tt, cc)

@@ -12,7 +12,7 @@ use Rattle.site_config.specs.Sites.{site_of}
 use Rattle.alarm_server.specs.declared.status.Status.{Status}
 use Rattle.alarm_server.specs.declared.status.Status.TheVariants.{Done, Usage, SiteRefused, ScriptRefused, ReadFault, EmitFault, DiskFault, JournalRefused, NoMemory, LinkFault}
 use Rattle.alarm_server.specs.Emission.{Going, Ends}
-use Rattle.floor_desk.specs.Keeping.{journal_of}
+use Rattle.state_codec.specs.Keeping.{journal_of}
 use Rattle.alarm_server.specs.OnFile.{EndsOnFile, EndsOnSite, KeepsOnFile, KeepsOnSite, RefusesFile}
 use Rattle.alarm_server.specs.Script.{spelled_in}
 use Rattle.alarm_server.specs.Report.{report_of}

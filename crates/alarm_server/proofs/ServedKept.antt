@@ -18,7 +18,8 @@ use Rattle.alarm_journal.specs.Journal.{Site as Journal}
 use Rattle.alarm_journal.specs.Press.{OpensSame, PressState, ReopensSynced}
 use Rattle.state_codec.specs.Contents.{ImageStands}
 use Rattle.floor_desk.specs.Accounts.{Account, Due, account}
-use Rattle.floor_desk.specs.Keeping.{HoldsHistory, StoodFor, journal_of}
+use Rattle.state_codec.specs.Keeping.{HoldsHistory, StoodFor, journal_of}
+use Rattle.state_codec.specs.Openings.{OpenedTo}
 use Rattle.floor_desk.specs.Moves.{IsGroundOf}
 use Rattle.floor_desk.specs.Prefixes.{HasLost, KeepsOrder, LeavesPrefix, RestsOn, Settle}
 use Rattle.floor_desk.specs.Standing.{ShowsAccount, Stands}
@@ -96,6 +97,15 @@ told_before lost None (Some new) l journal site history first stood = absurd l
 told_before lost (Some old) (Some new) l journal site history None stood = stood
 told_before lost (Some old) (Some new) l journal site history (Some first) stood = stood
 
+-- so what was opened is told as long as the ground tells
+opened_still : (lost : ℕ) (old new : Option Told) → HasLost lost old new → (site : Site) (text : List ℕ) (state : CoreState) (first : Option Told) → OpenedTo site text first old state → OpenedTo site text first new state
+opened_still lost None None l site text state first opened = opened
+opened_still lost (Some old) None l site text state None opened = tt
+opened_still lost (Some old) None l site text state (Some first) opened = tt
+opened_still lost None (Some new) l site text state first opened = absurd l
+opened_still lost (Some old) (Some new) l site text state None opened = tt
+opened_still lost (Some old) (Some new) l site text state (Some first) opened = opened
+
 module _ {G : Type 0} (told : G → Option Told) (disk_faults : G → ℕ) where
   -- a ground that came back tells what the floor's press told, or what is left of it
   pub ground_told : (origin : CoreState × PressState G) (a : Account G) (floor : FloorState G) (device : G) → ShowsAccount told disk_faults floor a → floor.origin ≡ origin → IsGroundOf floor.spot device → HasLost floor.lost (told origin.1.device) (told device)
@@ -128,10 +138,11 @@ module _ {G : Type 0} (told : G → Option Told) (disk_faults : G → ℕ) where
   -- a desk that was opened on a site has served it
   pub site_served : (shows : ℕ → Type 0) (site : Site) (text : List ℕ) (count : ℕ) (old new : Option (List Send)) (before after : G) (origin : CoreState × PressState G) (closed : Closed) (served : Served)
       → origin.0.site ≡ site → served ≡ served_of closed → closed.received ≤ count → (closed.end ≡ Done → closed.received ≡ count) → Serves told disk_faults shows old new origin after closed
+      → OpenedTo site text (told before) (told origin.1.device) origin.0
       → ((history : List Event) → StoodFor (journal_of site text) site history (told before) (told origin.1.device) → Represents origin.0 history)
       → ((history : List Event) → StoodFor (journal_of site text) site history (told before) (told origin.1.device) → HoldsHistory (journal_of site text) site history origin.1.layout (told origin.1.device))
       → ReopensSynced (journal_of site text) (told before) (told origin.1.device) → HasServedSite told disk_faults shows site text count old new before after served
-  site_served shows site text count old new before after origin closed served of_site is most all s represents holds reopens =
+  site_served shows site text count old new before after origin closed served of_site is most all s opens represents holds reopens =
       let journal = journal_of site text in
       let f = s.floor in
       let a : Account G = account f.origin s.history in
@@ -145,6 +156,7 @@ module _ {G : Type 0} (told : G → Option Told) (disk_faults : G → ℕ) where
         most = most;
         all = all;
         serves = s;
+        opens = opened_still f.lost (told origin.1.device) (told after) lost site text origin.0 (told before) opens;
         begins = λ history stood. represents history (early history stood);
         keeps = λ history stood.
             let e = early history stood in

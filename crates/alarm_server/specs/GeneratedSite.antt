@@ -87,6 +87,8 @@ generated_object kind value instance = record {
   time_delay_normal = None;
   detection = true;
   inhibit = false;
+  inhibit_ref = None;
+  texts = [];
   low = pos 0;
   high = pos 0;
   deadband = 0;
@@ -154,6 +156,8 @@ generated_enrollment instance = record {
   time_delay_normal = None;
   detection = true;
   inhibit = false;
+  inhibit_ref = None;
+  texts = [];
 }
 
 abbrev pub generated_enrollments : List EnrollmentSite
@@ -179,4 +183,5 @@ generated_site = record {
   objects = generated_objects;
   enrollments = generated_enrollments;
   logs = generated_log 1 false (1 ∷ 2 ∷ []) ∷ generated_log 2 true (3 ∷ []) ∷ [];
+  bindings = [];
 }

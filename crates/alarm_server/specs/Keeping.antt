@@ -11,15 +11,15 @@ use Rattle.alarm_core.specs.declared.site.Site.{Site}
 use Rattle.state_codec.specs.Contents.{ImageStands}
 use Rattle.alarm_server.specs.Report.{history_over}
 
--- The image stands for the history and the events of the first lines: of as many, at least, as have had their piece sent. So many pieces of the report come before those of the lines, and none behind them.
+-- The image stands for the history and the events of the first lines: of as many, at least, as have had their piece sent, and of at most one more. So many pieces of the report come before those of the lines, and none behind them.
 abbrev pub LeavesLines : Journal → Site → List Event → List Line → ℕ → List Entry → List ℕ → Type 0
 LeavesLines journal site history lines before sent image =
-    (count : ℕ) × (count ≤ length lines) × (length sent ≤ before + count) × ImageStands journal site image (history_over site history (take count lines))
+    (count : ℕ) × (count ≤ length lines) × (length sent ≤ before + count) × (count ≤ (length sent - before) + 1) × ImageStands journal site image (history_over site history (take count lines))
 
 -- The same where pieces of the report may come behind those of the lines.
 abbrev pub LeavesReport : Journal → Site → List Event → List Line → ℕ → List Entry → List ℕ → Type 0
 LeavesReport journal site history lines before sent image =
-    (count : ℕ) × (count ≤ length lines) × (min (length sent - before) (length lines) ≤ count) × ImageStands journal site image (history_over site history (take count lines))
+    (count : ℕ) × (count ≤ length lines) × (min (length sent - before) (length lines) ≤ count) × (count ≤ (length sent - before) + 1) × ImageStands journal site image (history_over site history (take count lines))
 
 -- from one to the other, at each moment, each image that a crash may leave does so, where it tells
 abbrev pub KeepsLines : Journal → Site → List Event → List Line → ℕ → Option Told → Option Told → Type 0

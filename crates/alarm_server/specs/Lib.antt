@@ -7,7 +7,7 @@ pub mod Keeping
 pub mod Looks
 pub mod Numbering
 pub mod OnFile
-pub mod OpeningSteps
+pub mod Openings
 pub mod Outcomes
 pub mod Paths
 pub mod Pieces
@@ -15,7 +15,7 @@ pub mod Report
 pub mod Script
 pub mod ServeWords
 pub mod ServedSites
-pub mod ServingSteps
+pub mod Serving
 pub mod SessionSteps
 pub mod Settings
 pub mod Status

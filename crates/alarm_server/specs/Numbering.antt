@@ -7,7 +7,7 @@ use Rattle.alarm_core.specs.declared.event.Event.{Event}
 use Rattle.alarm_core.specs.declared.site.Site.{Site}
 use Rattle.site_config.specs.declared.fault.SiteFault.{SiteFault}
 use Rattle.site_config.specs.Sites.{site_of}
-use Rattle.floor_desk.specs.Keeping.{StoodFor, journal_of}
+use Rattle.state_codec.specs.Keeping.{StoodFor, journal_of}
 use Rattle.alarm_server.specs.Emission.{Going, sent, lost}
 use Rattle.alarm_server.specs.Pieces.{piece_text}
 

@@ -12,7 +12,7 @@ use Rattle.alarm_server.specs.declared.status.Status.TheVariants.{SiteRefused, R
 use Rattle.alarm_server.specs.Emission.{Going, Ends}
 use Rattle.alarm_server.specs.Report.{front_pieces, report_of}
 use Rattle.script_lines.specs.Script.{lines_of}
-use Rattle.floor_desk.specs.Keeping.{StoodFor, journal_of}
+use Rattle.state_codec.specs.Keeping.{StoodFor, journal_of}
 use Rattle.alarm_server.specs.Keeping.{KeepsOpened}
 use Rattle.alarm_server.specs.Script.{refused_line, spelled_in}
 use Rattle.alarm_server.specs.Pieces.{piece_text}
@@ -42,10 +42,10 @@ StopsInScript Goes text (Ok site) script rest old new =
     (history : List Event) → StoodFor (journal_of site text) site history old new → StopsReading Goes piece_text (front_pieces site history) grammar.Session script rest old new
 StopsInScript Goes text (Err fault) script rest old new = ⊥
 
--- either the file failed, and nothing went out; or the script did
+-- either the file failed, and nothing was done; or the script did
 abbrev pub StopsOnFile : Going → Type 0 → Type 0 → Option (List ℕ) → Option (List ℕ) → Option (List ℕ) → Option Told → Option Told → Type 0
 StopsOnFile Goes FileFailed ScriptFailed site script rest old new =
-    (FileFailed × Goes old new [])
+    (FileFailed × Adds old new [])
     ⊎ (ScriptFailed × IfSome site (λ octets. WhereTold script rest (λ text rest. StopsInScript Goes octets (site_of octets) text rest old new)))
 
 -- of each history that the journal holds, a crash at any moment leaves it and the events of some lines

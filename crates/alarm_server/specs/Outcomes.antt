@@ -10,7 +10,7 @@ use Rattle.site_config.specs.Sites.{site_of}
 use Rattle.alarm_server.specs.declared.command.Command.{Command}
 use Rattle.alarm_server.specs.declared.command.Command.TheVariants.{Trial, Session, Workload}
 use Rattle.alarm_server.specs.declared.status.Status.{Status}
-use Rattle.floor_desk.specs.Emission.{Emits}
+use Rattle.state_codec.specs.Emission.{Emits}
 use Rattle.alarm_server.specs.Emission.{Ends}
 use Rattle.alarm_server.specs.Numbering.{NumbersOnFile}
 use Rattle.alarm_server.specs.OnFile.{AcceptsOnFile, EndsOnFile, KeepsOnFile, RefusesFile, StopsOnFile}

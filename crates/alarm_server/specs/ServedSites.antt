@@ -13,7 +13,8 @@ use Rattle.alarm_core.specs.declared.site.Site.{Site}
 use Rattle.alarm_journal.specs.Journal.{Site as Journal}
 use Rattle.alarm_journal.specs.Press.{PressState}
 use Rattle.floor_desk.specs.Accounts.{Due, account}
-use Rattle.floor_desk.specs.Keeping.{StoodFor, journal_of}
+use Rattle.state_codec.specs.Keeping.{StoodFor, journal_of}
+use Rattle.state_codec.specs.Openings.{OpenedTo}
 use Rattle.floor_desk.specs.Prefixes.{LeavesPrefix, Settle}
 use Rattle.floor_desk.specs.Serving.{Serves}
 use Rattle.floor_desk.specs.declared.serve.Closed.{Closed}
@@ -53,7 +54,7 @@ abbrev pub IsUnserved : Served → Status → Type 0
 IsUnserved served status = served ≡ record { status = status; received = 0; events = 0; durable = 0; lost = 0 }
 
 module _ {G : Type 0} (told : G → Option Told) (disk_faults : G → ℕ) where
-  -- A desk was opened and served, at most so many datagrams; Done, it was so many. Of each history that the octets of the device stood for, the desk began with it, and a crash leaves it with a prefix of the order.
+  -- The octets of the device opened, and lead to the state that a desk began with, which served at most so many datagrams; Done, it was so many. Of each history that the octets of the device stood for, the desk began with it, and a crash leaves it with a prefix of the order.
   pub record HasServedSite (shows : ℕ → Type 0) (site : Site) (text : List ℕ) (count : ℕ) (old new : Option (List Send)) (before after : G) (served : Served) : Type 0 where
     pub origin : CoreState × PressState G
     pub of_site : origin.0.site ≡ site
@@ -62,6 +63,7 @@ module _ {G : Type 0} (told : G → Option Told) (disk_faults : G → ℕ) where
     pub most : closed.received ≤ count
     pub all : closed.end ≡ end.Done → closed.received ≡ count
     pub serves : Serves told disk_faults shows old new origin after closed
+    pub opens : OpenedTo site text (told before) (told after) origin.0
     pub begins : (history : List Event) → StoodFor (journal_of site text) site history (told before) (told after) → Represents origin.0 history
     pub keeps : (history : List Event) → StoodFor (journal_of site text) site history (told before) (told after)
         → KeepsServed (journal_of site text) site history (account origin serves.history).order (account origin serves.history).dues (account origin serves.history).back.dues (told before) (told after)

@@ -9,8 +9,8 @@ use Rattle.site_config.specs.declared.fault.SiteFault.TheVariants as site_fault
 use Rattle.site_config.specs.FaultTexts.{fault_text}
 use Rattle.alarm_journal.specs.declared.open_fault.OpenFault.{OpenFault}
 use Rattle.alarm_journal.specs.declared.open_fault.OpenFault.TheVariants as open_fault
-use Rattle.floor_desk.specs.declared.faults.KeepFault.{KeepFault}
-use Rattle.floor_desk.specs.declared.faults.KeepFault.TheVariants as keep_fault
+use Rattle.state_codec.specs.declared.keep_fault.KeepFault.{KeepFault}
+use Rattle.state_codec.specs.declared.keep_fault.KeepFault.TheVariants as keep_fault
 use Rattle.alarm_server.specs.declared.emission.Unsent.{Unsent}
 use Rattle.alarm_server.specs.declared.emission.Unsent.TheVariants.{Lost}
 use Rattle.alarm_server.specs.declared.emission.Unsent.TheVariants as unsent

@@ -1,22 +1,24 @@
-ghost use Rattle.std.specs.Prelude.{◌≡◌, ◌≢◌, ◌≤◌, ⊤, ℕ, List, length, [], None, Some, Err, OnOk, OnErr, IfErr, IfOk, IfSome, IsErrOf};
+ghost use Rattle.std.specs.Prelude.{◌≡◌, ◌≢◌, ◌≤◌, ⊤, ℕ, List, length, [], ◌∷◌, None, Some, Err, OnOk, OnErr, IfErr, IfOk, IfSome, IsErrOf};
 ghost use Rattle.std.specs.Io.KnownBytes.{IsAtEnd};
 ghost use Rattle.ground_io.specs.Counts.{HasCause, Rose};
-ghost use Rattle.ground_io.specs.Trace.{WhereTold};
+ghost use Rattle.ground_io.specs.Trace.{Adds, WhereTold};
+ghost use Rattle.ground_io.specs.declared.entry.Entry.TheVariants.{Synced};
 ghost use Rattle.script_lines.specs.declared.line.Grammar.TheVariants.{Session};
 ghost use Rattle.alarm_journal.specs.declared.open_fault.OpenFault.{OpenFault as Refusal};
 ghost use Rattle.alarm_core.specs.declared.event.Event.{Event as Happening};
-ghost use Rattle.alarm_core.specs.Limits.{KeepsLimits};
 ghost use Rattle.alarm_core.specs.Sites.{IsSite};
 ghost use Rattle.script_lines.specs.Script.{lines_of};
 ghost use Rattle.state_codec.specs.Sizes.{most_text};
-ghost use Rattle.floor_desk.specs.Keeping.{StoodFor, journal_of};
+ghost use Rattle.state_codec.specs.Keeping.{StoodFor, journal_of};
 ghost use Rattle.alarm_server.specs.Keeping.{KeepsOpened};
-ghost use Rattle.floor_desk.specs.OpeningSteps.{IsRefusedFor};
-ghost use Rattle.alarm_server.specs.OpeningSteps.{RefusesJournal};
+ghost use Rattle.alarm_core.specs.State.{CoreState};
+ghost use Rattle.state_codec.specs.Openings.{IsRefusedFor, OpenedTo};
+ghost use Rattle.alarm_server.specs.declared.command.Command.TheVariants as commands;
+ghost use Rattle.alarm_server.specs.Openings.{IsPlayed, OpensAs, RefusesJournal};
 ghost use Rattle.site_config.specs.declared.fault.SiteFault.{SiteFault};
 ghost use Rattle.site_config.specs.Sites.{site_of};
 ghost use Rattle.alarm_server.specs.Causes.{HasCauseInEither};
-ghost use Rattle.floor_desk.specs.Emission.{Emits};
+ghost use Rattle.state_codec.specs.Emission.{Emits};
 ghost use Rattle.alarm_server.specs.Emission.{Ends};
 ghost use Rattle.alarm_server.specs.OnFile.{AcceptsOnFile, EndsOnFile, KeepsOnFile, RefusesFile, StopsOnFile};
 ghost use Rattle.alarm_server.specs.Report.{front_pieces, report_of};
@@ -29,16 +31,15 @@ use crate::session::play_session;
 use crate::status::Status;
 use crate::text::read_text;
 use alarm_core::Site;
-use floor_desk::open_journal;
 use ground_io::{Ground, Source};
 use site_config::read_site;
+use state_codec::open_journal;
 use std::alloc::Global;
 
 // The site whose text a source has, with the text.
 pub(crate) fn open_site<S: Source>(alloc: Global, source: &mut S) -> Result<(Site, Vec<u8>), Status>
     ensures site { IfOk result (λ read. IfSome (S.left source.old) (λ octets. (site_of octets ≡ Ok read.0) × (octets ≡ read.1.items))) }
     ensures keeps { IfOk result (λ read. IsSite read.0) }
-    ensures limits { IfOk result (λ read. KeepsLimits read.0) }
     ensures short { IfOk result (λ read. length read.1.items ≤ most_text) }
     ensures refused { (fault : SiteFault) → result ≡ Err (Status.SiteRefused fault) → RefusesFile (S.left source.old) fault }
     ensures fault { IfErr result IsSiteFault }
@@ -59,7 +60,6 @@ fn play_site<T: Source, G: Ground>(
     device: G,
 ) -> (G, Result<(), Status>)
     requires site { IsSite site.now }
-    requires limits { KeepsLimits site.now }
     requires short { length text.now ≤ most_text }
 
     // Of each history that the device's octets stood for: the report goes on from it, and a crash at any moment leaves it
@@ -72,8 +72,13 @@ fn play_site<T: Source, G: Ground>(
         (λ text rest. StopsReading Emits piece_text (front_pieces site.now history) Session text rest (G.told device) (G.told result.0)) }
     ensures script_told { result.1 ≡ Err Status.ReadFault → WhereTold (T.left script.old) (T.left script.new) (λ text rest. ⊤) }
 
-    // The journal is refused for what its octets are, and never where they stood for a history; then nothing goes out.
-    ensures refuses_journal { (fault : Refusal) → result.1 ≡ Err (Status.JournalRefused fault) → IsRefusedFor site.now text.now (G.told device) (G.told result.0) fault × Emits (G.told device) (G.told result.0) [] }
+    // Where the script is played, the journal's octets opened, and lead to a state.
+    ensures opened { IsPlayed (status_of result.1) → IfSome (T.left script.old) (λ _. (state : CoreState) × OpenedTo site.now text.now (G.told device) (G.told result.0) state) }
+
+    // The journal is refused for what its octets are, and never where they stood for a history; then it was synced, nothing
+    // else was done, and the script isn't read.
+    ensures refuses_journal { (fault : Refusal) → result.1 ≡ Err (Status.JournalRefused fault) → IsRefusedFor site.now text.now (G.told device) (G.told result.0) fault × Adds (G.told device) (G.told result.0) (Synced ∷ []) }
+    ensures unplayed { (fault : Refusal) → result.1 ≡ Err (Status.JournalRefused fault) → script.new ≡ script.old }
     ensures stands { (history : List Happening) (fault : Refusal) → StoodFor (journal_of site.now text.now) site.now history (G.told device) (G.told result.0) → result.1 ≢ Err (Status.JournalRefused fault) }
     ensures to_end { OnOk result.1 (IsAtEnd (T.left script.new)) }
     ensures accepted { OnOk result.1 (IfSome (T.left script.old) (λ text. refused_line Session text ≡ None)) }
@@ -85,7 +90,7 @@ fn play_site<T: Source, G: Ground>(
     ensures disk_cause { HasCause (G.disk_faults device) (G.disk_faults result.0) (IsErrOf result.1 Status.DiskFault) }
     ensures emit_cause { HasCause (G.emit_faults device) (G.emit_faults result.0) (IsErrOf result.1 Status.EmitFault) }
 {
-    let (press, mut core) = match open_journal(alloc, site, text, device) {
+    let (press, mut core, _opened) = match open_journal(alloc, site, text, device) {
         Ok(opened) => opened,
         Err((device, fault)) => return (device, Err(Status::from(fault))),
     };
@@ -111,6 +116,9 @@ pub fn session<S: Source, T: Source, G: Ground>(
     // A crash at any moment leaves the history and the events of some lines: of each at least whose piece went out.
     ensures keeps { KeepsOnFile (S.left site.old) (T.left script.old) (G.told device) (G.told result.0) }
 
+    // Where the script is played, the journal's octets opened, and lead to a state.
+    ensures opened { IsPlayed (status_of result.1) → OpensAs (Some commands.Session) (S.left site.old) (T.left script.old) (G.told device) (G.told result.0) }
+
     // A session that is played to its end has a site, and no line that is refused.
     ensures to_end { OnOk result.1 (IsAtEnd (T.left script.new)) }
     ensures accepted { OnOk result.1 (AcceptsOnFile (S.left site.old) (T.left script.old)) }
@@ -121,6 +129,7 @@ pub fn session<S: Source, T: Source, G: Ground>(
         IfSome (T.left script.old) (λ text. refused_line Session text ≡ Some line) }
     ensures refuses_site { (fault : SiteFault) → result.1 ≡ Err (Status.SiteRefused fault) → RefusesFile (S.left site.old) fault }
     ensures refuses_journal { (fault : Refusal) → result.1 ≡ Err (Status.JournalRefused fault) → RefusesJournal (S.left site.old) (G.told device) (G.told result.0) fault }
+    ensures unplayed { (fault : Refusal) → result.1 ≡ Err (Status.JournalRefused fault) → script.new ≡ script.old }
     ensures unread { IfSome (S.left site.old) (λ octets. OnErr (site_of octets) (script.new ≡ script.old)) }
 
     // With ReadFault either the site's source failed and nothing else was done, or the script's failed.

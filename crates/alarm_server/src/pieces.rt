@@ -5,7 +5,7 @@ ghost use Rattle.alarm_journal.specs.Journal.{Content};
 ghost use Rattle.alarm_journal.specs.Journal.{Site as Journal};
 ghost use Rattle.alarm_journal.specs.Press.{Throughout};
 ghost use Rattle.alarm_server.specs.Emission.{Sends};
-ghost use Rattle.floor_desk.specs.Keeping.{Rests};
+ghost use Rattle.state_codec.specs.Keeping.{Rests};
 ghost use Rattle.alarm_server.specs.Pieces.{piece_text};
 
 use crate::emission::Unsent;

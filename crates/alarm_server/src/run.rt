@@ -1,8 +1,8 @@
-ghost use Rattle.std.specs.Prelude.{◌≡◌, ◌↔◌, ℕ, map, None, OnOk, IfErr, IsErrOf, string_bytes};
+ghost use Rattle.std.specs.Prelude.{◌≡◌, ◌≢◌, ◌↔◌, ℕ, map, None, OnOk, IfErr, IsErrOf, string_bytes};
 ghost use Rattle.ground_io.specs.Counts.{HasCause, Rose};
 ghost use Rattle.alarm_journal.specs.declared.open_fault.OpenFault.{OpenFault as Refusal};
 ghost use Rattle.site_config.specs.declared.fault.SiteFault.{SiteFault};
-ghost use Rattle.alarm_server.specs.OpeningSteps.{RefusesJournalAs};
+ghost use Rattle.alarm_server.specs.Openings.{IsPlayed, OpensAs, RefusesJournalAs};
 ghost use Rattle.alarm_server.specs.Causes.{HasCauseInEither};
 ghost use Rattle.alarm_server.specs.Commands.{command_of};
 ghost use Rattle.alarm_server.specs.Outcomes.{AcceptsAs, EndsAs, KeepsAs, LeavesDiskAs, LeavesScript, LeavesSite, NumbersAs, ReadsToEnd, RefusesAs, RefusesSiteAs, StopsAs};
@@ -36,6 +36,8 @@ fn carry_out<S: Source, T: Source, G: Ground>(
     ensures site { LeavesSite (Some command.now) (site.new ≡ site.old) }
     ensures unread { LeavesScript (Some command.now) (S.left site.old) (script.new ≡ script.old) }
     ensures keeps { KeepsAs (Some command.now) (S.left site.old) (T.left script.old) (G.told device) (G.told result.0) }
+    ensures opened { IsPlayed (status_of result.1) → OpensAs (Some command.now) (S.left site.old) (T.left script.old) (G.told device) (G.told result.0) }
+    ensures unplayed { (fault : Refusal) → result.1 ≡ Err (Status.JournalRefused fault) → script.new ≡ script.old }
     ensures refuses_journal { (fault : Refusal) → result.1 ≡ Err (Status.JournalRefused fault) → RefusesJournalAs (Some command.now) (S.left site.old) (G.told device) (G.told result.0) fault }
     ensures fault { IfErr result.1 IsFault }
     ensures size { G.size result.0 ≡ G.size device }
@@ -113,9 +115,16 @@ pub fn run<S: Source, T: Source, G: Ground>(
     // those whose piece was emitted by then.
     ensures keeps { KeepsAs (command_of (map string_bytes words.now)) (S.left site.old) (T.left script.old) (G.told device) (G.told result.0) }
 
-    // The journal is refused for what its octets are.
+    // Where a session's script is played, its journal's octets opened, and lead to a state.
+    ensures opened { IsPlayed result.1 → OpensAs (command_of (map string_bytes words.now)) (S.left site.old) (T.left script.old) (G.told device) (G.told result.0) }
+
+    // The journal is refused for what its octets are: it was synced, and nothing else was done, and the script isn't read.
+    ensures unplayed { (fault : Refusal) → result.1 ≡ Status.JournalRefused fault → script.new ≡ script.old }
     ensures refuses_journal { (fault : Refusal) → result.1 ≡ Status.JournalRefused fault →
         RefusesJournalAs (command_of (map string_bytes words.now)) (S.left site.old) (G.told device) (G.told result.0) fault }
+
+    // A server's fault is none of these.
+    ensures outside { result.1 ≢ Status.LinkFault }
 
     // All but a session leave the disk alone.
     ensures size { G.size result.0 ≡ G.size device }

@@ -1,10 +1,9 @@
 ghost use Rattle.std.specs.Prelude.{◌≡◌, ◌↔◌, ◌≤◌, None, IfSome, length, map, string_bytes};
 ghost use Rattle.ground_io.specs.Counts.{HasCause};
-ghost use Rattle.alarm_core.specs.Limits.{KeepsLimits};
 ghost use Rattle.alarm_core.specs.Sites.{IsSite};
 ghost use Rattle.state_codec.specs.Sizes.{most_text};
 ghost use Rattle.alarm_server.specs.ServedSites.{IsUnserved, LeavesLink, of_end, served_of};
-ghost use Rattle.alarm_server.specs.ServingSteps.{ServesFile, ServesSite};
+ghost use Rattle.alarm_server.specs.Serving.{ServesFile, ServesSite};
 ghost use Rattle.alarm_server.specs.ServeWords.{count_in};
 
 use crate::command::count_of;
@@ -93,7 +92,6 @@ fn serve_site<
     gate: &W,
 ) -> (G, L, Served)
     requires site { IsSite site.now }
-    requires limits { KeepsLimits site.now }
     requires short { length text.now ≤ most_text }
     ensures serves { ServesSite G.told G.disk_faults (K.shows clock.now) site.now text.now count link result.1 (L.left link) (L.left result.1) device result.0 result.2 }
     ensures link { LeavesLink (L.faults link) (L.faults result.1) result.2.status }

@@ -11,12 +11,11 @@ ghost use Rattle.alarm_journal.specs.Press.{Throughout};
 ghost use Rattle.state_codec.specs.Records.{HasRecord};
 ghost use Rattle.alarm_core.specs.declared.event.Event.{Event as Happening};
 ghost use Rattle.alarm_core.specs.Allowed.{Represents};
-ghost use Rattle.alarm_core.specs.Limits.{KeepsLimits};
 ghost use Rattle.service_desk.specs.Answers.{event_of};
-ghost use Rattle.floor_desk.specs.Keeping.{Commits, HoldsHistory, Rests};
+ghost use Rattle.state_codec.specs.Keeping.{Commits, HoldsHistory, Rests};
 ghost use Rattle.alarm_server.specs.Keeping.{KeepsLines, KeepsReport};
 ghost use Rattle.alarm_server.specs.Report.{history_by, history_with};
-ghost use Rattle.floor_desk.specs.Emission.{Emits};
+ghost use Rattle.state_codec.specs.Emission.{Emits};
 ghost use Rattle.alarm_server.specs.Emission.{Ends, Sends, sent};
 ghost use Rattle.alarm_server.specs.Script.{refused_line, spelled_in};
 ghost use Rattle.alarm_server.specs.SessionSteps.{session_over, state_front, state_over, state_with};
@@ -33,9 +32,9 @@ use crate::tally::Tally;
 use alarm_core::{Core, Event};
 use alarm_journal::Press;
 use bac_values::{NoMemory, ReportLine, single};
-use floor_desk::keep_event;
 use ground_io::{Ground, Source};
 use script_lines::{Line, Lines};
+use state_codec::keep_event;
 use std::alloc::Global;
 
 // Commits what a line entered, if it entered anything.
@@ -45,7 +44,6 @@ fn keep<G: Ground>(
     core: &Core,
     event: &Option<Event>,
 ) -> Result<Press<G>, (G, Status)>
-    requires limits { KeepsLimits core.now.site }
     requires record { IfSome event.now HasRecord }
     ensures holds { (journal : Journal) (older : List Happening) → Represents core.now (history_by older event.now) → HoldsHistory journal core.now.site older press.layout (G.told press.device)
         → IfOk result (λ kept. HoldsHistory journal core.now.site (history_by older event.now) kept.layout (G.told kept.device)) }
@@ -79,7 +77,6 @@ fn play_line<G: Ground>(
     line: &Line,
 ) -> Result<Press<G>, (G, Status)>
     requires moment { IsMoment line.now.moment }
-    requires limits { KeepsLimits core.old.site }
     ensures state { OnOk result (core.new ≡ state_with core.old line.now) }
     ensures represents { (history : List Happening) → Represents core.old history → OnOk result (Represents core.new (history_with core.old.site history line.now)) }
     ensures site { OnOk result (core.new.site ≡ core.old.site) }
@@ -180,7 +177,6 @@ pub fn play_session<T: Source, G: Ground>(
     core: &mut Core,
     script: &mut T,
 ) -> (G, Result<Tally, Status>)
-    requires limits { KeepsLimits core.old.site }
     ensures ends { IfSome (T.left script.old) (λ text.
         Ends Emits piece_text (status_of result.1) (session_over core.old (lines_of text)) (G.told press.device) (G.told result.0)) }
     ensures tally { IfOk result.1 (λ tally. IfSome (T.left script.old) (λ text. tally ≡ tally_of (session_over core.old (lines_of text)))) }

@@ -4,10 +4,10 @@ ghost use Rattle.alarm_server.specs.Status.{code_of, of_keep_fault, of_line_faul
 use crate::emission::Unsent;
 use alarm_journal::OpenFault;
 use bac_values::NoMemory;
-use floor_desk::KeepFault;
 use ground_io::Failed;
 use script_lines::LineFault;
 use site_config::SiteFault;
+use state_codec::KeepFault;
 use std::alloc::AllocError;
 use std::fmt;
 

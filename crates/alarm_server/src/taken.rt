@@ -1,27 +1,19 @@
 ghost use Rattle.std.specs.Prelude.{◌≡◌, ◌<◌, ◌^◌, ◌∷◌, ◌++◌, [], List, None, max, IfOk, IfSome, OnErr, OnOk, map};
-ghost use Rattle.bac_values.specs.Limits.{most_events};
 ghost use Rattle.bac_values.specs.Moments.{IsMoment};
 ghost use Rattle.state_codec.specs.Records.{HasRecord};
-ghost use Rattle.alarm_core.specs.State.{CoreState};
 ghost use Rattle.alarm_core.specs.declared.event.Event.{Event as Happening};
 ghost use Rattle.alarm_core.specs.Allowed.{IsAllowed, Represents};
-ghost use Rattle.alarm_core.specs.History.{moved_by, raised};
-ghost use Rattle.alarm_core.specs.CoreSteps.{next_sends, next_state, next_transitions};
-ghost use Rattle.alarm_core.specs.Verdicts.{Answers, step_verdict};
 ghost use Rattle.service_desk.specs.Answers.{answer_of, event_of, if_owed, state_behind};
 ghost use Rattle.alarm_server.specs.Report.{history_by, history_with};
 ghost use Rattle.alarm_server.specs.SessionSteps.{state_with};
 ghost use Rattle.alarm_server.specs.Pieces.{answer_for, piece_by, piece_of, send_line};
 
 use alarm_core::{Core, Event, Outcome, StepFault};
-use bac_values::{MOST_EVENTS, Moved, NoMemory, ReportLine, Send, push, single};
-use event_machine::Steps;
+use bac_values::{Moved, NoMemory, ReportLine, Send, push, single};
 use script_lines::Line;
 use service_desk::{Decision, decide};
-use state_codec::allowed_event_has_record;
+use state_codec::event_to_record;
 use std::alloc::Global;
-use std::marker::Brand;
-use std::sync::ledger::{Blank, Ledger};
 
 /// A line that was taken.
 #[derive(Drop)]
@@ -85,41 +77,6 @@ fn full_piece(
     Ok(piece)
 }
 
-// The core takes an event. Its steps are counted in a ledger of their own, that nobody reads.
-fn counted<L: Ledger>(core: &mut Core, event: &Event, blank: Blank) -> Result<Outcome, StepFault>
-    requires name { blank.name ≡ L.name }
-    requires parts { blank.parts ≡ L.parts }
-    requires some { 0 < blank.parts }
-    requires moment { IsMoment event.now.moment }
-    requires allowed { IsAllowed core.old event.now.act }
-    requires few { core.old.events < most_events }
-    ensures state { OnOk result (core.new ≡ next_state (raised core.old.last_moment event.now) core.old) }
-    ensures moment { IfOk result (λ outcome. outcome.moment ≡ max event.now.moment core.old.last_moment) }
-    ensures moves { IfOk result (λ outcome. outcome.moves ≡ map moved_by (next_transitions (raised core.old.last_moment event.now) core.old)) }
-    ensures sends { IfOk result (λ outcome. outcome.sends ≡ next_sends (raised core.old.last_moment event.now) core.old) }
-    ensures same { OnErr result (core.new ≡ core.old) }
-    ensures represents { (history : List Happening) → Represents core.old history → OnOk result (Represents core.new (raised core.old.last_moment event.now ∷ history)) }
-    ensures verdict { Answers result (step_verdict (raised core.old.last_moment event.now) core.old) }
-{
-    let mut steps = Steps::<L>::new(blank);
-    core.step(event, &mut steps)
-}
-
-// The event with another moment. It has a record.
-fn moved_to(moment: u64, event: Event) -> Event
-    requires range { IsMoment moment }
-    requires allowed { (state : CoreState) × IsAllowed state event.act }
-    ensures moved { result ≡ record event { moment = moment } }
-    ensures record { HasRecord result }
-{
-    let moved = Event {
-        moment,
-        act: event.act,
-    };
-    allowed_event_has_record(&moved);
-    moved
-}
-
 // The piece of a line whose event was entered, and has that number.
 fn entered_piece(
     alloc: Global,
@@ -159,10 +116,7 @@ fn enter(
     ensures event { IfOk result (λ taken. taken.event ≡ event_of (answer_of core.old (Decision.Enter event reply full))) }
     ensures record { IfOk result (λ taken. IfSome taken.event HasRecord) }
 {
-    if core.events() >= MOST_EVENTS {
-        return Err(NoMemory);
-    }
-    let outcome = match counted::<Brand>(core, &event, Blank::new(1)) {
+    let outcome = match core.take(alloc, &event) {
         Ok(outcome) => outcome,
         Err(StepFault::Full { would, limit }) => {
             let piece = full_piece(alloc, number, would, limit, full)?;
@@ -172,7 +126,7 @@ fn enter(
         Err(StepFault::NoMemory) => return Err(NoMemory),
     };
     let piece = entered_piece(alloc, number, core.events(), outcome, reply)?;
-    let event = Some(moved_to(core.last_moment(), event));
+    let event = Some(event_to_record(core, event));
     Ok(Taken { piece, event })
 }
 

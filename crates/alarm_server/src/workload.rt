@@ -3,7 +3,6 @@ ghost use Rattle.ground_io.specs.Counts.{HasCause};
 ghost use Rattle.ground_io.specs.Trace.{Adds};
 ghost use Rattle.script_lines.specs.Report.{report_text};
 ghost use Rattle.script_lines.specs.declared.line.Grammar.TheVariants.{Session};
-ghost use Rattle.alarm_core.specs.Limits.{KeepsLimits};
 ghost use Rattle.alarm_core.specs.Sites.{IsSite};
 ghost use Rattle.state_codec.specs.Sizes.{most_text};
 ghost use Rattle.site_config.specs.declared.fault.SiteFault.{SiteFault};
@@ -37,7 +36,6 @@ fn generated_site(alloc: Global) -> Result<(Site, Vec<u8>), Status>
     ensures site { IfOk result (λ made. made.0 ≡ generated_site) }
     ensures text { IfOk result (λ made. made.1.items ≡ workload_site) }
     ensures keeps { IfOk result (λ made. IsSite made.0) }
-    ensures limits { IfOk result (λ made. KeepsLimits made.0) }
     ensures short { IfOk result (λ made. length made.1.items ≤ most_text) }
     ensures memory { IfErr result (λ status. status ≡ Status.NoMemory) }
     ensures fault { IfErr result IsInnerFault }
@@ -50,7 +48,7 @@ fn generated_site(alloc: Global) -> Result<(Site, Vec<u8>), Status>
 
 // A press on a blank device in memory, as large as a site's journal needs, none of whose calls fails.
 fn blank_press(alloc: Global, site: &Site, text: &[u8]) -> Result<Press<MemoryGround>, Status>
-    requires limits { KeepsLimits site.now }
+    requires site { IsSite site.now }
     requires short { length text.now ≤ most_text }
     ensures memory { IfErr result (λ status. status ≡ Status.NoMemory) }
     ensures fault { IfErr result IsInnerFault }
@@ -85,7 +83,6 @@ fn tally_on<G: Ground + Drop>(
     script: &mut MemorySource,
 ) -> Result<Tally, Status>
     requires site { IsSite site.now }
-    requires limits { KeepsLimits site.now }
     ensures tally { IfOk result (λ tally. tally ≡ tally_over (report_of site.now [] script.old.left)) }
     ensures accepted { OnOk result (refused_line Session script.old.left ≡ None) }
     ensures refused { (line : ℕ) → result ≡ Err (Status.ScriptRefused line) → refused_line Session script.old.left ≡ Some line }
@@ -110,7 +107,6 @@ fn tally_by(
     script: &mut MemorySource,
 ) -> Result<Tally, Status>
     requires site { IsSite site.now }
-    requires limits { KeepsLimits site.now }
     requires short { length text.now ≤ most_text }
     ensures tally { IfOk result (λ tally. tally ≡ tally_over (report_of site.now [] script.old.left)) }
     ensures accepted { OnOk result (refused_line Session script.old.left ≡ None) }

@@ -1,4 +1,4 @@
-use crate::alarm_core_plant::{HIGH_LIMIT, Play, play_at_tank, pump, rise};
+use crate::alarm_core_plant::{HIGH_LIMIT, Play, play_at_tanks, pump, rise};
 use crate::comparing::holds;
 use crate::sites::{START, guard, operator, told};
 use alarm_core::*;
@@ -36,7 +36,7 @@ fn expect_moments(rt: &impl Abort, core: &Core) {
 fn a_moment_in_range_that_is_not_before_the_last_one_is_admitted(
     rt: HostRuntime,
 ) -> Result<(), Fail> {
-    play_at_tank(&rt, rt.alloc(), 64, &Moments)
+    play_at_tanks(&rt, rt.alloc(), 1, &Moments)
 }
 
 /// Whether a change of an integer value may come.
@@ -82,7 +82,7 @@ fn expect_writes(rt: &impl Abort, core: &Core) -> Result<(), Fail> {
 
 #[test]
 fn a_change_that_the_object_takes_is_admitted(rt: HostRuntime) -> Result<(), Fail> {
-    play_at_tank(&rt, rt.alloc(), 64, &Writes)
+    play_at_tanks(&rt, rt.alloc(), 1, &Writes)
 }
 
 fn admits_acknowledgement(
@@ -118,10 +118,10 @@ fn expect_acknowledgements(
 struct Acknowledgements;
 
 impl Play for Acknowledgements {
-    fn play(&self, rt: &impl Abort, _alloc: Global, core: &mut Core) -> Result<(), Fail> {
+    fn play(&self, rt: &impl Abort, alloc: Global, core: &mut Core) -> Result<(), Fail> {
         let offnormal = Transition::ToOffnormal;
         expect_acknowledgements(rt, core, &[(offnormal, EventState::HighLimit, false)])?;
-        rise(core)?;
+        rise(alloc, core)?;
         let rows = [
             (offnormal, EventState::HighLimit, true),
             (offnormal, EventState::Offnormal, true),
@@ -134,7 +134,7 @@ impl Play for Acknowledgements {
 
 #[test]
 fn an_acknowledgement_of_what_came_is_admitted(rt: HostRuntime) -> Result<(), Fail> {
-    play_at_tank(&rt, rt.alloc(), 64, &Acknowledgements)
+    play_at_tanks(&rt, rt.alloc(), 1, &Acknowledgements)
 }
 
 fn admits_answer(core: &Core, peer: Peer, invoke: u8, kind: u8) -> bool {
@@ -145,10 +145,10 @@ fn admits_answer(core: &Core, peer: Peer, invoke: u8, kind: u8) -> bool {
 struct Answers;
 
 impl Play for Answers {
-    fn play(&self, rt: &impl Abort, _alloc: Global, core: &mut Core) -> Result<(), Fail> {
-        rise(core)?;
+    fn play(&self, rt: &impl Abort, alloc: Global, core: &mut Core) -> Result<(), Fail> {
+        rise(alloc, core)?;
         holds(rt, !admits_answer(core, operator(), 0, 2));
-        pump(rt, core, &HIGH_LIMIT)?;
+        pump(rt, alloc, core, &HIGH_LIMIT)?;
         expect_answers(rt, core);
         Ok(())
     }
@@ -165,7 +165,7 @@ fn expect_answers(rt: &impl Abort, core: &Core) {
 
 #[test]
 fn an_answer_to_what_is_in_flight_is_admitted(rt: HostRuntime) -> Result<(), Fail> {
-    play_at_tank(&rt, rt.alloc(), 64, &Answers)
+    play_at_tanks(&rt, rt.alloc(), 1, &Answers)
 }
 
 /// Whether an edit of a class to so many recipients is admitted, each of them the operator.
@@ -187,7 +187,7 @@ fn recipients(alloc: Global, count: u32) -> Result<Vec<Destination>, Fail> {
     Ok(list)
 }
 
-/// A class of one object has room for two recipients.
+/// A class of 32 objects has room for two recipients in an outbox of 64.
 struct Edits;
 
 impl Play for Edits {
@@ -206,5 +206,5 @@ fn expect_edits(rt: &impl Abort, alloc: Global, core: &Core) -> Result<(), Fail>
 
 #[test]
 fn an_edit_within_the_limits_is_admitted(rt: HostRuntime) -> Result<(), Fail> {
-    play_at_tank(&rt, rt.alloc(), 2, &Edits)
+    play_at_tanks(&rt, rt.alloc(), 32, &Edits)
 }

@@ -2,7 +2,7 @@ ghost use Rattle.std.specs.Prelude.{◌≡◌, IsSome, IsTrue};
 ghost use Rattle.alarm_core.specs.Allowed.{members_of, room_beside};
 ghost use Rattle.alarm_core.specs.Classes.{class_in};
 
-use crate::alarm_core_plant::{HIGH_LIMIT, Play, is_sent, play_at_tank, rise, take};
+use crate::alarm_core_plant::{HIGH_LIMIT, Play, is_sent, play_at_tanks, rise, take};
 use crate::comparing::holds;
 use crate::sites::{START, guard, operator, told};
 use alarm_core::*;
@@ -28,18 +28,24 @@ fn is_alone(core: &Core, class: u32) -> bool
     ensures members { IsTrue result → members_of core.now class ≡ 1 }
     ensures room { IsTrue result → room_beside core.now class ≡ core.now.site.device.outbox }
 {
-    match (core.classes(), core.table().rows()) {
-        ([only], [row]) => {
+    let site = core.site();
+    match (core.classes(), site.objects.as_slice()) {
+        ([only], [object]) => {
             only.instance == class
-                && row.site.class == Some(class)
-                && core.site().enrollments.as_slice().is_empty()
+                && object.class == Some(class)
+                && site.enrollments.as_slice().is_empty()
         }
         _ => false,
     }
 }
 
 /// The class of the operators gets a list, which is allowed, at the start. Nothing moves, and nothing is sent.
-fn edit(rt: &impl Abort, core: &mut Core, list: Vec<Destination>) -> Result<(), Fail> {
+fn edit(
+    rt: &impl Abort,
+    alloc: Global,
+    core: &mut Core,
+    list: Vec<Destination>,
+) -> Result<(), Fail> {
     let class = 7;
     let room = core.site().device.outbox;
     let is_edit = check_edit(core.known_peers(), &list, 1, room).is_ok();
@@ -51,7 +57,7 @@ fn edit(rt: &impl Abort, core: &mut Core, list: Vec<Destination>) -> Result<(), 
         class,
         destinations,
     };
-    let outcome = take(core, START, act)??;
+    let outcome = take(alloc, core, START, act)?;
     holds(
         rt,
         outcome.moves.as_slice().is_empty() && outcome.sends.as_slice().is_empty(),
@@ -85,9 +91,9 @@ fn tells_both(outcome: &Outcome) -> bool {
 }
 
 /// The recipients are told of the tank's rise.
-fn tell(rt: &impl Abort, core: &mut Core) -> Result<(), Fail> {
-    rise(core)?;
-    let outcome = take(core, START, Act::Pump)??;
+fn tell(rt: &impl Abort, alloc: Global, core: &mut Core) -> Result<(), Fail> {
+    rise(alloc, core)?;
+    let outcome = take(alloc, core, START, Act::Pump)?;
     holds(rt, tells_both(&outcome));
     Ok(())
 }
@@ -98,16 +104,16 @@ struct Edited;
 impl Play for Edited {
     fn play(&self, rt: &impl Abort, alloc: Global, core: &mut Core) -> Result<(), Fail> {
         let list = vec![in alloc; told(operator(), 1), told(guard(), 2)]?;
-        edit(rt, core, list)?;
+        edit(rt, alloc, core, list)?;
         holds(rt, knows_both(core));
         holds(rt, lists(alloc, core, &BOTH)?);
-        tell(rt, core)
+        tell(rt, alloc, core)
     }
 }
 
 #[test]
 fn an_edit_is_read_and_its_recipients_are_told(rt: HostRuntime) -> Result<(), Fail> {
-    play_at_tank(&rt, rt.alloc(), 64, &Edited)
+    play_at_tanks(&rt, rt.alloc(), 1, &Edited)
 }
 
 /// The list of one on network 300, at all times, without confirming, as process 70,000.
@@ -139,7 +145,7 @@ struct Routed;
 impl Play for Routed {
     fn play(&self, rt: &impl Abort, alloc: Global, core: &mut Core) -> Result<(), Fail> {
         let list = vec![in alloc; behind_a_router()?]?;
-        edit(rt, core, list)?;
+        edit(rt, alloc, core, list)?;
         holds(rt, lists(alloc, core, &ROUTED)?);
         Ok(())
     }
@@ -147,5 +153,5 @@ impl Play for Routed {
 
 #[test]
 fn a_recipient_behind_a_router_is_read(rt: HostRuntime) -> Result<(), Fail> {
-    play_at_tank(&rt, rt.alloc(), 64, &Routed)
+    play_at_tanks(&rt, rt.alloc(), 1, &Routed)
 }

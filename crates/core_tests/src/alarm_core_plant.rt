@@ -1,17 +1,13 @@
-ghost use Rattle.std.specs.Prelude.{◌≡◌, ◌≤◌, ◌<◌, ◌^◌};
 ghost use Rattle.bac_values.specs.Moments.{IsMoment};
 ghost use Rattle.alarm_core.specs.Allowed.{IsAllowed};
 ghost use Rattle.alarm_core.specs.Sites.{IsSite};
 
 use crate::comparing::holds;
-use crate::sites::{START, operator, plant};
+use crate::sites::{START, operator, tanks};
 use alarm_core::*;
 use bac_values::{ObjectId, ObjectKind, Peer, Send, Value};
-use event_machine::Steps;
 use std::alloc::Global;
-use std::marker::Brand;
 use std::process::Abort;
-use std::sync::ledger::{Blank, Ledger};
 use std::test::Fail;
 
 /// What happens to a core. Whoever plays it only borrows the core: a function that drops one, and goes on after each of
@@ -46,58 +42,39 @@ pub(crate) fn play_on(
     play_to(rt, alloc, Core::start(alloc, site)?, play)
 }
 
-/// Plays to the core of a site with one tank and an outbox of so many notes, from its start on.
-pub(crate) fn play_at_tank(
+/// Plays to the core of a site with so many tanks and an outbox of 64 notes, from its start on.
+pub(crate) fn play_at_tanks(
     rt: &impl Abort,
     alloc: Global,
-    outbox: u32,
+    count: u32,
     play: &impl Play,
-) -> Result<(), Fail>
-    requires outbox { outbox ≤ 16_384 }
-{
-    let site = plant(alloc, 0, outbox)?;
+) -> Result<(), Fail> {
+    let site = tanks(alloc, count, 0, 64)?;
     let played = play_on(rt, alloc, &site, play);
     drop(site);
     played
 }
 
-pub(crate) fn counted<L: Ledger>(
-    core: &mut Core,
-    event: &Event,
-    blank: Blank,
-) -> Result<Outcome, StepFault>
-    requires name { blank.name ≡ L.name }
-    requires parts { blank.parts ≡ L.parts }
-    requires some { 0 < blank.parts }
-    requires moment { IsMoment event.now.moment }
-    requires allowed { IsAllowed core.old event.now.act }
-    requires few { core.old.events < 2 ^ 63 }
-{
-    let mut steps = Steps::<L>::new(blank);
-    core.step(event, &mut steps)
-}
-
-/// An event at a moment, while there are few. Its steps are counted in a ledger that nobody reads.
+/// An event at a moment.
 pub(crate) fn take(
+    alloc: Global,
     core: &mut Core,
     moment: u64,
     act: Act,
-) -> Result<Result<Outcome, StepFault>, Fail>
+) -> Result<Outcome, StepFault>
     requires moment { IsMoment moment }
     requires allowed { IsAllowed core.old act }
 {
-    let _few = u8::try_from(core.events())?;
-    let event = Event { moment, act };
-    Ok(counted::<Brand>(core, &event, Blank::new(1)))
+    core.take(alloc, &Event { moment, act })
 }
 
 /// The value of the tank comes from the field, at a moment.
-pub(crate) fn set(core: &mut Core, moment: u64, value: i32) -> Result<(), Fail>
+pub(crate) fn set(alloc: Global, core: &mut Core, moment: u64, value: i32) -> Result<(), Fail>
     requires moment { IsMoment moment }
 {
     let object = ObjectId::of_kind(ObjectKind::IntegerValue, 1)?;
     let change = core.table().check_set(object, Value::Signed(value))?;
-    let _outcome = take(core, moment, Act::Write { change })??;
+    let _outcome = take(alloc, core, moment, Act::Write { change })?;
     Ok(())
 }
 
@@ -114,8 +91,13 @@ fn sends(outcome: &Outcome, octets: &[u8]) -> bool {
 }
 
 /// One datagram goes out, to the operator, with these octets.
-pub(crate) fn pump(rt: &impl Abort, core: &mut Core, octets: &[u8]) -> Result<(), Fail> {
-    let outcome = take(core, START, Act::Pump)??;
+pub(crate) fn pump(
+    rt: &impl Abort,
+    alloc: Global,
+    core: &mut Core,
+    octets: &[u8],
+) -> Result<(), Fail> {
+    let outcome = take(alloc, core, START, Act::Pump)?;
     holds(rt, sends(&outcome, octets));
     Ok(())
 }
@@ -130,6 +112,6 @@ pub(crate) const HIGH_LIMIT: [u8; 65] = [
 ];
 
 /// The tank rises above its high limit, at the start.
-pub(crate) fn rise(core: &mut Core) -> Result<(), Fail> {
-    set(core, START, 90)
+pub(crate) fn rise(alloc: Global, core: &mut Core) -> Result<(), Fail> {
+    set(alloc, core, START, 90)
 }

@@ -1,18 +1,41 @@
-ghost use Rattle.std.specs.Prelude.{◌≡◌, [], IfOk, length};
+ghost use Rattle.std.specs.Prelude.{◌≡◌, [], IfOk, None, length, pos};
 ghost use Rattle.outbox.specs.Outboxes.{IsOutbox};
 ghost use Rattle.alarm_core.specs.Sites.{IsSite};
 
 use crate::alarm_core_plant::{Play, is_sent, play_to, take};
 use crate::comparing::holds;
-use crate::sites::{START, device, operator};
+use crate::sites::{START, operator};
 use alarm_core::*;
-use bac_values::{Items, Note};
+use bac_values::{Items, Note, Text};
 use enrollment::Enrollments;
 use object_table::Table;
 use outbox::{Outbox, Post};
 use std::alloc::Global;
 use std::process::Abort;
 use std::test::Fail;
+
+/// A device in UTC, with an outbox of 64 notes.
+fn device(alloc: Global) -> Result<DeviceSite, Fail>
+    ensures instance { IfOk result (λ site. site.instance ≡ 1001) }
+    ensures start { IfOk result (λ site. site.start ≡ 1700000000000) }
+    ensures zone { IfOk result (λ site. site.zone_minutes ≡ pos 0) }
+    ensures rule { IfOk result (λ site. site.zone_rule ≡ None) }
+    ensures timeout { IfOk result (λ site. site.apdu_timeout ≡ 3000) }
+    ensures retries { IfOk result (λ site. site.retries ≡ 3) }
+    ensures outbox { IfOk result (λ site. site.outbox ≡ 64) }
+{
+    Ok(DeviceSite {
+        instance: 1001,
+        name: Text::new(alloc, "Plant")?,
+        vendor: 999,
+        start: 1_700_000_000_000,
+        zone_minutes: 0,
+        zone_rule: None,
+        apdu_timeout: 3000,
+        retries: 3,
+        outbox: 64,
+    })
+}
 
 /// A device alone.
 fn bare(alloc: Global) -> Result<Site, Fail>
@@ -27,11 +50,12 @@ fn bare(alloc: Global) -> Result<Site, Fail>
     ensures retries { IfOk result (λ site. site.device.retries ≡ 3) }
 {
     Ok(Site {
-        device: device(alloc, 64)?,
+        device: device(alloc)?,
         classes: Items::of(Vec::new(alloc)),
         objects: Items::of(Vec::new(alloc)),
         enrollments: Items::of(Vec::new(alloc)),
         logs: Items::of(Vec::new(alloc)),
+        bindings: Items::of(Vec::new(alloc)),
     })
 }
 
@@ -81,7 +105,7 @@ fn restored(alloc: Global, site: &Site) -> Result<Core, Fail>
 {
     let outbox = in_flight(alloc)?;
     let table = Table::new(alloc, Vec::new(alloc))?;
-    let enrollments = Enrollments::new(alloc, Vec::new(alloc))?;
+    let enrollments = Enrollments::new(alloc, Vec::new(alloc), &[])?;
     let parts = Parts {
         events: 5,
         last_moment: START + 7,
@@ -149,9 +173,9 @@ fn is_sent_twice(core: &Core) -> bool {
 struct Goes;
 
 impl Play for Goes {
-    fn play(&self, rt: &impl Abort, _alloc: Global, core: &mut Core) -> Result<(), Fail> {
+    fn play(&self, rt: &impl Abort, alloc: Global, core: &mut Core) -> Result<(), Fail> {
         holds(rt, core.idle_pump(START + 2999));
-        let outcome = take(core, START + 3000, Act::Pump)??;
+        let outcome = take(alloc, core, START + 3000, Act::Pump)?;
         holds(rt, goes_again(&outcome) && is_sent_twice(core));
         holds(rt, core.events() == 6);
         Ok(())
@@ -167,8 +191,8 @@ fn a_restored_core_sends_again_at_the_deadline(rt: HostRuntime) -> Result<(), Fa
 struct Late;
 
 impl Play for Late {
-    fn play(&self, rt: &impl Abort, _alloc: Global, core: &mut Core) -> Result<(), Fail> {
-        let _still = take(core, START, Act::Tick)??;
+    fn play(&self, rt: &impl Abort, alloc: Global, core: &mut Core) -> Result<(), Fail> {
+        let _still = take(alloc, core, START, Act::Tick)?;
         holds(rt, core.events() == 6 && core.last_moment() == START + 7);
         Ok(())
     }

@@ -1,5 +1,4 @@
 ghost use Rattle.std.specs.Prelude.{◌≡◌, ◌<◌, ◌≤◌, All, length};
-ghost use Rattle.alarm_core.specs.Limits.{KeepsLimits};
 ghost use Rattle.alarm_core.specs.Sites.{IsSite};
 ghost use Rattle.alarm_journal.specs.Opened.{EndsOnDevice, sum_of};
 
@@ -123,7 +122,6 @@ struct LeftOfBatches<'a> {
 impl Question for LeftOfBatches<'_> {
     fn ask(&self, rt: &impl Abort, alloc: Global, site: &Site) -> Result<(), Fail>
         requires site { IsSite site.now }
-        requires limits { KeepsLimits site.now }
     {
         let device = committed(alloc, self.bodies)?;
         holds(rt, left_on(alloc, site, device) == self.wanted);
@@ -214,7 +212,6 @@ struct LeftOfSnapshot {
 impl Question for LeftOfSnapshot {
     fn ask(&self, rt: &impl Abort, alloc: Global, site: &Site) -> Result<(), Fail>
         requires site { IsSite site.now }
-        requires limits { KeepsLimits site.now }
     {
         let device = with_batch(alloc, with_snapshot(alloc, 9)?, FIRST)?;
         holds(rt, left_on(alloc, site, device) == self.wanted);

@@ -1,17 +1,7 @@
-ghost use Rattle.std.specs.Prelude.{◌≡◌, All, IfOk, IfSome, IsTrue, pos};
-ghost use Rattle.object_table.specs.Objects.{IsObject};
-ghost use Rattle.object_table.specs.Rows.{AscendsById};
-ghost use Rattle.outbox.specs.Outboxes.{AreSettings};
-ghost use Rattle.alarm_core.specs.Sites.{HasInstance, IsLogSite, IsSite, IsSiteRule, is_zone_rule};
-
 use crate::alarm_core_plant::{Play, play_on, set};
 use crate::comparing::holds;
-use crate::sites::{START, class_of, device, guard, one_tank, operator, tank, told};
-use alarm_core::{ClassSite, Core, DeviceSite, LogSite, Site};
-use bac_values::{Items, ObjectId, ObjectKind, Peer, Text};
-use civil_stamp::Zone;
-use notify_class::Destination;
-use object_table::ObjectSite;
+use crate::sites::{START, site_of};
+use alarm_core::Core;
 use state_codec::write_state;
 use std::alloc::Global;
 use std::process::Abort;
@@ -19,48 +9,61 @@ use std::test::Fail;
 
 // What of a snapshot no script reaches: how many octets many notes make, and where the records of a log stand.
 
-/// One that is told of everything at any time, and needn't confirm it.
-fn unconfirmed() -> Destination {
-    Destination {
-        confirmed: false,
-        ..told(Peer::local(167_772_167, 47808), 0)
-    }
-}
+/// Two tanks of two classes: class 7 tells two, one of whom needn't confirm, and class 8 one; the first tank is of class 8,
+/// and the second one of class 7. 64 notifications may wait.
+const TANKS_OF_TWO_CLASSES: &str = "[device]
+instance = 1001
+name = \"Plant\"
+vendor = 999
+start = 1700000000000
+outbox = 64
 
-/// Class 7 tells two, one of whom needn't confirm, and class 8 one.
-fn two_classes(alloc: Global) -> Result<Vec<ClassSite>, Fail>
-    ensures instances { IfOk result (λ sites. All HasInstance sites.items) }
-{
-    let first = class_of(alloc, 7, &[told(operator(), 1), unconfirmed()])?;
-    let second = class_of(alloc, 8, &[told(guard(), 1)])?;
-    Ok(vec![in alloc; first, second]?)
-}
+[[class]]
+instance = 7
+priority = [100, 90, 200]
+ack_required = [true, true, false]
 
-/// The first tank is of class 8, and the second one of class 7.
-fn two_tanks(alloc: Global) -> Result<Vec<ObjectSite>, Fail>
-    ensures objects { IfOk result (λ sites. All IsObject sites.items) }
-    ensures ascending { IfOk result (λ sites. AscendsById sites.items) }
-{
-    let first = tank(alloc, 1, 8, 0)?;
-    let second = tank(alloc, 2, 7, 0)?;
-    Ok(vec![in alloc; first, second]?)
-}
+[[class]]
+instance = 8
+priority = [100, 90, 200]
+ack_required = [true, true, false]
 
-/// Two tanks of two classes.
-fn tanks_of_two_classes(alloc: Global) -> Result<Site, Fail>
-    ensures keeps { IfOk result (λ site. IsSite site) }
-{
-    let device = device(alloc, 64)?;
-    let classes = two_classes(alloc)?;
-    let objects = two_tanks(alloc)?;
-    Ok(Site {
-        device,
-        classes: Items::of(classes),
-        objects: Items::of(objects),
-        enrollments: Items::of(Vec::new(alloc)),
-        logs: Items::of(Vec::new(alloc)),
-    })
-}
+[[destination]]
+class = 7
+address = \"10.0.0.5:47808\"
+process = 1
+confirmed = true
+
+[[destination]]
+class = 7
+address = \"10.0.0.7:47808\"
+
+[[destination]]
+class = 8
+address = \"10.0.0.6:47808\"
+process = 1
+confirmed = true
+
+[[object]]
+kind = \"integer-value\"
+instance = 1
+name = \"Tank\"
+value = 50
+class = 8
+low = 20
+high = 80
+deadband = 5
+
+[[object]]
+kind = \"integer-value\"
+instance = 2
+name = \"Tank\"
+value = 50
+class = 7
+low = 20
+high = 80
+deadband = 5
+";
 
 /// Whether these octets stand at the place.
 fn stands_at(octets: &[u8], place: usize, part: &[u8]) -> bool {
@@ -73,10 +76,10 @@ struct RisesAndFalls;
 impl Play for RisesAndFalls {
     fn play(&self, rt: &impl Abort, alloc: Global, core: &mut Core) -> Result<(), Fail> {
         for _ in 0..31 {
-            set(core, START, 90)?;
-            set(core, START, 50)?;
+            set(alloc, core, START, 90)?;
+            set(alloc, core, START, 50)?;
         }
-        set(core, START, 90)?;
+        set(alloc, core, START, 90)?;
         let octets = write_state(alloc, core)?;
         holds(rt, octets.len() == 4_062 && stands_at(&octets, 0, &[1]));
         Ok(())
@@ -85,79 +88,42 @@ impl Play for RisesAndFalls {
 
 #[test]
 fn sixty_three_notes_make_a_snapshot_of_4062_octets(rt: HostRuntime) -> Result<(), Fail> {
-    let site = tanks_of_two_classes(rt.alloc())?;
+    let site = site_of(rt.alloc(), TANKS_OF_TWO_CLASSES)?;
     let played = play_on(&rt, rt.alloc(), &site, &RisesAndFalls);
     drop(site);
     played
 }
 
-/// The rule of central Europe, by which clocks are put forward and back.
-fn summer_time(alloc: Global) -> Result<Text, Fail>
-    ensures rule { IfOk result (λ text. IsTrue (is_zone_rule text)) }
-{
-    let rule = "CET-1CEST,M3.5.0,M10.5.0/3";
-    match Zone::rule(rule) {
-        Ok(_) => Ok(Text::new(alloc, rule)?),
-        Err(_) => Err(Fail::new("the rule is not read")),
-    }
-}
+/// A tank where clocks are put forward and back, by the rule of central Europe; its class 7, which tells nobody; and a log of
+/// eight records of its notifications.
+const TANK_IN_SUMMER_TIME: &str = "[device]
+instance = 1001
+name = \"Plant\"
+vendor = 999
+start = 1700000000000
+zone_rule = \"CET-1CEST,M3.5.0,M10.5.0/3\"
 
-/// The device with that rule.
-fn device_in_summer_time(alloc: Global) -> Result<DeviceSite, Fail>
-    ensures instance { IfOk result (λ site. site.instance ≡ 1001) }
-    ensures start { IfOk result (λ site. site.start ≡ 1700000000000) }
-    ensures zone { IfOk result (λ site. site.zone_minutes ≡ pos 0) }
-    ensures rule { IfOk result (λ site. IfSome site.zone_rule (IsSiteRule site.zone_minutes)) }
-    ensures settings { IfOk result (λ site. AreSettings site.outbox site.apdu_timeout site.retries) }
-{
-    let rule = summer_time(alloc)?;
-    let mut site = device(alloc, 256)?;
-    site.zone_rule = Some(rule);
-    Ok(site)
-}
+[[class]]
+instance = 7
+priority = [100, 90, 200]
+ack_required = [true, true, false]
 
-/// A log of eight records, of the notifications of class 7.
-fn logs(alloc: Global) -> Result<Vec<LogSite>, Fail>
-    ensures logs { IfOk result (λ sites. All IsLogSite sites.items) }
-{
-    let object = ObjectId::of_kind(ObjectKind::EventLog, 1)?;
-    let name = Text::new(alloc, "Log")?;
-    let classes = Items::of(vec![in alloc; 7]?);
-    let log = LogSite {
-        object,
-        name,
-        size: 8,
-        stop_when_full: false,
-        enable: true,
-        classes,
-    };
-    Ok(vec![in alloc; log]?)
-}
+[[object]]
+kind = \"integer-value\"
+instance = 1
+name = \"Tank\"
+value = 50
+class = 7
+low = 20
+high = 80
+deadband = 5
 
-/// Class 7, which tells nobody.
-fn class_of_nobody(alloc: Global) -> Result<Vec<ClassSite>, Fail>
-    ensures instances { IfOk result (λ sites. All HasInstance sites.items) }
-{
-    let class = class_of(alloc, 7, &[])?;
-    Ok(vec![in alloc; class]?)
-}
-
-/// A tank where clocks are put forward and back, and a log.
-fn tank_in_summer_time(alloc: Global) -> Result<Site, Fail>
-    ensures keeps { IfOk result (λ site. IsSite site) }
-{
-    let device = device_in_summer_time(alloc)?;
-    let classes = class_of_nobody(alloc)?;
-    let logs = logs(alloc)?;
-    let objects = one_tank(alloc, 0)?;
-    Ok(Site {
-        device,
-        classes: Items::of(classes),
-        objects: Items::of(objects),
-        enrollments: Items::of(Vec::new(alloc)),
-        logs: Items::of(logs),
-    })
-}
+[[log]]
+instance = 1
+name = \"Log\"
+size = 8
+classes = [7]
+";
 
 /// When clocks were put forward, in local time 03:00.
 const FORWARD: u64 = 1_711_846_800_000;
@@ -176,7 +142,7 @@ struct IsLogged;
 
 impl Play for IsLogged {
     fn play(&self, rt: &impl Abort, alloc: Global, core: &mut Core) -> Result<(), Fail> {
-        set(core, FORWARD, 90)?;
+        set(alloc, core, FORWARD, 90)?;
         let octets = write_state(alloc, core)?;
         // Before the log stand 17 octets of the beginning, 32 of the value, 73 of the alarm, and one of the class.
         holds(
@@ -189,7 +155,7 @@ impl Play for IsLogged {
 
 #[test]
 fn with_a_zone_rule_records_have_their_hundredths(rt: HostRuntime) -> Result<(), Fail> {
-    let site = tank_in_summer_time(rt.alloc())?;
+    let site = site_of(rt.alloc(), TANK_IN_SUMMER_TIME)?;
     let played = play_on(&rt, rt.alloc(), &site, &IsLogged);
     drop(site);
     played

@@ -1,11 +1,10 @@
-ghost use Rattle.alarm_core.specs.Limits.{KeepsLimits};
 ghost use Rattle.alarm_core.specs.Sites.{IsSite};
 
 use crate::alarm_core_plant::{Play, play_on, play_to};
 use crate::comparing::holds;
 use crate::sites::{Question, ask_of_plant};
 use alarm_core::{Core, Site};
-use state_codec::{CodecFault, need, read_state, snapshot_bound, state_fits, write_state};
+use state_codec::{CodecFault, need, read_state, snapshot_bound, write_state};
 use std::alloc::Global;
 use std::process::Abort;
 use std::test::Fail;
@@ -63,7 +62,6 @@ struct Begun;
 
 impl Play for Begun {
     fn play(&self, rt: &impl Abort, alloc: Global, core: &mut Core) -> Result<(), Fail> {
-        state_fits(alloc, core)?;
         let octets = write_state(alloc, core)?;
         holds(rt, octets.len() == 184);
         holds(
@@ -80,7 +78,6 @@ struct Start;
 impl Question for Start {
     fn ask(&self, rt: &impl Abort, alloc: Global, site: &Site) -> Result<(), Fail>
         requires site { IsSite site.now }
-        requires limits { KeepsLimits site.now }
     {
         play_on(rt, alloc, site, &Begun)
     }
@@ -97,7 +94,6 @@ struct Needs;
 impl Question for Needs {
     fn ask(&self, rt: &impl Abort, _alloc: Global, site: &Site) -> Result<(), Fail>
         requires site { IsSite site.now }
-        requires limits { KeepsLimits site.now }
     {
         holds(rt, snapshot_bound(site) == 493_748);
         holds(rt, need(site, 100) == 22 + 100 + 2 * (60_010 + 493_748));
@@ -147,7 +143,6 @@ struct Reads;
 impl Question for Reads {
     fn ask(&self, rt: &impl Abort, alloc: Global, site: &Site) -> Result<(), Fail>
         requires site { IsSite site.now }
-        requires limits { KeepsLimits site.now }
     {
         play_to(rt, alloc, read_again(alloc, site)?, &Again)
     }
@@ -248,7 +243,6 @@ struct Damages;
 impl Question for Damages {
     fn ask(&self, rt: &impl Abort, alloc: Global, site: &Site) -> Result<(), Fail>
         requires site { IsSite site.now }
-        requires limits { KeepsLimits site.now }
     {
         holds(rt, are_refused(alloc, site)?);
         Ok(())
@@ -284,7 +278,6 @@ struct Ends;
 impl Question for Ends {
     fn ask(&self, rt: &impl Abort, alloc: Global, site: &Site) -> Result<(), Fail>
         requires site { IsSite site.now }
-        requires limits { KeepsLimits site.now }
     {
         holds(rt, is_refused_when_cut(alloc, site)?);
         holds(rt, is_refused_when_longer(alloc, site)?);

@@ -6,4 +6,5 @@ pub mod Taking
 pub mod Seen
 pub mod Untouched
 pub mod Parted
+pub mod Referrers
 pub mod SubjectOrder

@@ -1,13 +1,11 @@
 -- Enrollments by their places: what a search finds, and what a write at a place is.
-use Rattle.std.proofs.Common.{arith, ◌≡◌, ℕ, zero, suc, ◌<◌, ◌≤◌, Bool, true, false, if◌then◌else◌, cond, Some, None, Result, Ok, Err, get_or, set, List, [], ◌∷◌, length, map, refl, sym, ap, ap₂, subst, ◌∙◌, inl, inr, IfOk, OnErr, IsTrue, ◌||◌}
-use Rattle.std.specs.List.{AllPairs, filter}
+use Rattle.std.proofs.Common.{arith, ◌≡◌, ℕ, zero, suc, ◌<◌, ◌≤◌, true, false, if◌then◌else◌, Some, None, Result, Ok, Err, get_or, set, List, [], ◌∷◌, length, map, refl, sym, ap, subst, ◌∙◌, inl, inr, IfOk, OnErr, IsTrue}
 use Rattle.std.specs.List.Sorted.{IsBinarySearchResult, IsSearchInRange}
 use Rattle.std.specs.Ordering.{ordering_index}
 use Rattle.std.specs.declared.cmp.Ordering.TheVariants.{Less, Equal, Greater}
 use Rattle.std.proofs.lemmas.Bool.Decides.{leb_tells}
 use Rattle.std.proofs.lemmas.List.{get_or-map, get_or-set_same, get_or-set_other, set-set, set-get_or, length-set}
 use Rattle.std.proofs.lemmas.List.Elements.{All-set}
-use Rattle.std.proofs.lemmas.List.Kept.{AllPairs-filter}
 use Rattle.std.proofs.Math.Seq.{map-set_same}
 use Rattle.std.proofs.lemmas.Cmp.{alike_right}
 use Rattle.bac_values.specs.Identifier.{ObjectIdData}
@@ -22,7 +20,6 @@ use Rattle.enrollment.specs.declared.enrollment_site.EnrollmentSite.{EnrollmentS
 use Rattle.enrollment.specs.declared.references.Reference.{Reference}
 use Rattle.enrollment.specs.Enrollments.{AscendById, IsEnrollment, StandsAt, identifier_of, site_of}
 use Rattle.enrollment.specs.References.{AreEnrollments}
-use Rattle.enrollment.specs.Watchers.{is_feedback, refers_to, watchers}
 use Rattle.enrollment.specs.Writes.{IsTaken, changed, takes, written}
 
 -- each enrollment is below every later one
@@ -99,19 +96,6 @@ written_at object f (site ∷ sites) (suc place) d h =
     }) in
     rw (first, rest) refl
 
--- an enrollment with other settings refers to the same objects
-pub record SameReferences (site new : EnrollmentSite) : Type 0 where
-  pub object : new.object ≡ site.object
-  pub monitored : new.monitored ≡ site.monitored
-  pub feedback : new.feedback ≡ site.feedback
-
-refers_alike : (object : ObjectIdData) (site new : EnrollmentSite) → SameReferences site new → refers_to object new ≡ refers_to object site
-refers_alike object site new same = ap₂ (λ m f. is_object object m || is_feedback object f) same.monitored same.feedback
-
-kept_alike : (refers : Bool) (xs : List EnrollmentSite) (site new : EnrollmentSite) → new.object ≡ site.object → map identifier_of (cond refers (new ∷ xs) xs) ≡ map identifier_of (cond refers (site ∷ xs) xs)
-kept_alike true xs site new e = ap (λ o. o ∷ map identifier_of xs) e
-kept_alike false xs site new e = refl
-
 module _ (change : Change) (sites : List EnrollmentSite) (place : ℕ) (stands : StandsAt change.object sites place) where
   -- the enrollment may be replaced by another of the same object
   stands_after : (site new : EnrollmentSite) → site ≡ get_or sites place site → new.object ≡ site.object → StandsAt change.object (set sites place new) place
@@ -121,12 +105,19 @@ module _ (change : Change) (sites : List EnrollmentSite) (place : ℕ) (stands :
     others = λ k d low other. rw get_or-set_other (stands.others k d (rw length-set at low) other);
   }
 
-  -- a change is taken exactly where it is one of those that enrollments take
-  pub takes_at : (site : EnrollmentSite) → IsTaken change sites → IsTrue (takes change.what)
-  takes_at site taken = rw (site_at change.object sites place site stands) at taken
+  -- the enrollment at the place takes what the list takes
+  pub takes_at : (site : EnrollmentSite) → site ≡ get_or sites place site → IsTaken change sites → IsTrue (takes change.what site)
+  takes_at site same taken =
+      let at_place = rw (site_at change.object sites place site stands) at taken in
+      subst (λ (s : EnrollmentSite). IsTrue (takes change.what s)) (sym same) at_place
 
-  pub taken_after : (site new : EnrollmentSite) (what : What) → site ≡ get_or sites place site → new.object ≡ site.object → IsTrue (takes what) → IsTaken (record { object = change.object; what = what }) (set sites place new)
-  taken_after site new what same object taken = rw (site_at change.object (set sites place new) place new (stands_after site new same object)) taken
+  -- the list then takes what that enrollment takes
+  pub taken_after : (site new : EnrollmentSite) (what : What) → site ≡ get_or sites place site → new.object ≡ site.object → IsTrue (takes what new) → IsTaken (record { object = change.object; what = what }) (set sites place new)
+  taken_after site new what same object taken =
+      let within = stands.within in
+      let found = site_at change.object (set sites place new) place new (stands_after site new same object) in
+      let here : get_or (set sites place new) place new ≡ new = get_or-set_same sites place new new within in
+      rw found (subst (λ (s : EnrollmentSite). IsTrue (takes what s)) (sym here) taken)
 
   -- a write of the list is a write of the enrollment
   pub written_site : (site new : EnrollmentSite) → site ≡ get_or sites place site → new ≡ changed change.what site → set sites place new ≡ written change sites
@@ -143,35 +134,10 @@ module _ (change : Change) (sites : List EnrollmentSite) (place : ℕ) (stands :
       ∙ (ap (set (set sites place new) place) (back ∙ same)
       ∙ (set-set sites place new (get_or sites place site) ∙ set-get_or sites place site)))
 
-behind : (refers : Bool) (first : EnrollmentSite) (xs ys : List EnrollmentSite) → map identifier_of xs ≡ map identifier_of ys → map identifier_of (cond refers (first ∷ xs) xs) ≡ map identifier_of (cond refers (first ∷ ys) ys)
-behind true first xs ys e = ap (λ os. first.object ∷ os) e
-behind false first xs ys e = e
-
--- the same enrollments refer to an object
-watched_after : (object : ObjectIdData) (sites : List EnrollmentSite) (place : ℕ) (site new : EnrollmentSite) → site ≡ get_or sites place site → SameReferences site new → watchers object (set sites place new) ≡ watchers object sites
-watched_after object [] place site new same alike = refl
-watched_after object (first ∷ sites) zero site new same alike =
-    rw (refers_alike object site new alike, ← same) (kept_alike (refers_to object site) (filter (refers_to object) sites) site new alike.object)
-watched_after object (first ∷ sites) (suc place) site new same alike = behind (refers_to object first) first (filter (refers_to object) (set sites place new)) (filter (refers_to object) sites) (watched_after object sites place site new same alike)
-
 -- they are still the enrollments of a site
-pub enrollments_after : (sites : List EnrollmentSite) (references : List Reference) (place : ℕ) (site new : EnrollmentSite) → site ≡ get_or sites place site → SameReferences site new → AreEnrollments sites references → IsEnrollment new → AreEnrollments (set sites place new) references
-enrollments_after sites references place site new same alike h allowed = record {
-  ascending = subst Ascends (sym (map-set_same identifier_of sites place new site (alike.object ∙ ap identifier_of same))) h.ascending;
+pub enrollments_after : (sites : List EnrollmentSite) (references : List Reference) (place : ℕ) (site new : EnrollmentSite) → site ≡ get_or sites place site → new.object ≡ site.object → AreEnrollments sites references → IsEnrollment new → AreEnrollments (set sites place new) references
+enrollments_after sites references place site new same object h allowed = record {
+  ascending = subst Ascends (sym (map-set_same identifier_of sites place new site (object ∙ ap identifier_of same))) h.ascending;
   allowed = All-set IsEnrollment sites place new allowed h.allowed;
-  watched = λ object. h.watched object ∙ sym (watched_after object sites place site new same alike);
+  watched = h.watched;
 }
-
--- some of ascending enrollments ascend
-pub some_ascend : (p : EnrollmentSite → Bool) (sites : List EnrollmentSite) → AscendById sites → Ascends (map identifier_of (filter p sites))
-some_ascend p sites ascending = of_pairs (filter p sites) (AllPairs-filter (λ a b. identifier_order a.object b.object ≡ Less) p sites (below sites ascending))
-  where
-    of_pairs : (xs : List EnrollmentSite) → AllPairs (λ a b. identifier_order a.object b.object ≡ Less) xs → Ascends (map identifier_of xs)
-    of_pairs [] h i j d lt high = absurd (omega (arith, high))
-    of_pairs (x ∷ xs) h i j d lt high =
-        let in_range : j < length (x ∷ xs) = rw (sizes (x ∷ xs)) at high in
-        rw (get_or-map identifier_of (x ∷ xs) i x d (omega (arith, lt, in_range)), get_or-map identifier_of (x ∷ xs) j x d in_range) (h i j x lt in_range)
-      where
-        sizes : (ys : List EnrollmentSite) → length (map identifier_of ys) ≡ length ys
-        sizes [] = refl
-        sizes (y ∷ ys) = ap suc (sizes ys)

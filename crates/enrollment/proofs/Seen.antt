@@ -11,7 +11,7 @@ use Rattle.enrollment.specs.Enrollments.{site_of}
 use Rattle.enrollment.specs.Snapshots.{HasObjects, Holds, facts_of_site, value_in}
 
 -- what is found is one of the list
-found_has : {X : Type 0} (P : X → Type 0) (test : X → Bool) (xs : List X) (x : X) → Some x ≡ find test xs → All P xs → P x
+pub found_has : {X : Type 0} (P : X → Type 0) (test : X → Bool) (xs : List X) (x : X) → Some x ≡ find test xs → All P xs → P x
 found_has P test [] x found all = cc
 found_has P test (y ∷ xs) x found all = by_test (test y) found (found_has P test xs x)
   where
@@ -35,4 +35,4 @@ absent_site result f object sites rows site found facts holds = (
 )
   where
     there : is_some (row_of site.monitored rows) ≡ true
-    there = (found_has (HasObjects rows) (λ s. is_object object s.object) sites site found holds).monitored
+    there = (found_has (HasObjects rows) (λ s. is_object object s.object) sites site found holds.enrollments).monitored

@@ -1,7 +1,8 @@
--- The subjects of value objects and enrollments stand in the order of their identifiers.
-use Rattle.std.proofs.Common.{◌≡◌, ℕ, ◌<◌, ◌≤◌, nat_lt, Bool, true, false, true≢false, not, List, [], ◌∷◌, ◌++◌, map, filter, get_or, refl, sym, suc, arith}
+-- The subjects of value objects and enrollments, and those that refer to an object, stand in the order of their identifiers.
+use Rattle.std.proofs.Common.{◌≡◌, ℕ, ◌<◌, ◌≤◌, nat_lt, Bool, true, false, true≢false, not, List, [], ◌∷◌, ◌++◌, map, filter, get_or, refl, sym, ap₂, subst, ◌∙◌, suc, arith}
 use Rattle.std.specs.List.{All, AllPairs}
 use Rattle.std.specs.declared.cmp.Ordering.TheVariants.{Less}
+use Rattle.std.proofs.lemmas.List.{map-append}
 use Rattle.std.proofs.lemmas.Bool.{ltb-false, ltb-true}
 use Rattle.std.proofs.lemmas.Bool.Decides.{nat_tests}
 use Rattle.std.proofs.lemmas.List.Elements.{All-append, All-cons, All-filter, All-head, All-map, All-nil, All-tail, All-weaker, filter_passes}
@@ -15,6 +16,7 @@ use Rattle.enrollment.specs.declared.enrollment_site.EnrollmentSite.{EnrollmentS
 use Rattle.enrollment.specs.declared.subject.Subject.{Subject}
 use Rattle.enrollment.specs.Enrollments.{AscendById, IsEnrollment, identifier_of}
 use Rattle.enrollment.specs.Subjects.{is_before_enrollments, is_behind_enrollments, object_of, subject_of_enrollment, subject_of_object, subjects_of}
+use Rattle.enrollment.specs.Watchers.{Referrer, identifier_of_referrer, referrer_of_enrollment, referrer_of_object, referrers_of, refers_to, watchers}
 use Rattle.enrollment.proofs.Parted.{is_other_kind}
 
 -- ---- pairs of a list
@@ -131,3 +133,34 @@ module _ (objects : List ObjectSite) (enrollments : List EnrollmentSite) (object
   pub ascends : Ascends (map object_of (subjects_of objects enrollments))
   unfolding before between behind
   ascends = pairs_map IsBelow object_of (subjects_of objects enrollments) subjects_ascend
+
+-- ---- those that refer
+
+-- images with the same identifiers
+alike : {X Y Z : Type 0} (f : X → Y) (g : X → Z) (i : Y → ObjectIdData) (j : Z → ObjectIdData) → ((x : X) → i (f x) ≡ j (g x)) → (xs : List X) → map i (map f xs) ≡ map j (map g xs)
+alike f g i j same [] = refl
+alike f g i j same (x ∷ xs) = ap₂ (λ o os. o ∷ os) (same x) (alike f g i j same xs)
+
+-- the referrers of both have the identifiers of the subjects, one after the other
+same_identifiers : (objects : List ObjectSite) (enrollments : List EnrollmentSite) → map identifier_of_referrer (referrers_of objects enrollments) ≡ map object_of (subjects_of objects enrollments)
+same_identifiers objects enrollments =
+    let before : List ObjectSite = filter is_before_enrollments objects in
+    let behind : List ObjectSite = filter is_behind_enrollments objects in
+    let of_objects : (xs : List ObjectSite) → map identifier_of_referrer (map referrer_of_object xs) ≡ map object_of (map subject_of_object xs) = alike referrer_of_object subject_of_object identifier_of_referrer object_of (λ x. refl) in
+    let of_enrollments : map identifier_of_referrer (map referrer_of_enrollment enrollments) ≡ map object_of (map subject_of_enrollment enrollments) = alike referrer_of_enrollment subject_of_enrollment identifier_of_referrer object_of (λ x. refl) enrollments in
+    map-append identifier_of_referrer (map referrer_of_object before) (map referrer_of_enrollment enrollments ++ map referrer_of_object behind)
+    ∙ (ap₂ (λ xs ys. xs ++ ys) (of_objects before)
+    (map-append identifier_of_referrer (map referrer_of_enrollment enrollments) (map referrer_of_object behind)
+    ∙ (ap₂ (λ xs ys. xs ++ ys) of_enrollments (of_objects behind)
+    ∙ sym (map-append object_of (map subject_of_enrollment enrollments) (map subject_of_object behind))))
+    ∙ sym (map-append object_of (map subject_of_object before) (map subject_of_enrollment enrollments ++ map subject_of_object behind)))
+
+pub referrers_ascend : (objects : List ObjectSite) (enrollments : List EnrollmentSite) → AscendsById objects → All IsObject objects → AscendById enrollments → All IsEnrollment enrollments → Ascends (map identifier_of_referrer (referrers_of objects enrollments))
+referrers_ascend objects enrollments objects_are objects_allowed enrollments_are enrollments_allowed =
+    subst Ascends (sym (same_identifiers objects enrollments)) (ascends objects enrollments objects_are objects_allowed enrollments_are enrollments_allowed)
+
+-- so do those of them that refer to an object
+pub watchers_ascend : (object : ObjectIdData) (referrers : List Referrer) → Ascends (map identifier_of_referrer referrers) → Ascends (watchers object referrers)
+watchers_ascend object referrers ascending =
+    pairs_map IsBelow identifier_of_referrer (filter (refers_to object) referrers)
+    (AllPairs-filter (λ (a b : Referrer). IsBelow a.object b.object) (refers_to object) referrers (map_pairs IsBelow identifier_of_referrer referrers ascending))

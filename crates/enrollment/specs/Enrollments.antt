@@ -1,11 +1,12 @@
 -- Event enrollments (ANSI/ASHRAE 135-2020, 12.12): which a site may have, and the one with an identifier.
-use Rattle.std.specs.Prelude.{◌≡◌, ℕ, ◌<◌, ◌≤◌, ◌≢◌, Bool, true, false, IsTrue, IsNone, IsSomeAnd, Option, Some, List, length, map, find, slice_index_or}
+use Rattle.std.specs.Prelude.{◌≡◌, ℕ, ◌<◌, ◌≤◌, ◌≢◌, Bool, true, false, IsTrue, IsNone, IsSome, IfSome, IsSomeAnd, Option, Some, List, length, map, find, slice_index_or}
 use Rattle.bac_values.specs.EventTypes.{event_notify_type}
 use Rattle.bac_values.specs.declared.object_kind.ObjectKind.{ObjectKind}
 use Rattle.bac_values.specs.declared.object_kind.ObjectKind.TheVariants.{BinaryValue, EventEnrollment, MultiStateValue, BitStringValue, CharacterStringValue, IntegerValue, PositiveIntegerValue}
 use Rattle.bac_values.specs.Identifier.{kind_of, number_of_kind, ObjectIdData}
 use Rattle.algorithm_rules.specs.declared.table.Algorithm.{Algorithm}
 use Rattle.algorithm_rules.specs.declared.table.Algorithm.TheVariants.{CommandFailure, UnsignedRange}
+use Rattle.object_table.specs.Objects.{AreTexts, IsBinaryValue}
 use Rattle.object_table.specs.Rows.{Ascends, is_object}
 use Rattle.enrollment.specs.declared.enrollment_site.EnrollmentSite.{EnrollmentSite}
 
@@ -42,7 +43,7 @@ KeepsAlgorithm CommandFailure site = HasFeedback site
 KeepsAlgorithm UnsignedRange site = HasRange site
 KeepsAlgorithm _ site = ⊥
 
--- an enrollment that a site may have: its type is 9, and it monitors a value object
+-- an enrollment that a site may have: its type is 9, it monitors a value object, and it is inhibited by reference alone, or by Event_Algorithm_Inhibit alone
 pub record IsEnrollment (site : EnrollmentSite) : Type 0 where
   pub number : site.object.number ≡ number_of_kind EventEnrollment
   pub instance : site.object.instance ≤ 4194302
@@ -50,6 +51,9 @@ pub record IsEnrollment (site : EnrollmentSite) : Type 0 where
   pub algorithm : KeepsAlgorithm site.algorithm site
   pub notify : site.notify ≤ event_notify_type
   pub enable : length site.enable ≡ 3
+  pub inhibit : IsSome site.inhibit_ref → site.inhibit ≡ false
+  pub reference : IfSome site.inhibit_ref IsBinaryValue
+  pub texts : AreTexts site.texts
 
 abbrev pub identifier_of : EnrollmentSite → ObjectIdData
 identifier_of site = site.object

@@ -2,10 +2,11 @@ pub mod Enrollments
 pub mod Properties
 pub mod Verdicts
 pub mod Writes
-pub mod Watchers
-pub mod References
 pub mod Reliabilities
 pub mod Snapshots
 pub mod Objects
 pub mod Subjects
+pub mod Watchers
+pub mod References
+pub mod Texts
 pub mod Laws

@@ -7,9 +7,15 @@ use Rattle.object_table.specs.declared.change.Change.{Change}
 use Rattle.object_table.specs.declared.row.Row.{Row}
 use Rattle.object_table.specs.Writes as rows
 use Rattle.enrollment.specs.declared.enrollment_site.EnrollmentSite.{EnrollmentSite}
+use Rattle.enrollment.specs.declared.references.Reference.{Reference}
 use Rattle.enrollment.specs.Reliabilities.{reliability_with}
 use Rattle.enrollment.specs.Snapshots.{facts_with}
 use Rattle.enrollment.specs.Writes as enrollments
+
+-- the enrollments as the writes have left them, and the references of all objects, by which it is known who watches an object
+pub record EnrollmentsState : Type 0 where
+  pub sites : List EnrollmentSite
+  pub references : List Reference
 
 -- the value objects and the enrollments, each list as the writes have left it
 pub record ObjectsState : Type 0 where

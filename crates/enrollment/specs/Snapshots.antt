@@ -87,11 +87,17 @@ facts_by_site None object rows = facts_of_row (row_of object rows)
 abbrev pub facts_with : ObjectIdData → List EnrollmentSite → List Row → Option Facts
 facts_with object sites rows = facts_by_site (site_of object sites) object rows
 
+-- the object of a reference is there, where there is one
+abbrev pub HasReferred : List Row → Option ObjectIdData → Type 0
+HasReferred rows reference = IfSome reference (λ referred. IsSome (row_of referred rows))
+
 -- the objects to which an enrollment refers are there
 pub record HasObjects (rows : List Row) (site : EnrollmentSite) : Type 0 where
   pub monitored : IsSome (row_of site.monitored rows)
-  pub feedback : IfSome site.feedback (λ feedback. IsSome (row_of feedback rows))
+  pub feedback : HasReferred rows site.feedback
+  pub inhibitor : HasReferred rows site.inhibit_ref
 
--- a table holds all objects to which enrollments refer
-abbrev pub Holds : List Row → List EnrollmentSite → Type 0
-Holds rows sites = All (HasObjects rows) sites
+-- a table holds all objects to which its own objects and enrollments refer
+pub record Holds (rows : List Row) (sites : List EnrollmentSite) : Type 0 where
+  pub objects : All (λ row. HasReferred rows row.site.inhibit_ref) rows
+  pub enrollments : All (HasObjects rows) sites

@@ -1,9 +1,11 @@
 -- What the event detection of an object is set to, alike for a value object and for an event enrollment (ANSI/ASHRAE 135-2020, 12.12 and 13.2).
-use Rattle.std.specs.Prelude.{nat_lt, ◌&&◌, Bool, not, false, Option, Some, None, is_some, List, ◌++◌, map, filter, slice_index_or}
+use Rattle.std.specs.Prelude.{nat_lt, ◌==◌, ◌&&◌, Bool, not, false, Option, Some, None, is_some, List, ◌++◌, map, filter, slice_index_or}
 use Rattle.bac_values.specs.EventStates.{place_of_transition}
 use Rattle.bac_values.specs.Identifier.{number_of_kind, ObjectIdData}
 use Rattle.bac_values.specs.declared.object_kind.ObjectKind.TheVariants.{EventEnrollment}
 use Rattle.bac_values.specs.declared.transition.Transition.{Transition}
+use Rattle.bac_values.specs.declared.value.Value.{Value}
+use Rattle.bac_values.specs.declared.value.Value.TheVariants.{Enumerated}
 use Rattle.object_table.specs.declared.object_site.ObjectSite.{ObjectSite}
 use Rattle.object_table.specs.declared.row.Row.{Row}
 use Rattle.object_table.specs.Rows.{row_of}
@@ -11,7 +13,7 @@ use Rattle.enrollment.specs.declared.enrollment_site.EnrollmentSite.{EnrollmentS
 use Rattle.enrollment.specs.declared.subject.Subject.{Subject}
 use Rattle.enrollment.specs.Enrollments.{site_of}
 use Rattle.enrollment.specs.Objects.{ObjectsState}
-use Rattle.enrollment.specs.Snapshots.{algorithm_for}
+use Rattle.enrollment.specs.Snapshots.{algorithm_for, value_in}
 
 -- what is the same of both
 abbrev pub subject_of_object : ObjectSite → Subject
@@ -23,6 +25,7 @@ subject_of_object site = record {
   enable = site.enable;
   detection = site.detection;
   inhibit = site.inhibit;
+  inhibit_ref = site.inhibit_ref;
 }
 
 abbrev pub subject_of_enrollment : EnrollmentSite → Subject
@@ -34,6 +37,7 @@ subject_of_enrollment site = record {
   enable = site.enable;
   detection = site.detection;
   inhibit = site.inhibit;
+  inhibit_ref = site.inhibit_ref;
 }
 
 -- the object of a subject
@@ -71,10 +75,20 @@ is_detecting subject = is_some subject.class && subject.detection
 abbrev pub is_enabled : Transition → Subject → Bool
 is_enabled transition subject = slice_index_or subject.enable (place_of_transition transition) false
 
--- Event_Algorithm_Inhibit of an object; one that isn't there isn't inhibited
-abbrev pub inhibit_of : Option Subject → Bool
-inhibit_of (Some subject) = subject.inhibit
-inhibit_of None = false
+-- active is 1
+abbrev pub is_active : Option Value → Bool
+is_active (Some (Enumerated number)) = number == 1
+is_active value = false
+
+-- where an object has a reference, the Present_Value of that binary value is active; otherwise its Event_Algorithm_Inhibit is TRUE
+abbrev pub inhibited_by : Option ObjectIdData → Bool → List Row → Bool
+inhibited_by (Some referred) inhibit rows = is_active (value_in rows referred)
+inhibited_by None inhibit rows = inhibit
+
+-- of an object or an enrollment as it is now; one that isn't there isn't inhibited
+abbrev pub inhibited_with : Option Subject → List Row → Bool
+inhibited_with (Some subject) rows = inhibited_by subject.inhibit_ref subject.inhibit rows
+inhibited_with None rows = false
 
 abbrev pub is_inhibited : ObjectIdData → ObjectsState → Bool
-is_inhibited object objects = inhibit_of (subject_in object objects)
+is_inhibited object objects = inhibited_with (subject_in object objects) objects.rows

@@ -37,19 +37,19 @@ changed (FieldFault reliability) site = site
 abbrev pub written : Change → List EnrollmentSite → List EnrollmentSite
 written change sites = map (λ site. if is_object change.object site.object then changed change.what site else site) sites
 
-abbrev pub takes_known : Option EnrollmentProperty → Value → Bool
-takes_known (Some property) value = can_be property value
-takes_known None value = false
+abbrev pub takes_known : EnrollmentSite → Option EnrollmentProperty → Value → Bool
+takes_known site (Some property) value = can_be site property value
+takes_known site None value = false
 
 -- whether a write of the property with a number takes the value
-abbrev pub takes_value : ℕ → Value → Bool
-takes_value number value = takes_known (property_of number) value
+abbrev pub takes_value : ℕ → Value → EnrollmentSite → Bool
+takes_value number value site = takes_known site (property_of number) value
 
 -- whether an enrollment takes a change
-abbrev pub takes : What → Bool
-takes (Property property value) = takes_value property.0 value
-takes (FieldFault reliability) = false
+abbrev pub takes : What → EnrollmentSite → Bool
+takes (Property property value) site = takes_value property.0 value site
+takes (FieldFault reliability) site = false
 
 -- there is the enrollment, and it takes the change
 abbrev pub IsTaken : Change → List EnrollmentSite → Type 0
-IsTaken change sites = IsSomeAnd (site_of change.object sites) (λ site. IsTrue (takes change.what))
+IsTaken change sites = IsSomeAnd (site_of change.object sites) (λ site. IsTrue (takes change.what site))

@@ -1,9 +1,10 @@
 ghost use Rattle.std.specs.Prelude.{◌≡◌};
-ghost use Rattle.enrollment.specs.Properties.{length_of, property_of};
+ghost use Rattle.enrollment.specs.Properties.{has, length_of, property_of};
 
+use crate::EnrollmentSite;
 use bac_values::PropertyId;
 
-/// The properties of event enrollments (ANSI/ASHRAE 135-2020, 12.12). Each enrollment has all of them.
+/// The properties of event enrollments (ANSI/ASHRAE 135-2020, 12.12).
 #[derive(Clone, Copy, Debug, PartialEq, Eq)]
 pub enum EnrollmentProperty {
     /// Object_Identifier.
@@ -22,6 +23,8 @@ pub enum EnrollmentProperty {
     EventEnable,
     /// Event_Algorithm_Inhibit.
     EventAlgorithmInhibit,
+    /// Event_Algorithm_Inhibit_Ref.
+    EventAlgorithmInhibitRef,
     /// Acked_Transitions.
     AckedTransitions,
     /// Notify_Type.
@@ -32,12 +35,16 @@ pub enum EnrollmentProperty {
     NotificationClass,
     /// Event_Time_Stamps.
     EventTimeStamps,
+    /// Event_Message_Texts.
+    EventMessageTexts,
+    /// Event_Message_Texts_Config.
+    EventMessageTextsConfig,
     /// Event_Type.
     EventType,
 }
 
 impl EnrollmentProperty {
-    /// The property with a number (BACnetPropertyIdentifier), if enrollments have it.
+    /// The property with a number (BACnetPropertyIdentifier), if enrollments know it.
     #[tactic(auto, unfolding(crate::specs::Properties::property_of))]
     pub fn of_number(number: u32) -> Option<EnrollmentProperty>
         ensures property { result ≡ property_of number }
@@ -55,8 +62,15 @@ impl EnrollmentProperty {
             PropertyId::RELIABILITY => Some(EnrollmentProperty::Reliability),
             PropertyId::STATUS_FLAGS => Some(EnrollmentProperty::StatusFlags),
             PropertyId::EVENT_TIME_STAMPS => Some(EnrollmentProperty::EventTimeStamps),
+            PropertyId::EVENT_MESSAGE_TEXTS => Some(EnrollmentProperty::EventMessageTexts),
+            PropertyId::EVENT_MESSAGE_TEXTS_CONFIG => Some(
+                EnrollmentProperty::EventMessageTextsConfig,
+            ),
             PropertyId::EVENT_DETECTION_ENABLE => Some(EnrollmentProperty::EventDetectionEnable),
             PropertyId::EVENT_ALGORITHM_INHIBIT => Some(EnrollmentProperty::EventAlgorithmInhibit),
+            PropertyId::EVENT_ALGORITHM_INHIBIT_REF => Some(
+                EnrollmentProperty::EventAlgorithmInhibitRef,
+            ),
             _ => None,
         }
     }
@@ -66,8 +80,25 @@ impl EnrollmentProperty {
         ensures length { result ≡ length_of self }
     {
         match self {
-            EnrollmentProperty::EventTimeStamps => Some(3),
+            EnrollmentProperty::EventTimeStamps
+            | EnrollmentProperty::EventMessageTexts
+            | EnrollmentProperty::EventMessageTextsConfig => Some(3),
             _ => None,
+        }
+    }
+}
+
+impl EnrollmentSite {
+    /// Whether the enrollment has a property: only texts and a reference may be absent.
+    pub fn has(&self, property: EnrollmentProperty) -> bool
+        ensures has { result ≡ has self.now property }
+    {
+        match property {
+            EnrollmentProperty::EventAlgorithmInhibitRef => self.inhibit_ref.is_some(),
+            EnrollmentProperty::EventMessageTexts | EnrollmentProperty::EventMessageTextsConfig => {
+                !self.texts.as_slice().is_empty()
+            }
+            _ => true,
         }
     }
 }

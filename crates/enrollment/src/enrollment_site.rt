@@ -1,5 +1,5 @@
 use algorithm_rules::Algorithm;
-use bac_values::{ObjectId, Text};
+use bac_values::{Items, ObjectId, Text};
 
 /// An event enrollment of a site (ANSI/ASHRAE 135-2020, 12.12). Lists of three are for to-offnormal, to-fault and
 /// to-normal.
@@ -31,6 +31,10 @@ pub struct EnrollmentSite {
     pub time_delay_normal: Option<u32>,
     /// Event_Detection_Enable.
     pub detection: bool,
-    /// Event_Algorithm_Inhibit.
+    /// Event_Algorithm_Inhibit. With a reference it is false.
     pub inhibit: bool,
+    /// Event_Algorithm_Inhibit_Ref: the binary value whose Present_Value inhibits the enrollment while it is active.
+    pub inhibit_ref: Option<ObjectId>,
+    /// Event_Message_Texts_Config: no text, or three.
+    pub texts: Items<Text>,
 }

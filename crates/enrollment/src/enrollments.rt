@@ -2,12 +2,15 @@ ghost use Rattle.std.specs.Prelude.{◌≡◌, ◌↔◌, ◌≤◌, All, IfErr,
 ghost use Rattle.bac_values.specs.Limits.{most_listed_values};
 ghost use Rattle.std.specs.Option.{option_copied, option_map};
 ghost use Rattle.algorithm_rules.specs.Facts.{facts_of};
-ghost use Rattle.object_table.specs.Rows.{Ascends, row_of};
+ghost use Rattle.bac_values.specs.Identifier.{ObjectIdData};
+ghost use Rattle.object_table.specs.Objects.{IsObject};
+ghost use Rattle.object_table.specs.Rows.{Ascends, AscendsById, row_of};
 ghost use Rattle.enrollment.specs.Enrollments.{AscendById, IsEnrollment, StandsAt, site_of};
+ghost use Rattle.enrollment.specs.References.{enrollments_of, watchers_in};
 ghost use Rattle.enrollment.specs.Reliabilities.{reliability_with};
 ghost use Rattle.enrollment.specs.Snapshots.{Holds, algorithm_with, facts_with};
 ghost use Rattle.enrollment.specs.Verdicts.{IsError, checked_write};
-ghost use Rattle.enrollment.specs.Watchers.{watchers};
+ghost use Rattle.enrollment.specs.Watchers.{referrers_of, watchers};
 ghost use Rattle.enrollment.specs.Writes.{IsTaken, written};
 
 use crate::EnrollmentSite;
@@ -18,13 +21,13 @@ use crate::snapshots::{snapshot_of_enrollment, snapshot_of_object};
 use crate::verdicts::{check_property, copy_of, takes};
 use algorithm_rules::Snapshot;
 use bac_values::{NoMemory, ObjectId, PropertyId, Reliability, Value};
-use object_table::{Change, Table, What, WriteFault};
+use object_table::{Change, ObjectSite, Table, What, WriteFault};
 use reliability_eval::reliability;
 use std::alloc::Global;
 use std::marker::Model;
 
-/// The event enrollments of a site, ascending by identifier, as the writes have left them. Contracts see their list. Only
-/// `new` takes memory.
+/// The event enrollments of a site, ascending by identifier, as the writes have left them, and who refers to an object of
+/// the site. Contracts see the list of enrollments, and that of all references. Only `new` takes memory.
 #[derive(Debug, Drop)]
 pub struct Enrollments {
     rows: Vec<EnrollmentSite>,
@@ -32,25 +35,34 @@ pub struct Enrollments {
 }
 
 impl Model for Enrollments {
-    ghost use Rattle.std.specs.Prelude.{List};
-    ghost use Rattle.enrollment.specs.declared.enrollment_site.EnrollmentSite.{EnrollmentSite};
+    ghost use Rattle.enrollment.specs.Objects.{EnrollmentsState};
     ghost use Rattle.enrollment.specs.References.{AreEnrollments};
 
-    ghost Value = { List EnrollmentSite };
+    ghost Value = { EnrollmentsState };
 
-    ghost view = { λ enrollments. enrollments.rows.items };
+    ghost view = { λ enrollments. record {
+      sites = enrollments.rows.items;
+      references = enrollments.references;
+    } };
 
     ghost invariant = { λ enrollments. AreEnrollments enrollments.rows.items enrollments.references };
 }
 
 impl Enrollments {
-    /// The enrollments of a site.
-    pub fn new(alloc: Global, site: Vec<EnrollmentSite>) -> Result<Enrollments, NoMemory>
+    /// The enrollments of a site, whose value objects are looked at for their references.
+    pub fn new(
+        alloc: Global,
+        site: Vec<EnrollmentSite>,
+        objects: &[ObjectSite],
+    ) -> Result<Enrollments, NoMemory>
         requires ascending { AscendById site.items }
         requires allowed { All IsEnrollment site.items }
-        ensures rows { IfOk result (λ enrollments. enrollments ≡ site.items) }
+        requires objects_ascend { AscendsById objects.now }
+        requires objects { All IsObject objects.now }
+        ensures enrollments { IfOk result (λ enrollments. enrollments ≡ enrollments_of objects.now site.items) }
+        ensures watchers { IfOk result (λ enrollments. (object : ObjectIdData) → watchers_in object enrollments.references ≡ watchers object (referrers_of objects.now site.items)) }
     {
-        let references = References::of(alloc, &site)?;
+        let references = References::of(alloc, objects, &site)?;
         Ok(Enrollments {
             rows: site,
             references,
@@ -59,9 +71,9 @@ impl Enrollments {
 
     /// The enrollments, ascending.
     pub fn rows(&self) -> &[EnrollmentSite]
-        ensures rows { result.now ≡ self.now }
-        ensures ascending { AscendById self.now }
-        ensures allowed { All IsEnrollment self.now }
+        ensures rows { result.now ≡ self.now.sites }
+        ensures ascending { AscendById self.now.sites }
+        ensures allowed { All IsEnrollment self.now.sites }
     {
         self.rows.as_slice()
     }
@@ -69,7 +81,7 @@ impl Enrollments {
     /// The enrollment with an identifier, if there is one. It takes as many looks as the number of enrollments has binary
     /// digits.
     pub fn row(&self, object: ObjectId) -> Option<&EnrollmentSite>
-        ensures row { option_copied result ≡ site_of object self.now }
+        ensures row { option_copied result ≡ site_of object self.now.sites }
         ensures allowed { IfSome result (λ site. IsEnrollment site.now) }
     {
         match self.place_of(object) {
@@ -88,14 +100,14 @@ impl Enrollments {
         index: Option<u32>,
         value: &Value,
     ) -> Result<Change, WriteFault>
-        ensures verdict { result ≡ checked_write self.now object property.0 index value.now }
+        ensures verdict { result ≡ checked_write self.now.sites object property.0 index value.now }
         ensures error { IfErr result IsError }
-        ensures takes { IfOk result (λ change. IsTaken change self.now) }
+        ensures takes { IfOk result (λ change. IsTaken change self.now.sites) }
     {
-        if self.row(object).is_none() {
+        let Some(site) = self.row(object) else {
             return Err(WriteFault::UNKNOWN_OBJECT);
-        }
-        check_property(property, index, value)?;
+        };
+        check_property(site, property, index, value)?;
         Ok(Change {
             object,
             what: What::Property {
@@ -107,17 +119,21 @@ impl Enrollments {
 
     /// Whether there is the enrollment of a change, and it takes it.
     pub fn takes(&self, change: &Change) -> bool
-        ensures takes { IsTrue result ↔ IsTaken change.now self.now }
+        ensures takes { IsTrue result ↔ IsTaken change.now self.now.sites }
     {
-        self.row(change.object).is_some() && takes(&change.what)
+        match self.row(change.object) {
+            Some(site) => takes(site, &change.what),
+            None => false,
+        }
     }
 
     /// Makes a change that an enrollment takes, and gives the change that takes it back.
     pub fn apply(&mut self, change: Change) -> Change
-        requires taken { IsTaken change self.old }
-        ensures rows { self.new ≡ written change self.old }
-        ensures undo { written result self.new ≡ self.old }
-        ensures takes { IsTaken result self.new }
+        requires taken { IsTaken change self.old.sites }
+        ensures rows { self.new.sites ≡ written change self.old.sites }
+        ensures references { self.new.references ≡ self.old.references }
+        ensures undo { written result self.new.sites ≡ self.old.sites }
+        ensures takes { IsTaken result self.new.sites }
         ensures object { result.object ≡ change.object }
     {
         let Change { object, what } = change;
@@ -133,10 +149,10 @@ impl Enrollments {
     /// What the event algorithm of an enrollment or a value object looks at. There is nothing where the identifier is that of
     /// neither, or the table lacks the object that the enrollment monitors.
     pub fn snapshot_of<'a>(&self, table: &'a Table, object: ObjectId) -> Option<Snapshot<'a>>
-        ensures algorithm { IfSome result (λ snapshot. snapshot.algorithm ≡ algorithm_with object self.now) }
-        ensures facts { option_map facts_of result ≡ facts_with object self.now table.now }
+        ensures algorithm { IfSome result (λ snapshot. snapshot.algorithm ≡ algorithm_with object self.now.sites) }
+        ensures facts { option_map facts_of result ≡ facts_with object self.now.sites table.now }
         ensures few { IfSome result (λ snapshot. length snapshot.alarm_values.now ≤ most_listed_values) }
-        ensures absent { Holds table.now self.now → IsNone result ↔ (site_of object self.now ≡ None) × (row_of object table.now ≡ None) }
+        ensures absent { Holds table.now self.now.sites → IsNone result ↔ (site_of object self.now.sites ≡ None) × (row_of object table.now ≡ None) }
     {
         match self.row(object) {
             Some(site) => snapshot_of_enrollment(table, site),
@@ -150,7 +166,7 @@ impl Enrollments {
     /// The reliability of an enrollment or a value object: that of a value object is its own, and an enrollment has a fault
     /// where its monitored object or its feedback has one. There is no fault where the identifier is that of neither.
     pub fn reliability_of(&self, table: &Table, object: ObjectId) -> Reliability
-        ensures reliability { result ≡ reliability_with object self.now table.now }
+        ensures reliability { result ≡ reliability_with object self.now.sites table.now }
     {
         match self.row(object) {
             Some(site) => reliability_of_enrollment(table, site),
@@ -158,17 +174,18 @@ impl Enrollments {
         }
     }
 
-    /// The enrollments that monitor an object or have it as their feedback, ascending, each once.
+    /// The enrollments that monitor an object or have it as their feedback, and the value objects and enrollments that it
+    /// inhibits; ascending, each once.
     pub fn watchers_of(&self, object: ObjectId) -> &[ObjectId]
-        ensures watchers { result.now ≡ watchers object self.now }
+        ensures watchers { result.now ≡ watchers_in object self.now.references }
         ensures ascending { Ascends result.now }
     {
         self.references.watchers_of(object)
     }
 
     fn place_of(&self, object: ObjectId) -> Result<usize, usize>
-        ensures found { IfOk result (StandsAt object self.now) }
-        ensures absent { OnErr result (site_of object self.now ≡ None) }
+        ensures found { IfOk result (StandsAt object self.now.sites) }
+        ensures absent { OnErr result (site_of object self.now.sites ≡ None) }
     {
         self.rows.binary_search_by_key(&object, |site| site.object)
     }

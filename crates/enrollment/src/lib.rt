@@ -1,8 +1,9 @@
 //! Event enrollments: the detection of events for the present values of other objects (ANSI/ASHRAE 135-2020, 12.12).
 //!
 //! An enrollment refers to one value object that it monitors, and under COMMAND_FAILURE to a second one, its feedback. What
-//! its algorithm looks at and how reliable it is come from a table of the value objects. The references never change, so
-//! the enrollments that refer to an object are found in an index.
+//! its algorithm looks at and how reliable it is come from a table of the value objects. Enrollments and value objects may
+//! also refer to a binary value that inhibits them while it is active (13.3). The references never change, so those that
+//! refer to an object are found in an index.
 //!
 //! All objects stand together in `Objects`: writes change a value object or an enrollment there, and event detection asks
 //! there what it is set to (`Subject`), what it looks at, and how reliable that is, alike for both (13.2 and 13.3).

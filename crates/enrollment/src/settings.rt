@@ -10,14 +10,12 @@ use std::mem::replace;
 /// Makes a change of an enrollment, and gives the change that takes it back.
 pub fn put(site: &mut EnrollmentSite, what: What) -> What
     requires allowed { IsEnrollment site.old }
-    requires taken { IsTrue (takes what) }
+    requires taken { IsTrue (takes what site.old) }
     ensures site { site.new ≡ changed what site.old }
     ensures allowed { IsEnrollment site.new }
     ensures undo { changed result site.new ≡ site.old }
-    ensures takes { IsTrue (takes result) }
+    ensures takes { IsTrue (takes result site.new) }
     ensures object { site.new.object ≡ site.old.object }
-    ensures monitored { site.new.monitored ≡ site.old.monitored }
-    ensures feedback { site.new.feedback ≡ site.old.feedback }
 {
     match what {
         What::Property { property, value } => {
@@ -31,14 +29,12 @@ pub fn put(site: &mut EnrollmentSite, what: What) -> What
 /// Gives a property a value, and gives the value back that it had.
 fn put_value(site: &mut EnrollmentSite, property: PropertyId, value: Value) -> Value
     requires allowed { IsEnrollment site.old }
-    requires taken { IsTrue (takes_value property.0 value) }
+    requires taken { IsTrue (takes_value property.0 value site.old) }
     ensures set { site.new ≡ property_set property.0 value site.old }
     ensures allowed { IsEnrollment site.new }
     ensures undo { property_set property.0 result site.new ≡ site.old }
-    ensures takes { IsTrue (takes_value property.0 result) }
+    ensures takes { IsTrue (takes_value property.0 result site.new) }
     ensures object { site.new.object ≡ site.old.object }
-    ensures monitored { site.new.monitored ≡ site.old.monitored }
-    ensures feedback { site.new.feedback ≡ site.old.feedback }
 {
     match EnrollmentProperty::of_number(property.0) {
         Some(property) => put_known(site, property, value),
@@ -48,14 +44,12 @@ fn put_value(site: &mut EnrollmentSite, property: PropertyId, value: Value) -> V
 
 fn put_known(site: &mut EnrollmentSite, property: EnrollmentProperty, value: Value) -> Value
     requires allowed { IsEnrollment site.old }
-    requires taken { IsTrue (takes_known (Some property) value) }
+    requires taken { IsTrue (takes_known site.old (Some property) value) }
     ensures set { site.new ≡ set_known property value site.old }
     ensures allowed { IsEnrollment site.new }
     ensures undo { set_known property result site.new ≡ site.old }
-    ensures takes { IsTrue (takes_known (Some property) result) }
+    ensures takes { IsTrue (takes_known site.new (Some property) result) }
     ensures object { site.new.object ≡ site.old.object }
-    ensures monitored { site.new.monitored ≡ site.old.monitored }
-    ensures feedback { site.new.feedback ≡ site.old.feedback }
 {
     match (property, value) {
         (EnrollmentProperty::EventEnable, Value::Bits(flags)) => {

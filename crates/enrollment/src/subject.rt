@@ -20,8 +20,10 @@ pub struct Subject {
     pub enable: [bool; 3],
     /// Event_Detection_Enable.
     pub detection: bool,
-    /// Event_Algorithm_Inhibit.
+    /// Event_Algorithm_Inhibit. With a reference it is false.
     pub inhibit: bool,
+    /// Event_Algorithm_Inhibit_Ref: the binary value whose Present_Value inhibits the object while it is active.
+    pub inhibit_ref: Option<ObjectId>,
 }
 
 impl Subject {

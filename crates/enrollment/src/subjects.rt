@@ -31,6 +31,7 @@ pub(crate) fn subject_of_object(site: &ObjectSite) -> Subject
         enable: site.enable,
         detection: site.detection,
         inhibit: site.inhibit,
+        inhibit_ref: site.inhibit_ref,
     }
 }
 
@@ -46,24 +47,15 @@ pub(crate) fn subject_of_enrollment(site: &EnrollmentSite) -> Subject
         enable: site.enable,
         detection: site.detection,
         inhibit: site.inhibit,
+        inhibit_ref: site.inhibit_ref,
     }
 }
 
-// Whether a value object stands before the enrollments, by the number of its type.
-fn is_before_enrollments(site: &ObjectSite) -> bool
+/// Whether a value object stands before the enrollments, by the number of its type.
+pub(crate) fn is_before_enrollments(site: &ObjectSite) -> bool
     ensures before { result ≡ is_before_enrollments site.now }
 {
     site.object.number() < ObjectKind::EventEnrollment.number()
-}
-
-// One more, where it is to be there.
-fn add_if(subjects: &mut Vec<Subject>, subject: Subject, is_there: bool) -> Result<(), NoMemory>
-    ensures added { OnOk result (subjects.new.items ≡ subjects.old.items ++ (if is_there then subject ∷ [] else [])) }
-{
-    if is_there {
-        push(subjects, subject)?;
-    }
-    Ok(())
 }
 
 // The value objects whose types have lower numbers than enrollments.
@@ -71,11 +63,9 @@ fn add_before(subjects: &mut Vec<Subject>, sites: &[ObjectSite]) -> Result<(), N
     ensures added { OnOk result (subjects.new.items ≡ subjects.old.items ++ map subject_of_object (filter is_before_enrollments sites.now)) }
 {
     for site in sites {
-        add_if(
-            subjects,
-            subject_of_object(site),
-            is_before_enrollments(site),
-        )?;
+        if is_before_enrollments(site) {
+            push(subjects, subject_of_object(site))?;
+        }
     }
     Ok(())
 }
@@ -94,11 +84,9 @@ fn add_behind(subjects: &mut Vec<Subject>, sites: &[ObjectSite]) -> Result<(), N
     ensures added { OnOk result (subjects.new.items ≡ subjects.old.items ++ map subject_of_object (filter is_behind_enrollments sites.now)) }
 {
     for site in sites {
-        add_if(
-            subjects,
-            subject_of_object(site),
-            !is_before_enrollments(site),
-        )?;
+        if !is_before_enrollments(site) {
+            push(subjects, subject_of_object(site))?;
+        }
     }
     Ok(())
 }

@@ -12,6 +12,7 @@ pub mod NoteLaws
 pub mod NoteAgain
 pub mod NoteWritten
 pub mod NoteLengthLaws
+pub mod NoteTailLaws
 pub mod LateFaults
 pub mod NoteExact
 pub mod NoteMissing

@@ -25,7 +25,8 @@ use Rattle.bac_tags.specs.EnclosingTags.{opening, closing}
 use Rattle.event_services.specs.declared.notification.Notification.{Notification}
 use Rattle.event_services.specs.declared.notification.EventValues.{EventValues}
 use Rattle.event_services.specs.declared.notification.EventValues.TheVariants.{Bitstring, State, Command, UnsignedRange, SignedOutOfRange, UnsignedOutOfRange, Characterstring, Reliability}
-use Rattle.event_services.specs.Notifications.{type_of_values, written_text_in, bits_of_flags, written_flags, state_number, written_property, written_told, written_values, written_source, written_kind, written_event, written_states}
+use Rattle.event_services.specs.Notifications.{type_of_values, written_text_in, bits_of_flags, written_flags, state_number, written_property, written_told, written_values, written_kind, written_states}
+use Rattle.event_services.specs.NoteTails.{LeavesRoom, written_objects, written_occurrence}
 use Rattle.bac_tags.specs.ParameterWriting.{written_enclosed, written_if_given}
 use Rattle.event_services.specs.NoteLengths.{HasShortText, IsShort, AreShort}
 use Rattle.event_services.specs.NoteRanges.{IfAny}
@@ -203,27 +204,31 @@ from_octets : (from : Option EventState) → length (written_if_given (λ state.
 from_octets None = omega arith
 from_octets (Some state) = unsigned_octets (Some 10) (number_of_state state)
 
-source_octets : (note : Notification) → length (written_source note) ≤ 33
-source_octets note =
-    three_octets (written_unsigned (Some 0) note.process) (written_object (Some 1) note.device) (written_object (Some 2) note.object) 11 11 11 (unsigned_octets (Some 0) note.process) (object_octets (Some 1) note.device) (object_octets (Some 2) note.object)
+objects_octets : (note : Notification) → length (written_objects note) ≤ 22
+objects_octets note =
+    two_octets (written_object (Some 1) note.device) (written_object (Some 2) note.object) 11 11 (object_octets (Some 1) note.device) (object_octets (Some 2) note.object)
 
 kind_octets : (note : Notification) → length (written_kind note) ≤ 33
 kind_octets note =
     three_octets (written_unsigned (Some 4) note.class) (written_unsigned (Some 5) note.priority) (written_unsigned (Some 6) note.event_type) 11 11 11 (unsigned_octets (Some 4) note.class) (unsigned_octets (Some 5) note.priority) (unsigned_octets (Some 6) note.event_type)
 
-event_octets : (note : Notification) → length note.stamp.octets ≡ 8 → length (written_event note) ≤ 116
+event_octets : (note : Notification) → length note.stamp.octets ≡ 8 → length (written_occurrence note) ≤ 105
 event_octets note eight =
-    three_octets (written_source note) (written_enclosed 3 (written_enclosed 2 (written_stamp note.stamp))) (written_kind note) 33 50 33
-    (source_octets note) (enclosed_octets 3 (written_enclosed 2 (written_stamp note.stamp)) 36 (enclosed_octets 2 (written_stamp note.stamp) 22 (stamp_octets note.stamp eight))) (kind_octets note)
+    three_octets (written_objects note) (written_enclosed 3 (written_enclosed 2 (written_stamp note.stamp))) (written_kind note) 22 50 33
+    (objects_octets note) (enclosed_octets 3 (written_enclosed 2 (written_stamp note.stamp)) 36 (enclosed_octets 2 (written_stamp note.stamp) 22 (stamp_octets note.stamp eight))) (kind_octets note)
 
 states_octets : (note : Notification) → length (written_states note) ≤ 41
 states_octets note =
     four_octets (written_unsigned (Some 8) note.notify) (written_if_given (written_boolean (Some 9)) note.ack_required) (written_if_given (λ state. written_unsigned (Some 10) (number_of_state state)) note.from) (written_unsigned (Some 11) (number_of_state note.to)) 11 8 11 11
     (unsigned_octets (Some 8) note.notify) (ack_octets note.ack_required) (from_octets note.from) (unsigned_octets (Some 11) (number_of_state note.to))
 
--- what was written part by part, of a notification with a whole stamp and with short texts, has at most 1,014 octets
-pub parts_octets : (note : Notification) (start event message states all : List ℕ) → start ≡ [] → event ≡ start ++ written_event note → message ≡ event ++ written_if_given (written_text_in 7) note.text → states ≡ message ++ written_states note → all ≡ states ++ written_if_given written_values note.values
-    → length note.stamp.octets ≡ 8 → IfAny HasShortText note.text → IfAny AreShort note.values → length all ≤ most_note_octets
+-- a process identifier with what stands behind it
+pub before_octets : (process : ℕ) (tail : List ℕ) → LeavesRoom tail → length (written_unsigned (Some 0) process ++ tail) ≤ most_note_octets
+before_octets process tail room = omega (arith, length-append (written_unsigned (Some 0) process) tail, unsigned_octets (Some 0) process)
+
+-- what was written part by part behind it, of a notification with a whole stamp and with short texts, has at most 1,003 octets
+pub parts_octets : (note : Notification) (start event message states all : List ℕ) → start ≡ [] → event ≡ start ++ written_occurrence note → message ≡ event ++ written_if_given (written_text_in 7) note.text → states ≡ message ++ written_states note → all ≡ states ++ written_if_given written_values note.values
+    → length note.stamp.octets ≡ 8 → IfAny HasShortText note.text → IfAny AreShort note.values → LeavesRoom all
 parts_octets note start event message states all e f g h i eight text values =
     omega (
       arith,
@@ -232,7 +237,7 @@ parts_octets note start event message states all e f g h i eight text values =
       ap (λ (xs : List ℕ). length xs) g,
       ap (λ (xs : List ℕ). length xs) h,
       ap (λ (xs : List ℕ). length xs) i,
-      length-append start (written_event note),
+      length-append start (written_occurrence note),
       length-append event (written_if_given (written_text_in 7) note.text),
       length-append message (written_states note),
       length-append states (written_if_given written_values note.values),

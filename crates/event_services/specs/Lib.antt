@@ -1,6 +1,7 @@
 pub mod TimeStamps
 pub mod Acknowledgements
 pub mod Notifications
+pub mod NoteTails
 pub mod Information
 pub mod NoteReadingSteps
 pub mod NoteServiceSteps

@@ -10,6 +10,7 @@ mod read_note;
 mod read_values;
 mod time_stamp;
 mod write_note;
+mod written;
 
 pub use acknowledge::{AckRequest, read_ack};
 pub use bac_tags::Malformed;
@@ -17,4 +18,5 @@ pub use information::{EventSummary, read_information_request, write_information}
 pub use notification::{EventValues, Notification};
 pub use read_note::{NoteFault, read_notification, reads_back};
 pub use time_stamp::AckStamp;
-pub use write_note::{write_notification, write_notification_to};
+pub use write_note::write_notification;
+pub use written::WrittenNotification;

@@ -2,7 +2,8 @@ ghost use Rattle.std.specs.Prelude.{◌≡◌, ◌++◌, List, ◌<◌, ◌≤�
 ghost use Rattle.bac_values.specs.Limits.{most_note_octets, most_text_octets};
 ghost use Rattle.bac_tags.specs.Writing.{written_unsigned, written_boolean, written_stamp, written_value};
 ghost use Rattle.bac_values.specs.EventStates.{number_of_state};
-ghost use Rattle.event_services.specs.Notifications.{IsOneValue, IsOneOrNone, HasOneValues, IsTold, type_of_values, written_text_in, bits_of_flags, written_flags, written_property, written_told, written_values, written_source, written_kind, written_event, written_states, written_notification, told_to};
+ghost use Rattle.event_services.specs.Notifications.{IsOneValue, IsOneOrNone, HasOneValues, IsTold, type_of_values, written_text_in, bits_of_flags, written_flags, written_property, written_told, written_values, written_kind, written_states, written_notification};
+ghost use Rattle.event_services.specs.NoteTails.{LeavesRoom, written_objects, written_occurrence, written_tail};
 ghost use Rattle.bac_tags.specs.ParameterWriting.{written_enclosed, written_if_given};
 ghost use Rattle.event_services.specs.NoteLengths.{IsShort, AreShort, HasShortText};
 ghost use Rattle.event_services.specs.NoteRanges.{IfAny};
@@ -16,6 +17,9 @@ use bac_values::{
     Bits, EventState, EventType, NoMemory, PropertyId, Reliability, Stamp, StatusFlags, Text, Value,
 };
 use std::alloc::Global;
+
+/// The most octets that a process identifier has: its tag, and a number of four octets.
+const LONGEST_PROCESS: usize = 5;
 
 /// Appends a text with that number in a context.
 fn write_text(out: &mut Vec<u8>, number: u8, text: &Text) -> Result<(), NoMemory>
@@ -304,11 +308,10 @@ fn write_message(out: &mut Vec<u8>, text: &Option<Text>) -> Result<(), NoMemory>
     }
 }
 
-/// Appends who is told by whom, and of what.
-fn write_source(out: &mut Vec<u8>, process: u32, note: &Notification) -> Result<(), NoMemory>
-    ensures { OnOk result (out.new.items ≡ out.old.items ++ written_source (told_to process note.now)) }
+/// Appends by whom is told, and of what.
+fn write_source(out: &mut Vec<u8>, note: &Notification) -> Result<(), NoMemory>
+    ensures { OnOk result (out.new.items ≡ out.old.items ++ written_objects note.now) }
 {
-    write_unsigned(out, Some(0), process)?;
     write_object(out, Some(1), note.device)?;
     write_object(out, Some(2), note.object)
 }
@@ -333,11 +336,11 @@ fn write_kind(out: &mut Vec<u8>, note: &Notification) -> Result<(), NoMemory>
 }
 
 /// Appends what says which event it is.
-fn write_event(out: &mut Vec<u8>, process: u32, note: &Notification) -> Result<(), NoMemory>
-    ensures written { OnOk result (out.new.items ≡ out.old.items ++ written_event (told_to process note.now)) }
+fn write_event(out: &mut Vec<u8>, note: &Notification) -> Result<(), NoMemory>
+    ensures written { OnOk result (out.new.items ≡ out.old.items ++ written_occurrence note.now) }
     ensures whole { OnOk result (length note.now.stamp.octets ≡ 8) }
 {
-    write_source(out, process, note)?;
+    write_source(out, note)?;
     write_time_stamp(out, 3, note.stamp)?;
     write_kind(out, note)
 }
@@ -372,34 +375,45 @@ fn write_states(out: &mut Vec<u8>, note: &Notification) -> Result<(), NoMemory>
     write_unsigned(out, Some(11), u32::from(note.to.number()))
 }
 
-/// Writes the parameters of a notification that is told to a process, which needn't be its own. Each is in its one
-/// spelling, and parameters that it lacks are left out. There are at most 1,024 octets.
-#[tactic(auto, unfolding(crate::specs::Notifications::written_notification))]
-pub fn write_notification_to(
-    alloc: Global,
-    process: u32,
-    note: &Notification,
-) -> Result<Vec<u8>, NoMemory>
+/// The parameters of a notification behind the process identifier, each in its one spelling. Parameters that it lacks are
+/// left out. There is room for a process identifier before them.
+#[tactic(auto, unfolding(crate::specs::NoteTails::written_tail))]
+pub(crate) fn write_tail(alloc: Global, note: &Notification) -> Result<Vec<u8>, NoMemory>
     // The values are those of the event type, and each is one element.
-    requires { IsTold note.now.event_type note.now.values }
-    ensures written { IfOk result (λ octets. octets.items ≡ written_notification (told_to process note.now)) }
-    ensures short { IfOk result (λ octets. length octets.items ≤ most_note_octets) }
+    requires told { IsTold note.now.event_type note.now.values }
+    ensures tail { IfOk result (λ octets. octets.items ≡ written_tail note.now) }
+    ensures room { IfOk result (λ octets. LeavesRoom octets.items) }
 {
     let mut out = Vec::new(alloc);
-    write_event(&mut out, process, note)?;
+    write_event(&mut out, note)?;
     write_message(&mut out, &note.text)?;
     write_states(&mut out, note)?;
     write_values(&mut out, &note.values)?;
     Ok(out)
 }
 
+/// A process identifier, and what stands behind it. No more memory is taken than these octets want.
+#[tactic(auto, using(crate::proofs::NoteLengthLaws::before_octets))]
+pub(crate) fn write_before(alloc: Global, process: u32, tail: &[u8]) -> Result<Vec<u8>, NoMemory>
+    requires room { LeavesRoom tail.now }
+    ensures written { IfOk result (λ octets. octets.items ≡ written_unsigned (Some 0) process ++ tail.now) }
+    ensures short { IfOk result (λ octets. length octets.items ≤ most_note_octets) }
+{
+    let mut out = Vec::with_capacity(alloc, LONGEST_PROCESS + tail.len())?;
+    write_unsigned(&mut out, Some(0), process)?;
+    out.extend_from_slice(tail)?;
+    Ok(out)
+}
+
 /// Writes the parameters of a notification, each in its one spelling. Parameters that it lacks are left out. There are
 /// at most 1,024 octets.
+#[tactic(auto, using(crate::proofs::NoteTailLaws::own_behind))]
 pub fn write_notification(alloc: Global, note: &Notification) -> Result<Vec<u8>, NoMemory>
     // The values are those of the event type, and each is one element.
-    requires { IsTold note.now.event_type note.now.values }
+    requires told { IsTold note.now.event_type note.now.values }
     ensures written { IfOk result (λ octets. octets.items ≡ written_notification note.now) }
     ensures short { IfOk result (λ octets. length octets.items ≤ most_note_octets) }
 {
-    write_notification_to(alloc, note.process, note)
+    let tail = write_tail(alloc, note)?;
+    write_before(alloc, note.process, &tail)
 }

@@ -27,9 +27,10 @@ use Rattle.floor_desk.specs.declared.load.Load.{Load}
 use Rattle.floor_desk.specs.declared.floor.Spot.{Spot}
 use Rattle.floor_desk.specs.declared.floor.Spot.TheVariants.{Home, Out, Broken}
 use Rattle.floor_desk.specs.Accounts.{Account, Due, IsBehind, IsDenied, IsLegalFrom, IsOpen, IsTicketOf, Loan, MayComeNext, accepted, account, entry_for, looked, start, step, ticket_for, most_pending_octets}
-use Rattle.floor_desk.specs.Carrying.{IsCarriedOut, IsWorkOf, Lends}
+use Rattle.state_codec.specs.Work.{IsWorkOf}
+use Rattle.floor_desk.specs.Carrying.{IsCarriedOut, Lends}
 use Rattle.floor_desk.specs.Moves.{Accepts, CameOf, Hinders, NeedsCommit, IsLentBy, IsNotBroken, IsReady, MayEnter, Refuses, lent, with_answer}
-use Rattle.floor_desk.specs.Keeping.{HoldsHistory}
+use Rattle.state_codec.specs.Keeping.{HoldsHistory}
 use Rattle.floor_desk.specs.Prefixes.{HasLost, RestsOn, with_first, capped}
 use Rattle.floor_desk.specs.Standing.{FloorStands, HoldsOrder, ShowsAccount, Stands, pending_events}
 use Rattle.floor_desk.specs.States.{FloorState}

@@ -17,7 +17,7 @@ use Rattle.state_codec.specs.Records.{HasRecord, written_event}
 use Rattle.floor_desk.specs.Accounts.{Account, Due, Front, accepted, due_after, front_of, if_event, looked, step}
 use Rattle.floor_desk.specs.Carrying.{IsCarriedOut}
 use Rattle.floor_desk.specs.Courses.{KeepsCourse, KeepsFronts}
-use Rattle.floor_desk.specs.Keeping.{HoldsHistory}
+use Rattle.state_codec.specs.Keeping.{HoldsHistory}
 use Rattle.floor_desk.specs.Moves.{MayEnter, with_answer}
 use Rattle.floor_desk.specs.Prefixes.{HasLost, KeepsOrder, RestsOn, with_first}
 use Rattle.floor_desk.specs.Standing.{KeptOrder, HoldsOrder, ShowsAccount, Stands, pending_sends}

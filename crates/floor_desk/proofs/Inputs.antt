@@ -1,5 +1,5 @@
 -- What an input makes of a floor, part by part.
-use Rattle.std.proofs.Common.{◌≡◌, ℕ, ◌+◌, ◌≤◌, max, List, [], ◌∷◌, ◌++◌, refl, sym, ap, ◌∙◌, subst, arith, append_assoc}
+use Rattle.std.proofs.Common.{◌≡◌, ℕ, ◌+◌, List, [], ◌∷◌, ◌++◌, refl, sym, ap, ◌∙◌, subst, arith, append_assoc}
 use Rattle.std.specs.Prelude.{Option, Some, None, Result, Ok, Err, is_some, true, false}
 use Rattle.std.specs.List.{flat_map}
 use Rattle.std.proofs.lemmas.List.{append-nil}
@@ -10,7 +10,6 @@ use Rattle.bac_values.specs.declared.note.Send.{Send}
 use Rattle.alarm_core.specs.Allowed.{Represents}
 use Rattle.alarm_core.specs.CoreSteps.{next_sends, next_state}
 use Rattle.alarm_core.specs.Fits.{FitsEvent}
-use Rattle.alarm_core.specs.History.{raised}
 use Rattle.alarm_core.specs.State.{CoreState}
 use Rattle.alarm_core.specs.declared.event.Event.{Event}
 use Rattle.alarm_core.specs.declared.event.StepFault.{StepFault}
@@ -22,11 +21,6 @@ use Rattle.floor_desk.specs.declared.entry.Ticket.{Ticket}
 use Rattle.floor_desk.specs.declared.faults.EnterFault.TheVariants as enters
 use Rattle.floor_desk.specs.Moves.{CameOf}
 use Rattle.floor_desk.specs.States.{FloorState}
-
--- an event that isn't before a moment has its own
-pub raised_same : (last : ℕ) (event : Event) → last ≤ event.moment → raised last event ≡ event
-raised_same last event not_before =
-    let same : max event.moment last ≡ event.moment = omega (arith, not_before) in ap (λ (m : ℕ). record event { moment = m }) same
 
 -- lists of datagrams, and more of them
 pub one_more : (lists : List (List Send)) (list : List Send) → flat_map (λ l. l) (lists ++ list ∷ []) ≡ flat_map (λ l. l) lists ++ list

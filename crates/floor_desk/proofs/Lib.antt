@@ -1,6 +1,5 @@
 pub mod Carrying
 pub mod ClosedHistories
-pub mod Committing
 pub mod Desks
 pub mod Ending
 pub mod Floors
@@ -10,7 +9,6 @@ pub mod Inputs
 pub mod JoinedPasses
 pub mod LastCommits
 pub mod LastInputs
-pub mod Openings
 pub mod Prefixes
 pub mod Quiet
 pub mod Receiving

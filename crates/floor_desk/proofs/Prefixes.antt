@@ -18,7 +18,7 @@ use Rattle.alarm_journal.specs.Journal.{Site as Journal}
 use Rattle.alarm_journal.specs.Press.{Lasts, Throughout}
 use Rattle.state_codec.specs.Contents.{ImageStands, StandsForHistory}
 use Rattle.floor_desk.specs.Accounts.{Due}
-use Rattle.floor_desk.specs.Keeping.{Commits}
+use Rattle.state_codec.specs.Keeping.{Commits}
 use Rattle.floor_desk.specs.Prefixes.{HasLost, KeepsOrder, LeavesPrefix, RestsOn, Settle, with_first, capped, losses}
 
 -- ---- a history with the events of an order

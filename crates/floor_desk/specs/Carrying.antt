@@ -1,16 +1,12 @@
 -- What leaves a floor with the press, and what comes back.
-use Rattle.std.specs.Prelude.{◌≡◌, ◌<◌, ◌≤◌, ℕ, ◌+◌, All, List, [], length, Option, None}
+use Rattle.std.specs.Prelude.{◌≡◌, ◌≤◌, ℕ, Option, None}
 use Rattle.ground_io.specs.Counts.{Rose}
 use Rattle.ground_io.specs.Trace.{Told}
 use Rattle.turnstile.specs.declared.memo.Memo.{Memo}
-use Rattle.alarm_core.specs.Allowed.{Represents}
-use Rattle.alarm_core.specs.Fits.{FitsEvent}
 use Rattle.alarm_core.specs.State.{CoreState}
-use Rattle.alarm_core.specs.declared.event.Event.{Event}
-use Rattle.alarm_journal.specs.Journal.{Content, only_snapshot, with_batch}
 use Rattle.alarm_journal.specs.Press.{PressState, room_of}
-use Rattle.state_codec.specs.Contents.{StandsForHistory, records_of}
-use Rattle.state_codec.specs.Snapshots.{written_state}
+use Rattle.state_codec.specs.Contents.{records_of}
+use Rattle.state_codec.specs.Work.{IsWorkOf}
 use Rattle.floor_desk.specs.Accounts.{Account, Front, step}
 use Rattle.floor_desk.specs.Courses.{KeepsCourse, KeepsFronts}
 use Rattle.floor_desk.specs.Prefixes.{HasLost}
@@ -20,31 +16,7 @@ use Rattle.floor_desk.specs.declared.entry.Entry.TheVariants.{Taken, Returned, F
 use Rattle.floor_desk.specs.declared.load.Carried.{Carried}
 use Rattle.floor_desk.specs.declared.load.Carried.TheVariants.{Home, Broken}
 use Rattle.floor_desk.specs.declared.load.Load.{Load}
-use Rattle.floor_desk.specs.declared.work.Work.{Work}
-use Rattle.floor_desk.specs.declared.work.Work.TheVariants.{Nothing, Batch, Snapshot}
-
--- octets are the snapshot of a state: of each history that it represents, a journal that has them alone stands for it
-pub record IsSnapshotOf (state : CoreState) (octets : List ℕ) : Type 0 where
-  pub octets_are : octets ≡ written_state state
-  pub stands : (history : List Event) → Represents state history → All FitsEvent history → StandsForHistory state.site (only_snapshot octets) history
-
--- the work of a state with these records: nothing where there are none, else the records where there is room for them, or the state in their place
-abbrev pub IsWorkOf : CoreState → List ℕ → ℕ → Work → Type 0
-IsWorkOf state records room Nothing = records ≡ []
-IsWorkOf state records room (Batch job) = job ≡ records
-IsWorkOf state records room (Snapshot job) = IsSnapshotOf state job × (room < length records)
-
--- the work is of its sort, and fits a press whose area has so many octets
-abbrev pub FitsPress : ℕ → ℕ → Work → Type 0
-FitsPress room half Nothing = Unit {0}
-FitsPress room half (Batch job) = (0 < length job) × (length job ≤ room)
-FitsPress room half (Snapshot job) = (0 < length job) × (length job + 5 ≤ half)
-
--- what a journal holds once the work is written
-abbrev pub content_with : Work → Content → Content
-content_with Nothing content = content
-content_with (Batch job) content = with_batch content job
-content_with (Snapshot job) content = only_snapshot job
+use Rattle.state_codec.specs.declared.work.Work.{Work}
 
 module _ {G : Type 0} where
   -- the work of what is pending

@@ -2,11 +2,8 @@ pub mod Accounts
 pub mod Carrying
 pub mod Courses
 pub mod Desks
-pub mod Emission
 pub mod Ending
-pub mod Keeping
 pub mod Moves
-pub mod OpeningSteps
 pub mod Prefixes
 pub mod Serving
 pub mod Standing

@@ -11,7 +11,7 @@ use Rattle.service_desk.specs.Answers.{Answer, Full, dues_of, event_of, state_be
 use Rattle.state_codec.specs.Contents.{records_of}
 use Rattle.state_codec.specs.Records.{HasRecord}
 use Rattle.floor_desk.specs.Accounts.{IsTicketOf, counts, if_event, most_pending_octets}
-use Rattle.floor_desk.specs.Carrying.{IsWorkOf}
+use Rattle.state_codec.specs.Work.{IsWorkOf}
 use Rattle.floor_desk.specs.States.{FloorState}
 use Rattle.floor_desk.specs.declared.entry.Ticket.{Ticket}
 use Rattle.floor_desk.specs.declared.faults.CommitFault.{CommitFault}

@@ -11,7 +11,7 @@ use Rattle.alarm_journal.specs.Press.{PressState}
 use Rattle.state_codec.specs.Contents.{records_of}
 use Rattle.floor_desk.specs.Accounts.{Account, Front, account, IsLegal}
 use Rattle.floor_desk.specs.Courses.{KeepsCourse, KeepsFronts}
-use Rattle.floor_desk.specs.Keeping.{HoldsHistory}
+use Rattle.state_codec.specs.Keeping.{HoldsHistory}
 use Rattle.floor_desk.specs.Prefixes.{HasLost, KeepsOrder, with_first}
 use Rattle.floor_desk.specs.States.{FloorState}
 use Rattle.floor_desk.specs.declared.entry.Entry.{Entry}

@@ -2,39 +2,41 @@
 
 ghost use Rattle.std.specs.Prelude.{◌≡◌, ◌≤◌, List, [], ◌∷◌, ℕ, IfErr, IfOk, IsOkAnd, MatchResult, length};
 ghost use Rattle.ground_io.specs.Counts.{HasCause};
+ghost use Rattle.ground_io.specs.Trace.{Adds};
+ghost use Rattle.ground_io.specs.declared.entry.Entry.TheVariants.{Synced};
 ghost use Rattle.bac_values.specs.Moments.{IsMoment};
 ghost use Rattle.bac_values.specs.declared.input.Input.{Input as Entered};
 ghost use Rattle.turnstile.specs.Histories.{times};
 ghost use Rattle.turnstile.specs.Passes.{IsNewFrom, IsOf, Joins, all_calls, first_pass};
 ghost use Rattle.turnstile.specs.declared.memo.Memo.{Memo as Kept};
 ghost use Rattle.alarm_core.specs.Allowed.{Represents};
-ghost use Rattle.alarm_core.specs.Limits.{KeepsLimits};
 ghost use Rattle.alarm_core.specs.Sites.{IsSite};
 ghost use Rattle.alarm_core.specs.declared.event.Event.{Event as Happening};
-ghost use Rattle.alarm_journal.specs.Press.{Reopens, ReopensSynced, room_of};
+ghost use Rattle.alarm_journal.specs.Press.{IsRefusal, IsSmall, Reopens, ReopensSynced, room_of};
 ghost use Rattle.alarm_journal.specs.declared.open_fault.OpenFault.TheVariants as refusals;
 ghost use Rattle.state_codec.specs.Sizes.{most_text};
 ghost use Rattle.floor_desk.specs.declared.entry.Entry.{Entry as Step};
 ghost use Rattle.floor_desk.specs.declared.entry.Entry.TheVariants.{Looked};
 ghost use Rattle.floor_desk.specs.declared.entry.Look.TheVariants.{Refused};
 ghost use Rattle.floor_desk.specs.Accounts.{account, entry_for};
-ghost use Rattle.floor_desk.specs.Carrying.{FitsPress, IsCarriedOut, LeftWith, TellsCarried};
+ghost use Rattle.state_codec.specs.Work.{FitsPress};
+ghost use Rattle.floor_desk.specs.Carrying.{IsCarriedOut, LeftWith, TellsCarried};
 ghost use Rattle.floor_desk.specs.Desks.{HasCommitted, HasTaken, MakesEntry, TakesPress, TellsStanding};
-ghost use Rattle.floor_desk.specs.Emission.{Emits};
+ghost use Rattle.state_codec.specs.Emission.{Emits};
 ghost use Rattle.floor_desk.specs.Ending.{IsClosed};
-ghost use Rattle.floor_desk.specs.Keeping.{HoldsHistory, IsJournalRefusal, StoodFor, journal_of};
+ghost use Rattle.state_codec.specs.Keeping.{HoldsHistory, StoodFor, journal_of};
 ghost use Rattle.floor_desk.specs.Moves.{IsNotOut};
-ghost use Rattle.floor_desk.specs.OpeningSteps.{IsRefusedFor};
+ghost use Rattle.state_codec.specs.Openings.{IsRefusedFor, OpenedTo};
 
 use crate::entry::{Entry, Look, Ticket};
 use crate::faults::{CommitFault, EnterFault};
 use crate::floor::Floor;
 use crate::load::{Carried, Load};
-use crate::opening::open_journal;
 use alarm_core::{Core, Site};
 use alarm_journal::{OpenFault, Press};
 use bac_values::Input;
 use ground_io::Ground;
+use state_codec::open_journal;
 use std::alloc::Global;
 use std::marker::Model;
 use std::sync::Wait;
@@ -72,7 +74,7 @@ pub struct Desk<G: Ground> {
 
 impl<G: Ground> Model for Desk<G> {
     ghost use Rattle.alarm_core.specs.State.{CoreState};
-    ghost use Rattle.alarm_journal.specs.Press.{PressState};
+    ghost use Rattle.alarm_journal.specs.Press.{IsSmall, PressState};
     ghost use Rattle.turnstile.specs.Passes.{Identity};
 
     ghost Value = { Identity (CoreState × PressState G) };
@@ -83,7 +85,6 @@ impl<G: Ground> Model for Desk<G> {
 impl<G: Ground> Desk<G> {
     // A desk over a core and a press, and its first pass. Where there is no memory the press's ground comes back.
     fn over(alloc: Global, core: Core, press: Press<G>) -> Result<(Desk<G>, DeskPass<G>), G>
-        requires limits { KeepsLimits core.site }
         ensures origin { IfOk result (λ opened. opened.0.origin ≡ (core, press)) }
         ensures first { IfOk result (λ opened. opened.1 ≡ first_pass opened.0) }
         ensures back { IfErr result (λ device. device ≡ press.device) }
@@ -103,11 +104,13 @@ impl<G: Ground> Desk<G> {
         device: G,
     ) -> Result<(Desk<G>, DeskPass<G>, Opening), (G, OpenFault)>
         requires site { IsSite site.now }
-        requires limits { KeepsLimits site.now }
         requires short { length text.now ≤ most_text }
         ensures site { IfOk result (λ opened. opened.0.origin.0.site ≡ site.now) }
         ensures first { IfOk result (λ opened. opened.1 ≡ first_pass opened.0) }
         ensures opening { IfOk result (λ opened. opened.2.events ≡ opened.0.origin.0.events) }
+
+        // The octets opened, and the core is the state that they lead to.
+        ensures leads { IfOk result (λ opened. OpenedTo site.now text.now (G.told device) (G.told opened.0.origin.1.device) opened.0.origin.0) }
 
         // A history that the device's octets stood for is what the desk's core represents and its press holds.
         ensures represents { (history : List Happening) → IfOk result (λ opened. StoodFor (journal_of site.now text.now) site.now history (G.told device) (G.told opened.0.origin.1.device)
@@ -122,17 +125,20 @@ impl<G: Ground> Desk<G> {
             (λ lost. Reopens (journal_of site.now text.now) (G.told device) (G.told lost.0)) }
         ensures quiet { MatchResult result (λ opened. Emits (G.told device) (G.told opened.0.origin.1.device) []) (λ lost. Emits (G.told device) (G.told lost.0) []) }
 
-        // The journal is refused for what its octets are, and never where they stood for a history.
-        ensures refused { IfErr result (λ lost. IsJournalRefusal lost.1 → IsRefusedFor site.now text.now (G.told device) (G.told lost.0) lost.1) }
+        // The journal is refused for what its octets are, or its size; a device that is refused was synced, and nothing else.
+        // It is never refused where the octets stood for a history.
+        ensures refused { IfErr result (λ lost. IsRefusal lost.1 → IsRefusedFor site.now text.now (G.told device) (G.told lost.0) lost.1) }
+        ensures unchanged { IfErr result (λ lost. IsRefusal lost.1 → Adds (G.told device) (G.told lost.0) (Synced ∷ [])) }
+        ensures small { IfErr result (λ lost. IsSmall (G.size device) lost.1) }
         ensures stands { (history : List Happening) → IfErr result (λ lost. StoodFor (journal_of site.now text.now) site.now history (G.told device) (G.told lost.0)
-            → IsJournalRefusal lost.1 → ⊥) }
+            → IsRefusal lost.1 → ⊥) }
         ensures same { MatchResult result (λ opened. G.size opened.0.origin.1.device ≡ G.size device) (λ lost. G.size lost.0 ≡ G.size device) }
         ensures emitted { MatchResult result (λ opened. G.emit_faults opened.0.origin.1.device ≡ G.emit_faults device) (λ lost. G.emit_faults lost.0 ≡ G.emit_faults device) }
         ensures cause { MatchResult result
             (λ opened. G.disk_faults device ≤ G.disk_faults opened.0.origin.1.device)
             (λ lost. HasCause (G.disk_faults device) (G.disk_faults lost.0) (lost.1 ≡ refusals.DiskFault)) }
     {
-        let (press, core) = match open_journal(alloc, site, text, device) {
+        let (press, core, _opened) = match open_journal(alloc, site, text, device) {
             Ok(opened) => opened,
             Err((device, fault)) => return Err((device, fault)),
         };

@@ -54,15 +54,6 @@ pub enum CommitFault {
     DiskFault,
 }
 
-/// Why an event isn't kept.
-#[derive(Clone, Copy, Debug, PartialEq, Eq, Drop)]
-pub enum KeepFault {
-    /// The disk failed.
-    DiskFault,
-    /// Memory was refused, and nothing was written.
-    NoMemory,
-}
-
 impl From<NoMemory> for EnterFault {
     ghost use Rattle.std.specs.Prelude.{◌≡◌};
     ghost use Rattle.floor_desk.specs.declared.faults.EnterFault.TheVariants as faults;

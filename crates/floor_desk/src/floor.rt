@@ -2,7 +2,7 @@
 
 ghost use Rattle.std.specs.Prelude.{◌≡◌, ◌≢◌, ◌<◌, ◌≤◌, ◌+◌, ◌-◌, ◌^◌, ℕ, List, [], ◌∷◌, ◌++◌, IfOk, IfErr, IfSome, IsNone, MatchBool, OnErr, OnOk, Some, None, Option, Ok, Err, is_some, length, max, min, Result, vec_len, vec_capacity};
 ghost use Rattle.std.specs.VecDeque.{deque_len, deque_capacity};
-ghost use Rattle.bac_values.specs.Limits.{most_batch_octets, most_events, most_pending_calls};
+ghost use Rattle.bac_values.specs.Limits.{most_batch_octets, most_pending_calls};
 ghost use Rattle.bac_values.specs.Moments.{IsMoment};
 ghost use Rattle.bac_values.specs.declared.input.Input.{Input as Entered};
 ghost use Rattle.bac_values.specs.declared.note.Send.{Send as Datagram};
@@ -11,7 +11,6 @@ ghost use Rattle.alarm_core.specs.Allowed.{IsAllowed, Represents};
 ghost use Rattle.alarm_core.specs.CoreSteps.{next_sends, next_state};
 ghost use Rattle.alarm_core.specs.Fits.{FitsEvent};
 ghost use Rattle.alarm_core.specs.History.{raised};
-ghost use Rattle.alarm_core.specs.Limits.{KeepsLimits};
 ghost use Rattle.alarm_core.specs.State.{CoreState};
 ghost use Rattle.alarm_core.specs.Verdicts.{Answers, step_verdict};
 ghost use Rattle.alarm_core.specs.declared.event.Event.{Event as Happening};
@@ -25,7 +24,8 @@ ghost use Rattle.floor_desk.specs.declared.faults.CommitFault.TheVariants as com
 ghost use Rattle.floor_desk.specs.declared.faults.EnterFault.TheVariants as enters;
 ghost use Rattle.floor_desk.specs.declared.floor.Spot.TheVariants.{Home, Out};
 ghost use Rattle.floor_desk.specs.Accounts.{Loan, account, entry_for, most_pending_octets};
-ghost use Rattle.floor_desk.specs.Carrying.{FitsPress, IsCarriedOut, Lends, TellsCarried};
+ghost use Rattle.state_codec.specs.Work.{FitsPress};
+ghost use Rattle.floor_desk.specs.Carrying.{IsCarriedOut, Lends, TellsCarried};
 ghost use Rattle.floor_desk.specs.Ending.{IsLastCommit};
 ghost use Rattle.floor_desk.specs.Moves.{CameOf, Hinders, IsGroundOf, IsLentBy, IsNotOut, IsReady, Refuses};
 ghost use Rattle.floor_desk.specs.Prefixes.{capped};
@@ -35,18 +35,15 @@ use crate::entry::{Entry, Kind, Ticket};
 use crate::faults::{CommitFault, EnterFault};
 use crate::load::{Carried, Load};
 use crate::pending::Pending;
-use crate::work::work_of;
-use alarm_core::{Core, Event, Outcome, StepFault, event_fits};
+use alarm_core::{Core, Event, Outcome, StepFault};
 use alarm_journal::Press;
-use bac_values::{Input, Items, MOST_EVENTS, NoMemory, Send, single};
-use event_machine::Steps;
+use bac_values::{Input, Items, NoMemory, Send, single};
 use ground_io::Ground;
 use service_desk::{Decision, decide};
-use state_codec::{allowed_event_has_record, records_are_short, write_event};
+use state_codec::{event_to_record, records_are_short, work_of, write_event};
 use std::alloc::Global;
-use std::marker::{Brand, Model};
+use std::marker::Model;
 use std::mem;
-use std::sync::ledger::{Blank, Ledger};
 use turnstile::{Chronicle, Memo};
 
 /// No press leaves at so late a place of the history: it is as good as no memory for it.
@@ -89,7 +86,6 @@ impl<G: Ground> Model for Floor<G> {
     ghost use Rattle.std.specs.Prelude.{◌≤◌, length};
     ghost use Rattle.std.specs.List.{flat_map};
     ghost use Rattle.bac_values.specs.Limits.{most_batch_octets};
-    ghost use Rattle.alarm_core.specs.Limits.{KeepsLimits};
     ghost use Rattle.floor_desk.specs.States.{FloorState};
 
     ghost Value = { FloorState G };
@@ -107,60 +103,8 @@ impl<G: Ground> Model for Floor<G> {
     } };
 
     ghost invariant = { λ floor. record {
-      limits : KeepsLimits floor.core.site;
       few : length floor.pending.records.items ≤ most_batch_octets;
     } };
-}
-
-// The event with another moment. It has a record.
-fn moved_to(moment: u64, event: Event) -> Event
-    requires range { IsMoment moment }
-    requires allowed { (state : CoreState) × IsAllowed state event.act }
-    ensures moved { result ≡ record event { moment = moment } }
-    ensures record { HasRecord result }
-    ensures fits { FitsEvent result }
-{
-    let moved = Event {
-        moment,
-        act: event.act,
-    };
-    allowed_event_has_record(&moved);
-    event_fits(&moved);
-    moved
-}
-
-// The event at a moment raised to the last one. It has a record.
-fn raised_event(core: &Core, event: Event) -> Event
-    requires moment { IsMoment event.moment }
-    requires allowed { IsAllowed core.now event.act }
-    ensures raised { result ≡ raised core.now.last_moment event }
-    ensures moment { IsMoment result.moment }
-    ensures not_before { core.now.last_moment ≤ result.moment }
-    ensures allowed { IsAllowed core.now result.act }
-    ensures record { HasRecord result }
-    ensures fits { FitsEvent result }
-{
-    let moment = event.moment.max(core.last_moment());
-    moved_to(moment, event)
-}
-
-// The core takes an event that isn't before its last one. Its steps are counted in a ledger of their own, that nobody reads.
-fn counted<L: Ledger>(core: &mut Core, event: &Event, blank: Blank) -> Result<Outcome, StepFault>
-    requires name { blank.name ≡ L.name }
-    requires parts { blank.parts ≡ L.parts }
-    requires some { 0 < blank.parts }
-    requires moment { IsMoment event.now.moment }
-    requires not_before { core.old.last_moment ≤ event.now.moment }
-    requires allowed { IsAllowed core.old event.now.act }
-    requires few { core.old.events < most_events }
-    ensures state { OnOk result (core.new ≡ next_state event.now core.old) }
-    ensures sends { IfOk result (λ outcome. outcome.sends ≡ next_sends event.now core.old) }
-    ensures same { OnErr result (core.new ≡ core.old) }
-    ensures represents { (history : List Happening) → Represents core.old history → OnOk result (Represents core.new (event.now ∷ history)) }
-    ensures verdict { Answers result (step_verdict event.now core.old) }
-{
-    let mut steps = Steps::<L>::new(blank);
-    core.step(event, &mut steps)
 }
 
 // The datagrams of a reply, if there is one.
@@ -246,7 +190,6 @@ fn ground_of<G: Ground>(spot: Spot<G>) -> G
 impl<G: Ground> Floor<G> {
     /// A floor with the press at home and nothing pending.
     pub(crate) fn new(alloc: Global, core: Core, press: Press<G>) -> Floor<G>
-        requires limits { KeepsLimits core.site }
         ensures stands { FloorStands G.told G.disk_faults result [] }
         ensures origin { result.origin ≡ (core, press) }
         ensures home { (result.core ≡ core) × (result.spot ≡ Home press) }
@@ -330,13 +273,18 @@ impl<G: Ground> Floor<G> {
     }
 
     // An event comes next with what it adds, which is ready. Whether it fits or not, its requester is told where one is.
-    fn enter_with(&mut self, event: &Event, parts: Parts, told: bool) -> Result<Ticket, EnterFault>
+    fn enter_with(
+        &mut self,
+        alloc: Global,
+        event: &Event,
+        parts: Parts,
+        told: bool,
+    ) -> Result<Ticket, EnterFault>
         requires moment { IsMoment event.now.moment }
-        requires not_before { self.old.core.last_moment ≤ event.now.moment }
+        requires raised { raised self.old.core.last_moment event.now ≡ event.now }
         requires allowed { IsAllowed self.old.core event.now.act }
         requires record { HasRecord event.now }
         requires fits { FitsEvent event.now }
-        requires events { self.old.core.events < most_events }
         requires few { self.old.calls < most_pending_calls }
         requires short { length self.old.records + length parts.octets.items ≤ most_batch_octets }
         requires written { parts.octets.items ≡ written_event event.now }
@@ -345,7 +293,7 @@ impl<G: Ground> Floor<G> {
         if self.pending.make_room(parts.octets.len()).is_err() {
             return Err(EnterFault::NoMemory);
         }
-        match counted::<Brand>(&mut self.core, event, Blank::new(1)) {
+        match self.core.take(alloc, event) {
             Ok(outcome) => {
                 add_entered(&mut self.pending, parts, outcome);
                 Ok(self.ticket(Kind::Entered))
@@ -374,17 +322,13 @@ impl<G: Ground> Floor<G> {
         requires short { length self.old.records ≤ most_pending_octets }
         ensures comes { CameOf self.old self.new (entering (raised self.old.core.last_moment event) reply full (step_verdict (raised self.old.core.last_moment event) self.old.core)) result }
     {
-        // One event more is as good as no memory for it.
-        if self.core.events() >= MOST_EVENTS {
-            return Err(EnterFault::NoMemory);
-        }
-        let event = raised_event(&self.core, event);
+        let event = event_to_record(&self.core, event);
         let told = full.is_some();
         let parts = match readied(alloc, &event, reply, full) {
             Ok(parts) => parts,
             Err(NoMemory) => return Err(EnterFault::NoMemory),
         };
-        self.enter_with(&event, parts, told)
+        self.enter_with(alloc, &event, parts, told)
     }
 
     // An input that is looked at.

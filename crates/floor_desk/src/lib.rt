@@ -1,4 +1,4 @@
-//! A journal is opened, and events are kept in it. A floor that callers share: a core, a journal's press, and what is
+//! A floor that callers share: a core, a journal's press, and what is
 //! pending between them. Callers enter inputs one after the other; a commit takes the press out, writes and emits without
 //! the floor, and brings it back. And a server's workers, which share a floor: one takes datagrams, one lets time pass, and
 //! one commits.
@@ -10,26 +10,20 @@ mod entering;
 mod entry;
 mod faults;
 mod floor;
-mod keeping;
 mod load;
-mod opening;
 mod pending;
 mod receiver;
 mod serve;
-mod snapshot;
 mod steps;
 mod ticker;
-mod work;
 
 pub use committer::commit_all;
 pub use desk::{Desk, DeskPass, Opening, Standing};
 pub use entry::{Entry, Kind, Look, Ticket};
-pub use faults::{CommitFault, EnterFault, KeepFault};
+pub use faults::{CommitFault, EnterFault};
 pub use floor::{Floor, Spot};
-pub use keeping::keep_event;
 pub use load::{Carried, Load};
-pub use opening::open_journal;
 pub use receiver::{Ends, receive_all};
 pub use serve::{Closed, End, serve_desk};
+pub use state_codec::Work;
 pub use ticker::tick_all;
-pub use work::Work;

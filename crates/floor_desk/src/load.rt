@@ -3,13 +3,14 @@
 ghost use Rattle.alarm_core.specs.State.{CoreState};
 ghost use Rattle.alarm_journal.specs.Press.{PressState, room_of};
 ghost use Rattle.floor_desk.specs.Accounts.{Account, front_of};
-ghost use Rattle.floor_desk.specs.Carrying.{FitsPress, IsCarriedOut, Lends, TellsCarried};
+ghost use Rattle.state_codec.specs.Work.{FitsPress};
+ghost use Rattle.floor_desk.specs.Carrying.{IsCarriedOut, Lends, TellsCarried};
 
 use crate::entry::Entry;
-use crate::work::{Work, write};
 use alarm_journal::Press;
 use bac_values::{Items, Send};
 use ground_io::Ground;
+use state_codec::{Work, write_work};
 use turnstile::Memo;
 
 /// What a commit carries out without the floor.
@@ -74,7 +75,7 @@ impl<G: Ground> Load<G> {
             work,
             sends,
         } = self;
-        match write(press, work) {
+        match write_work(press, work) {
             Ok(mut press) => {
                 let emits = press.emit_all(sends.as_slice());
                 Carried::Home {

@@ -1,10 +1,9 @@
 ghost use Rattle.std.specs.Prelude.{◌≡◌, ◌≤◌, IfOk};
 ghost use Rattle.turnstile.specs.Passes.{IsOf};
-ghost use Rattle.alarm_core.specs.Limits.{KeepsLimits};
 ghost use Rattle.alarm_core.specs.Sites.{IsSite};
 
 use crate::comparing::{holds, same};
-use crate::plant::{START, operator, plant, tank};
+use crate::plant::{START, operator, plant};
 use alarm_core::Site;
 use bac_values::{Input, Items, ObjectId, ObjectKind, Value};
 use floor_desk::{CommitFault, Desk, DeskPass, EnterFault, Kind, Standing, Ticket};
@@ -44,17 +43,9 @@ fn replied(number: u64) -> Ticket {
     }
 }
 
-// A site with one tank.
-pub(crate) fn site_of(alloc: Global) -> Result<Site, Fail>
-    ensures site { IfOk result (λ site. IsSite site) }
-    ensures limits { IfOk result (λ site. KeepsLimits site) }
-{
-    plant(alloc, tank(alloc)?, 16)
-}
-
 // A blank ground for its journal, of whose calls these fail.
 pub(crate) fn blank(alloc: Global, site: &Site, failing: &[u64]) -> Result<MemoryGround, Fail>
-    requires limits { KeepsLimits site.now }
+    requires site { IsSite site.now }
 {
     let size = need(site, TEXT.len() as u64) as usize;
     let contents = vec![in alloc; 0u8; size]?;
@@ -70,7 +61,6 @@ fn desk_on(
     events: u64,
 ) -> (Shared, Caller)
     requires site { IsSite site.now }
-    requires limits { KeepsLimits site.now }
     ensures here { IsOf result.0 result.1 }
 {
     match Desk::open(alloc, site, TEXT, device) {
@@ -90,7 +80,6 @@ fn desk_at(
     failing: &[u64],
 ) -> Result<(Shared, Caller), Fail>
     requires site { IsSite site.now }
-    requires limits { KeepsLimits site.now }
     ensures here { IfOk result (λ opened. IsOf opened.0 opened.1) }
 {
     let device = blank(alloc, site, failing)?;
@@ -106,7 +95,7 @@ pub(crate) fn desk_of(
 ) -> Result<(Shared, Caller), Fail>
     ensures here { IfOk result (λ opened. IsOf opened.0 opened.1) }
 {
-    let site = site_of(alloc)?;
+    let site = plant(alloc)?;
     let opened = desk_at(rt, alloc, &site, failing);
     drop(site);
     opened
@@ -307,7 +296,6 @@ fn opens_with<R: Wait + Abort>(
     events: u64,
 ) -> bool
     requires site { IsSite site.now }
-    requires limits { KeepsLimits site.now }
 {
     let (desk, pass) = desk_on(rt, alloc, site, device, events);
     close(rt, desk, pass)
@@ -320,7 +308,7 @@ fn expect_opens<R: Wait + Abort>(
     device: MemoryGround,
     events: u64,
 ) -> Result<(), Fail> {
-    let site = site_of(alloc)?;
+    let site = plant(alloc)?;
     holds(rt, opens_with(rt, alloc, &site, device, events));
     drop(site);
     Ok(())

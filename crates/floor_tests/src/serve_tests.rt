@@ -1,9 +1,8 @@
-ghost use Rattle.alarm_core.specs.Limits.{KeepsLimits};
 ghost use Rattle.alarm_core.specs.Sites.{IsSite};
 
 use crate::comparing::{holds, same};
-use crate::desk_tests::{TEXT, blank, site_of};
-use crate::plant::START;
+use crate::desk_tests::{TEXT, blank};
+use crate::plant::{START, plant};
 use alarm_core::Site;
 use bac_values::{Items, Peer, Send as Message};
 use ending_link::{EndingLink, NotingGround, SharedFlag};
@@ -74,7 +73,6 @@ fn serve_on<
     W: Gate + Sync,
 >(rt: &R, alloc: Global, site: &Site, device: G, link: L, count: u32, gate: &W) -> (G, Closed)
     requires site { IsSite site.now }
-    requires limits { KeepsLimits site.now }
 {
     let (desk, pass) = match Desk::open(alloc, site, TEXT, device) {
         Ok((desk, pass, _)) => (desk, pass),
@@ -114,7 +112,6 @@ fn expect_i_am<R: Threads + Wait + Sync + Abort>(
     site: &Site,
 ) -> Result<(), Fail>
     requires site { IsSite site.now }
-    requires limits { KeepsLimits site.now }
 {
     let device = blank(alloc, site, &[])?;
     let link = link_of(alloc, &WHO_IS)?;
@@ -128,7 +125,7 @@ fn expect_i_am<R: Threads + Wait + Sync + Abort>(
 #[test]
 fn who_is_is_answered(rt: HostRuntime) -> Result<(), Fail> {
     let alloc = rt.alloc();
-    let site = site_of(alloc)?;
+    let site = plant(alloc)?;
     let answered = expect_i_am(&rt, alloc, &site);
     drop(site);
     answered
@@ -141,7 +138,6 @@ fn expect_end<R: Threads + Wait + Sync + Abort>(
     site: &Site,
 ) -> Result<(), Fail>
     requires site { IsSite site.now }
-    requires limits { KeepsLimits site.now }
 {
     let flag = SharedFlag::new();
     let device = NotingGround::new(blank(alloc, site, &[9])?, &flag);
@@ -162,7 +158,7 @@ fn expect_end<R: Threads + Wait + Sync + Abort>(
 #[test]
 fn a_server_ends_by_itself_once_its_disk_has_failed(rt: HostRuntime) -> Result<(), Fail> {
     let alloc = rt.alloc();
-    let site = site_of(alloc)?;
+    let site = plant(alloc)?;
     let ended = expect_end(&rt, alloc, &site);
     drop(site);
     ended
@@ -205,7 +201,6 @@ fn expect_ticks<R: Threads + Wait + Sync + Abort>(
     site: &Site,
 ) -> Result<(), Fail>
     requires site { IsSite site.now }
-    requires limits { KeepsLimits site.now }
 {
     let device = blank(alloc, site, &[])?;
     let link = link_of(alloc, &WHO_IS)?;
@@ -223,7 +218,7 @@ fn expect_ticks<R: Threads + Wait + Sync + Abort>(
 #[test]
 fn the_ticker_goes_on_beside_the_receiver(rt: HostRuntime) -> Result<(), Fail> {
     let alloc = rt.alloc();
-    let site = site_of(alloc)?;
+    let site = plant(alloc)?;
     let ticked = expect_ticks(&rt, alloc, &site);
     drop(site);
     ticked
@@ -274,7 +269,6 @@ fn expect_written<R: Threads + Wait + Sync + Abort>(
     site: &Site,
 ) -> Result<(), Fail>
     requires site { IsSite site.now }
-    requires limits { KeepsLimits site.now }
 {
     let gate = UntilSynced {
         syncs: AtomicU64::new(0),
@@ -292,7 +286,7 @@ fn expect_written<R: Threads + Wait + Sync + Abort>(
 #[test]
 fn the_committer_writes_beside_the_receiver(rt: HostRuntime) -> Result<(), Fail> {
     let alloc = rt.alloc();
-    let site = site_of(alloc)?;
+    let site = plant(alloc)?;
     let written = expect_written(&rt, alloc, &site);
     drop(site);
     written

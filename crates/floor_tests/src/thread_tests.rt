@@ -1,12 +1,11 @@
 ghost use Rattle.std.specs.Prelude.{◌<◌};
 ghost use Rattle.std.specs.Thread.{IsSync};
 ghost use Rattle.turnstile.specs.Passes.{IsOf};
-ghost use Rattle.alarm_core.specs.Limits.{KeepsLimits};
 ghost use Rattle.alarm_core.specs.Sites.{IsSite};
 
 use crate::comparing::{holds, same};
-use crate::desk_tests::{Caller, Shared, TEXT, blank, commit, desk_of, entered, set, site_of};
-use crate::plant::START;
+use crate::desk_tests::{Caller, Shared, TEXT, blank, commit, desk_of, entered, set};
+use crate::plant::{START, plant};
 use alarm_core::Site;
 use bac_values::{Input, ObjectId, ObjectKind};
 use floor_desk::{CommitFault, Desk, DeskPass, Standing};
@@ -221,7 +220,6 @@ fn held_desk<R: Abort>(
     device: HeldGround<Held>,
 ) -> (HeldDesk, HeldCaller)
     requires site { IsSite site.now }
-    requires limits { KeepsLimits site.now }
     ensures here { IsOf result.0 result.1 }
 {
     match Desk::open(alloc, site, TEXT, device) {
@@ -264,7 +262,6 @@ fn hold<R: Threads + Wait + Sync + Abort>(
     object: ObjectId,
 ) -> Result<(), Fail>
     requires site { IsSite site.now }
-    requires limits { KeepsLimits site.now }
 {
     let came = Arc::new(alloc, AtomicU64::new(0))?;
     let opened = Arc::new(alloc, AtomicU64::new(0))?;
@@ -279,7 +276,7 @@ fn hold<R: Threads + Wait + Sync + Abort>(
 fn a_held_sync_keeps_nobody_from_entering(rt: HostRuntime) -> Result<(), Fail> {
     let alloc = rt.alloc();
     let object = ObjectId::of_kind(ObjectKind::IntegerValue, 1)?;
-    let site = site_of(alloc)?;
+    let site = plant(alloc)?;
     let held = hold(&rt, alloc, &site, object);
     drop(site);
     held

@@ -1,5 +1,5 @@
 -- Notifications of transitions and of acknowledgements, before they are told to a process (ANSI/ASHRAE 135-2020, 13.2.5, 13.8.1 and 13.9.1).
-use Rattle.std.specs.Prelude.{ℕ, Bool, false, Option, Some, None, slice_index, slice_index_or}
+use Rattle.std.specs.Prelude.{ℕ, Bool, false, Option, Some, None, List, slice_index, slice_index_or}
 use Rattle.bac_values.specs.EventTypes.{ack_notification_notify_type}
 use Rattle.bac_values.specs.EventStates.{place_of_transition, transition_to}
 use Rattle.bac_values.specs.declared.event_state.EventState.{EventState}
@@ -19,9 +19,9 @@ priority_for class transition = slice_index class.priority (place_of_transition 
 abbrev pub wants_ack : Class → Transition → Bool
 wants_ack class transition = slice_index_or class.ack_required (place_of_transition transition) false
 
--- The notification of a transition. Process Identifier is 0 until it is told to a recipient's process, and there is no Message Text.
-abbrev pub transition_notification : Source → Class → Move → Stamp → Option EventValues → Notification
-transition_notification source class made stamp values = record {
+-- The notification of a transition, with the text that is told of it, if there is one. Process Identifier is 0 until it is told to a recipient's process.
+abbrev pub transition_notification : Source → Class → Move → Stamp → Option EventValues → Option (List ℕ) → Notification
+transition_notification source class made stamp values text = record {
   process = 0;
   device = source.device;
   object = source.object;
@@ -29,7 +29,7 @@ transition_notification source class made stamp values = record {
   class = class.instance;
   priority = priority_for class (transition_to made.to);
   event_type = transition_type source.algorithm made;
-  text = None;
+  text = text;
   notify = source.notify;
   ack_required = Some (wants_ack class (transition_to made.to));
   from = Some made.from;

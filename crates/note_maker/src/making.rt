@@ -1,23 +1,25 @@
 ghost use Rattle.std.specs.Prelude.{◌≡◌, ◌≤◌, length, All, Contains, IfOk};
 ghost use Rattle.bac_values.specs.Limits.{most_note_octets};
 ghost use Rattle.bac_values.specs.declared.note.Note.{Note};
-ghost use Rattle.event_services.specs.Notifications.{IsTold};
 ghost use Rattle.notify_class.specs.Edits.{recipient_peers};
 ghost use Rattle.note_maker.specs.Notes.{note_to, notes_for};
 
 use bac_values::{Items, NoMemory, Note, Transition, push};
 use civil_stamp::LocalMoment;
-use event_services::{Notification, write_notification_to};
+use event_services::WrittenNotification;
 use notify_class::{Class, Destination, uses_at};
 use std::alloc::Global;
 
 /// The note that tells a recipient.
-fn note_to(alloc: Global, facts: &Notification, destination: &Destination) -> Result<Note, NoMemory>
-    requires { IsTold facts.now.event_type facts.now.values }
+fn note_to(
+    alloc: Global,
+    facts: &WrittenNotification,
+    destination: &Destination,
+) -> Result<Note, NoMemory>
     ensures note { IfOk result (λ note. note ≡ note_to facts.now destination.now) }
     ensures short { IfOk result (λ note. length note.body ≤ most_note_octets) }
 {
-    let body = write_notification_to(alloc, destination.process, facts)?;
+    let body = facts.told_to(alloc, destination.process)?;
     Ok(Note {
         peer: destination.peer,
         confirmed: destination.confirmed,
@@ -29,13 +31,11 @@ fn note_to(alloc: Global, facts: &Notification, destination: &Destination) -> Re
 /// transition at the local date and time of it, in the order of the list. Each is told its own process identifier.
 pub fn notes_of(
     alloc: Global,
-    facts: &Notification,
+    facts: &WrittenNotification,
     class: &Class,
     transition: Transition,
     at: &LocalMoment,
 ) -> Result<Vec<Note>, NoMemory>
-    // The values are those of the event type, and each is one element.
-    requires told { IsTold facts.now.event_type facts.now.values }
     ensures notes { IfOk result (λ notes. notes.items ≡ notes_for facts.now class.now.destinations transition at.now.moment at.now.zone) }
     ensures short { IfOk result (λ notes. All (λ (note : Note). length note.body ≤ most_note_octets) notes.items) }
     ensures peers { IfOk result (λ notes. All (λ (note : Note). Contains (recipient_peers class.now.destinations) note.peer) notes.items) }

@@ -5,7 +5,7 @@ ghost use Rattle.note_maker.specs.Shapes.{acknowledgement_notification, transiti
 
 use crate::Source;
 use algorithm_rules::Algorithm;
-use bac_values::{EventState, EventType, NotifyType, Stamp};
+use bac_values::{EventState, EventType, NotifyType, Stamp, Text};
 use event_machine::Move;
 use event_services::{EventValues, Notification};
 use notify_class::Class;
@@ -29,16 +29,17 @@ fn acknowledgement_type(algorithm: Algorithm, acknowledged: EventState) -> u8
     }
 }
 
-/// The notification of a transition at the local date and time of its point, with what `values_of` tells of it. It is
-/// told to no process yet: its process identifier is 0. It has no message text.
+/// The notification of a transition at the local date and time of its point, with what `values_of` tells of it and the
+/// text of the transition, if there is one. It is told to no process yet: its process identifier is 0.
 pub fn transition_notification(
     source: &Source,
     class: &Class,
     made: Move,
     stamp: Stamp,
     values: Option<EventValues>,
+    text: Option<Text>,
 ) -> Notification
-    ensures notification { result ≡ transition_notification source.now class.now made stamp values }
+    ensures notification { result ≡ transition_notification source.now class.now made stamp values text }
 {
     let place = made.to.transition().place();
     Notification {
@@ -49,7 +50,7 @@ pub fn transition_notification(
         class: class.instance,
         priority: class.priority[place],
         event_type: transition_type(source.algorithm, made),
-        text: None,
+        text,
         notify: source.notify,
         ack_required: Some(class.ack_required[place]),
         from: Some(made.from),
@@ -59,7 +60,7 @@ pub fn transition_notification(
 }
 
 /// The notification that a state was acknowledged, at the local date and time of the acknowledgement. The state is the
-/// one that the request named. It is told to no process yet: its process identifier is 0.
+/// one that the request named. It is told to no process yet: its process identifier is 0. It has no message text.
 pub fn acknowledgement_notification(
     source: &Source,
     class: &Class,

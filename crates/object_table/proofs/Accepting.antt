@@ -1,5 +1,5 @@
 -- What a table takes is what passes the tests of a write without an index.
-use Rattle.std.proofs.Common.{◌≡◌, ℕ, Bool, true, false, true≢false, ◌&&◌, Option, Some, None, Result, Ok, Err, IsOk, IsTrue, IsSomeAnd, refl, sym}
+use Rattle.std.proofs.Common.{◌≡◌, ℕ, Bool, true, false, true≢false, ◌&&◌, Option, Some, None, is_none, Result, Ok, Err, IsOk, IsTrue, IsSomeAnd, refl, sym}
 use Rattle.bac_values.specs.declared.object_kind.ObjectKind.{ObjectKind}
 use Rattle.bac_values.specs.declared.object_kind.ObjectKind.TheVariants.{BinaryValue, MultiStateValue, BitStringValue, CharacterStringValue, IntegerValue, PositiveIntegerValue}
 use Rattle.bac_values.specs.declared.value.Value.{Value}
@@ -16,7 +16,7 @@ use Rattle.object_table.specs.Rows.{row_of}
 use Rattle.object_table.specs.Values.{are_flags, can_be, has_length_of, is_binary_value, is_number, is_present_value, is_state, is_text, is_truth, is_unsigned, takes_known, takes_value}
 use Rattle.object_table.specs.Laws.{TakesWhatWritesMake}
 use Rattle.object_table.proofs.Taking.{write_ok}
-use Rattle.object_table.specs.Verdicts.{allowed_change, known_verdict, property_change, value_tag, value_verdict, write_by_row, write_verdict, writable_tag}
+use Rattle.object_table.specs.Verdicts.{allowed_change, inhibit_tag, known_verdict, property_change, value_tag, value_verdict, write_by_row, write_verdict, writable_tag}
 
 -- a value that passes its test has the tag of the test's type, and stands for itself
 truth_passes : (value : Value) → is_truth value ≡ true → value_verdict (Some 1) true value ≡ Ok tt
@@ -61,8 +61,13 @@ present_passes (Some BitStringValue) site value h = length_passes site.value val
 present_passes (Some CharacterStringValue) site value h = text_passes value h
 present_passes _ site value h = absurd (true≢false (sym h))
 
+-- without a reference the one that inhibits is written as any other truth
+inhibit_passes : (reference : Option ObjectIdData) (value : Value) → (is_none reference && is_truth value) ≡ true → value_verdict (inhibit_tag reference) true value ≡ Ok tt
+inhibit_passes None value h = truth_passes value h
+inhibit_passes (Some referred) value h = absurd (true≢false (sym h))
+
 -- so does a value that a property can be
-possible_passes : (kind : Option ObjectKind) (site : ObjectSite) (property : ObjectProperty) (value : Value) → can_be kind site property value ≡ true → value_verdict (writable_tag kind property) true value ≡ Ok tt
+possible_passes : (kind : Option ObjectKind) (site : ObjectSite) (property : ObjectProperty) (value : Value) → can_be kind site property value ≡ true → value_verdict (writable_tag kind site property) true value ≡ Ok tt
 possible_passes kind site PresentValue value h = present_passes kind site value h
 possible_passes kind site OutOfService value h = truth_passes value h
 possible_passes kind site ReliabilityEvaluationInhibit value h = truth_passes value h
@@ -74,7 +79,7 @@ possible_passes kind site Deadband value h = unsigned_passes value h
 possible_passes kind site LimitEnable value h = flags_pass 2 value h
 possible_passes kind site AlarmValue value h = binary_passes value h
 possible_passes kind site EventEnable value h = flags_pass 3 value h
-possible_passes kind site EventAlgorithmInhibit value h = truth_passes value h
+possible_passes kind site EventAlgorithmInhibit value h = inhibit_passes site.inhibit_ref value h
 possible_passes kind site _ value h = absurd (true≢false (sym h))
 
 both : (s t : Bool) → (s && t) ≡ true → (s ≡ true) × (t ≡ true)

@@ -35,6 +35,9 @@ binary_keys : (site : ObjectSite) (value : Value) → HasAlarmKeys (Some BinaryV
 binary_keys site value h binary = record {
   notify = h.notify;
   enable = h.enable;
+  inhibit = h.inhibit;
+  reference = h.reference;
+  texts = h.texts;
   limits = record { low = h.limits.low; high = h.limits.high; deadband = h.limits.deadband; flags = h.limits.flags };
   alarm_value = binary;
   alarm_values = h.alarm_values;

@@ -44,7 +44,7 @@ property_ok false possible index tag value h = cc
 known_ok : (kind : Option ObjectKind) (site : ObjectSite) (property : Option ObjectProperty) (index : Option ℕ) (value : Value) → known_verdict kind site property index value ≡ Ok tt → IsTrue (takes_known kind site property value)
 known_ok kind site None index value h = cc
 known_ok kind site (Some property) index value h =
-    property_ok (has kind site property) (can_be kind site property value) (index_verdict (length_of kind site property) index) (writable_tag kind property) value h
+    property_ok (has kind site property) (can_be kind site property value) (index_verdict (length_of kind site property) index) (writable_tag kind site property) value h
 
 -- what passes the tests of a write
 pub write_ok : (site : ObjectSite) (number : ℕ) (index : Option ℕ) (value : Value) → write_verdict site number index value ≡ Ok tt → IsTrue (takes_value number value site)

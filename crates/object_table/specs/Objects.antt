@@ -1,5 +1,5 @@
 -- What a value object may be: the keys that its kind has, and with a class those of its alarms.
-use Rattle.std.specs.Prelude.{◌≡◌, ℕ, ◌≤◌, ℤ, pos, IsTrue, IsSome, IsNone, All, false, Option, Some, None, List, [], ◌∷◌, length, FitsSigned}
+use Rattle.std.specs.Prelude.{◌≡◌, ℕ, ◌≤◌, ℤ, pos, ◌⊎◌, IsTrue, IsSome, IsNone, IfSome, All, false, Option, Some, None, List, [], ◌∷◌, length, FitsSigned}
 use Rattle.bac_values.specs.Limits.{most_listed_values}
 use Rattle.std.specs.Int.{w32, FitsUnsigned}
 use Rattle.bac_values.specs.EventTypes.{alarm_notify_type, event_notify_type}
@@ -8,6 +8,7 @@ use Rattle.bac_values.specs.declared.object_kind.ObjectKind.TheVariants.{BinaryV
 use Rattle.bac_values.specs.declared.value.Value.{Value}
 use Rattle.bac_values.specs.declared.value.Value.TheVariants.{Unsigned, Text, Bits}
 use Rattle.bac_values.specs.BitString.{BitsData}
+use Rattle.bac_values.specs.Identifier.{number_of_kind, ObjectIdData}
 use Rattle.object_table.specs.declared.object_site.ObjectSite.{ObjectSite}
 use Rattle.object_table.specs.declared.row.Row.{Row}
 use Rattle.object_table.specs.Properties.{kind_in}
@@ -79,10 +80,21 @@ abbrev pub KeepsMask : Option ObjectKind → Option BitsData → Type 0
 KeepsMask (Some BitStringValue) mask = IsSome mask
 KeepsMask _ mask = IsNone mask
 
--- the keys of an object with a class
+-- an object whose value inhibits others is a binary value
+abbrev pub IsBinaryValue : ObjectIdData → Type 0
+IsBinaryValue object = object.number ≡ number_of_kind BinaryValue
+
+-- the texts of transitions: none, or one each to-offnormal, to-fault and to-normal
+abbrev pub AreTexts : List (List ℕ) → Type 0
+AreTexts texts = (texts ≡ []) ⊎ (length texts ≡ 3)
+
+-- the keys of an object with a class; it is inhibited by reference alone, or by Event_Algorithm_Inhibit alone
 pub record HasAlarmKeys (kind : Option ObjectKind) (site : ObjectSite) : Type 0 where
   pub notify : site.notify ≤ event_notify_type
   pub enable : length site.enable ≡ 3
+  pub inhibit : IsSome site.inhibit_ref → site.inhibit ≡ false
+  pub reference : IfSome site.inhibit_ref IsBinaryValue
+  pub texts : AreTexts site.texts
   pub limits : KeepsLimits kind site
   pub alarm_value : KeepsAlarmValue kind site.alarm_value
   pub alarm_values : All (IsAlarmValue kind) site.alarm_values
@@ -98,6 +110,8 @@ pub record LacksAlarmKeys (site : ObjectSite) : Type 0 where
   pub time_delay_normal : IsNone site.time_delay_normal
   pub detection : site.detection ≡ false
   pub inhibit : site.inhibit ≡ false
+  pub inhibit_ref : IsNone site.inhibit_ref
+  pub texts : site.texts ≡ []
   pub limits : LacksLimits site
   pub alarm_value : IsNone site.alarm_value
   pub alarm_values : site.alarm_values ≡ []

@@ -1,5 +1,5 @@
 -- The values that a write of a property takes.
-use Rattle.std.specs.Prelude.{ℕ, ◌==◌, nat_le, Bool, true, false, ◌&&◌, ◌||◌, Option, Some, None}
+use Rattle.std.specs.Prelude.{ℕ, ◌==◌, nat_le, Bool, true, false, ◌&&◌, ◌||◌, Option, Some, None, is_none}
 use Rattle.bac_values.specs.declared.object_kind.ObjectKind.{ObjectKind}
 use Rattle.bac_values.specs.declared.object_kind.ObjectKind.TheVariants.{BinaryValue, MultiStateValue, BitStringValue, CharacterStringValue, IntegerValue, PositiveIntegerValue}
 use Rattle.bac_values.specs.declared.value.Value.{Value}
@@ -59,7 +59,7 @@ is_present_value (Some BitStringValue) site value = has_length_of site.value val
 is_present_value (Some CharacterStringValue) site value = is_text value
 is_present_value _ site value = false
 
--- whether a property that may be written can be the value
+-- whether a property that may be written can be the value; Event_Algorithm_Inhibit is written only without a reference (12.12)
 abbrev pub can_be : Option ObjectKind → ObjectSite → ObjectProperty → Value → Bool
 can_be kind site PresentValue value = is_present_value kind site value
 can_be kind site OutOfService value = is_truth value
@@ -72,7 +72,7 @@ can_be kind site Deadband value = is_unsigned value
 can_be kind site LimitEnable value = are_flags 2 value
 can_be kind site AlarmValue value = is_binary_value value
 can_be kind site EventEnable value = are_flags 3 value
-can_be kind site EventAlgorithmInhibit value = is_truth value
+can_be kind site EventAlgorithmInhibit value = is_none site.inhibit_ref && is_truth value
 can_be kind site _ value = false
 
 abbrev pub takes_known : Option ObjectKind → ObjectSite → Option ObjectProperty → Value → Bool

@@ -78,21 +78,26 @@ value_tag (Some BitStringValue) = Some bit_string_tag
 value_tag (Some BinaryValue) = Some enumerated_tag
 value_tag _ = None
 
+-- Event_Algorithm_Inhibit may be written where no reference inhibits (ANSI/ASHRAE 135-2020, 12.12)
+abbrev pub inhibit_tag : Option ObjectIdData → Option ℕ
+inhibit_tag None = Some boolean_tag
+inhibit_tag (Some referred) = None
+
 -- the tag of a property that may be written
-abbrev pub writable_tag : Option ObjectKind → ObjectProperty → Option ℕ
-writable_tag kind PresentValue = value_tag kind
-writable_tag kind OutOfService = Some boolean_tag
-writable_tag kind ReliabilityEvaluationInhibit = Some boolean_tag
-writable_tag kind TimeDelay = Some unsigned_tag
-writable_tag kind TimeDelayNormal = Some unsigned_tag
-writable_tag kind HighLimit = value_tag kind
-writable_tag kind LowLimit = value_tag kind
-writable_tag kind Deadband = Some unsigned_tag
-writable_tag kind LimitEnable = Some bit_string_tag
-writable_tag kind AlarmValue = Some enumerated_tag
-writable_tag kind EventEnable = Some bit_string_tag
-writable_tag kind EventAlgorithmInhibit = Some boolean_tag
-writable_tag kind _ = None
+abbrev pub writable_tag : Option ObjectKind → ObjectSite → ObjectProperty → Option ℕ
+writable_tag kind site PresentValue = value_tag kind
+writable_tag kind site OutOfService = Some boolean_tag
+writable_tag kind site ReliabilityEvaluationInhibit = Some boolean_tag
+writable_tag kind site TimeDelay = Some unsigned_tag
+writable_tag kind site TimeDelayNormal = Some unsigned_tag
+writable_tag kind site HighLimit = value_tag kind
+writable_tag kind site LowLimit = value_tag kind
+writable_tag kind site Deadband = Some unsigned_tag
+writable_tag kind site LimitEnable = Some bit_string_tag
+writable_tag kind site AlarmValue = Some enumerated_tag
+writable_tag kind site EventEnable = Some bit_string_tag
+writable_tag kind site EventAlgorithmInhibit = inhibit_tag site.inhibit_ref
+writable_tag kind site _ = None
 
 -- the first error of two tests, one after the other
 abbrev pub and_then : {Fault : Type 0} → Result (Unit {0}) Fault → Result (Unit {0}) Fault → Result (Unit {0}) Fault
@@ -120,7 +125,7 @@ value_verdict (Some tag) possible value = if tag_of value == tag then content_ve
 abbrev pub property_verdict : Option ObjectKind → ObjectSite → ObjectProperty → Option ℕ → Value → Result (Unit {0}) WriteFault
 property_verdict kind site property index value =
     if has kind site property
-    then and_then (index_verdict (length_of kind site property) index) (value_verdict (writable_tag kind property) (can_be kind site property value) value)
+    then and_then (index_verdict (length_of kind site property) index) (value_verdict (writable_tag kind site property) (can_be kind site property value) value)
     else Err unknown_property
 
 abbrev pub known_verdict : Option ObjectKind → ObjectSite → Option ObjectProperty → Option ℕ → Value → Result (Unit {0}) WriteFault

@@ -1,7 +1,7 @@
 ghost use Rattle.std.specs.Prelude.{◌≡◌, IfOk};
 
 use crate::{Change, ObjectSite};
-use bac_values::{Items, NoMemory, Value, push};
+use bac_values::{Items, NoMemory, Text, Value, push};
 use std::alloc::Global;
 
 /// The same change once more.
@@ -33,12 +33,30 @@ fn copy_of_values(alloc: Global, values: &[Value]) -> Result<Items<Value>, NoMem
     Ok(Items::of(copy))
 }
 
+fn copy_of_text(text: &Text) -> Result<Text, NoMemory>
+    ensures same { IfOk result (λ copy. copy ≡ text.now) }
+{
+    Ok(text.clone()?)
+}
+
+/// The same texts once more.
+pub fn copy_of_texts(alloc: Global, texts: &[Text]) -> Result<Items<Text>, NoMemory>
+    ensures same { IfOk result (λ copy. copy ≡ texts.now) }
+{
+    let mut copy = Vec::new(alloc);
+    for text in texts {
+        push(&mut copy, copy_of_text(text)?)?;
+    }
+    Ok(Items::of(copy))
+}
+
 fn copy_of_object(alloc: Global, site: &ObjectSite) -> Result<ObjectSite, NoMemory>
     ensures same { IfOk result (λ copy. copy ≡ site.now) }
 {
     let name = site.name.clone()?;
     let value = copy_of_value(&site.value)?;
     let fault_values = copy_of_values(alloc, site.fault_values.as_slice())?;
+    let texts = copy_of_texts(alloc, site.texts.as_slice())?;
     let alarm_value = copy_of_optional(&site.alarm_value)?;
     let alarm_values = copy_of_values(alloc, site.alarm_values.as_slice())?;
     Ok(ObjectSite {
@@ -58,6 +76,8 @@ fn copy_of_object(alloc: Global, site: &ObjectSite) -> Result<ObjectSite, NoMemo
         time_delay_normal: site.time_delay_normal,
         detection: site.detection,
         inhibit: site.inhibit,
+        inhibit_ref: site.inhibit_ref,
+        texts,
         low: site.low,
         high: site.high,
         deadband: site.deadband,

@@ -19,7 +19,7 @@ mod verdicts;
 
 pub use bac_values::SetFault;
 pub use change::{Change, What};
-pub use copying::{copy_of_change, copy_of_objects};
+pub use copying::{copy_of_change, copy_of_objects, copy_of_texts};
 pub use faults::WriteFault;
 pub use laws::takes_what_writes_make;
 pub use object_property::ObjectProperty;
@@ -27,4 +27,4 @@ pub use object_site::ObjectSite;
 pub use row::Row;
 pub use table::Table;
 pub use values::{is_field_fault, is_present_value};
-pub use verdicts::{check_index, check_value};
+pub use verdicts::{check_index, check_value, inhibit_tag};

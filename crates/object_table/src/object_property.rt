@@ -48,6 +48,8 @@ pub enum ObjectProperty {
     EventEnable,
     /// Event_Algorithm_Inhibit.
     EventAlgorithmInhibit,
+    /// Event_Algorithm_Inhibit_Ref.
+    EventAlgorithmInhibitRef,
     /// Acked_Transitions.
     AckedTransitions,
     /// Notify_Type.
@@ -58,6 +60,10 @@ pub enum ObjectProperty {
     NotificationClass,
     /// Event_Time_Stamps.
     EventTimeStamps,
+    /// Event_Message_Texts.
+    EventMessageTexts,
+    /// Event_Message_Texts_Config.
+    EventMessageTextsConfig,
 }
 
 impl ObjectProperty {
@@ -89,8 +95,13 @@ impl ObjectProperty {
             PropertyId::STATUS_FLAGS => Some(ObjectProperty::StatusFlags),
             PropertyId::TIME_DELAY => Some(ObjectProperty::TimeDelay),
             PropertyId::EVENT_TIME_STAMPS => Some(ObjectProperty::EventTimeStamps),
+            PropertyId::EVENT_MESSAGE_TEXTS => Some(ObjectProperty::EventMessageTexts),
+            PropertyId::EVENT_MESSAGE_TEXTS_CONFIG => Some(ObjectProperty::EventMessageTextsConfig),
             PropertyId::EVENT_DETECTION_ENABLE => Some(ObjectProperty::EventDetectionEnable),
             PropertyId::EVENT_ALGORITHM_INHIBIT => Some(ObjectProperty::EventAlgorithmInhibit),
+            PropertyId::EVENT_ALGORITHM_INHIBIT_REF => Some(
+                ObjectProperty::EventAlgorithmInhibitRef,
+            ),
             PropertyId::TIME_DELAY_NORMAL => Some(ObjectProperty::TimeDelayNormal),
             PropertyId::RELIABILITY_EVALUATION_INHIBIT => Some(
                 ObjectProperty::ReliabilityEvaluationInhibit,

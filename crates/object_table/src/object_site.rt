@@ -35,8 +35,12 @@ pub struct ObjectSite {
     pub time_delay_normal: Option<u32>,
     /// Event_Detection_Enable.
     pub detection: bool,
-    /// Event_Algorithm_Inhibit.
+    /// Event_Algorithm_Inhibit. With a reference it is false.
     pub inhibit: bool,
+    /// Event_Algorithm_Inhibit_Ref: the binary value whose Present_Value inhibits the object while it is active.
+    pub inhibit_ref: Option<ObjectId>,
+    /// Event_Message_Texts_Config: no text, or three, to-offnormal, to-fault, to-normal.
+    pub texts: Items<Text>,
     /// Low_Limit, of an integer or a positive integer value.
     pub low: i64,
     /// High_Limit, of an integer or a positive integer value.

@@ -57,6 +57,10 @@ pub(crate) fn has(kind: Option<ObjectKind>, site: &ObjectSite, property: ObjectP
         | ObjectProperty::Deadband
         | ObjectProperty::LimitEnable => site.class.is_some() && has_limits(kind),
         ObjectProperty::AlarmValue => site.class.is_some() && is_binary(kind),
+        ObjectProperty::EventAlgorithmInhibitRef => site.inhibit_ref.is_some(),
+        ObjectProperty::EventMessageTexts | ObjectProperty::EventMessageTextsConfig => {
+            is_given(site.texts.as_slice())
+        }
         ObjectProperty::AlarmValues => is_given(site.alarm_values.as_slice()),
         ObjectProperty::FaultValues => is_given(site.fault_values.as_slice()),
     }
@@ -74,7 +78,9 @@ pub(crate) fn length_of(
     match property {
         ObjectProperty::AlarmValues => array_of_values(kind, site.alarm_values.as_slice()),
         ObjectProperty::FaultValues => array_of_values(kind, site.fault_values.as_slice()),
-        ObjectProperty::EventTimeStamps => Some(3),
+        ObjectProperty::EventTimeStamps
+        | ObjectProperty::EventMessageTexts
+        | ObjectProperty::EventMessageTextsConfig => Some(3),
         _ => None,
     }
 }
@@ -90,10 +96,10 @@ fn array_of_values(kind: Option<ObjectKind>, values: &[Value]) -> Option<u32>
     }
 }
 
-fn is_given(values: &[Value]) -> bool
-    ensures given { result ≡ is_given values.now }
+fn is_given<T>(list: &[T]) -> bool
+    ensures given { result ≡ is_given list.now }
 {
-    !values.is_empty()
+    !list.is_empty()
 }
 
 fn is_multi_state(kind: Option<ObjectKind>) -> bool

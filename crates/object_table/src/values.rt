@@ -38,9 +38,10 @@ pub fn can_be(
 {
     match property {
         ObjectProperty::PresentValue => is_present_value(kind, site, value),
-        ObjectProperty::OutOfService
-        | ObjectProperty::ReliabilityEvaluationInhibit
-        | ObjectProperty::EventAlgorithmInhibit => is_truth(value),
+        ObjectProperty::OutOfService | ObjectProperty::ReliabilityEvaluationInhibit => {
+            is_truth(value)
+        }
+        ObjectProperty::EventAlgorithmInhibit => site.inhibit_ref.is_none() && is_truth(value),
         ObjectProperty::TimeDelay | ObjectProperty::TimeDelayNormal | ObjectProperty::Deadband => {
             is_unsigned(value)
         }

@@ -1,12 +1,12 @@
 ghost use Rattle.std.specs.Prelude.{◌≡◌, Ok, Err, if◌then◌else◌};
 ghost use Rattle.object_table.specs.Objects.{IsObject};
 ghost use Rattle.object_table.specs.Properties.{kind_in};
-ghost use Rattle.object_table.specs.Verdicts.{content_verdict, index_verdict, set_verdict, tag_of, value_out_of_range, value_tag, value_verdict, writable_tag, write_verdict};
+ghost use Rattle.object_table.specs.Verdicts.{content_verdict, index_verdict, inhibit_tag, set_verdict, tag_of, value_out_of_range, value_tag, value_verdict, writable_tag, write_verdict};
 
 use crate::properties::{has, length_of};
 use crate::values::{can_be, is_present_value};
 use crate::{ObjectProperty, ObjectSite, WriteFault};
-use bac_values::{ApplicationTag, Foreign, ObjectKind, PropertyId, SetFault, Value};
+use bac_values::{ApplicationTag, Foreign, ObjectId, ObjectKind, PropertyId, SetFault, Value};
 
 /// Whether an object takes a write of a property; the first error that applies is told.
 pub fn check_object(
@@ -23,7 +23,7 @@ pub fn check_object(
         Some(property) if has(kind, site, property) => {
             check_index(length_of(kind, site, property), index)?;
             let possible = can_be(kind, site, property, value);
-            check_value(writable_tag(kind, property), possible, value)
+            check_value(writable_tag(kind, site, property), possible, value)
         }
         _ => Err(WriteFault::UNKNOWN_PROPERTY),
     }
@@ -129,17 +129,28 @@ fn value_tag(kind: Option<ObjectKind>) -> Option<u8>
     }
 }
 
+/// The number of the application tag of Event_Algorithm_Inhibit, which may be written where no reference inhibits.
+pub fn inhibit_tag(reference: Option<ObjectId>) -> Option<u8>
+    ensures tag { result ≡ inhibit_tag reference }
+{
+    match reference {
+        None => Some(ApplicationTag::BOOLEAN.0),
+        Some(_) => None,
+    }
+}
+
 /// The number of the application tag of a property that may be written.
-fn writable_tag(kind: Option<ObjectKind>, property: ObjectProperty) -> Option<u8>
-    ensures tag { result ≡ writable_tag kind property }
+fn writable_tag(kind: Option<ObjectKind>, site: &ObjectSite, property: ObjectProperty) -> Option<u8>
+    ensures tag { result ≡ writable_tag kind site.now property }
 {
     match property {
         ObjectProperty::PresentValue | ObjectProperty::HighLimit | ObjectProperty::LowLimit => {
             value_tag(kind)
         }
-        ObjectProperty::OutOfService
-        | ObjectProperty::ReliabilityEvaluationInhibit
-        | ObjectProperty::EventAlgorithmInhibit => Some(ApplicationTag::BOOLEAN.0),
+        ObjectProperty::OutOfService | ObjectProperty::ReliabilityEvaluationInhibit => Some(
+            ApplicationTag::BOOLEAN.0,
+        ),
+        ObjectProperty::EventAlgorithmInhibit => inhibit_tag(site.inhibit_ref),
         ObjectProperty::TimeDelay | ObjectProperty::TimeDelayNormal | ObjectProperty::Deadband => {
             Some(ApplicationTag::UNSIGNED.0)
         }

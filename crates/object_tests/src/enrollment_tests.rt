@@ -1,15 +1,16 @@
-ghost use Rattle.std.specs.Prelude.{◌≡◌};
+ghost use Rattle.std.specs.Prelude.{◌≡◌, ◌≤◌, All};
 ghost use Rattle.std.specs.declared.cmp.Ordering.TheVariants.{Less};
 ghost use Rattle.bac_values.specs.Orders.{identifier_order};
 ghost use Rattle.object_table.specs.Objects.{IsObject};
-ghost use Rattle.enrollment.specs.Enrollments.{IsEnrollment};
+ghost use Rattle.object_table.specs.Rows.{AscendsById};
+ghost use Rattle.enrollment.specs.Enrollments.{AscendById, IsEnrollment};
 
 use crate::comparing::{holds, same};
 use algorithm_rules::{Algorithm, Snapshot, number_of as number_in};
 use bac_values::{ObjectId, ObjectKind, PropertyId, Transition, Value};
 use enrollment::*;
-use object_table::{Change, ObjectSite, Table, What};
-use sample_objects::{flow, follower, level, mirror, range};
+use object_table::{Change, ObjectSite, Table, What, WriteFault};
+use sample_objects::{door, flow, follower, guard, level, mirror, mode, range};
 use std::alloc::Global;
 use std::process::Abort;
 use std::test::Fail;
@@ -18,7 +19,7 @@ fn identifier(kind: ObjectKind, instance: u32) -> Result<ObjectId, Fail> {
     Ok(ObjectId::of_kind(kind, instance)?)
 }
 
-/// Two enrollments.
+/// Two enrollments, at a site of whose value objects none is inhibited by another.
 fn enrollments_of(
     alloc: Global,
     first: EnrollmentSite,
@@ -28,7 +29,7 @@ fn enrollments_of(
     requires second { IsEnrollment second }
     requires order { identifier_order first.object second.object ≡ Less }
 {
-    Ok(Enrollments::new(alloc, vec![in alloc; first, second]?)?)
+    Ok(Enrollments::new(alloc, vec![in alloc; first, second]?, &[])?)
 }
 
 /// A table of two objects.
@@ -358,20 +359,20 @@ fn those_that_refer_to_other_objects_are_not_told(rt: HostRuntime) -> Result<(),
 
 #[test]
 fn nobody_refers_where_there_are_no_enrollments(rt: HostRuntime) -> Result<(), Fail> {
-    let none = Enrollments::new(rt.alloc(), Vec::new(rt.alloc()))?;
+    let none = Enrollments::new(rt.alloc(), Vec::new(rt.alloc()), &[])?;
     holds(&rt, none.rows().is_empty());
     expect_watching(&rt, &none, ObjectKind::IntegerValue, 1, 0)
 }
 
 #[test]
-fn an_enrollment_has_fourteen_properties(rt: HostRuntime) {
+fn an_enrollment_has_seventeen_properties(rt: HostRuntime) {
     let mut count: u32 = 0;
     for number in 0..400 {
         if EnrollmentProperty::of_number(number).is_some() {
             count = count.wrapping_add(1);
         }
     }
-    same(&rt, &count, &14);
+    same(&rt, &count, &17);
     same(
         &rt,
         &EnrollmentProperty::of_number(37),
@@ -410,9 +411,46 @@ fn each_kind_has_its_algorithm(rt: HostRuntime) {
     same(&rt, &algorithms, &wanted);
 }
 
+/// Value objects and enrollments together.
+#[tactic(auto, using(enrollment::proofs::Referrers::known_at_first))]
+fn together(
+    alloc: Global,
+    objects: Vec<ObjectSite>,
+    enrollments: Vec<EnrollmentSite>,
+) -> Result<Objects, Fail>
+    requires objects_ascend { AscendsById objects.items }
+    requires objects { All IsObject objects.items }
+    requires enrollments_ascend { AscendById enrollments.items }
+    requires enrollments { All IsEnrollment enrollments.items }
+{
+    let enrollments = Enrollments::new(alloc, enrollments, &objects)?;
+    Ok(Objects::new(Table::new(alloc, objects)?, enrollments))
+}
+
+/// Two value objects and two enrollments together.
+fn four_together(
+    alloc: Global,
+    first: ObjectSite,
+    second: ObjectSite,
+    watcher: EnrollmentSite,
+    other: EnrollmentSite,
+) -> Result<Objects, Fail>
+    requires first { IsObject first }
+    requires second { IsObject second }
+    requires objects { identifier_order first.object second.object ≡ Less }
+    requires watcher { IsEnrollment watcher }
+    requires other { IsEnrollment other }
+    requires enrollments { identifier_order watcher.object other.object ≡ Less }
+{
+    let objects = vec![in alloc; first, second]?;
+    let enrollments = vec![in alloc; watcher, other]?;
+    together(alloc, objects, enrollments)
+}
+
 /// Integer value 1, positive integer value 1, and enrollments 2 and 3.
 fn all_objects(alloc: Global) -> Result<Objects, Fail> {
-    Ok(Objects::new(level_and_flow(alloc)?, mirror_and_range(alloc)?))
+    let (level, flow) = (level(alloc, 1, 0)?, flow(alloc)?);
+    four_together(alloc, level, flow, mirror(alloc)?, range(alloc)?)
 }
 
 /// Whether an object is detected and tells of TO_FAULT, if it is there.
@@ -487,5 +525,88 @@ fn enrollments_stand_before_types_of_higher_numbers(rt: HostRuntime) -> Result<(
     let objects = all_objects(rt.alloc())?;
     let types = types(rt.alloc(), &objects)?;
     holds(&rt, types.as_slice() == &[9, 9, 45][..]);
+    Ok(())
+}
+
+/// Binary value 1, which is active or not, binary value 2 and enrollment 4, which it inhibits, and enrollment 2.
+fn inhibited(alloc: Global, number: u32) -> Result<Objects, Fail>
+    requires value { number ≤ 1 }
+{
+    let (mode, door) = (mode(alloc, number)?, door(alloc)?);
+    four_together(alloc, mode, door, mirror(alloc)?, guard(alloc)?)
+}
+
+/// Those that look at binary value 1 are the door and the enrollment that refers to it three times, once.
+fn expect_inhibited_watching(rt: &impl Abort, objects: &Objects) -> Result<(), Fail> {
+    let mode = identifier(ObjectKind::BinaryValue, 1)?;
+    let door = identifier(ObjectKind::BinaryValue, 2)?;
+    let guard = identifier(ObjectKind::EventEnrollment, 4)?;
+    holds(rt, objects.watchers_of(mode) == &[door, guard][..]);
+    expect_watching(rt, objects.enrollments(), ObjectKind::BinaryValue, 2, 0)?;
+    expect_watching(rt, objects.enrollments(), ObjectKind::IntegerValue, 1, 2)
+}
+
+#[test]
+fn those_that_an_object_inhibits_are_told_once(rt: HostRuntime) -> Result<(), Fail> {
+    expect_inhibited_watching(&rt, &inhibited(rt.alloc(), 0)?)
+}
+
+/// Whether the door, enrollment 4 and enrollment 2 are inhibited.
+fn which_are_inhibited(objects: &Objects) -> Result<[bool; 3], Fail> {
+    let door = identifier(ObjectKind::BinaryValue, 2)?;
+    let guard = identifier(ObjectKind::EventEnrollment, 4)?;
+    let mirror = identifier(ObjectKind::EventEnrollment, 2)?;
+    Ok([
+        objects.is_inhibited(door),
+        objects.is_inhibited(guard),
+        objects.is_inhibited(mirror),
+    ])
+}
+
+#[test]
+fn an_active_value_inhibits_those_that_refer_to_it(rt: HostRuntime) -> Result<(), Fail> {
+    let quiet = inhibited(rt.alloc(), 1)?;
+    same(&rt, &which_are_inhibited(&quiet)?, &[true, true, true]);
+    let loud = inhibited(rt.alloc(), 0)?;
+    same(&rt, &which_are_inhibited(&loud)?, &[false, false, true]);
+    Ok(())
+}
+
+/// What a write of Event_Algorithm_Inhibit of the door is answered.
+fn denied(objects: &Objects, value: &Value) -> Result<Option<WriteFault>, Fail> {
+    let door = identifier(ObjectKind::BinaryValue, 2)?;
+    let property = PropertyId::EVENT_ALGORITHM_INHIBIT;
+    match objects.table().check_write(door, property, None, value) {
+        Ok(_change) => Ok(None),
+        Err(fault) => Ok(Some(fault)),
+    }
+}
+
+#[test]
+fn a_reference_denies_a_write_of_inhibition(rt: HostRuntime) -> Result<(), Fail> {
+    let objects = inhibited(rt.alloc(), 0)?;
+    let wanted = Some(WriteFault::WRITE_ACCESS_DENIED);
+    same(&rt, &denied(&objects, &Value::Bool(true))?, &wanted);
+    same(&rt, &denied(&objects, &Value::Unsigned(1))?, &wanted);
+    Ok(())
+}
+
+/// The length of the text with which a transition of the door is told, if there is one.
+fn told(objects: &Objects, transition: Transition) -> Result<Option<usize>, Fail> {
+    let door = identifier(ObjectKind::BinaryValue, 2)?;
+    match objects.message_text(door, transition) {
+        Some(text) => Ok(Some(text.octets().len())),
+        None => Ok(None),
+    }
+}
+
+#[test]
+fn a_transition_is_told_with_its_text(rt: HostRuntime) -> Result<(), Fail> {
+    let objects = inhibited(rt.alloc(), 0)?;
+    same(&rt, &told(&objects, Transition::ToOffnormal)?, &Some(16));
+    same(&rt, &told(&objects, Transition::ToFault)?, &None);
+    same(&rt, &told(&objects, Transition::ToNormal)?, &Some(18));
+    let mode = identifier(ObjectKind::BinaryValue, 1)?;
+    holds(&rt, objects.message_texts(mode).is_empty());
     Ok(())
 }

@@ -1,14 +1,13 @@
 ghost use Rattle.std.specs.Prelude.{◌≡◌, IfOk};
 ghost use Rattle.bac_values.specs.Moments.{IsMoment};
 ghost use Rattle.algorithm_rules.specs.declared.table.Algorithm.TheVariants.{SignedOutOfRange};
-ghost use Rattle.event_services.specs.Notifications.{IsTold};
 ghost use Rattle.notify_class.specs.Recipients.{IsListedRecipient};
 
 use crate::comparing::same;
 use algorithm_rules::Algorithm;
 use bac_values::{EventState, Items, Note, ObjectId, Peer, Stamp, Transition};
 use civil_stamp::{LocalMoment, Zone};
-use event_services::{Notification, read_notification};
+use event_services::{Notification, WrittenNotification, read_notification};
 use note_maker::*;
 use notify_class::{Class, Destination};
 use std::alloc::Global;
@@ -113,12 +112,10 @@ fn add_processes(alloc: Global, notes: &[Note], processes: &mut Vec<u32>) -> Res
 /// The processes of a class that are told of each kind of transition, one list behind the other with a 0 between them.
 fn processes_of(
     alloc: Global,
-    facts: &Notification,
+    facts: &WrittenNotification,
     class: &Class,
     at: &LocalMoment,
-) -> Result<Vec<u32>, Fail>
-    requires told { IsTold facts.now.event_type facts.now.values }
-{
+) -> Result<Vec<u32>, Fail> {
     let mut processes = Vec::new(alloc);
     for transition in [
         Transition::ToOffnormal,
@@ -139,6 +136,7 @@ fn processes_told(alloc: Global, moment: u64, minutes: i16) -> Result<Vec<u32>, 
     let source = source()?;
     let class = class_of_six(alloc)?;
     let facts = acknowledgement_notification(&source, &class, EventState::Normal, LATER);
+    let facts = WrittenNotification::new(alloc, facts)?;
     let processes = processes_of(alloc, &facts, &class, &at);
     drop(facts);
     drop(class);

@@ -32,7 +32,10 @@ use Rattle.alarm_core.specs.Found.{detected_object_in, found_in, has_object}
 use Rattle.alarm_core.specs.Logs.{SiteLogState, kept_log, log_in, log_of}
 use Rattle.alarm_core.specs.Reading.{read_of, write_of}
 use Rattle.alarm_core.specs.State.{CoreState}
-use Rattle.service_desk.specs.Decisions.{acknowledge_with, change_decision, read_reply, read_with, requester_of, verdict_decision, write_with}
+use Rattle.service_desk.specs.Requesters.{requester_of}
+use Rattle.service_desk.specs.AcknowledgeAlarm.{acknowledge_with, verdict_decision}
+use Rattle.service_desk.specs.ReadProperty.{read_reply, read_with}
+use Rattle.service_desk.specs.WriteProperty.{change_decision, write_with}
 use Rattle.service_desk.specs.declared.decision.Decision.TheVariants.{Reply}
 use Rattle.profile_laws.specs.AcknowledgementErrors.{acknowledgement_errors, has_event_detection}
 use Rattle.profile_laws.specs.ErrorTables.{AreOctets, Asker, IsAnsweredBy, first_error}
@@ -47,7 +50,7 @@ use Rattle.profile_laws.proofs.NoErrors.{abort_is_none, result_is_none, simple_a
 use Rattle.profile_laws.proofs.ReadTables.{ReadSays, read_says}
 use Rattle.profile_laws.proofs.WriteTables.{WriteSays, write_says}
 
-identified : (state : CoreState) (history : List Event) → Represents state history → (object : ObjectIdData) → Identifies state object
+pub identified : (state : CoreState) (history : List Event) → Represents state history → (object : ObjectIdData) → Identifies state object
 identified state history represents object = subst (λ (s : CoreState). Identifies s object) (sym represents.shows) (identifies state.site history object)
 
 bytes : (parameters : List ℕ) → AreOctets parameters → IsBytes parameters
@@ -81,15 +84,20 @@ read_answered asker request None answer h =
     subst (λ (a : Result (List ℕ) ReadFault). IsAnsweredBy asker 12 None (Reply (read_reply (requester_of asker.peer asker.max_apdu asker.invoke 12) request a))) (sym h.1)
     (result_is_none asker 12 (written_read_ack request h.0))
 
+-- what is read of a property, by the first error of its table
+pub reads_say : (state : CoreState) (history : List Event) → Represents state history → (request : ReadRequest) →
+    ReadSays (first_error (read_errors state request)) (read_of state request.object request.property.0 request.index)
+reads_say state history represents request =
+    let is = identified state history represents request.object in
+    read_says state request.object request.property.0 request.index (site_of request.object state.values.enrollments) (row_of request.object state.values.rows) (kept_log request.object state.logs)
+    (list_any (is_object request.object) (identifiers_of state.site)) is.stamps is.known is.other
+
 pub reads_in_turn : AnswersReadsInTurn
 reads_in_turn state history represents moment asker parameters request octets spelled =
     let read = (read_property_answers parameters (bytes parameters octets)).only request spelled in
-    let is = identified state history represents request.object in
     let first = first_error (read_errors state request) in
-    let says = read_says state request.object request.property.0 request.index (site_of request.object state.values.enrollments) (row_of request.object state.values.rows) (kept_log request.object state.logs)
-    (list_any (is_object request.object) (identifiers_of state.site)) is.stamps is.known is.other in
     subst (λ (r : Result ReadRequest Malformed). IsAnsweredBy asker 12 first (read_with state (requester_of asker.peer asker.max_apdu asker.invoke 12) r)) (sym read)
-    (read_answered asker request first (read_of state request.object request.property.0 request.index) says)
+    (read_answered asker request first (read_of state request.object request.property.0 request.index) (reads_say state history represents request))
 
 -- ---- the identifier
 

@@ -14,3 +14,8 @@ mod RowBack
 mod EnrollmentBack
 mod LogBack
 mod ReadingBack
+mod Listed
+mod AllTables
+mod ManyReads
+mod CanBeRead
+mod SummaryRows

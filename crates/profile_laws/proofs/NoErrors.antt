@@ -3,11 +3,12 @@ use Rattle.std.proofs.Common.{◌≡◌, ℕ, Bool, true, false, if◌then◌els
 use Rattle.std.proofs.lemmas.List.{drop_at}
 use Rattle.bac_values.specs.Address.{PeerData}
 use Rattle.bac_values.specs.declared.note.Send.{Send}
+use Rattle.bac_values.specs.declared.service_error.ServiceError.{ServiceError}
 use Rattle.apdu_frame.specs.Writing.{written_abort, written_complex_ack, written_error, written_reject, written_simple_ack}
 use Rattle.bvlc_npdu.specs.Writing.{written_destination}
-use Rattle.service_desk.specs.Decisions.{requester_of}
+use Rattle.service_desk.specs.Requesters.{requester_of}
 use Rattle.service_desk.specs.Replies.{reply_to, within_max_apdu}
-use Rattle.profile_laws.specs.ErrorTables.{Asker, IsNoError}
+use Rattle.profile_laws.specs.ErrorTables.{Asker, IsNoError, error_to}
 
 -- what stands behind the first six octets, and the first octet
 abbrev behind_six : List ℕ → List ℕ
@@ -51,3 +52,8 @@ result_is_none asker service body = by_length (nat_lt asker.max_apdu (length (wr
     by_length : (long : Bool) → IsNoError asker service (if long then reply_to asker.peer (written_abort asker.invoke 4) else reply_to asker.peer (written_complex_ack asker.invoke service body))
     by_length true = abort_is_none asker service 4
     by_length false = complex_ack_is_none asker service body
+
+-- a Reject is no Error
+pub reject_is_no_error : (asker : Asker) (service reason : ℕ) (error : ServiceError) → reply_to asker.peer (written_reject asker.invoke reason) ≡ error_to asker service error → ⊥
+reject_is_no_error asker service reason error e =
+    let wrong : 96 ≡ 80 = ap first_of (same_apdu asker.peer (written_reject asker.invoke reason) (written_error asker.invoke service error.class error.code) e) in omega (arith, wrong)

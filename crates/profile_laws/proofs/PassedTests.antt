@@ -1,11 +1,15 @@
 -- What passes the tests of a write: the index is none, the property may be written, and it can be the value.
-use Rattle.std.proofs.Common.{◌≡◌, ℕ, Bool, true, false, if◌then◌else◌, ◌==◌, Option, Some, None, IsSome, Result, Ok, Err, refl}
+use Rattle.std.proofs.Common.{◌≡◌, ℕ, Bool, true, false, true≢false, ◌&&◌, if◌then◌else◌, ◌==◌, Option, Some, None, IsSome, Result, Ok, Err, List, refl, sym}
+use Rattle.std.specs.Option.{is_none}
+use Rattle.bac_values.specs.Identifier.{ObjectIdData}
 use Rattle.bac_values.specs.declared.value.Foreign.TheVariants.{CharacterSet, TooLong}
 use Rattle.bac_values.specs.declared.value.Value.{Value}
 use Rattle.bac_values.specs.declared.value.Value.TheVariants.{Opaque}
 use Rattle.object_table.specs.declared.change.Change.{Change}
 use Rattle.object_table.specs.declared.faults.WriteFault.{WriteFault}
+use Rattle.object_table.specs.declared.row.Row.{Row}
 use Rattle.object_table.specs.Verdicts.{allowed_change, and_then, content_verdict, index_verdict, invalid_data_type, tag_of, unknown_property, value_verdict}
+use Rattle.enrollment.specs.Subjects.{inhibited_by}
 
 -- a change that is allowed is the given one, and its verdict has no fault
 pub allowed : (verdict : Result (Unit {0}) WriteFault) (given change : Change) → allowed_change verdict given ≡ Ok change → (verdict ≡ Ok tt) × (given ≡ change)
@@ -49,3 +53,12 @@ there false verdict h = absurd cc
 pub no_index : (index : Option ℕ) → index_verdict None index ≡ Ok tt → index ≡ None
 no_index None h = refl
 no_index (Some index) h = absurd cc
+
+-- Event_Algorithm_Inhibit is written where no reference inhibits, and then an object is inhibited by it alone
+pub inhibited_alone : (reference : Option ObjectIdData) (inhibit : Bool) (rows : List Row) → (is_none reference && true) ≡ true → inhibited_by reference inhibit rows ≡ inhibit
+inhibited_alone None inhibit rows h = refl
+inhibited_alone (Some object) inhibit rows h = absurd (true≢false (sym h))
+
+pub second_true : (a b : Bool) → (a && b) ≡ true → b ≡ true
+second_true true b h = h
+second_true false b h = absurd (true≢false (sym h))

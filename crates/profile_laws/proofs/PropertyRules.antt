@@ -12,6 +12,7 @@ use Rattle.object_table.specs.Properties as of_objects
 use Rattle.object_table.specs.Values as values
 use Rattle.object_table.specs.Verdicts as tags
 use Rattle.enrollment.specs.declared.enrollment_property.EnrollmentProperty.{EnrollmentProperty}
+use Rattle.enrollment.specs.declared.enrollment_site.EnrollmentSite.{EnrollmentSite}
 use Rattle.enrollment.specs.Properties as of_enrollments
 use Rattle.enrollment.specs.Verdicts as enrollment_values
 use Rattle.notify_class.specs.declared.class_site.ClassSite.{ClassSite}
@@ -43,7 +44,7 @@ object_rule site property =
       number = of_objects.number_of_property property;
       there = of_objects.has (of_objects.kind_in site) site property;
       size = of_objects.length_of (of_objects.kind_in site) site property;
-      tag = tags.writable_tag (of_objects.kind_in site) property;
+      tag = tags.writable_tag (of_objects.kind_in site) site property;
       can_be = values.can_be (of_objects.kind_in site) site property;
     }
 
@@ -56,24 +57,28 @@ object_found site number = ap if_there (found number of_objects.number_of_proper
 
 -- ---- enrollments
 
-abbrev pub enrollment_rule : EnrollmentProperty → PropertyRow
-enrollment_rule property =
-    record { number = of_enrollments.number_of_property property; there = true; size = of_enrollments.length_of property; tag = enrollment_values.writable_tag property; can_be = enrollment_values.can_be property }
+abbrev pub enrollment_rule : EnrollmentSite → EnrollmentProperty → PropertyRow
+enrollment_rule site property =
+    record {
+      number = of_enrollments.number_of_property property;
+      there = of_enrollments.has site property;
+      size = of_enrollments.length_of property;
+      tag = enrollment_values.writable_tag site property;
+      can_be = enrollment_values.can_be site property;
+    }
 
-abbrev pub enrollment_rules : Option EnrollmentProperty → Option PropertyRow
-enrollment_rules property = option_map enrollment_rule property
+abbrev pub enrollment_rules : EnrollmentSite → Option EnrollmentProperty → Option PropertyRow
+enrollment_rules site property = if_there (option_map (enrollment_rule site) property)
+
+pub enrollment_found : (site : EnrollmentSite) (number : ℕ) → property_in number (enrollment_properties site) ≡ enrollment_rules site (of_enrollments.property_of number)
+unfolding of_enrollments.property_of
+enrollment_found site number = ap if_there (found number of_enrollments.number_of_property (enrollment_rule site) (λ x. refl) of_enrollments.enrollment_properties)
+
+-- ---- the device and notification classes
 
 there_anyhow : {X : Type 0} (row : X → PropertyRow) → ((x : X) → (row x).there ≡ true) → (property : Option X) → if_there (option_map row property) ≡ option_map row property
 there_anyhow row h None = refl
 there_anyhow row h (Some property) = ap (λ (b : Bool). if b then Some (row property) else None) (h property)
-
-pub enrollment_found : (number : ℕ) → property_in number enrollment_properties ≡ enrollment_rules (of_enrollments.property_of number)
-unfolding of_enrollments.property_of
-enrollment_found number =
-    ap if_there (found number of_enrollments.number_of_property enrollment_rule (λ x. refl) of_enrollments.enrollment_properties)
-    ∙ there_anyhow enrollment_rule (λ x. refl) (find (λ property. of_enrollments.number_of_property property == number) of_enrollments.enrollment_properties)
-
--- ---- the device and notification classes
 
 abbrev pub device_size : Site → DeviceProperty → Option ℕ
 device_size site ObjectList = Some (length (of_devices.object_list (identifiers_of site)))

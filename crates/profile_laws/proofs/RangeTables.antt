@@ -10,7 +10,7 @@ use Rattle.property_services.specs.declared.requests.RangeBy.{RangeBy}
 use Rattle.property_services.specs.declared.requests.RangeBy.TheVariants.{All, Position, Sequence, Time}
 use Rattle.property_services.specs.declared.requests.RangeRequest.{RangeRequest}
 use Rattle.service_desk.specs.declared.decision.Decision.TheVariants.{Reply}
-use Rattle.service_desk.specs.Decisions.{requester_of}
+use Rattle.service_desk.specs.Requesters.{requester_of}
 use Rattle.service_desk.specs.Ranges.{buffer_answer, has_zero_count, is_zero_count, object_answer, range_answer, range_body, range_reply, records_that_fit, requested_range, rule_zone_of}
 use Rattle.service_desk.specs.Replies.{abort, complex_ack, error}
 use Rattle.profile_laws.specs.ErrorTables.{Asker, IsAnsweredBy, IsNoError, first_error}

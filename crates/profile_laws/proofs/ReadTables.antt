@@ -18,7 +18,7 @@ use Rattle.event_machine.specs.Summary.{AlarmState}
 use Rattle.notify_class.specs.Recipients.{DestinationData}
 use Rattle.notify_class.specs.declared.class_site.ClassSite.{ClassSite}
 use Rattle.object_table.specs.declared.object_property.ObjectProperty.{ObjectProperty}
-use Rattle.object_table.specs.declared.object_property.ObjectProperty.TheVariants.{AlarmValues, EventTimeStamps, FaultValues}
+use Rattle.object_table.specs.declared.object_property.ObjectProperty.TheVariants.{AlarmValues, EventAlgorithmInhibitRef, EventTimeStamps, FaultValues}
 use Rattle.object_table.specs.declared.row.Row.{Row}
 use Rattle.object_table.specs.Properties as of_objects
 use Rattle.object_table.specs.Rows.{is_object}
@@ -27,6 +27,7 @@ use Rattle.enrollment.specs.declared.enrollment_property.EnrollmentProperty.TheV
 use Rattle.enrollment.specs.declared.enrollment_site.EnrollmentSite.{EnrollmentSite}
 use Rattle.enrollment.specs.Properties as of_enrollments
 use Rattle.enrollment.specs.Reliabilities.{reliability_of_enrollment}
+use Rattle.enrollment.specs.Subjects.{is_inhibited}
 use Rattle.property_values.specs.declared.class_properties.ClassProperty.{ClassProperty}
 use Rattle.property_values.specs.declared.content.Content.{Content}
 use Rattle.property_values.specs.declared.content.Content.TheVariants.{Whole, Elements}
@@ -49,7 +50,7 @@ use Rattle.alarm_core.specs.Logs.{SiteLogState}
 use Rattle.alarm_core.specs.State.{CoreState}
 use Rattle.profile_laws.specs.ErrorTables.{first_error}
 use Rattle.profile_laws.specs.PropertyTables.{PropertyRow, class_properties, device_properties, enrollment_properties, log_properties, object_properties, properties_by, properties_of_class, property_in}
-use Rattle.profile_laws.proofs.PropertyRules.{class_found, class_rules, device_found, device_rules, enrollment_found, enrollment_rules, log_found, log_rules, object_found, object_rule, object_rules}
+use Rattle.profile_laws.proofs.PropertyRules.{class_found, class_rules, device_found, device_rules, enrollment_found, enrollment_rule, enrollment_rules, log_found, log_rules, object_found, object_rule, object_rules}
 use Rattle.profile_laws.proofs.Tests.{index_rows, table}
 use Rattle.profile_laws.proofs.WriteTables.{class_sizes, device_sizes, or_true}
 
@@ -102,35 +103,42 @@ values_sizes : (kind : Option ObjectKind) (items : List Value) → size_of (read
 values_sizes (Some MultiStateValue) items = refl
 values_sizes _ items = ap (λ (n : ℕ). Some n) (length-map items written_value)
 
-row_sizes : (kind : Option ObjectKind) (alarm : AlarmState) (row : Row) (property : ObjectProperty) → length alarm.stamps ≡ 3 → size_of (reading.object_content kind alarm row property) ≡ of_objects.length_of kind row.site property
-row_sizes kind alarm row AlarmValues h = values_sizes kind row.site.alarm_values
-row_sizes kind alarm row FaultValues h = values_sizes kind row.site.fault_values
-row_sizes kind alarm row EventTimeStamps h = ap (λ (n : ℕ). Some n) (length-map alarm.stamps reading.written_time_stamp ∙ h)
-row_sizes kind alarm row _ h = refl
+reference_sizes : (reference : Option ObjectIdData) → size_of (reading.reference_to reference) ≡ None
+reference_sizes None = refl
+reference_sizes (Some object) = refl
+
+row_sizes : (kind : Option ObjectKind) (alarm : AlarmState) (inhibited : Bool) (row : Row) (property : ObjectProperty) → length alarm.stamps ≡ 3 →
+    size_of (reading.object_content kind alarm inhibited row property) ≡ of_objects.length_of kind row.site property
+row_sizes kind alarm inhibited row AlarmValues h = values_sizes kind row.site.alarm_values
+row_sizes kind alarm inhibited row FaultValues h = values_sizes kind row.site.fault_values
+row_sizes kind alarm inhibited row EventAlgorithmInhibitRef h = reference_sizes row.site.inhibit_ref
+row_sizes kind alarm inhibited row EventTimeStamps h = ap (λ (n : ℕ). Some n) (length-map alarm.stamps reading.written_time_stamp ∙ h)
+row_sizes kind alarm inhibited row _ h = refl
 
 where_there : (content : Content) (rules : PropertyRow) (index : Option ℕ) (there : Bool) → size_of content ≡ rules.size →
     ReadSays (first_of false (if there then Some rules else None) index) (part_in (if there then Ok content else Err reading.unknown_property) index)
 where_there content rules index true e = content_says content rules index e
 where_there content rules index false e = refl
 
-row_says : (alarm : AlarmState) (row : Row) (property : Option ObjectProperty) (index : Option ℕ) → length alarm.stamps ≡ 3 →
-    ReadSays (first_of false (object_rules row.site property) index) (part_in (reading.known_content (of_objects.kind_in row.site) alarm row property) index)
-row_says alarm row None index h = refl
-row_says alarm row (Some property) index h =
-    where_there (reading.object_content (of_objects.kind_in row.site) alarm row property) (object_rule row.site property) index (of_objects.has (of_objects.kind_in row.site) row.site property)
-    (row_sizes (of_objects.kind_in row.site) alarm row property h)
+row_says : (alarm : AlarmState) (inhibited : Bool) (row : Row) (property : Option ObjectProperty) (index : Option ℕ) → length alarm.stamps ≡ 3 →
+    ReadSays (first_of false (object_rules row.site property) index) (part_in (reading.known_content (of_objects.kind_in row.site) alarm inhibited row property) index)
+row_says alarm inhibited row None index h = refl
+row_says alarm inhibited row (Some property) index h =
+    where_there (reading.object_content (of_objects.kind_in row.site) alarm inhibited row property) (object_rule row.site property) index (of_objects.has (of_objects.kind_in row.site) row.site property)
+    (row_sizes (of_objects.kind_in row.site) alarm inhibited row property h)
 
-enrollment_sizes : (alarm : AlarmState) (reliability : Reliability') (site : EnrollmentSite) (property : EnrollmentProperty) → length alarm.stamps ≡ 3 →
-    size_of (enrollments.enrollment_property alarm reliability site property) ≡ of_enrollments.length_of property
-enrollment_sizes alarm reliability site enrolled.EventTimeStamps h = ap (λ (n : ℕ). Some n) (length-map alarm.stamps reading.written_time_stamp ∙ h)
-enrollment_sizes alarm reliability site _ h = refl
+enrollment_sizes : (alarm : AlarmState) (reliability : Reliability') (inhibited : Bool) (site : EnrollmentSite) (property : EnrollmentProperty) → length alarm.stamps ≡ 3 →
+    size_of (enrollments.enrollment_property alarm reliability inhibited site property) ≡ of_enrollments.length_of property
+enrollment_sizes alarm reliability inhibited site enrolled.EventAlgorithmInhibitRef h = reference_sizes site.inhibit_ref
+enrollment_sizes alarm reliability inhibited site enrolled.EventTimeStamps h = ap (λ (n : ℕ). Some n) (length-map alarm.stamps reading.written_time_stamp ∙ h)
+enrollment_sizes alarm reliability inhibited site _ h = refl
 
-enrollment_says : (alarm : AlarmState) (reliability : Reliability') (site : EnrollmentSite) (property : Option EnrollmentProperty) (index : Option ℕ) → length alarm.stamps ≡ 3 →
-    ReadSays (first_of false (enrollment_rules property) index) (part_in (enrollments.known_enrollment_content alarm reliability site property) index)
-enrollment_says alarm reliability site None index h = refl
-enrollment_says alarm reliability site (Some property) index h =
-    subst (λ (s : Option ℕ). ReadSays (first_error (index_rows s index [])) (part_of (enrollments.enrollment_property alarm reliability site property) index))
-    (enrollment_sizes alarm reliability site property h) (part_says (enrollments.enrollment_property alarm reliability site property) index)
+enrollment_says : (alarm : AlarmState) (reliability : Reliability') (inhibited : Bool) (site : EnrollmentSite) (property : Option EnrollmentProperty) (index : Option ℕ) → length alarm.stamps ≡ 3 →
+    ReadSays (first_of false (enrollment_rules site property) index) (part_in (enrollments.known_enrollment_content alarm reliability inhibited site property) index)
+enrollment_says alarm reliability inhibited site None index h = refl
+enrollment_says alarm reliability inhibited site (Some property) index h =
+    where_there (enrollments.enrollment_property alarm reliability inhibited site property) (enrollment_rule site property) index (of_enrollments.has site property)
+    (enrollment_sizes alarm reliability inhibited site property h)
 
 log_sizes : (site : LogSite) (log : EventLogState) (property : LogProperty) → size_of (of_logs.log_property site log property) ≡ None
 log_sizes site log Enable = refl
@@ -197,13 +205,13 @@ module _ (state : CoreState) (object : ObjectIdData) (number : ℕ) (index : Opt
   read_says (Some enrollment) row kept known h e o =
       let device = is_object object (device_object state.site) in
       let listed = is_some (listed_class object state.site.classes) in
-      found_says enrollment_properties (enrollment_rules (of_enrollments.property_of number)) known (part_in (content_by state object number (Some enrollment) row kept) index) (enrollment_found number)
+      found_says (enrollment_properties enrollment) (enrollment_rules enrollment (of_enrollments.property_of number)) known (part_in (content_by state object number (Some enrollment) row kept) index) (enrollment_found enrollment number)
       (e ∙ (ap (λ b. device || (is_some row || b)) (or_true listed) ∙ (ap (λ b. device || b) (or_true (is_some row)) ∙ or_true device)))
-      (enrollment_says (alarm_in state object) (reliability_of_enrollment enrollment state.values.rows) enrollment (of_enrollments.property_of number) index h)
+      (enrollment_says (alarm_in state object) (reliability_of_enrollment enrollment state.values.rows) (is_inhibited object state.values) enrollment (of_enrollments.property_of number) index h)
   read_says None (Some row) kept known h e o =
       found_says (object_properties row.site) (object_rules row.site (of_objects.property_of number)) known (part_in (content_by state object number None (Some row) kept) index) (object_found row.site number)
       (e ∙ or_true (is_object object (device_object state.site)))
-      (row_says (alarm_in state object) row (of_objects.property_of number) index h)
+      (row_says (alarm_in state object) (is_inhibited object state.values) row (of_objects.property_of number) index h)
   read_says None None (Some kept) known h e o =
       let device = is_object object (device_object state.site) in
       found_says log_properties (log_rules number (of_logs.property_of number)) known (part_in (content_by state object number None None (Some kept)) index) (log_found number)

@@ -1,5 +1,5 @@
 -- What is written is read back in the state behind the event.
-use Rattle.std.proofs.Common.{◌≡◌, ◌≢◌, ◌≤◌, ℕ, true, nat_lt, Option, Some, None, Result, Ok, Err, List, [], ◌∷◌, ◌++◌, length, refl, sym, ap, ◌∙◌, subst}
+use Rattle.std.proofs.Common.{◌≡◌, ◌≢◌, ◌≤◌, ℕ, Bool, true, nat_lt, Option, Some, None, Result, Ok, Err, List, [], ◌∷◌, ◌++◌, length, refl, sym, ap, ◌∙◌, subst}
 use Rattle.std.specs.Option.{option_map}
 use Rattle.std.proofs.lemmas.Bool.{cond-false, le-ltb}
 use Rattle.bac_values.specs.Identifier.{ObjectIdData}
@@ -29,6 +29,7 @@ use Rattle.enrollment.specs.Enrollments.{site_of}
 use Rattle.enrollment.specs.Objects.{written}
 use Rattle.enrollment.specs.declared.enrollment_property.EnrollmentProperty.{EnrollmentProperty}
 use Rattle.enrollment.specs.Properties.{property_of as enrollment_property_of}
+use Rattle.enrollment.specs.Subjects.{inhibited_by, inhibited_with, is_inhibited, subject_by}
 use Rattle.enrollment.specs.Verdicts as enrollment_values
 use Rattle.property_values.specs.declared.content.Content.{Content}
 use Rattle.property_values.specs.declared.content.ReadFault.{ReadFault}
@@ -53,7 +54,9 @@ use Rattle.alarm_core.proofs.Searches.{find_map, passes as found_passes}
 use Rattle.alarm_core.proofs.Stays.{row_of-written, site_of-written, written_row, written_site}
 use Rattle.service_desk.specs.declared.decision.Decision.TheVariants.{Reply}
 use Rattle.service_desk.specs.Answers.{Entered, answer_of, entering}
-use Rattle.service_desk.specs.Decisions.{change_decision, read_reply, read_with, requester_of, write_at, write_with as decision_with}
+use Rattle.service_desk.specs.Requesters.{requester_of}
+use Rattle.service_desk.specs.ReadProperty.{read_reply, read_with}
+use Rattle.service_desk.specs.WriteProperty.{change_decision, write_at, write_with as decision_with}
 use Rattle.service_desk.specs.Replies.{reply_to, within_max_apdu}
 use Rattle.profile_laws.specs.ErrorTables.{Asker}
 use Rattle.profile_laws.specs.ReadBack.{IsReadAs, IsWritten, ReadsBackWrites, read_ack}
@@ -70,7 +73,7 @@ unfolding within_max_apdu
 short_enough asker apdu short =
     cond-false (nat_lt asker.max_apdu (length apdu)) (reply_to asker.peer (written_abort asker.invoke 4)) (reply_to asker.peer apdu) (le-ltb asker.max_apdu (length apdu) short)
 
-read_as : (state : CoreState) (reference : ReadRequest) (octets : List ℕ) → read_of state reference.object reference.property.0 reference.index ≡ Ok octets → IsReadAs state reference octets
+pub read_as : (state : CoreState) (reference : ReadRequest) (octets : List ℕ) → read_of state reference.object reference.property.0 reference.index ≡ Ok octets → IsReadAs state reference octets
 read_as state reference octets h moment asker parameters are spelled short =
     let read = (read_property_answers parameters (λ i. are i)).only reference spelled in
     ap (λ (r : Result ReadRequest Malformed). read_with state (requester_of asker.peer asker.max_apdu asker.invoke 12) r) read
@@ -173,17 +176,29 @@ module _ (state : CoreState) (moment : ℕ) (change : Change) (object : ObjectId
   same_row : (row : Row) → row_is ≡ Some row → is_object object row.site.object ≡ true
   same_row row e = found_passes (λ (r : Row). is_object object r.site.object) row state.values.rows e
 
+  -- whether the object is inhibited then, by what is found
+  abbrev inhibited_with_these : Option EnrollmentSite → Option Row → Bool
+  inhibited_with_these enrollment row = inhibited_with (subject_by enrollment row) next.values.rows
+
+  inhibited_then : (enrollment : Option EnrollmentSite) (row : Option Row) → enrollment_of ≡ enrollment → row_is ≡ row →
+      is_inhibited object next.values ≡ inhibited_with_these (option_map (written_site change) enrollment) (option_map (written_row change) row)
+  inhibited_then enrollment row e r =
+      ap (λ (s : Option EnrollmentSite). inhibited_with_these s (row_of object next.values.rows)) (site_of-written object change state.values.enrollments ∙ ap (option_map (written_site change)) e)
+      ∙ ap (λ (s : Option Row). inhibited_with_these (option_map (written_site change) enrollment) s) (row_of-written object change state.values.rows ∙ ap (option_map (written_row change)) r)
+
   back : (enrollment : Option EnrollmentSite) (row : Option Row) (kept : Option SiteLogState) → enrollment_of ≡ enrollment → row_is ≡ row →
       write_by state enrollment row kept object number index value ≡ Ok change → (number ≡ 141 → ⊥) → IsSound value →
       read_by (option_map (written_site change) enrollment) (option_map (written_row change) row) (option_map kept_then kept) ≡ Ok (written_value value)
   back (Some site) row kept e r h other sound =
-      let a = allowed (enrollment_values.write_verdict number index value) (property_change object number value) change h in
-      subst (λ (c : Change). part_in (enrollment_content (alarm_in next object) (written_site c site) next.values.rows number) index ≡ Ok (written_value value)) a.1
-      (enrollment_back (alarm_in next object) site next.values.rows object number index value (same_enrollment site e) a.0 sound)
+      let a = allowed (enrollment_values.write_verdict site number index value) (property_change object number value) change h in
+      subst (λ (b : Bool). part_in (enrollment_content (alarm_in next object) b (written_site change site) next.values.rows number) index ≡ Ok (written_value value)) (sym (inhibited_then (Some site) row e r))
+      (subst (λ (c : Change). let after = written_site c site in part_in (enrollment_content (alarm_in next object) (inhibited_by after.inhibit_ref after.inhibit next.values.rows) after next.values.rows number) index ≡ Ok (written_value value)) a.1
+      (enrollment_back (alarm_in next object) next.values.rows site object number index value (same_enrollment site e) a.0 sound))
   back None (Some row) kept e r h other sound =
       let a = allowed (write_verdict row.site number index value) (property_change object number value) change h in
-      subst (λ (c : Change). part_in (row_content (alarm_in next object) (written_row c row) number) index ≡ Ok (written_value value)) a.1
-      (row_back (alarm_in next object) row object number index value (same_row row r) a.0 sound)
+      subst (λ (b : Bool). part_in (row_content (alarm_in next object) b (written_row change row) number) index ≡ Ok (written_value value)) (sym (inhibited_then None (Some row) e r))
+      (subst (λ (c : Change). let after = written_row c row in part_in (row_content (alarm_in next object) (inhibited_by after.site.inhibit_ref after.site.inhibit next.values.rows) after number) index ≡ Ok (written_value value)) a.1
+      (row_back (alarm_in next object) next.values.rows row object number index value (same_row row r) a.0 sound))
   back None None (Some kept) e r h other sound =
       let a = allowed (write_with (log_content kept.site kept.log number) number index value) (property_change kept.site.object number value) change h in
       let p = log_passes kept.site kept.log number index value a.0 in
@@ -209,9 +224,9 @@ module _ (state : CoreState) (moment : ℕ) (change : Change) (object : ObjectId
   count_by : (enrollment : Option EnrollmentSite) (row : Option Row) (kept : Option SiteLogState) → enrollment_of ≡ enrollment → row_is ≡ row → kept_log object state.logs ≡ kept →
       write_by state enrollment row kept object number index value ≡ Ok change → number ≡ 141 → CountBack
   count_by (Some site) row kept e r k h count =
-      let a = allowed (enrollment_values.write_verdict number index value) (property_change object number value) change h in
+      let a = allowed (enrollment_values.write_verdict site number index value) (property_change object number value) change h in
       let p : enrollment_property_of number ≡ None = ap enrollment_property_of count ∙ no_count_of_enrollments in
-      absurd (let bad = sym (ap (λ (o : Option EnrollmentProperty). enrollment_values.known_verdict o index value) p) ∙ a.0 in cc)
+      absurd (let bad = sym (ap (λ (o : Option EnrollmentProperty). enrollment_values.known_verdict site o index value) p) ∙ a.0 in cc)
   count_by None (Some row) kept e r k h count =
       let a = allowed (write_verdict row.site number index value) (property_change object number value) change h in
       let p : property_of number ≡ None = ap property_of count ∙ no_count_of_objects in

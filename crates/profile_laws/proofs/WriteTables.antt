@@ -62,12 +62,6 @@ allowed_says None verdict change h = (change, ap (λ (v : Result (Unit {0}) Writ
 
 -- ---- enrollments, value objects and logs
 
-enrollment_says : (property : Option EnrollmentProperty) (index : Option ℕ) (value : Value) (change : Change) →
-    WriteSays (first_of false (enrollment_rules property) index value) (allowed_change (enrollment_values.known_verdict property index value) change)
-enrollment_says None index value change = refl
-enrollment_says (Some property) index value change =
-    allowed_says (first_of false (Some (enrollment_rule property)) index value) (enrollment_values.property_verdict property index value) change (rules_say (enrollment_rule property) index value)
-
 abbrev rules_verdict : PropertyRow → Option ℕ → Value → Result (Unit {0}) WriteFault
 rules_verdict rules index value = and_then (index_verdict rules.size index) (value_verdict rules.tag (rules.can_be value) value)
 
@@ -75,6 +69,11 @@ where_there : (rules : PropertyRow) (index : Option ℕ) (value : Value) (change
     WriteSays (first_of false (if there then Some rules else None) index value) (allowed_change (if there then rules_verdict rules index value else Err unknown_property) change)
 where_there rules index value change true = allowed_says (first_of false (Some rules) index value) (rules_verdict rules index value) change (rules_say rules index value)
 where_there rules index value change false = refl
+
+enrollment_says : (site : EnrollmentSite) (property : Option EnrollmentProperty) (index : Option ℕ) (value : Value) (change : Change) →
+    WriteSays (first_of false (enrollment_rules site property) index value) (allowed_change (enrollment_values.known_verdict site property index value) change)
+enrollment_says site None index value change = refl
+enrollment_says site (Some property) index value change = where_there (enrollment_rule site property) index value change (of_enrollments.has site property)
 
 row_says : (site : ObjectSite) (property : Option ObjectProperty) (index : Option ℕ) (value : Value) (change : Change) →
     WriteSays (first_of false (object_rules site property) index value) (allowed_change (known_verdict (of_objects.kind_in site) site property index value) change)
@@ -169,9 +168,9 @@ module _ (state : CoreState) (object : ObjectIdData) (number : ℕ) (index : Opt
   write_says (Some enrollment) row kept known e o =
       let device = is_object object (device_object state.site) in
       let listed = is_some (listed_class object state.site.classes) in
-      found_says enrollment_properties (enrollment_rules (of_enrollments.property_of number)) known (write_by state (Some enrollment) row kept object number index value) (enrollment_found number)
+      found_says (enrollment_properties enrollment) (enrollment_rules enrollment (of_enrollments.property_of number)) known (write_by state (Some enrollment) row kept object number index value) (enrollment_found enrollment number)
       (e ∙ (ap (λ b. device || (is_some row || b)) (or_true listed) ∙ (ap (λ b. device || b) (or_true (is_some row)) ∙ or_true device)))
-      (enrollment_says (of_enrollments.property_of number) index value (property_change object number value))
+      (enrollment_says enrollment (of_enrollments.property_of number) index value (property_change object number value))
   write_says None (Some row) kept known e o =
       found_says (object_properties row.site) (object_rules row.site (of_objects.property_of number)) known (write_by state None (Some row) kept object number index value) (object_found row.site number)
       (e ∙ or_true (is_object object (device_object state.site)))

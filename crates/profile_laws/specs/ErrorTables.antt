@@ -7,7 +7,8 @@ use Rattle.apdu_frame.specs.Writing.{written_error, written_reject}
 use Rattle.alarm_core.specs.State.{CoreState}
 use Rattle.service_desk.specs.declared.decision.Decision.{Decision}
 use Rattle.service_desk.specs.declared.decision.Decision.TheVariants.{Enter, Reply}
-use Rattle.service_desk.specs.Decisions.{request_decision, requester_of}
+use Rattle.service_desk.specs.Requesters.{requester_of}
+use Rattle.service_desk.specs.Decisions.{request_decision}
 use Rattle.service_desk.specs.Replies.{reply_to}
 
 -- the error of the first row whose condition holds

@@ -5,3 +5,4 @@ pub mod RangeErrors
 pub mod AcknowledgementErrors
 pub mod Laws
 pub mod ReadBack
+pub mod ManyLaws

@@ -1,8 +1,8 @@
 -- The properties of each type of object as a table (ANSI/ASHRAE 135-2020, clause 12): which the object has, which of them are arrays, and what a write of each takes.
-use Rattle.std.specs.Prelude.{ℕ, zero, ◌==◌, ◌&&◌, Bool, true, false, if◌then◌else◌, Option, Some, None, is_some, List, [], ◌∷◌, length, find}
+use Rattle.std.specs.Prelude.{ℕ, zero, ◌==◌, ◌&&◌, Bool, true, false, if◌then◌else◌, Option, Some, None, is_none, is_some, List, [], ◌∷◌, length, find}
 use Rattle.bac_values.specs.ApplicationTags.{bit_string_tag, boolean_tag, enumerated_tag, unsigned_tag}
 use Rattle.bac_values.specs.Identifier.{ObjectIdData}
-use Rattle.bac_values.specs.Properties.{ack_required_property, acked_transitions_property, alarm_value_property, alarm_values_property, buffer_size_property, deadband_property, enable_property, event_algorithm_inhibit_property, event_detection_enable_property, event_enable_property, event_state_property, event_time_stamps_property, event_type_property, fault_values_property, high_limit_property, limit_enable_property, low_limit_property, max_apdu_length_accepted_property, notification_class_property, notify_type_property, number_of_states_property, object_identifier_property, object_list_property, object_name_property, object_type_property, out_of_service_property, present_value_property, priority_property, recipient_list_property, record_count_property, reliability_evaluation_inhibit_property, reliability_property, segmentation_supported_property, status_flags_property, stop_when_full_property, time_delay_normal_property, time_delay_property, total_record_count_property, vendor_identifier_property}
+use Rattle.bac_values.specs.Properties.{ack_required_property, acked_transitions_property, alarm_value_property, alarm_values_property, buffer_size_property, deadband_property, enable_property, event_algorithm_inhibit_property, event_algorithm_inhibit_ref_property, event_detection_enable_property, event_enable_property, event_message_texts_config_property, event_message_texts_property, event_state_property, event_time_stamps_property, event_type_property, fault_values_property, high_limit_property, limit_enable_property, low_limit_property, max_apdu_length_accepted_property, notification_class_property, notify_type_property, number_of_states_property, object_identifier_property, object_list_property, object_name_property, object_type_property, out_of_service_property, present_value_property, priority_property, recipient_list_property, record_count_property, reliability_evaluation_inhibit_property, reliability_property, segmentation_supported_property, status_flags_property, stop_when_full_property, time_delay_normal_property, time_delay_property, total_record_count_property, vendor_identifier_property}
 use Rattle.bac_values.specs.declared.value.Value.{Value}
 use Rattle.bac_values.specs.declared.value.Value.TheVariants.{Unsigned}
 use Rattle.object_table.specs.declared.object_site.ObjectSite.{ObjectSite}
@@ -10,7 +10,7 @@ use Rattle.object_table.specs.declared.row.Row.{Row}
 use Rattle.object_table.specs.Properties.{array_of_values, has_limits, is_binary, is_given, is_multi_state, kind_in}
 use Rattle.object_table.specs.Rows.{is_object, row_of}
 use Rattle.object_table.specs.Values.{are_flags, is_binary_value, is_number, is_present_value, is_truth, is_unsigned}
-use Rattle.object_table.specs.Verdicts.{value_tag}
+use Rattle.object_table.specs.Verdicts.{inhibit_tag, value_tag}
 use Rattle.enrollment.specs.declared.enrollment_site.EnrollmentSite.{EnrollmentSite}
 use Rattle.enrollment.specs.Enrollments.{site_of}
 use Rattle.notify_class.specs.declared.class_site.ClassSite.{ClassSite}
@@ -38,6 +38,10 @@ array number there size = record { number = number; there = there; size = size; 
 abbrev pub written : ℕ → Bool → Option ℕ → (Value → Bool) → PropertyRow
 written number there tag can_be = record { number = number; there = there; size = None; tag = tag; can_be = can_be }
 
+-- Event_Algorithm_Inhibit may be written where no reference inhibits
+abbrev pub inhibition : Bool → Option ObjectIdData → PropertyRow
+inhibition there reference = written event_algorithm_inhibit_property there (inhibit_tag reference) (λ value. is_none reference && is_truth value)
+
 -- a value object (12.8, 12.20, 12.37, 12.40, 12.43, 12.44), whose properties of alarms are there where it has a notification class
 abbrev pub object_properties : ObjectSite → List PropertyRow
 object_properties site =
@@ -64,17 +68,20 @@ object_properties site =
     ∷ array alarm_values_property (is_given site.alarm_values) (array_of_values kind site.alarm_values)
     ∷ array fault_values_property (is_given site.fault_values) (array_of_values kind site.fault_values)
     ∷ written event_enable_property alarmed (Some bit_string_tag) (are_flags 3)
-    ∷ written event_algorithm_inhibit_property alarmed (Some boolean_tag) is_truth
+    ∷ inhibition alarmed site.inhibit_ref
+    ∷ read event_algorithm_inhibit_ref_property (is_some site.inhibit_ref)
     ∷ read acked_transitions_property alarmed
     ∷ read notify_type_property alarmed
     ∷ read event_detection_enable_property alarmed
     ∷ read notification_class_property alarmed
     ∷ array event_time_stamps_property alarmed (Some 3)
+    ∷ array event_message_texts_property (is_given site.texts) (Some 3)
+    ∷ array event_message_texts_config_property (is_given site.texts) (Some 3)
     ∷ []
 
 -- an event enrollment (12.12)
-abbrev pub enrollment_properties : List PropertyRow
-enrollment_properties =
+abbrev pub enrollment_properties : EnrollmentSite → List PropertyRow
+enrollment_properties site =
     read object_identifier_property true
     ∷ read object_name_property true
     ∷ read object_type_property true
@@ -82,12 +89,15 @@ enrollment_properties =
     ∷ read event_state_property true
     ∷ read reliability_property true
     ∷ written event_enable_property true (Some bit_string_tag) (are_flags 3)
-    ∷ written event_algorithm_inhibit_property true (Some boolean_tag) is_truth
+    ∷ inhibition true site.inhibit_ref
+    ∷ read event_algorithm_inhibit_ref_property (is_some site.inhibit_ref)
     ∷ read acked_transitions_property true
     ∷ read notify_type_property true
     ∷ read event_detection_enable_property true
     ∷ read notification_class_property true
     ∷ array event_time_stamps_property true (Some 3)
+    ∷ array event_message_texts_property (is_given site.texts) (Some 3)
+    ∷ array event_message_texts_config_property (is_given site.texts) (Some 3)
     ∷ read event_type_property true
     ∷ []
 
@@ -139,7 +149,7 @@ properties_of_class (Some listed) = class_properties listed
 properties_of_class None = []
 
 abbrev pub properties_by : Site → ObjectIdData → Option EnrollmentSite → Option Row → Option SiteLogState → List PropertyRow
-properties_by site object (Some enrollment) row kept = enrollment_properties
+properties_by site object (Some enrollment) row kept = enrollment_properties enrollment
 properties_by site object None (Some row) kept = object_properties row.site
 properties_by site object None None (Some kept) = log_properties
 properties_by site object None None None = if is_object object (device_object site) then device_properties site else properties_of_class (listed_class object site.classes)

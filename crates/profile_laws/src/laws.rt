@@ -1,4 +1,5 @@
 ghost use Rattle.profile_laws.specs.Laws.{AnswersAcknowledgementsInTurn, AnswersRangesInTurn, AnswersReadsInTurn, AnswersWritesInTurn};
+ghost use Rattle.profile_laws.specs.ManyLaws.{EachCanBeRead, EachPartIsARead, SummariesAscend, SummariesHaveNoErrors};
 ghost use Rattle.profile_laws.specs.ReadBack.{ReadsBackWrites};
 
 /// No error is answered where an earlier one of its service's table applies: a write of a property, a read of one, a read of a
@@ -16,4 +17,20 @@ pub fn no_error_before_its_turn()
 /// how many records it has then, which is 0 where the write comes with no transition.
 pub fn what_is_written_is_read_back()
     ensures back { ReadsBackWrites }
+{}
+
+/// What ReadPropertyMultiple tells of a property is what ReadProperty answers, which can be asked for each: its octets, or the
+/// first error of its table. Of ALL it tells the properties that the object has by its table, by ascending number. What is told
+/// comes in the order in which it is asked.
+pub fn many_properties_are_reads()
+    ensures each { EachPartIsARead }
+    ensures asked { EachCanBeRead }
+{}
+
+/// GetAlarmSummary and GetEnrollmentSummary are answered with no Error, and with no Reject where they are in their grammar. Their
+/// objects ascend by their identifiers, each once, and those of an alarm summary are those objects of GetEventInformation that
+/// are in alarm.
+pub fn summaries_tell_each_once()
+    ensures errors { SummariesHaveNoErrors }
+    ensures ascending { SummariesAscend }
 {}

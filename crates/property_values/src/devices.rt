@@ -48,8 +48,8 @@ fn of_kinds(
     Ok(list)
 }
 
-// Object_List: the types ascend by number.
-fn object_list(alloc: Global, identifiers: &[ObjectId]) -> Result<Vec<ObjectId>, NoMemory>
+/// Object_List: identifiers type by type, whose numbers ascend.
+pub fn object_list(alloc: Global, identifiers: &[ObjectId]) -> Result<Vec<ObjectId>, NoMemory>
     ensures list { IfOk result (λ list. list.items ≡ object_list identifiers.now) }
 {
     of_kinds(alloc, &ObjectKind::ALL, identifiers)

@@ -1,17 +1,20 @@
-ghost use Rattle.std.specs.Prelude.{◌≡◌, All, IfOk, map};
+ghost use Rattle.std.specs.Prelude.{◌≡◌, All, IfOk, Some, map};
 ghost use Rattle.bac_values.specs.BitString.{IsBitString};
 ghost use Rattle.bac_values.specs.declared.value.Value.TheVariants as values;
 ghost use Rattle.bac_tags.specs.Values.{IsWritable};
 ghost use Rattle.bac_tags.specs.Writing.{written_object, written_value};
 ghost use Rattle.property_values.specs.declared.content.Content.TheVariants.{Elements};
-ghost use Rattle.property_values.specs.Properties.{array_of_values, flags, list_of_values, one, written_time_stamp};
+ghost use Rattle.property_values.specs.Properties.{array_of_values, flags, list_of_values, one, reference_to, written_time_stamp};
 
 use crate::Content;
-use bac_tags::{write_closing, write_object, write_opening, write_stamp, write_value};
-use bac_values::{Bits, Items, NoMemory, ObjectId, Stamp, Text, Value, push};
+use bac_tags::{
+    write_closing, write_object, write_opening, write_stamp, write_unsigned, write_value,
+};
+use bac_values::{Bits, Items, NoMemory, ObjectId, PropertyId, Stamp, Text, Value, push};
 use std::alloc::Global;
 
-fn octets_of(alloc: Global, value: &Value) -> Result<Items<u8>, NoMemory>
+/// The octets of a value.
+pub(crate) fn octets_of(alloc: Global, value: &Value) -> Result<Items<u8>, NoMemory>
     requires writable { IsWritable value.now }
     ensures octets { IfOk result (λ octets. octets ≡ written_value value.now) }
 {
@@ -169,4 +172,26 @@ pub(crate) fn array_of_objects(alloc: Global, objects: &[ObjectId]) -> Result<Co
     Ok(Content::Elements {
         elements: Items::of(elements),
     })
+}
+
+// An object and its Present_Value (BACnetObjectPropertyReference).
+fn present_value_of(alloc: Global, object: ObjectId) -> Result<Content, NoMemory>
+    ensures reference { IfOk result (λ content. content ≡ reference_to (Some object)) }
+{
+    let mut octets = Vec::new(alloc);
+    write_object(&mut octets, Some(0), object)?;
+    write_unsigned(&mut octets, Some(1), PropertyId::PRESENT_VALUE.0)?;
+    Ok(Content::Whole {
+        octets: Items::of(octets),
+    })
+}
+
+/// A reference to an object's Present_Value (BACnetObjectPropertyReference); null where there is none.
+pub fn reference_to(alloc: Global, object: Option<ObjectId>) -> Result<Content, NoMemory>
+    ensures reference { IfOk result (λ content. content ≡ reference_to object) }
+{
+    match object {
+        Some(object) => present_value_of(alloc, object),
+        None => one(alloc, &Value::Null),
+    }
 }

@@ -1,16 +1,17 @@
-ghost use Rattle.std.specs.Prelude.{◌≡◌, All, IfOk, IsTrue};
+ghost use Rattle.std.specs.Prelude.{◌≡◌, All, IfOk, IsTrue, None};
 ghost use Rattle.std.specs.Option.{option_copied};
 ghost use Rattle.bac_values.specs.declared.value.Value.TheVariants as values;
 ghost use Rattle.bac_tags.specs.Values.{IsWritable};
 ghost use Rattle.object_table.specs.Objects.{IsObject, IsObjectOf, IsWithin};
 ghost use Rattle.object_table.specs.Properties.{has};
-ghost use Rattle.property_values.specs.Properties.{limit_of, object_content, one, or_null, or_zero, row_content, status_of, values_of};
+ghost use Rattle.property_values.specs.Properties.{is_of_alarm, limit_of, object_content, one, or_null, or_zero, row_content, status_of, values_of};
 ghost use Rattle.property_values.specs.Reading.{AnswersContent};
 
 use crate::encoding::{
     array_of_stamps, array_of_values, boolean, enumerated, four_flags, list_of_values, object, one,
-    text, three_flags, two_flags, unsigned,
+    reference_to, text, three_flags, two_flags, unsigned,
 };
+use crate::texts::{array_of_texts, texts_that_came};
 use crate::{Content, ReadFault};
 use bac_values::{EventState, NoMemory, ObjectKind, PropertyId, Value};
 use event_machine::Alarm;
@@ -72,17 +73,45 @@ fn values_of(alloc: Global, kind: Option<ObjectKind>, values: &[Value]) -> Resul
     }
 }
 
-// What a property that a value object has is, by the object's alarm.
+// What a property that a value object has for its alarm is, by the alarm and by whether the object is inhibited.
+fn alarm_content(
+    alloc: Global,
+    alarm: &Alarm,
+    inhibited: bool,
+    row: &Row,
+    property: ObjectProperty,
+) -> Result<Content, NoMemory>
+    requires of_alarm { IsTrue (is_of_alarm property) }
+    ensures content { IfOk result (λ content. content ≡ object_content None alarm.now inhibited row.now property) }
+{
+    let site = &row.site;
+    match property {
+        ObjectProperty::EventState => enumerated(alloc, u32::from(alarm.state().number())),
+        ObjectProperty::EventEnable => three_flags(alloc, site.enable),
+        ObjectProperty::EventAlgorithmInhibit => boolean(alloc, inhibited),
+        ObjectProperty::EventAlgorithmInhibitRef => reference_to(alloc, site.inhibit_ref),
+        ObjectProperty::AckedTransitions => three_flags(alloc, alarm.acked()),
+        ObjectProperty::NotifyType => enumerated(alloc, u32::from(site.notify)),
+        ObjectProperty::EventDetectionEnable => boolean(alloc, site.detection),
+        ObjectProperty::NotificationClass => optional_number(alloc, site.class),
+        ObjectProperty::EventTimeStamps => array_of_stamps(alloc, &alarm.stamps()),
+        ObjectProperty::EventMessageTexts => texts_that_came(alloc, alarm, site.texts.as_slice()),
+        _ => array_of_texts(alloc, site.texts.as_slice()),
+    }
+}
+
+// What a property that a value object has is, by the object's alarm and by whether it is inhibited.
 fn object_content(
     alloc: Global,
     kind: Option<ObjectKind>,
     alarm: &Alarm,
+    inhibited: bool,
     row: &Row,
     property: ObjectProperty,
 ) -> Result<Content, NoMemory>
     requires allowed { IsObjectOf kind row.now.site }
     requires has { IsTrue (has kind row.now.site property) }
-    ensures content { IfOk result (λ content. content ≡ object_content kind alarm.now row.now property) }
+    ensures content { IfOk result (λ content. content ≡ object_content kind alarm.now inhibited row.now property) }
 {
     let site = &row.site;
     match property {
@@ -91,7 +120,6 @@ fn object_content(
         ObjectProperty::ObjectType => enumerated(alloc, u32::from(site.object.number())),
         ObjectProperty::PresentValue => one(alloc, &site.value),
         ObjectProperty::StatusFlags => four_flags(alloc, status_of(alarm, row)),
-        ObjectProperty::EventState => enumerated(alloc, u32::from(alarm.state().number())),
         ObjectProperty::Reliability => {
             enumerated(alloc, u32::from(reliability_of_row(row).number()))
         }
@@ -107,25 +135,21 @@ fn object_content(
         ObjectProperty::AlarmValue => optional_value(alloc, site.alarm_value.as_ref()),
         ObjectProperty::AlarmValues => values_of(alloc, kind, site.alarm_values.as_slice()),
         ObjectProperty::FaultValues => values_of(alloc, kind, site.fault_values.as_slice()),
-        ObjectProperty::EventEnable => three_flags(alloc, site.enable),
-        ObjectProperty::EventAlgorithmInhibit => boolean(alloc, site.inhibit),
-        ObjectProperty::AckedTransitions => three_flags(alloc, alarm.acked()),
-        ObjectProperty::NotifyType => enumerated(alloc, u32::from(site.notify)),
-        ObjectProperty::EventDetectionEnable => boolean(alloc, site.detection),
-        ObjectProperty::NotificationClass => optional_number(alloc, site.class),
-        ObjectProperty::EventTimeStamps => array_of_stamps(alloc, &alarm.stamps()),
+        _ => alarm_content(alloc, alarm, inhibited, row, property),
     }
 }
 
-/// What a property of a value object with an alarm is, or why there is none.
+/// What a property of a value object with an alarm is, or why there is none. Event_Algorithm_Inhibit is whether the object
+/// is inhibited.
 pub fn row_content(
     alloc: Global,
     alarm: &Alarm,
+    inhibited: bool,
     row: &Row,
     property: PropertyId,
 ) -> Result<Content, ReadFault>
     requires allowed { IsObject row.now.site }
-    ensures content { AnswersContent result (row_content alarm.now row.now property.0) }
+    ensures content { AnswersContent result (row_content alarm.now inhibited row.now property.0) }
 {
     let Some(known) = ObjectProperty::of_number(property.0) else {
         return Err(ReadFault::UNKNOWN_PROPERTY);
@@ -134,5 +158,5 @@ pub fn row_content(
         return Err(ReadFault::UNKNOWN_PROPERTY);
     }
     let kind = row.site.object.kind();
-    Ok(object_content(alloc, kind, alarm, row, known)?)
+    Ok(object_content(alloc, kind, alarm, inhibited, row, known)?)
 }

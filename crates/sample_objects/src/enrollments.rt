@@ -1,16 +1,18 @@
-ghost use Rattle.std.specs.Prelude.{◌≡◌, IfOk, length};
+ghost use Rattle.std.specs.Prelude.{◌≡◌, [], IfOk, None, false, length};
 ghost use Rattle.bac_values.specs.Identifier.{number_of_kind};
 ghost use Rattle.bac_values.specs.declared.object_kind.ObjectKind.TheVariants.{EventEnrollment};
 ghost use Rattle.enrollment.specs.Enrollments.{IsEnrollment};
 
 use algorithm_rules::Algorithm;
-use bac_values::{ObjectId, ObjectKind, Text};
+use bac_values::{Items, ObjectId, ObjectKind, Text};
 use enrollment::EnrollmentSite;
 use std::alloc::Global;
 use std::test::Fail;
 
-/// An enrollment of class 7, of which each transition is told at once, as an alarm, without limits.
+/// An enrollment of class 7, of which each transition is told at once, as an alarm, without limits, texts and a reference
+/// that inhibits it.
 pub fn watching(
+    alloc: Global,
     object: ObjectId,
     name: Text,
     algorithm: Algorithm,
@@ -26,6 +28,9 @@ pub fn watching(
     ensures high { result.high ≡ 0 }
     ensures notify { result.notify ≡ 0 }
     ensures enable { length result.enable ≡ 3 }
+    ensures inhibit { result.inhibit ≡ false }
+    ensures inhibit_ref { result.inhibit_ref ≡ None }
+    ensures texts { result.texts ≡ [] }
 {
     EnrollmentSite {
         object,
@@ -42,6 +47,8 @@ pub fn watching(
         time_delay_normal: None,
         detection: true,
         inhibit: false,
+        inhibit_ref: None,
+        texts: Items::of(Vec::new(alloc)),
     }
 }
 
@@ -57,6 +64,7 @@ pub fn follower(alloc: Global) -> Result<EnrollmentSite, Fail>
     let monitored = ObjectId::of_kind(ObjectKind::IntegerValue, 2)?;
     let feedback = ObjectId::of_kind(ObjectKind::IntegerValue, 1)?;
     let mut site = watching(
+        alloc,
         object,
         name,
         Algorithm::CommandFailure,
@@ -79,7 +87,14 @@ pub fn mirror(alloc: Global) -> Result<EnrollmentSite, Fail>
     let object = ObjectId::of_kind(ObjectKind::EventEnrollment, 2)?;
     let name = Text::new(alloc, "Mirror")?;
     let level = ObjectId::of_kind(ObjectKind::IntegerValue, 1)?;
-    let mut site = watching(object, name, Algorithm::CommandFailure, level, Some(level));
+    let mut site = watching(
+        alloc,
+        object,
+        name,
+        Algorithm::CommandFailure,
+        level,
+        Some(level),
+    );
     site.notify = 1;
     site.inhibit = true;
     Ok(site)
@@ -94,9 +109,30 @@ pub fn range(alloc: Global) -> Result<EnrollmentSite, Fail>
     let object = ObjectId::of_kind(ObjectKind::EventEnrollment, 3)?;
     let name = Text::new(alloc, "Range")?;
     let flow = ObjectId::of_kind(ObjectKind::PositiveIntegerValue, 1)?;
-    let mut site = watching(object, name, Algorithm::UnsignedRange, flow, None);
+    let mut site = watching(alloc, object, name, Algorithm::UnsignedRange, flow, None);
     site.low = 20;
     site.high = 80;
     site.time_delay = 3;
+    Ok(site)
+}
+
+/// Enrollment 4: COMMAND_FAILURE of binary value 1, which is its own feedback, and which inhibits it.
+pub fn guard(alloc: Global) -> Result<EnrollmentSite, Fail>
+    ensures allowed { IfOk result (λ site. IsEnrollment site) }
+    ensures identifier { IfOk result (λ site. site.object ≡ record { number = number_of_kind EventEnrollment; instance = 4 }) }
+    ensures class { IfOk result (λ site. site.class ≡ 7) }
+{
+    let object = ObjectId::of_kind(ObjectKind::EventEnrollment, 4)?;
+    let name = Text::new(alloc, "Guard")?;
+    let mode = ObjectId::of_kind(ObjectKind::BinaryValue, 1)?;
+    let mut site = watching(
+        alloc,
+        object,
+        name,
+        Algorithm::CommandFailure,
+        mode,
+        Some(mode),
+    );
+    site.inhibit_ref = Some(mode);
     Ok(site)
 }

@@ -7,5 +7,5 @@
 mod enrollments;
 mod objects;
 
-pub use enrollments::{follower, mirror, range, watching};
-pub use objects::{flow, label, level, plain, tank};
+pub use enrollments::{follower, guard, mirror, range, watching};
+pub use objects::{door, flow, label, level, mode, plain, tank};

@@ -1,6 +1,6 @@
 ghost use Rattle.std.specs.Prelude.{◌≡◌, ◌≤◌, [], IfOk, None, Some};
 ghost use Rattle.bac_values.specs.Identifier.{number_of_kind};
-ghost use Rattle.bac_values.specs.declared.object_kind.ObjectKind.TheVariants.{IntegerValue, PositiveIntegerValue};
+ghost use Rattle.bac_values.specs.declared.object_kind.ObjectKind.TheVariants.{BinaryValue, IntegerValue, PositiveIntegerValue};
 ghost use Rattle.object_table.specs.Objects.{IsObject, LacksAlarmKeys};
 
 use bac_values::{Items, ObjectId, ObjectKind, Text, Value};
@@ -36,6 +36,8 @@ pub fn plain(alloc: Global, object: ObjectId, name: Text, value: Value) -> Objec
         time_delay_normal: None,
         detection: false,
         inhibit: false,
+        inhibit_ref: None,
+        texts: Items::of(Vec::new(alloc)),
         low: 0,
         high: 0,
         deadband: 0,
@@ -107,5 +109,40 @@ pub fn tank(alloc: Global, instance: u32, class: u32, time_delay: u32) -> Result
     site.high = 80;
     site.deadband = 5;
     site.limit_enable = [true; 2];
+    Ok(site)
+}
+
+/// Binary value 1: 0 is inactive, 1 is active. It has no class.
+pub fn mode(alloc: Global, number: u32) -> Result<ObjectSite, Fail>
+    requires value { number ≤ 1 }
+    ensures object { IfOk result (λ site. IsObject site) }
+    ensures identifier { IfOk result (λ site. site.object ≡ record { number = number_of_kind BinaryValue; instance = 1 }) }
+    ensures class { IfOk result (λ site. site.class ≡ None) }
+{
+    let object = ObjectId::of_kind(ObjectKind::BinaryValue, 1)?;
+    let name = Text::new(alloc, "Mode")?;
+    Ok(plain(alloc, object, name, Value::Enumerated(number)))
+}
+
+/// Binary value 2 of class 7: a door, which is in alarm while it is active. Binary value 1 inhibits it, and it has three
+/// texts, of which that for TO_FAULT is empty.
+pub fn door(alloc: Global) -> Result<ObjectSite, Fail>
+    ensures object { IfOk result (λ site. IsObject site) }
+    ensures identifier { IfOk result (λ site. site.object ≡ record { number = number_of_kind BinaryValue; instance = 2 }) }
+    ensures class { IfOk result (λ site. site.class ≡ Some 7) }
+{
+    let object = ObjectId::of_kind(ObjectKind::BinaryValue, 2)?;
+    let name = Text::new(alloc, "Door")?;
+    let mode = ObjectId::of_kind(ObjectKind::BinaryValue, 1)?;
+    let opened = Text::new(alloc, "The door is open")?;
+    let unknown = Text::new(alloc, "")?;
+    let closed = Text::new(alloc, "The door is closed")?;
+    let mut site = plain(alloc, object, name, Value::Enumerated(0));
+    site.class = Some(7);
+    site.enable = [true; 3];
+    site.detection = true;
+    site.inhibit_ref = Some(mode);
+    site.texts = Items::of(vec![in alloc; opened, unknown, closed]?);
+    site.alarm_value = Some(Value::Enumerated(1));
     Ok(site)
 }

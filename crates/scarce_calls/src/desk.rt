@@ -1,6 +1,5 @@
 ghost use Rattle.std.specs.Prelude.{IfErr, IfOk};
 ghost use Rattle.turnstile.specs.Passes.{IsOf};
-ghost use Rattle.alarm_core.specs.Limits.{KeepsLimits};
 ghost use Rattle.alarm_core.specs.Sites.{IsSite};
 ghost use Rattle.floor_desk.specs.Moves.{IsNotOut};
 
@@ -8,7 +7,7 @@ use crate::missed::Missed;
 use crate::report::{DISK_FAULT, Text, say};
 use alarm_core::Site;
 use alarm_journal::OpenFault;
-use bac_values::{Input, Items, ObjectId, ObjectKind, Peer, Value};
+use bac_values::{Input, Items, MOST_PENDING_CALLS, ObjectId, ObjectKind, Peer, Value};
 use floor_desk::{CommitFault, Desk, DeskPass, EnterFault, Floor, Kind, Standing, Ticket};
 use ground_io::MemoryGround;
 use state_codec::need;
@@ -30,7 +29,7 @@ const START: u64 = 1_700_000_000_000;
 const TEXT: &[u8] = b"site";
 
 // How many inputs are entered before one comes too soon.
-const MOST_PENDING: u32 = 1_024;
+const MOST_PENDING: u32 = MOST_PENDING_CALLS as u32;
 
 // ReadProperty of the tank's present value.
 const READ: [u8; 17] = [
@@ -111,7 +110,7 @@ fn read_twice(alloc: Global) -> Result<Twice, Missed> {
 }
 
 fn blank(alloc: Global, site: &Site) -> Result<MemoryGround, Missed>
-    requires limits { KeepsLimits site.now }
+    requires site { IsSite site.now }
 {
     let size = need(site, TEXT.len() as u64) as usize;
     let contents = vec![in alloc; 0u8; size]?;
@@ -424,7 +423,6 @@ fn opened(
     device: MemoryGround,
 ) -> Result<(Shared, Caller), (MemoryGround, OpenFault)>
     requires site { IsSite site.now }
-    requires limits { KeepsLimits site.now }
     ensures here { IfOk result (λ opened. IsOf opened.0 opened.1) }
 {
     match Desk::open(alloc, site, TEXT, device) {
@@ -455,7 +453,6 @@ fn answers_on<R: Wait>(
     tank: (ObjectId, Twice),
 ) -> Result<Option<Answers>, Missed>
     requires site { IsSite site.now }
-    requires limits { KeepsLimits site.now }
 {
     match opened(alloc, site, device) {
         Ok((desk, pass)) => {
@@ -469,7 +466,6 @@ fn answers_on<R: Wait>(
 /// A desk on a blank ground in memory: as many inputs as may wait for a commit, two callers, and the end.
 pub(crate) fn shared<R: Wait>(rt: &R, alloc: Global, site: &Site) -> Result<Text, Missed>
     requires site { IsSite site.now }
-    requires limits { KeepsLimits site.now }
 {
     let Ok(object) = ObjectId::of_kind(ObjectKind::IntegerValue, 1) else {
         return Err(Missed::Other);

@@ -1,5 +1,4 @@
-ghost use Rattle.std.specs.Prelude.{◌≡◌, ◌<◌, ◌≤◌, ◌^◌, IfOk, OnErr};
-ghost use Rattle.bac_values.specs.Limits.{most_events};
+ghost use Rattle.std.specs.Prelude.{◌≡◌, IfOk};
 ghost use Rattle.bac_values.specs.Moments.{IsMoment};
 ghost use Rattle.alarm_core.specs.Allowed.{IsAllowed};
 ghost use Rattle.alarm_core.specs.Sites.{IsSite};
@@ -12,14 +11,11 @@ use crate::records::{say_record, say_state};
 use crate::report::{Text, say_report};
 use crate::script::{Script, lines_of, next_line};
 use alarm_core::{Core, Event, Outcome, Site, StepFault};
-use bac_values::{FIRST_MOMENT, LAST_MOMENT, MOST_EVENTS, ReportLine, Send};
-use event_machine::Steps;
+use bac_values::{FIRST_MOMENT, LAST_MOMENT, ReportLine, Send};
 use script_lines::Line;
 use service_desk::{Decision, decide};
 use state_codec::allowed_event_has_record;
 use std::alloc::Global;
-use std::marker::Brand;
-use std::sync::ledger::{Blank, Ledger};
 
 // How many lines a script has at most.
 const MOST_LINES: u32 = 100;
@@ -44,27 +40,13 @@ fn decided(alloc: Global, core: &Core, line: &Line) -> Result<Decision, Missed>
     }
 }
 
-// The core takes an event. Its steps are counted in a ledger that nobody reads.
-fn counted<L: Ledger>(core: &mut Core, event: &Event, blank: Blank) -> Result<Outcome, StepFault>
-    requires name { blank.name ≡ L.name }
-    requires parts { blank.parts ≡ L.parts }
-    requires some { 0 < blank.parts }
+// The core takes an event, in two tries.
+fn stepped(alloc: Global, core: &mut Core, event: &Event) -> Result<Outcome, StepFault>
     requires moment { IsMoment event.now.moment }
     requires allowed { IsAllowed core.old event.now.act }
-    requires few { core.old.events < most_events }
-    ensures same { OnErr result (core.new ≡ core.old) }
 {
-    let mut steps = Steps::<L>::new(blank);
-    core.step(event, &mut steps)
-}
-
-fn stepped(core: &mut Core, event: &Event) -> Result<Outcome, StepFault>
-    requires moment { IsMoment event.now.moment }
-    requires allowed { IsAllowed core.old event.now.act }
-    requires few { core.old.events < most_events }
-{
-    match counted::<Brand>(core, event, Blank::new(1)) {
-        Err(StepFault::NoMemory) => counted::<Brand>(core, event, Blank::new(1)),
+    match core.take(alloc, event) {
+        Err(StepFault::NoMemory) => core.take(alloc, event),
         answer => answer,
     }
 }
@@ -141,10 +123,7 @@ fn enter(
     requires moment { IsMoment event.now.moment }
     requires allowed { IsAllowed core.old event.now.act }
 {
-    if core.events() >= MOST_EVENTS {
-        return Err(Missed::Other);
-    }
-    match stepped(core, event) {
+    match stepped(alloc, core, event) {
         Ok(outcome) => {
             say_outcome(alloc, text, number, core.events(), outcome)?;
             Ok(true)

@@ -1,5 +1,4 @@
 ghost use Rattle.std.specs.Prelude.{IfOk};
-ghost use Rattle.alarm_core.specs.Limits.{KeepsLimits};
 ghost use Rattle.alarm_core.specs.Sites.{IsSite};
 
 use crate::missed::Missed;
@@ -36,8 +35,8 @@ high = 80
 deadband = 5
 ";
 
-/// A tank with a delay of ten seconds, a label that may be on fire, an enrollment that watches a flow, and a log of the last
-/// two notifications.
+/// A tank with a delay of ten seconds and a text for each transition, a label that may be on fire, an enrollment that watches a
+/// flow where a switch doesn't hold it, a log of the last two notifications, and a binding.
 pub(crate) const PLANT: &str = "[device]
 instance = 1001
 name = \"Plant\"
@@ -61,6 +60,7 @@ instance = 1
 name = \"Tank\"
 value = 50
 class = 7
+texts = [\"High\", \"Broken\", \"Well\"]
 low = 20
 high = 80
 deadband = 5
@@ -80,6 +80,12 @@ instance = 1
 name = \"Flow\"
 value = 50
 
+[[object]]
+kind = \"binary-value\"
+instance = 1
+name = \"Hold\"
+value = \"inactive\"
+
 [[enrollment]]
 instance = 1
 name = \"Range\"
@@ -88,12 +94,17 @@ algorithm = \"unsigned-range\"
 monitored = \"positive-integer-value:1\"
 low = 20
 high = 80
+inhibit_ref = \"binary-value:1\"
 
 [[log]]
 instance = 1
 name = \"Log\"
 size = 2
 classes = [7]
+
+[[binding]]
+device = 2001
+address = \"10.0.0.5:47808\"
 ";
 
 /// Two tanks of two classes. Class 7 tells an operator, who confirms, and a printer, which doesn't; class 8 tells an engineer.
@@ -155,7 +166,6 @@ deadband = 5
 /// The site of a text.
 pub(crate) fn site_of(alloc: Global, text: &str) -> Result<Site, Missed>
     ensures keeps { IfOk result IsSite }
-    ensures limits { IfOk result KeepsLimits }
 {
     let read = match read_site(alloc, text.as_bytes()) {
         Err(SiteFault::NoMemory) => read_site(alloc, text.as_bytes()),

@@ -4,7 +4,7 @@ use Rattle.std.specs.List.{onto_first}
 use Rattle.std.proofs.lemmas.Bool.{cases_Bool}
 use Rattle.ground_io.specs.Trace.{WhereTold}
 use Rattle.script_lines.specs.declared.line.Grammar.{Grammar}
-use Rattle.script_lines.specs.ReadingSteps.{octets_to_come, LinesState}
+use Rattle.script_lines.specs.Reading.{octets_to_come, LinesState}
 use Rattle.script_lines.specs.Script.{is_line_feed, lines_of, next_in, TakesLines, IsWholeLines}
 
 -- what holds from the first to the second and from there to the third, where they are told

@@ -8,7 +8,7 @@ use Rattle.ground_io.specs.Trace.{WhereTold}
 use Rattle.script_lines.specs.declared.line.LineSays.{LineSays}
 use Rattle.script_lines.specs.declared.line.LineSays.TheVariants.{Skipped, Outside, Spells}
 use Rattle.script_lines.specs.Line.{line_says, SpellsLine}
-use Rattle.script_lines.specs.ReadingSteps.{LinesState}
+use Rattle.script_lines.specs.Reading.{LinesState}
 use Rattle.script_lines.specs.Script.{is_line_feed, lines_of, next_by, next_in, TakesLines}
 use Rattle.script_lines.specs.TakingSteps.{TakesLine, behind_line, taken_of}
 use Rattle.script_lines.proofs.FirstLine.{next_first, feed_ends, long_says}

@@ -2,8 +2,8 @@ pub mod Number
 pub mod Words
 pub mod SessionLine
 pub mod Line
-pub mod ReadingSteps
+pub mod Reading
 pub mod Script
 pub mod TakingSteps
 pub mod Report
-pub mod FrontSteps
+pub mod Front

@@ -9,7 +9,7 @@ use Rattle.script_lines.specs.declared.line.LineSays.TheVariants.{Skipped, Outsi
 use Rattle.script_lines.specs.declared.lines.Taken.{Taken}
 use Rattle.script_lines.specs.declared.lines.Taken.TheVariants.{End, Passed, Took}
 use Rattle.script_lines.specs.Line.{IsLineOf}
-use Rattle.script_lines.specs.ReadingSteps.{LinesState}
+use Rattle.script_lines.specs.Reading.{LinesState}
 use Rattle.script_lines.specs.Script.{is_line_feed, lines_of, next_in, ReadsLine}
 
 -- what one line gave: that there is none, as ReadsLine has it for the script's end; that it was skipped, and what comes next is the same; or as ReadsLine has it

@@ -129,7 +129,7 @@ pub struct Lines {
 
 impl Model for Lines {
     ghost use Rattle.std.specs.Prelude.{◌≤◌};
-    ghost use Rattle.script_lines.specs.ReadingSteps.{LinesState};
+    ghost use Rattle.script_lines.specs.Reading.{LinesState};
 
     ghost Value = { LinesState };
 
@@ -142,10 +142,10 @@ impl Lines {
     ghost use Rattle.std.specs.Prelude.{◌≢◌, ◌+◌, ◌<◌, ◌≤◌, [], true, false, position, IfSome, IsOk, OnSome};
     ghost use Rattle.std.specs.List.{before_first, position_or_len};
     ghost use Rattle.script_lines.specs.Line.{HoldsOctets, IsLineOf, SpellsLine, line_says};
-    ghost use Rattle.script_lines.specs.ReadingSteps.{octets_to_come};
+    ghost use Rattle.script_lines.specs.Reading.{octets_to_come};
     ghost use Rattle.ground_io.specs.Trace.{WhereTold};
     ghost use Rattle.script_lines.specs.Script.{is_line_feed, ReadsLine, TakesLines};
-    ghost use Rattle.script_lines.specs.FrontSteps.{front_says};
+    ghost use Rattle.script_lines.specs.Front.{front_says};
     ghost use Rattle.script_lines.specs.TakingSteps.{CountsLine, TakesLine, TakesLineOf, behind_line};
 
     // A reader of a script in a grammar, at its first line.

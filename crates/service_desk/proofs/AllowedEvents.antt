@@ -3,7 +3,7 @@ use Rattle.std.proofs.Common.{◌≡◌, ◌==◌, ℕ, max, Bool, true, false, 
 use Rattle.bac_values.specs.Address.{PeerData}
 use Rattle.bac_values.specs.Identifier.{ObjectIdData}
 use Rattle.bac_values.specs.Pdus.{abort_pdu, error_pdu, reject_pdu, simple_ack_pdu}
-use Rattle.bac_values.specs.Services.{acknowledge_alarm_service, confirmed_event_notification_service, get_event_information_service, read_property_service, read_range_service, who_is_service, write_property_service}
+use Rattle.bac_values.specs.Services.{confirmed_event_notification_service, who_is_service}
 use Rattle.bac_values.specs.declared.input.Input.{Input}
 use Rattle.bac_values.specs.declared.input.Input.TheVariants.{Tick, Pump, Set, Fault, Datagram}
 use Rattle.bac_values.specs.declared.input.SetFault.{SetFault}
@@ -41,8 +41,22 @@ use Rattle.alarm_core.specs.Sites.{IsSite}
 use Rattle.alarm_core.specs.State.{state_of, CoreState}
 use Rattle.service_desk.specs.declared.decision.Decision.{Decision}
 use Rattle.service_desk.specs.declared.decision.Decision.TheVariants.{Ignore, Idle, Reply, Enter}
-use Rattle.service_desk.specs.declared.replies.Requester.{Requester}
-use Rattle.service_desk.specs.Decisions.{EntersAllowed, acknowledge_decision, acknowledge_with, answer_at, apdu_decision, requester_of, names_device, by_kind, change_decision, decision_on, field_decision, has_no_value, i_am, incoming_decision, information_decision, information_with, pump_at, range_decision, read_decision, read_with, request_decision, tick_with, unconfirmed_decision, who_is_decision, write_decision, write_with}
+use Rattle.service_desk.specs.declared.service.Service.{Service}
+use Rattle.service_desk.specs.declared.service.Service.TheVariants.{AcknowledgeAlarm, GetAlarmSummary, GetEnrollmentSummary, ReadProperty, ReadPropertyMultiple, WriteProperty, ReadRange, GetEventInformation}
+use Rattle.service_desk.specs.Requesters.{RequesterData, requester_of}
+use Rattle.service_desk.specs.AcknowledgeAlarm.{acknowledge_with}
+use Rattle.service_desk.specs.ReadProperty.{read_with}
+use Rattle.service_desk.specs.WriteProperty.{change_decision, write_with}
+use Rattle.service_desk.specs.Services.{service_of}
+use Rattle.service_desk.specs.Information.{information_with}
+use Rattle.service_desk.specs.WhoIs.{names_device, i_am, who_is_decision}
+use Rattle.service_desk.specs.NotificationAnswers.{answer_at}
+use Rattle.service_desk.specs.Decisions.{EntersAllowed, apdu_decision, by_kind, decision_on, field_decision, has_no_value, incoming_decision, pump_at, service_decision, tick_with, unconfirmed_decision}
+use Rattle.summaries.specs.ManyRequests.{ObjectAsked}
+use Rattle.summaries.specs.ManySteps.{groups_of}
+use Rattle.summaries.specs.RequestSteps.{enrollment_request_of}
+use Rattle.summaries.specs.declared.filter.Filter.{Filter}
+use Rattle.service_desk.specs.SummaryDecisions.{alarm_summary_decision, enrollment_summary_with, many_with}
 use Rattle.service_desk.proofs.AllowedWrites.{fault_allowed, set_allowed, write_allowed}
 use Rattle.service_desk.proofs.Entering.{verdict_enters}
 
@@ -76,24 +90,36 @@ module _ (state : CoreState) (moment : ℕ) where
   judged WithoutAlarm request transition named e = absurd cc
   judged (WithAlarm alarm) request transition named e = accepts alarm request transition named e
 
-  acknowledge_enters : (requester : Requester) (request : Result AckRequest Malformed) → Enters (acknowledge_with state moment requester request)
+  acknowledge_enters : (requester : RequesterData) (request : Result AckRequest Malformed) → Enters (acknowledge_with state moment requester request)
   acknowledge_enters requester (Err refusal) = tt
   acknowledge_enters requester (Ok request) =
       let found = found_in state request.object in
       verdict_enters state moment requester request.object (acknowledgement_verdict found request) (judged found request)
 
-  read_enters : (requester : Requester) (request : Result ReadRequest Malformed) → Enters (read_with state requester request)
+  read_enters : (requester : RequesterData) (request : Result ReadRequest Malformed) → Enters (read_with state requester request)
   read_enters requester (Err refusal) = tt
   read_enters requester (Ok request) = tt
 
-  change_enters : (requester : Requester) (answer : Result Change WriteFault) → ((change : Change) → answer ≡ Ok change → IsAllowed state (Write change)) → Enters (change_decision moment requester answer)
+  change_enters : (requester : RequesterData) (answer : Result Change WriteFault) → ((change : Change) → answer ≡ Ok change → IsAllowed state (Write change)) → Enters (change_decision moment requester answer)
   change_enters requester (Ok change) allowed = (refl, allowed change refl)
   change_enters requester (Err (write_faults.Error class code)) allowed = tt
   change_enters requester (Err write_faults.NoMemory) allowed = tt
 
-  information_enters : (requester : Requester) (request : Result (Option ObjectIdData) Malformed) → Enters (information_with state requester request)
+  information_enters : (requester : RequesterData) (request : Result (Option ObjectIdData) Malformed) → Enters (information_with state requester request)
   information_enters requester (Err refusal) = tt
   information_enters requester (Ok last) = tt
+
+  alarm_summary_enters : (requester : RequesterData) (parameters : List ℕ) → Enters (alarm_summary_decision state requester parameters)
+  alarm_summary_enters requester [] = tt
+  alarm_summary_enters requester (octet ∷ octets) = tt
+
+  enrollment_summary_enters : (requester : RequesterData) (request : Result Filter Malformed) → Enters (enrollment_summary_with state requester request)
+  enrollment_summary_enters requester (Err refusal) = tt
+  enrollment_summary_enters requester (Ok filter) = tt
+
+  many_enters : (requester : RequesterData) (request : Result (List ObjectAsked) Malformed) → Enters (many_with state requester request)
+  many_enters requester (Err refusal) = tt
+  many_enters requester (Ok groups) = tt
 
   answer_enters : (peer : PeerData) (invoke kind : ℕ) → IsAnswer kind → (waits : Bool) → has_in_flight peer invoke state.outbox ≡ waits →
       Enters (if waits then Enter (answer_at moment peer invoke kind) None None else Ignore)
@@ -109,19 +135,22 @@ module _ (state : CoreState) (moment : ℕ) where
   abbrev AllowsWrites : Type 0
   AllowsWrites = (object : ObjectIdData) (number : ℕ) (index : Option ℕ) (value : Value) (change : Change) → write_of state object number index value ≡ Ok change → IsAllowed state (Write change)
 
-  write_enters : AllowsWrites → (requester : Requester) (request : Result WriteRequest Malformed) → Enters (write_with state moment requester request)
+  write_enters : AllowsWrites → (requester : RequesterData) (request : Result WriteRequest Malformed) → Enters (write_with state moment requester request)
   write_enters writes requester (Err refusal) = tt
   write_enters writes requester (Ok request) =
       change_enters requester (write_of state request.object request.property.0 request.index request.value)
       (λ change e. writes request.object request.property.0 request.index request.value change e)
 
-  request_enters : AllowsWrites → (requester : Requester) (parameters : List ℕ) → Enters (request_decision state moment requester parameters)
-  request_enters writes requester parameters =
-      of_two Enters (requester.service == acknowledge_alarm_service) (acknowledge_decision state moment requester parameters) _ (acknowledge_enters requester (acknowledge_request_of parameters))
-      (of_two Enters (requester.service == read_property_service) (read_decision state requester parameters) _ (read_enters requester (read_property_of parameters))
-      (of_two Enters (requester.service == write_property_service) (write_decision state moment requester parameters) _ (write_enters writes requester (write_property_of parameters))
-      (of_two Enters (requester.service == read_range_service) (range_decision state requester parameters) _ tt
-      (of_two Enters (requester.service == get_event_information_service) (information_decision state requester parameters) _ (information_enters requester (information_request_of parameters)) tt))))
+  service_enters : AllowsWrites → (requester : RequesterData) (parameters : List ℕ) (service : Option Service) → Enters (service_decision state moment requester parameters service)
+  service_enters writes requester parameters (Some AcknowledgeAlarm) = acknowledge_enters requester (acknowledge_request_of parameters)
+  service_enters writes requester parameters (Some GetAlarmSummary) = alarm_summary_enters requester parameters
+  service_enters writes requester parameters (Some GetEnrollmentSummary) = enrollment_summary_enters requester (enrollment_request_of parameters)
+  service_enters writes requester parameters (Some ReadProperty) = read_enters requester (read_property_of parameters)
+  service_enters writes requester parameters (Some ReadPropertyMultiple) = many_enters requester (groups_of parameters)
+  service_enters writes requester parameters (Some WriteProperty) = write_enters writes requester (write_property_of parameters)
+  service_enters writes requester parameters (Some ReadRange) = tt
+  service_enters writes requester parameters (Some GetEventInformation) = information_enters requester (information_request_of parameters)
+  service_enters writes requester parameters None = tt
 
   named_enters : (peer : PeerData) (invoke service kind : ℕ) → IsAnswer kind →
       Enters (if service == confirmed_event_notification_service then (if has_in_flight peer invoke state.outbox then Enter (answer_at moment peer invoke kind) None None else Ignore) else Ignore)
@@ -129,7 +158,7 @@ module _ (state : CoreState) (moment : ℕ) where
       of_two Enters (service == confirmed_event_notification_service) _ Ignore (answer_enters peer invoke kind is (has_in_flight peer invoke state.outbox) refl) tt
 
   apdu_enters : AllowsWrites → (peer : PeerData) (octets : List ℕ) (header : Apdu) → Enters (apdu_decision state moment peer octets header)
-  apdu_enters writes peer octets (Request max_apdu invoke service start) = request_enters writes (requester_of peer max_apdu invoke service) (drop start octets)
+  apdu_enters writes peer octets (Request max_apdu invoke service start) = service_enters writes (requester_of peer max_apdu invoke service) (drop start octets) (service_of service)
   apdu_enters writes peer octets (Segmented invoke) = tt
   apdu_enters writes peer octets (Unconfirmed service start) = unconfirmed_enters peer service (drop start octets)
   apdu_enters writes peer octets (SimpleAck invoke service) = named_enters peer invoke service simple_ack_pdu refl

@@ -65,12 +65,12 @@ row_plain : (kind : Option ObjectKind) (site : ObjectSite) (property : Option Ob
     known_verdict kind site property index value ≡ Ok tt → known_verdict kind site property None value ≡ Ok tt
 row_plain kind site None index value e = e
 row_plain kind site (Some property) index value e =
-    there_or_not (has kind site property) (length_of kind site property) index (value_verdict (writable_tag kind property) (can_be kind site property value) value) e
+    there_or_not (has kind site property) (length_of kind site property) index (value_verdict (writable_tag kind site property) (can_be kind site property value) value) e
 
-site_plain : (property : Option EnrollmentProperty) (index : Option ℕ) (value : Value) → sites.known_verdict property index value ≡ Ok tt → sites.known_verdict property None value ≡ Ok tt
-site_plain None index value e = e
-site_plain (Some property) index value e =
-    second_passed (index_verdict (enrollments.length_of property) index) (value_verdict (sites.writable_tag property) (sites.can_be property value) value) e
+site_plain : (site : EnrollmentSite) (property : Option EnrollmentProperty) (index : Option ℕ) (value : Value) → sites.known_verdict site property index value ≡ Ok tt → sites.known_verdict site property None value ≡ Ok tt
+site_plain site None index value e = e
+site_plain site (Some property) index value e =
+    there_or_not (enrollments.has site property) (enrollments.length_of property) index (value_verdict (sites.writable_tag site property) (sites.can_be site property value) value) e
 
 -- what follows from what is read, or from the fault
 of_read : {X : Type 0} (P Q : Result X ReadFault → Type 0) → ((fault : ReadFault) → P (Err fault) → Q (Err fault)) → ((x : X) → P (Ok x) → Q (Ok x)) → (read : Result X ReadFault) → P read → Q read
@@ -104,8 +104,8 @@ writes_by : (state : CoreState) (site : Option EnrollmentSite) (row : Option Row
 writes_by state (Some site) row kept object number index value change own e =
     let given = property_change object number value in
     record {
-      passes = ok_change (sites.write_verdict number None value) given (site_plain (enrollments.property_of number) index value (passed_verdict (sites.write_verdict number index value) given change e));
-      is = given_change (sites.write_verdict number index value) given change e;
+      passes = ok_change (sites.write_verdict site number None value) given (site_plain site (enrollments.property_of number) index value (passed_verdict (sites.write_verdict site number index value) given change e));
+      is = given_change (sites.write_verdict site number index value) given change e;
     }
 writes_by state None (Some row) kept object number index value change own e =
     let given = property_change object number value in

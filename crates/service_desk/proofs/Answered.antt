@@ -1,8 +1,6 @@
 -- Each confirmed request gets one reply.
-use Rattle.std.proofs.Common.{ℕ, Bool, true, false, if◌then◌else◌, Option, Result, Ok, Err, List, ◌==◌, drop, refl}
-use Rattle.bac_values.specs.Address.{PeerData}
+use Rattle.std.proofs.Common.{ℕ, Option, Some, None, Result, Ok, Err, List, [], ◌∷◌, drop, refl}
 use Rattle.bac_values.specs.Identifier.{ObjectIdData}
-use Rattle.apdu_frame.specs.declared.apdu.Apdu.{Apdu}
 use Rattle.apdu_frame.specs.declared.apdu.Apdu.TheVariants.{Request, Segmented}
 use Rattle.bac_tags.specs.declared.malformed.Malformed.{Malformed}
 use Rattle.event_services.specs.declared.acknowledge.AckRequest.{AckRequest}
@@ -20,49 +18,72 @@ use Rattle.object_table.specs.declared.faults.WriteFault.TheVariants as write_fa
 use Rattle.alarm_core.specs.Found.{found_in}
 use Rattle.alarm_core.specs.Reading.{write_of}
 use Rattle.alarm_core.specs.State.{CoreState}
-use Rattle.service_desk.specs.declared.decision.Decision.{Decision}
-use Rattle.service_desk.specs.declared.replies.Requester.{Requester}
-use Rattle.service_desk.specs.Decisions.{acknowledge_with, change_decision, information_with, read_with, request_decision, requester_of, verdict_decision, write_with}
+use Rattle.service_desk.specs.declared.service.Service.{Service}
+use Rattle.service_desk.specs.declared.service.Service.TheVariants.{AcknowledgeAlarm, GetAlarmSummary, GetEnrollmentSummary, ReadProperty, ReadPropertyMultiple, WriteProperty, ReadRange, GetEventInformation}
+use Rattle.service_desk.specs.Requesters.{RequesterData, requester_of}
+use Rattle.service_desk.specs.AcknowledgeAlarm.{acknowledge_with, verdict_decision}
+use Rattle.service_desk.specs.ReadProperty.{read_with}
+use Rattle.service_desk.specs.WriteProperty.{change_decision, write_with}
+use Rattle.service_desk.specs.Information.{information_with}
+use Rattle.service_desk.specs.Services.{service_of}
+use Rattle.service_desk.specs.Decisions.{service_decision}
+use Rattle.summaries.specs.ManyRequests.{ObjectAsked}
+use Rattle.summaries.specs.ManySteps.{groups_of}
+use Rattle.summaries.specs.RequestSteps.{enrollment_request_of}
+use Rattle.summaries.specs.declared.filter.Filter.{Filter}
+use Rattle.service_desk.specs.SummaryDecisions.{alarm_summary_decision, enrollment_summary_with, many_with}
 use Rattle.service_desk.specs.Laws.{EachRequestIsAnswered, HasOneReply}
 
-of_verdict : (moment : ℕ) (requester : Requester) (object : ObjectIdData) (verdict : Verdict) → HasOneReply (verdict_decision moment requester object verdict)
+of_verdict : (moment : ℕ) (requester : RequesterData) (object : ObjectIdData) (verdict : Verdict) → HasOneReply (verdict_decision moment requester object verdict)
 of_verdict moment requester object (Accept transition named) = (refl, refl)
 of_verdict moment requester object Already = tt
 of_verdict moment requester object (Error class code) = tt
 
-of_acknowledgement : (state : CoreState) (moment : ℕ) (requester : Requester) (read : Result AckRequest Malformed) → HasOneReply (acknowledge_with state moment requester read)
+of_acknowledgement : (state : CoreState) (moment : ℕ) (requester : RequesterData) (read : Result AckRequest Malformed) → HasOneReply (acknowledge_with state moment requester read)
 of_acknowledgement state moment requester (Err refusal) = tt
 of_acknowledgement state moment requester (Ok request) = of_verdict moment requester request.object (acknowledgement_verdict (found_in state request.object) request)
 
-of_read : (state : CoreState) (requester : Requester) (read : Result ReadRequest Malformed) → HasOneReply (read_with state requester read)
+of_read : (state : CoreState) (requester : RequesterData) (read : Result ReadRequest Malformed) → HasOneReply (read_with state requester read)
 of_read state requester (Err refusal) = tt
 of_read state requester (Ok request) = tt
 
-of_change : (moment : ℕ) (requester : Requester) (checked : Result Change WriteFault) → HasOneReply (change_decision moment requester checked)
+of_change : (moment : ℕ) (requester : RequesterData) (checked : Result Change WriteFault) → HasOneReply (change_decision moment requester checked)
 of_change moment requester (Ok change) = (refl, refl)
 of_change moment requester (Err (write_faults.Error class code)) = tt
 of_change moment requester (Err write_faults.NoMemory) = tt
 
-of_write : (state : CoreState) (moment : ℕ) (requester : Requester) (read : Result WriteRequest Malformed) → HasOneReply (write_with state moment requester read)
+of_write : (state : CoreState) (moment : ℕ) (requester : RequesterData) (read : Result WriteRequest Malformed) → HasOneReply (write_with state moment requester read)
 of_write state moment requester (Err refusal) = tt
 of_write state moment requester (Ok request) = of_change moment requester (write_of state request.object request.property.0 request.index request.value)
 
-of_information : (state : CoreState) (requester : Requester) (read : Result (Option ObjectIdData) Malformed) → HasOneReply (information_with state requester read)
+of_information : (state : CoreState) (requester : RequesterData) (read : Result (Option ObjectIdData) Malformed) → HasOneReply (information_with state requester read)
 of_information state requester (Err refusal) = tt
 of_information state requester (Ok last) = tt
 
-either : (test : Bool) (first second : Decision) → HasOneReply first → HasOneReply second → HasOneReply (if test then first else second)
-either true first second a b = a
-either false first second a b = b
+of_alarm_summary : (state : CoreState) (requester : RequesterData) (parameters : List ℕ) → HasOneReply (alarm_summary_decision state requester parameters)
+of_alarm_summary state requester [] = tt
+of_alarm_summary state requester (octet ∷ octets) = tt
 
-of_request : (state : CoreState) (moment : ℕ) (requester : Requester) (parameters : List ℕ) → HasOneReply (request_decision state moment requester parameters)
-of_request state moment requester parameters =
-    either (requester.service == 0) _ _ (of_acknowledgement state moment requester (acknowledge_request_of parameters))
-    (either (requester.service == 12) _ _ (of_read state requester (read_property_of parameters))
-    (either (requester.service == 15) _ _ (of_write state moment requester (write_property_of parameters))
-    (either (requester.service == 26) _ _ tt (either (requester.service == 29) _ _ (of_information state requester (information_request_of parameters)) tt))))
+of_enrollment_summary : (state : CoreState) (requester : RequesterData) (read : Result Filter Malformed) → HasOneReply (enrollment_summary_with state requester read)
+of_enrollment_summary state requester (Err refusal) = tt
+of_enrollment_summary state requester (Ok filter) = tt
+
+of_many : (state : CoreState) (requester : RequesterData) (read : Result (List ObjectAsked) Malformed) → HasOneReply (many_with state requester read)
+of_many state requester (Err refusal) = tt
+of_many state requester (Ok groups) = tt
+
+of_service : (state : CoreState) (moment : ℕ) (requester : RequesterData) (parameters : List ℕ) (service : Option Service) → HasOneReply (service_decision state moment requester parameters service)
+of_service state moment requester parameters (Some AcknowledgeAlarm) = of_acknowledgement state moment requester (acknowledge_request_of parameters)
+of_service state moment requester parameters (Some GetAlarmSummary) = of_alarm_summary state requester parameters
+of_service state moment requester parameters (Some GetEnrollmentSummary) = of_enrollment_summary state requester (enrollment_request_of parameters)
+of_service state moment requester parameters (Some ReadProperty) = of_read state requester (read_property_of parameters)
+of_service state moment requester parameters (Some ReadPropertyMultiple) = of_many state requester (groups_of parameters)
+of_service state moment requester parameters (Some WriteProperty) = of_write state moment requester (write_property_of parameters)
+of_service state moment requester parameters (Some ReadRange) = tt
+of_service state moment requester parameters (Some GetEventInformation) = of_information state requester (information_request_of parameters)
+of_service state moment requester parameters None = tt
 
 pub each_answered : EachRequestIsAnswered
-each_answered state moment peer octets (Request max_apdu invoke service start) is = of_request state moment (requester_of peer max_apdu invoke service) (drop start octets)
+each_answered state moment peer octets (Request max_apdu invoke service start) is = of_service state moment (requester_of peer max_apdu invoke service) (drop start octets) (service_of service)
 each_answered state moment peer octets (Segmented invoke) is = tt
 each_answered state moment peer octets _ is = absurd is

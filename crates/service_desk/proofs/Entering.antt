@@ -7,10 +7,11 @@ use Rattle.ack_alarm.specs.Verdicts.{AcceptsAllowed}
 use Rattle.alarm_core.specs.Found.{found_in}
 use Rattle.alarm_core.specs.State.{CoreState}
 use Rattle.service_desk.specs.declared.decision.Decision.{Decision}
-use Rattle.service_desk.specs.declared.replies.Requester.{Requester}
-use Rattle.service_desk.specs.Decisions.{EntersAllowed, verdict_decision}
+use Rattle.service_desk.specs.Requesters.{RequesterData}
+use Rattle.service_desk.specs.AcknowledgeAlarm.{verdict_decision}
+use Rattle.service_desk.specs.Decisions.{EntersAllowed}
 
-pub verdict_enters : (state : CoreState) (moment : ℕ) (requester : Requester) (object : ObjectIdData) (verdict : Verdict) → AcceptsAllowed (found_in state object) verdict →
+pub verdict_enters : (state : CoreState) (moment : ℕ) (requester : RequesterData) (object : ObjectIdData) (verdict : Verdict) → AcceptsAllowed (found_in state object) verdict →
     EntersAllowed state moment (verdict_decision moment requester object verdict)
 verdict_enters state moment requester object (Accept transition named) accepts = (refl, accepts transition named refl)
 verdict_enters state moment requester object Already accepts = tt

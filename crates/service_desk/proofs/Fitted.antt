@@ -1,4 +1,4 @@
--- How many leading records of a range an requester takes.
+-- How many leading records of a range a requester takes.
 use Rattle.std.proofs.Common.{◌≡◌, ℕ, ◌+◌, ◌-◌, ◌<◌, ◌≤◌, Bool, false, List, [], ◌∷◌, ◌++◌, length, refl, sym, ◌∙◌, ap, arith, Option, Some}
 use Rattle.std.specs.Prelude.{flat_map, nat_eq, nat_le, nat_lt}
 use Rattle.std.proofs.lemmas.Bool.{eqb-true, le-leb, leb-true}
@@ -10,7 +10,7 @@ use Rattle.property_services.specs.Writing.{written_range_ack, written_reference
 use Rattle.bac_tags.specs.ParameterWriting.{written_if_given, written_enclosed}
 use Rattle.event_log.specs.declared.log_range.LogRange.{LogRange}
 use Rattle.event_log.specs.Log.{EventLogState}
-use Rattle.service_desk.specs.declared.replies.Requester.{Requester}
+use Rattle.service_desk.specs.Requesters.{RequesterData}
 use Rattle.service_desk.specs.Ranges.{first_sequence, greatest, items_from, range_body, range_fits, range_flags, records_that_fit, written_item}
 use Rattle.service_desk.proofs.Greatest.{by_case, greatest_same}
 use Rattle.service_desk.proofs.Room.{has_room}
@@ -65,7 +65,7 @@ same_test a b c d to back =
     by_case (nat_le a b) (λ yes. yes ∙ sym (le-leb c d (to (leb-true a b yes)))) (λ no. by_case (nat_le c d) (λ yes. le-leb a b (back (leb-true c d yes)) ∙ sym yes) (λ other. no ∙ sym other))
 
 -- with the room for so many octets, as many leading records are sent as have room
-sent_is : (requester : Requester) (request : RangeRequest) (log : EventLogState) (range : LogRange) →
+sent_is : (requester : RequesterData) (request : RangeRequest) (log : EventLogState) (range : LogRange) →
     greatest (has_room (requester.max_apdu - octets_round request log range - 2) log range) range.count ≡ records_that_fit requester request log range
 sent_is requester request log range =
     greatest_same (has_room (requester.max_apdu - octets_round request log range - 2) log range) (range_fits requester request log range) range.count (λ n some.
@@ -73,7 +73,7 @@ sent_is requester request log range =
     let size = some_octets n in
     same_test _ _ _ _ (λ fits. omega (arith, long, size, fits)) (λ fits. omega (arith, long, size, fits)))
 
-pub counted_is_sent : (requester : Requester) (request : RangeRequest) (log : EventLogState) (range : LogRange) (round room counted : ℕ) → round ≡ octets_round request log range → room ≡ requester.max_apdu - round - 2 →
+pub counted_is_sent : (requester : RequesterData) (request : RangeRequest) (log : EventLogState) (range : LogRange) (round room counted : ℕ) → round ≡ octets_round request log range → room ≡ requester.max_apdu - round - 2 →
     counted ≡ greatest (has_room room log range) range.count → counted ≡ records_that_fit requester request log range
 counted_is_sent requester request log range round room counted round_is room_is counted_is =
     counted_is ∙ ap (λ r. greatest (has_room r log range) range.count) (room_is ∙ ap (λ r. requester.max_apdu - r - 2) round_is) ∙ sent_is requester request log range

@@ -1,5 +1,5 @@
 -- No reply is longer than its requester takes.
-use Rattle.std.proofs.Common.{ℕ, ◌≤◌, Bool, true, false, if◌then◌else◌, Result, Ok, Err, List, Option, bit_and, ◌==◌, sym, subst, lit≤}
+use Rattle.std.proofs.Common.{ℕ, ◌≤◌, Bool, true, false, if◌then◌else◌, Result, Ok, Err, List, [], ◌∷◌, Option, Some, None, bit_and, ◌==◌, sym, subst, lit≤}
 use Rattle.bac_values.specs.Identifier.{ObjectIdData}
 use Rattle.apdu_frame.specs.Headers.{max_apdu_of}
 use Rattle.bac_tags.specs.declared.malformed.Malformed.{Malformed}
@@ -22,11 +22,22 @@ use Rattle.alarm_core.specs.Information.{has_more, summaries_of}
 use Rattle.alarm_core.specs.Logs.{log_in}
 use Rattle.alarm_core.specs.Reading.{read_of, write_of}
 use Rattle.alarm_core.specs.State.{CoreState}
-use Rattle.service_desk.specs.declared.decision.Decision.{Decision}
-use Rattle.service_desk.specs.declared.replies.Requester.{Requester}
-use Rattle.service_desk.specs.Decisions.{acknowledge_with, change_decision, information_with, read_reply, read_with, verdict_decision, write_with}
+use Rattle.service_desk.specs.declared.service.Service.{Service}
+use Rattle.service_desk.specs.declared.service.Service.TheVariants.{AcknowledgeAlarm, GetAlarmSummary, GetEnrollmentSummary, ReadProperty, ReadPropertyMultiple, WriteProperty, ReadRange, GetEventInformation}
+use Rattle.service_desk.specs.Requesters.{RequesterData}
+use Rattle.service_desk.specs.Services.{service_of}
+use Rattle.service_desk.specs.Decisions.{service_decision}
+use Rattle.service_desk.specs.AcknowledgeAlarm.{acknowledge_with, verdict_decision}
+use Rattle.service_desk.specs.ReadProperty.{read_reply, read_with}
+use Rattle.service_desk.specs.WriteProperty.{change_decision, write_with}
+use Rattle.service_desk.specs.Information.{information_with, information_room}
+use Rattle.bac_values.specs.Reasons.{too_many_arguments_reason, unrecognized_service_reason}
+use Rattle.summaries.specs.ManyRequests.{ObjectAsked}
+use Rattle.summaries.specs.ManySteps.{groups_of}
+use Rattle.summaries.specs.RequestSteps.{enrollment_request_of}
+use Rattle.summaries.specs.declared.filter.Filter.{Filter}
+use Rattle.service_desk.specs.SummaryDecisions.{alarm_summary_decision, enrollment_summary_with, many_with}
 use Rattle.service_desk.specs.Laws.{EachReplyFits, FitsRequester, RepliesFit}
-use Rattle.service_desk.specs.Information.{information_room}
 use Rattle.service_desk.specs.Ranges.{rule_zone_of}
 use Rattle.service_desk.proofs.Sends.{abort_fits, simple_ack_fits, within_max_apdu_fits, information_reply_fits, range_decided_fits, error_fits, reject_fits}
 
@@ -41,49 +52,64 @@ least_apdu second =
     either (code == 0) 50 _ 50 (lit≤ tt) (either (code == 1) 128 _ 50 (lit≤ tt) (either (code == 2) 206 _ 50 (lit≤ tt)
     (either (code == 3) 480 _ 50 (lit≤ tt) (either (code == 4) 1024 1476 50 (lit≤ tt) (lit≤ tt)))))
 
-verdict_fits : (moment : ℕ) (requester : Requester) (object : ObjectIdData) (verdict : Verdict) → 50 ≤ requester.max_apdu → RepliesFit requester (verdict_decision moment requester object verdict)
+verdict_fits : (moment : ℕ) (requester : RequesterData) (object : ObjectIdData) (verdict : Verdict) → 50 ≤ requester.max_apdu → RepliesFit requester (verdict_decision moment requester object verdict)
 verdict_fits moment requester object (Accept transition named) least = (simple_ack_fits requester least, abort_fits requester 0 least)
 verdict_fits moment requester object Already least = simple_ack_fits requester least
 verdict_fits moment requester object (Error class code) least = error_fits requester class code least
 
-acknowledge_fits : (state : CoreState) (moment : ℕ) (requester : Requester) (read : Result AckRequest Malformed) → 50 ≤ requester.max_apdu → RepliesFit requester (acknowledge_with state moment requester read)
+acknowledge_fits : (state : CoreState) (moment : ℕ) (requester : RequesterData) (read : Result AckRequest Malformed) → 50 ≤ requester.max_apdu → RepliesFit requester (acknowledge_with state moment requester read)
 acknowledge_fits state moment requester (Err refusal) least = reject_fits requester refusal.reject least
 acknowledge_fits state moment requester (Ok request) least =
     verdict_fits moment requester request.object (acknowledgement_verdict (found_in state request.object) request) least
 
-reply_fits : (requester : Requester) (request : ReadRequest) (read : Result (List ℕ) ReadFault) → 50 ≤ requester.max_apdu → FitsRequester requester (read_reply requester request read)
+reply_fits : (requester : RequesterData) (request : ReadRequest) (read : Result (List ℕ) ReadFault) → 50 ≤ requester.max_apdu → FitsRequester requester (read_reply requester request read)
 reply_fits requester request (Ok octets) least = within_max_apdu_fits requester _ least
 reply_fits requester request (Err (read_faults.Error class code)) least = error_fits requester class code least
 reply_fits requester request (Err read_faults.NoMemory) least = abort_fits requester 0 least
 
-read_fits : (state : CoreState) (requester : Requester) (read : Result ReadRequest Malformed) → 50 ≤ requester.max_apdu → RepliesFit requester (read_with state requester read)
+read_fits : (state : CoreState) (requester : RequesterData) (read : Result ReadRequest Malformed) → 50 ≤ requester.max_apdu → RepliesFit requester (read_with state requester read)
 read_fits state requester (Err refusal) least = reject_fits requester refusal.reject least
 read_fits state requester (Ok request) least = reply_fits requester request (read_of state request.object request.property.0 request.index) least
 
-change_fits : (moment : ℕ) (requester : Requester) (checked : Result Change WriteFault) → 50 ≤ requester.max_apdu → RepliesFit requester (change_decision moment requester checked)
+change_fits : (moment : ℕ) (requester : RequesterData) (checked : Result Change WriteFault) → 50 ≤ requester.max_apdu → RepliesFit requester (change_decision moment requester checked)
 change_fits moment requester (Ok change) least = (simple_ack_fits requester least, abort_fits requester 0 least)
 change_fits moment requester (Err (write_faults.Error class code)) least = error_fits requester class code least
 change_fits moment requester (Err write_faults.NoMemory) least = abort_fits requester 0 least
 
-write_fits : (state : CoreState) (moment : ℕ) (requester : Requester) (read : Result WriteRequest Malformed) → 50 ≤ requester.max_apdu → RepliesFit requester (write_with state moment requester read)
+write_fits : (state : CoreState) (moment : ℕ) (requester : RequesterData) (read : Result WriteRequest Malformed) → 50 ≤ requester.max_apdu → RepliesFit requester (write_with state moment requester read)
 write_fits state moment requester (Err refusal) least = reject_fits requester refusal.reject least
 write_fits state moment requester (Ok request) least =
     change_fits moment requester (write_of state request.object request.property.0 request.index request.value) least
 
-information_fits : (state : CoreState) (requester : Requester) (read : Result (Option ObjectIdData) Malformed) → 50 ≤ requester.max_apdu → RepliesFit requester (information_with state requester read)
+information_fits : (state : CoreState) (requester : RequesterData) (read : Result (Option ObjectIdData) Malformed) → 50 ≤ requester.max_apdu → RepliesFit requester (information_with state requester read)
 information_fits state requester (Err refusal) least = reject_fits requester refusal.reject least
 information_fits state requester (Ok last) least =
     information_reply_fits requester (summaries_of last (information_room requester) state) (has_more last (information_room requester) state) least
 
-branch : (requester : Requester) (test : Bool) (first second : Decision) → RepliesFit requester first → RepliesFit requester second → RepliesFit requester (if test then first else second)
-branch requester true first second a b = a
-branch requester false first second a b = b
+alarm_summary_fits : (state : CoreState) (requester : RequesterData) (parameters : List ℕ) → 50 ≤ requester.max_apdu → RepliesFit requester (alarm_summary_decision state requester parameters)
+alarm_summary_fits state requester [] least = within_max_apdu_fits requester _ least
+alarm_summary_fits state requester (octet ∷ octets) least = reject_fits requester too_many_arguments_reason least
+
+enrollment_summary_fits : (state : CoreState) (requester : RequesterData) (read : Result Filter Malformed) → 50 ≤ requester.max_apdu → RepliesFit requester (enrollment_summary_with state requester read)
+enrollment_summary_fits state requester (Err refusal) least = reject_fits requester refusal.reject least
+enrollment_summary_fits state requester (Ok filter) least = within_max_apdu_fits requester _ least
+
+many_fits : (state : CoreState) (requester : RequesterData) (read : Result (List ObjectAsked) Malformed) → 50 ≤ requester.max_apdu → RepliesFit requester (many_with state requester read)
+many_fits state requester (Err refusal) least = reject_fits requester refusal.reject least
+many_fits state requester (Ok groups) least = within_max_apdu_fits requester _ least
+
+service_fits : (state : CoreState) (moment : ℕ) (requester : RequesterData) (parameters : List ℕ) (service : Option Service) → 50 ≤ requester.max_apdu → RepliesFit requester (service_decision state moment requester parameters service)
+service_fits state moment requester parameters (Some AcknowledgeAlarm) least = acknowledge_fits state moment requester (acknowledge_request_of parameters) least
+service_fits state moment requester parameters (Some GetAlarmSummary) least = alarm_summary_fits state requester parameters least
+service_fits state moment requester parameters (Some GetEnrollmentSummary) least = enrollment_summary_fits state requester (enrollment_request_of parameters) least
+service_fits state moment requester parameters (Some ReadProperty) least = read_fits state requester (read_property_of parameters) least
+service_fits state moment requester parameters (Some ReadPropertyMultiple) least = many_fits state requester (groups_of parameters) least
+service_fits state moment requester parameters (Some WriteProperty) least = write_fits state moment requester (write_property_of parameters) least
+service_fits state moment requester parameters (Some ReadRange) least = range_decided_fits requester (rule_zone_of state.site) (has_object state) (λ object. log_in object state.logs) parameters least
+service_fits state moment requester parameters (Some GetEventInformation) least = information_fits state requester (information_request_of parameters) least
+service_fits state moment requester parameters None least = reject_fits requester unrecognized_service_reason least
 
 pub each_fits : EachReplyFits
 each_fits state moment requester parameters second takes =
     let least : 50 ≤ requester.max_apdu = subst (λ most. 50 ≤ most) (sym takes) (least_apdu second) in
-    branch requester (requester.service == 0) _ _ (acknowledge_fits state moment requester (acknowledge_request_of parameters) least)
-    (branch requester (requester.service == 12) _ _ (read_fits state requester (read_property_of parameters) least)
-    (branch requester (requester.service == 15) _ _ (write_fits state moment requester (write_property_of parameters) least)
-    (branch requester (requester.service == 26) _ _ (range_decided_fits requester (rule_zone_of state.site) (has_object state) (λ object. log_in object state.logs) parameters least)
-    (branch requester (requester.service == 29) _ _ (information_fits state requester (information_request_of parameters) least) (reject_fits requester 9 least)))))
+    service_fits state moment requester parameters (service_of requester.service) least

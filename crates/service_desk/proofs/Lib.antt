@@ -9,3 +9,5 @@ pub mod Fitted
 pub mod Sends
 pub mod Fitting
 pub mod Answered
+pub mod NoRoom
+pub mod AskedMany

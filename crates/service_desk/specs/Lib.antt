@@ -1,6 +1,14 @@
+pub mod Requesters
+pub mod Services
 pub mod Replies
+pub mod AcknowledgeAlarm
+pub mod SummaryDecisions
+pub mod ReadProperty
+pub mod WriteProperty
 pub mod Ranges
 pub mod Information
+pub mod WhoIs
+pub mod NotificationAnswers
 pub mod Decisions
 pub mod Laws
 pub mod Answers

@@ -1,4 +1,4 @@
--- Ranges of a log, as they are answered (ANSI/ASHRAE 135-2020, 15.8).
+-- What becomes of ReadRange: ranges of a log, as they are answered (ANSI/ASHRAE 135-2020, 15.8).
 use Rattle.std.specs.Prelude.{ℕ, zero, suc, ◌+◌, ◌==◌, ◌&&◌, nat_lt, nat_le, Bool, true, false, ℤ, pos, negsuc, if◌then◌else◌, Option, Some, None, option_map, is_some, Result, Ok, Err, List, [], ◌∷◌, ◌++◌, length, take, drop, flat_map, slice_get}
 use Rattle.bac_values.specs.Errors.{property_is_not_an_array_error, unknown_object_error, unknown_property_error, value_out_of_range_error}
 use Rattle.bac_values.specs.Identifier.{ObjectIdData}
@@ -22,7 +22,12 @@ use Rattle.event_log.specs.Log.{EventLogState}
 use Rattle.event_log.specs.Ranges.{place_by_hundredths, place_by_time, place_of_position, place_of_sequence, range_from, range_of}
 use Rattle.alarm_core.specs.declared.site.Site.{Site}
 use Rattle.alarm_core.specs.Evaluations.{site_zone}
-use Rattle.service_desk.specs.declared.replies.Requester.{Requester}
+use Rattle.alarm_core.specs.Found.{has_object}
+use Rattle.alarm_core.specs.Logs.{log_in}
+use Rattle.alarm_core.specs.State.{CoreState}
+use Rattle.service_desk.specs.declared.decision.Decision.{Decision}
+use Rattle.service_desk.specs.declared.decision.Decision.TheVariants.{Reply}
+use Rattle.service_desk.specs.Requesters.{RequesterData}
 use Rattle.service_desk.specs.Replies.{abort, complex_ack, error, reject}
 
 -- the octets of a log record (BACnetEventLogRecord, 12.27.13): [0] its date and time, [1] the notification that it records
@@ -80,8 +85,8 @@ abbrev pub range_body : RangeRequest → EventLogState → LogRange → ℕ → 
 range_body request log range sent =
     written_range_ack request (range_flags log range sent) sent (flat_map written_item (items_from range.first sent log)) (first_sequence request log range sent)
 
--- whether an requester takes the answer with so many leading records
-abbrev pub range_fits : Requester → RangeRequest → EventLogState → LogRange → ℕ → Bool
+-- whether a requester takes the answer with so many leading records
+abbrev pub range_fits : RequesterData → RangeRequest → EventLogState → LogRange → ℕ → Bool
 range_fits requester request log range sent = nat_le (length (written_complex_ack requester.invoke requester.service (range_body request log range sent))) requester.max_apdu
 
 -- the greatest number up to a count for which a test passes, or 0
@@ -90,16 +95,16 @@ greatest test zero = 0
 greatest test (suc n) = if test (suc n) then suc n else greatest test n
 
 -- how many leading records are sent: as many as fit
-abbrev pub records_that_fit : Requester → RangeRequest → EventLogState → LogRange → ℕ
+abbrev pub records_that_fit : RequesterData → RangeRequest → EventLogState → LogRange → ℕ
 records_that_fit requester request log range = greatest (range_fits requester request log range) range.count
 
 -- a range, where so many of its records are sent; where there are some and none fits, the device would have to send segments
-abbrev pub range_sent : Requester → RangeRequest → EventLogState → LogRange → ℕ → Send
+abbrev pub range_sent : RequesterData → RangeRequest → EventLogState → LogRange → ℕ → Send
 range_sent requester request log range sent =
     if nat_lt 0 range.count && sent == 0 then abort requester segmentation_not_supported_reason else complex_ack requester (range_body request log range sent)
 
 -- a range, as it is answered
-abbrev pub range_reply : Requester → RangeRequest → EventLogState → LogRange → Send
+abbrev pub range_reply : RequesterData → RangeRequest → EventLogState → LogRange → Send
 range_reply requester request log range = range_sent requester request log range (records_that_fit requester request log range)
 
 -- how many records a request asks for, where it says so
@@ -119,25 +124,29 @@ abbrev pub has_zero_count : RangeBy → Bool
 has_zero_count range = is_zero_count (count_of range)
 
 -- of a log: Log_Buffer is no array, and a count isn't 0
-abbrev pub buffer_answer : Requester → Option ZoneData → RangeRequest → EventLogState → Send
+abbrev pub buffer_answer : RequesterData → Option ZoneData → RangeRequest → EventLogState → Send
 buffer_answer requester clock request log =
     if is_some request.index then error requester property_is_not_an_array_error
     else (if has_zero_count request.range then error requester value_out_of_range_error
     else range_reply requester request log (requested_range clock request.range log))
 
 -- of an object: only the Log_Buffer of a log has a range
-abbrev pub object_answer : Requester → Option ZoneData → RangeRequest → Option EventLogState → Send
+abbrev pub object_answer : RequesterData → Option ZoneData → RangeRequest → Option EventLogState → Send
 object_answer requester clock request None = error requester unknown_property_error
 object_answer requester clock request (Some log) = if request.property.0 == log_buffer_property then buffer_answer requester clock request log else error requester unknown_property_error
 
 -- by whether there is such an object, and its log, where it is one
-abbrev pub range_answer : Requester → Option ZoneData → RangeRequest → Bool → Option EventLogState → Send
+abbrev pub range_answer : RequesterData → Option ZoneData → RangeRequest → Bool → Option EventLogState → Send
 range_answer requester clock request there log = if there then object_answer requester clock request log else error requester unknown_object_error
 
 -- ReadRange (15.8), by the zone of the site's rule, which objects there are, and their logs
-abbrev pub range_with : Requester → Option ZoneData → (ObjectIdData → Bool) → (ObjectIdData → Option EventLogState) → Result RangeRequest Malformed → Send
+abbrev pub range_with : RequesterData → Option ZoneData → (ObjectIdData → Bool) → (ObjectIdData → Option EventLogState) → Result RangeRequest Malformed → Send
 range_with requester clock is_there log_of (Err refusal) = reject requester refusal.reject
 range_with requester clock is_there log_of (Ok request) = range_answer requester clock request (is_there request.object) (log_of request.object)
 
-abbrev pub range_decided : Requester → Option ZoneData → (ObjectIdData → Bool) → (ObjectIdData → Option EventLogState) → List ℕ → Send
+abbrev pub range_decided : RequesterData → Option ZoneData → (ObjectIdData → Bool) → (ObjectIdData → Option EventLogState) → List ℕ → Send
 range_decided requester clock is_there log_of parameters = range_with requester clock is_there log_of (read_range_of parameters)
+
+-- at a state: the zone of the site's rule, whether there is such an object, and its log, where it is one
+abbrev pub range_decision : CoreState → RequesterData → List ℕ → Decision
+range_decision state requester parameters = Reply (range_decided requester (rule_zone_of state.site) (has_object state) (λ object. log_in object state.logs) parameters)

@@ -1,7 +1,8 @@
 ghost use Rattle.std.specs.Prelude.{◌≡◌, IfOk};
 ghost use Rattle.ack_alarm.specs.Verdicts.{AcceptsAllowed};
 ghost use Rattle.alarm_core.specs.Found.{found_in};
-ghost use Rattle.service_desk.specs.Decisions.{EntersAllowed, acknowledge_decision, verdict_decision};
+ghost use Rattle.service_desk.specs.AcknowledgeAlarm.{acknowledge_decision, verdict_decision};
+ghost use Rattle.service_desk.specs.Decisions.{EntersAllowed};
 
 use crate::Decision;
 use crate::replies::Requester;

@@ -1,23 +1,24 @@
-ghost use Rattle.std.specs.Prelude.{◌≡◌, ◌≤◌, ℕ, IfOk, drop, length};
-ghost use Rattle.bac_values.specs.Services.{longest_apdu};
+ghost use Rattle.std.specs.Prelude.{◌≡◌, ℕ, IfOk, drop, length};
 ghost use Rattle.apdu_frame.specs.ReadingSteps.{apdu_of};
-ghost use Rattle.service_desk.specs.Decisions.{EntersAllowed, apdu_decision, requester_of, incoming_decision, request_decision, unconfirmed_decision};
+ghost use Rattle.service_desk.specs.Decisions.{EntersAllowed, apdu_decision, incoming_decision, request_decision, unconfirmed_decision};
 ghost use Rattle.bvlc_npdu.specs.ReadingSteps.{incoming_at};
 
 use crate::Decision;
 use crate::acknowledge_alarm::acknowledge;
+use crate::get_alarm_summary::get_alarm_summary;
+use crate::get_enrollment_summary::get_enrollment_summary;
 use crate::get_event_information::event_information;
 use crate::notification_answers::{answer_decision, named_answer_decision};
 use crate::read_property::read_property;
+use crate::read_property_multiple::read_property_multiple;
 use crate::read_range::read_range;
 use crate::replies::{Requester, abort_to};
+use crate::service::Service;
 use crate::who_is::who_is;
 use crate::write_property::write_property;
 use alarm_core::Core;
 use apdu_frame::{Apdu, read_apdu};
-use bac_values::{
-    AbortReason, ConfirmedService, NoMemory, PduType, Peer, RejectReason, UnconfirmedService,
-};
+use bac_values::{AbortReason, NoMemory, PduType, Peer, RejectReason, UnconfirmedService};
 use bvlc_npdu::unwrap;
 use std::alloc::Global;
 
@@ -29,23 +30,23 @@ fn request_decision(
     requester: &Requester,
     parameters: &[u8],
 ) -> Result<Decision, NoMemory>
-    requires most { requester.now.max_apdu ≤ longest_apdu }
     ensures decision { IfOk result (λ decision. decision ≡ request_decision core.now moment requester.now parameters.now) }
     ensures allowed { IfOk result (EntersAllowed core.now moment) }
 {
-    match ConfirmedService(requester.service) {
-        ConfirmedService::ACKNOWLEDGE_ALARM => acknowledge(
-            alloc, core, moment, requester, parameters,
-        ),
-        ConfirmedService::READ_PROPERTY => read_property(alloc, core, requester, parameters),
-        ConfirmedService::WRITE_PROPERTY => {
-            write_property(alloc, core, moment, requester, parameters)
+    match Service::of_number(requester.service()) {
+        Some(Service::AcknowledgeAlarm) => acknowledge(alloc, core, moment, requester, parameters),
+        Some(Service::GetAlarmSummary) => get_alarm_summary(alloc, core, requester, parameters),
+        Some(Service::GetEnrollmentSummary) => {
+            get_enrollment_summary(alloc, core, requester, parameters)
         }
-        ConfirmedService::READ_RANGE => read_range(alloc, core, requester, parameters),
-        ConfirmedService::GET_EVENT_INFORMATION => {
-            event_information(alloc, core, requester, parameters)
+        Some(Service::ReadProperty) => read_property(alloc, core, requester, parameters),
+        Some(Service::ReadPropertyMultiple) => {
+            read_property_multiple(alloc, core, requester, parameters)
         }
-        _ => Ok(Decision::Reply {
+        Some(Service::WriteProperty) => write_property(alloc, core, moment, requester, parameters),
+        Some(Service::ReadRange) => read_range(alloc, core, requester, parameters),
+        Some(Service::GetEventInformation) => event_information(alloc, core, requester, parameters),
+        None => Ok(Decision::Reply {
             send: requester.reject(alloc, RejectReason::UNRECOGNIZED_SERVICE.0)?,
         }),
     }
@@ -68,17 +69,6 @@ fn unconfirmed_decision(
     }
 }
 
-fn requester_of(peer: Peer, max_apdu: u16, invoke: u8, service: u8) -> Requester
-    ensures requester { result ≡ requester_of peer max_apdu invoke service }
-{
-    Requester {
-        peer,
-        max_apdu,
-        invoke,
-        service,
-    }
-}
-
 // An APDU of a peer.
 fn apdu_decision(
     alloc: Global,
@@ -97,7 +87,7 @@ fn apdu_decision(
             service,
             start,
         } => {
-            let requester = requester_of(peer, max_apdu, invoke, service);
+            let requester = Requester::new(peer, max_apdu, invoke, service);
             request_decision(alloc, core, moment, &requester, &octets[start..])
         }
         Apdu::Segmented { invoke } => Ok(Decision::Reply {

@@ -1,8 +1,6 @@
-ghost use Rattle.std.specs.Prelude.{◌≡◌, ◌≤◌, IfOk};
-ghost use Rattle.bac_values.specs.Services.{longest_apdu};
+ghost use Rattle.std.specs.Prelude.{◌≡◌, IfOk};
 ghost use Rattle.alarm_core.specs.Information.{has_more, summaries_of};
-ghost use Rattle.service_desk.specs.Decisions.{information_decision};
-ghost use Rattle.service_desk.specs.Information.{information_reply, information_room};
+ghost use Rattle.service_desk.specs.Information.{information_decision, information_reply, information_room};
 
 use crate::Decision;
 use crate::replies::Requester;
@@ -18,7 +16,7 @@ const ROUND_SUMMARIES: u16 = 7;
 fn information_room(requester: &Requester) -> usize
     ensures room { result ≡ information_room requester.now }
 {
-    usize::from(requester.max_apdu.saturating_sub(ROUND_SUMMARIES))
+    usize::from(requester.max_apdu().saturating_sub(ROUND_SUMMARIES))
 }
 
 /// The summaries, as they are answered, and whether more remain.
@@ -28,7 +26,6 @@ fn information_reply(
     summaries: &[EventSummary],
     more: bool,
 ) -> Result<Send, NoMemory>
-    requires most { requester.now.max_apdu ≤ longest_apdu }
     ensures reply { IfOk result (λ send. send ≡ information_reply requester.now summaries.now more) }
 {
     if more && summaries.is_empty() {
@@ -45,7 +42,6 @@ fn information_answer(
     requester: &Requester,
     last: Option<ObjectId>,
 ) -> Result<Send, NoMemory>
-    requires most { requester.now.max_apdu ≤ longest_apdu }
     ensures reply { IfOk result (λ send. send ≡ information_reply requester.now (summaries_of last (information_room requester.now) core.now) (has_more last (information_room requester.now) core.now)) }
 {
     let (summaries, more) = core.event_information(alloc, last, information_room(requester))?;
@@ -59,7 +55,6 @@ pub(crate) fn event_information(
     requester: &Requester,
     parameters: &[u8],
 ) -> Result<Decision, NoMemory>
-    requires most { requester.now.max_apdu ≤ longest_apdu }
     ensures decision { IfOk result (λ decision. decision ≡ information_decision core.now requester.now parameters.now) }
 {
     let send = match read_information_request(parameters) {

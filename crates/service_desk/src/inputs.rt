@@ -1,13 +1,16 @@
-ghost use Rattle.std.specs.Prelude.{◌≡◌, IfOk, Result};
+ghost use Rattle.std.specs.Prelude.{◌≡◌, IfOk, List, Result};
 ghost use Rattle.bac_values.specs.Moments.{IsMoment};
+ghost use Rattle.bac_values.specs.declared.input.Input.TheVariants.{Tick};
 ghost use Rattle.bac_values.specs.declared.input.SetFault.{SetFault as Fault};
 ghost use Rattle.object_table.specs.declared.change.Change.{Change as Changed};
 ghost use Rattle.object_table.specs.Verdicts.{checked_fault, checked_set};
-ghost use Rattle.service_desk.specs.Decisions.{EntersAllowed, by_kind, decision_on, field_decision, has_no_value, pump_decision, tick_decision};
+ghost use Rattle.alarm_core.specs.declared.event.Event.{Event as Happening};
+ghost use Rattle.alarm_core.specs.Allowed.{Represents};
+ghost use Rattle.service_desk.specs.Decisions.{EntersAllowed, by_kind, decision_on, evaluations_deciding, field_decision, has_no_value, pump_decision, tick_decision};
 
 use crate::Decision;
 use crate::apdus::datagram_decision;
-use alarm_core::{Act, Core, Event};
+use alarm_core::{Act, Core, EvaluationCount, Event};
 use bac_values::{Input, NoMemory, ObjectId, SetFault, Value};
 use object_table::Change;
 use std::alloc::Global;
@@ -62,22 +65,26 @@ fn fault_decision(core: &Core, moment: u64, object: ObjectId, reliability: u32) 
     field_decision(moment, core.table().check_fault(object, reliability))
 }
 
-fn tick_decision(core: &Core, moment: u64) -> Decision
+// What a tick comes to, and how many evaluations it took to see that.
+fn tick_decision(core: &Core, moment: u64) -> (Decision, EvaluationCount)
     requires moment { IsMoment moment }
-    ensures decision { result ≡ tick_decision core.now moment }
-    ensures allowed { EntersAllowed core.now moment result }
+    ensures decision { result.0 ≡ tick_decision core.now moment }
+    ensures allowed { EntersAllowed core.now moment result.0 }
+    ensures counts { (history : List Happening) → Represents core.now history → result.1.count ≡ evaluations_deciding core.now Tick moment }
 {
-    if core.idle_tick(moment) {
-        return Decision::Idle;
+    let (idle, count) = core.idle_tick_counted(moment);
+    if idle {
+        return (Decision::Idle, count);
     }
-    Decision::Enter {
+    let decision = Decision::Enter {
         event: Event {
             moment,
             act: Act::Tick,
         },
         reply: None,
         full: None,
-    }
+    };
+    (decision, count)
 }
 
 fn pump_decision(core: &Core, moment: u64) -> Decision
@@ -98,22 +105,49 @@ fn pump_decision(core: &Core, moment: u64) -> Decision
     }
 }
 
-/// What becomes of an input at a moment.
+/// What becomes of an input at a moment, and how many evaluations it took to decide that: a tick takes one where an object would
+/// move, and nothing else any.
+pub fn decide_counted(
+    alloc: Global,
+    core: &Core,
+    input: &Input,
+    moment: u64,
+) -> (Result<Decision, NoMemory>, EvaluationCount)
+    requires moment { IsMoment moment }
+    ensures decision { IfOk result.0 (λ decision. decision ≡ decision_on core.now input.now moment) }
+    ensures allowed { IfOk result.0 (EntersAllowed core.now moment) }
+    ensures counts { (history : List Happening) → Represents core.now history → result.1.count ≡ evaluations_deciding core.now input.now moment }
+{
+    let none = EvaluationCount::none();
+    match input {
+        Input::Tick => {
+            let (told, count) = tick_decision(core, moment);
+            (Ok(told), count)
+        }
+        Input::Pump => (Ok(pump_decision(core, moment)), none),
+        Input::Set { object, value } => (set_decision(core, moment, *object, value), none),
+        Input::Fault {
+            object,
+            reliability,
+        } => (
+            Ok(fault_decision(core, moment, *object, *reliability)),
+            none,
+        ),
+        Input::Datagram { peer, bytes } => {
+            (
+                datagram_decision(alloc, core, moment, *peer, bytes.as_slice()),
+                none,
+            )
+        }
+    }
+}
+
+/// What becomes of an input at a moment, for those who don't ask how many evaluations it took to decide that.
 pub fn decide(alloc: Global, core: &Core, input: &Input, moment: u64) -> Result<Decision, NoMemory>
     requires moment { IsMoment moment }
     ensures decision { IfOk result (λ decision. decision ≡ decision_on core.now input.now moment) }
     ensures allowed { IfOk result (EntersAllowed core.now moment) }
 {
-    match input {
-        Input::Tick => Ok(tick_decision(core, moment)),
-        Input::Pump => Ok(pump_decision(core, moment)),
-        Input::Set { object, value } => set_decision(core, moment, *object, value),
-        Input::Fault {
-            object,
-            reliability,
-        } => Ok(fault_decision(core, moment, *object, *reliability)),
-        Input::Datagram { peer, bytes } => {
-            datagram_decision(alloc, core, moment, *peer, bytes.as_slice())
-        }
-    }
+    let (decision, _count) = decide_counted(alloc, core, input, moment);
+    decision
 }

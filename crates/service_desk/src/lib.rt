@@ -6,17 +6,23 @@
 mod acknowledge_alarm;
 mod apdus;
 mod decision;
+mod get_alarm_summary;
+mod get_enrollment_summary;
 mod get_event_information;
 mod inputs;
 mod laws;
 mod notification_answers;
 mod read_property;
+mod read_property_multiple;
 mod read_range;
 mod replies;
+mod service;
+mod summary_replies;
+mod view;
 mod who_is;
 mod write_property;
 
 pub use bac_values::Input;
 pub use decision::Decision;
-pub use inputs::decide;
+pub use inputs::{decide, decide_counted};
 pub use laws::{each_reply_fits, each_request_is_answered};

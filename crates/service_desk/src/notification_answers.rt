@@ -1,6 +1,7 @@
 ghost use Rattle.std.specs.Prelude.{◌≡◌};
 ghost use Rattle.alarm_core.specs.Allowed.{IsAnswer};
-ghost use Rattle.service_desk.specs.Decisions.{EntersAllowed, answer_decision, named_answer_decision};
+ghost use Rattle.service_desk.specs.NotificationAnswers.{answer_decision, named_answer_decision};
+ghost use Rattle.service_desk.specs.Decisions.{EntersAllowed};
 
 use crate::Decision;
 use alarm_core::{Act, Core, Event};

@@ -1,7 +1,6 @@
-ghost use Rattle.std.specs.Prelude.{◌≡◌, ◌≤◌, IfOk};
-ghost use Rattle.bac_values.specs.Services.{longest_apdu};
+ghost use Rattle.std.specs.Prelude.{◌≡◌, IfOk};
 ghost use Rattle.alarm_core.specs.Reading.{read_of};
-ghost use Rattle.service_desk.specs.Decisions.{read_decision, read_reply};
+ghost use Rattle.service_desk.specs.ReadProperty.{read_decision, read_reply};
 
 use crate::Decision;
 use crate::replies::Requester;
@@ -17,7 +16,6 @@ fn read_answer(
     request: &ReadRequest,
     values: &[u8],
 ) -> Result<Send, NoMemory>
-    requires most { requester.now.max_apdu ≤ longest_apdu }
     ensures reply { IfOk result (λ send. send ≡ read_reply requester.now request.now (Ok values.now)) }
 {
     let body = write_read_ack(alloc, request, values)?;
@@ -31,7 +29,6 @@ fn read_reply(
     request: &ReadRequest,
     core: &Core,
 ) -> Result<Send, NoMemory>
-    requires most { requester.now.max_apdu ≤ longest_apdu }
     ensures reply { IfOk result (λ send. send ≡ read_reply requester.now request.now (read_of core.now request.now.object request.now.property.0 request.now.index)) }
 {
     match core.read(alloc, request.object, request.property, request.index) {
@@ -48,7 +45,6 @@ pub(crate) fn read_property(
     requester: &Requester,
     parameters: &[u8],
 ) -> Result<Decision, NoMemory>
-    requires most { requester.now.max_apdu ≤ longest_apdu }
     ensures decision { IfOk result (λ decision. decision ≡ read_decision core.now requester.now parameters.now) }
 {
     let send = match read_read_property(parameters) {

@@ -1,10 +1,8 @@
 ghost use Rattle.std.specs.Prelude.{◌≡◌, ◌≤◌, ◌+◌, ◌-◌, ◌∷◌, ◌++◌, [], false, IfOk, OnOk, length, flat_map, nat_le, slice_get, Option};
 ghost use Rattle.std.specs.Option.{option_copied};
-ghost use Rattle.bac_values.specs.Services.{longest_apdu};
 ghost use Rattle.bac_tags.specs.Writing.{unsigned_size};
 ghost use Rattle.property_services.specs.Writing.{written_range_ack};
-ghost use Rattle.service_desk.specs.Decisions.{range_decision};
-ghost use Rattle.service_desk.specs.Ranges.{buffer_answer, first_sequence, greatest, has_zero_count, items_from, names_sequence, object_answer, place_by_clock, range_answer, range_body, range_flags, range_reply, range_sent, records_that_fit, requested_range, rule_zone_of, written_item};
+ghost use Rattle.service_desk.specs.Ranges.{range_decision, buffer_answer, first_sequence, greatest, has_zero_count, items_from, names_sequence, object_answer, place_by_clock, range_answer, range_body, range_flags, range_reply, range_sent, records_that_fit, requested_range, rule_zone_of, written_item};
 ghost use Rattle.event_log.specs.Ranges.{range_from};
 
 use crate::Decision;
@@ -181,7 +179,7 @@ fn leading_records(
 {
     let round = octets_round(alloc, request, log, range)?;
     // A complex acknowledgment has a header of three octets. One octet of `round` is the number 0.
-    let room = usize::from(requester.max_apdu)
+    let room = usize::from(requester.max_apdu())
         .saturating_sub(round)
         .saturating_sub(2);
     leading_with_room(alloc, log, range, room)
@@ -214,7 +212,6 @@ fn range_sent(
     range: LogRange,
     leading: &LeadingRecords,
 ) -> Result<Send, NoMemory>
-    requires most { requester.now.max_apdu ≤ longest_apdu }
     requires within { range.first + leading.now.count ≤ length log.now.records }
     requires octets { leading.now.octets.items ≡ flat_map written_item (items_from range.first leading.now.count log.now) }
     ensures reply { IfOk result (λ send. send ≡ range_sent requester.now request.now log.now range leading.now.count) }
@@ -234,7 +231,6 @@ fn range_reply(
     request: &RangeRequest,
     log: &EventLog,
 ) -> Result<Send, NoMemory>
-    requires most { requester.now.max_apdu ≤ longest_apdu }
     ensures reply { IfOk result (λ send. send ≡ range_reply requester.now request.now log.now (requested_range (option_copied zone.entry) request.now.range log.now)) }
 {
     let range = requested_range(zone, &request.range, log);
@@ -262,7 +258,6 @@ fn buffer_answer(
     request: &RangeRequest,
     log: &EventLog,
 ) -> Result<Send, NoMemory>
-    requires most { requester.now.max_apdu ≤ longest_apdu }
     ensures reply { IfOk result (λ send. send ≡ buffer_answer requester.now (option_copied zone.entry) request.now log.now) }
 {
     if request.index.is_some() {
@@ -282,7 +277,6 @@ fn object_answer(
     request: &RangeRequest,
     log: Option<&EventLog>,
 ) -> Result<Send, NoMemory>
-    requires most { requester.now.max_apdu ≤ longest_apdu }
     ensures reply { IfOk result (λ send. send ≡ object_answer requester.now (option_copied zone.entry) request.now (option_copied log.entry)) }
 {
     match log {
@@ -303,7 +297,6 @@ pub(crate) fn range_answer(
     is_there: bool,
     log: Option<&EventLog>,
 ) -> Result<Send, NoMemory>
-    requires most { requester.now.max_apdu ≤ longest_apdu }
     ensures reply { IfOk result (λ send. send ≡ range_answer requester.now (option_copied zone.entry) request.now is_there (option_copied log.entry)) }
 {
     if !is_there {
@@ -319,7 +312,6 @@ pub(crate) fn read_range(
     requester: &Requester,
     parameters: &[u8],
 ) -> Result<Decision, NoMemory>
-    requires most { requester.now.max_apdu ≤ longest_apdu }
     ensures decision { IfOk result (λ decision. decision ≡ range_decision core.now requester.now parameters.now) }
 {
     let send = match read_read_range(parameters) {

@@ -1,20 +1,36 @@
 ghost use Rattle.std.specs.Prelude.{◌≡◌, ◌≤◌, IfOk, length};
 ghost use Rattle.bac_values.specs.Services.{longest_apdu};
+ghost use Rattle.service_desk.specs.Requesters.{requester_of};
 ghost use Rattle.service_desk.specs.Replies.{abort_to, abort, simple_ack, complex_ack, within_max_apdu, error_numbered, error, reject, reply_to};
 
 use apdu_frame::{abort, complex_ack, error, reject, simple_ack};
 use bac_values::{AbortReason, Items, NoMemory, Peer, Send, ServiceError};
 use bvlc_npdu::wrap;
 use std::alloc::Global;
+use std::marker::Model;
 
-/// Who asks by a confirmed request, the most octets that it takes in an answer, the number of the request, and the
-/// service.
+/// Who asks by a confirmed request, the most octets that it takes in an answer, at most `LONGEST_APDU`, the number of the
+/// request, and the number of the service.
 #[derive(Clone, Copy, Debug)]
 pub(crate) struct Requester {
-    pub(crate) peer: Peer,
-    pub(crate) max_apdu: u16,
-    pub(crate) invoke: u8,
-    pub(crate) service: u8,
+    peer: Peer,
+    max_apdu: u16,
+    invoke: u8,
+    service: u8,
+}
+
+impl Model for Requester {
+    ghost use Rattle.std.specs.Prelude.{◌≤◌};
+    ghost use Rattle.bac_values.specs.Services.{longest_apdu};
+    ghost use Rattle.service_desk.specs.Requesters.{RequesterData};
+
+    ghost Value = { RequesterData };
+
+    ghost view = { λ it. record { peer = it.peer; max_apdu = it.max_apdu; invoke = it.invoke; service = it.service } };
+
+    ghost invariant = { λ it. it.max_apdu ≤ longest_apdu };
+
+    ghost inverse = { λ it. record { peer = it.peer; max_apdu = it.max_apdu; invoke = it.invoke; service = it.service } };
 }
 
 /// An APDU on its way to a peer that needn't answer it.
@@ -37,6 +53,34 @@ pub(crate) fn abort_to(alloc: Global, peer: Peer, invoke: u8, reason: u8) -> Res
 }
 
 impl Requester {
+    /// The requester of a request with this header.
+    pub(crate) fn new(peer: Peer, max_apdu: u16, invoke: u8, service: u8) -> Requester
+        requires most { max_apdu ≤ longest_apdu }
+        ensures requester { result ≡ requester_of peer max_apdu invoke service }
+    {
+        Requester {
+            peer,
+            max_apdu,
+            invoke,
+            service,
+        }
+    }
+
+    /// The most octets that it takes in an answer, at most `LONGEST_APDU`.
+    pub(crate) fn max_apdu(&self) -> u16
+        ensures most { result ≡ self.now.max_apdu }
+        ensures range { self.now.max_apdu ≤ longest_apdu }
+    {
+        self.max_apdu
+    }
+
+    /// The number of the service.
+    pub(crate) fn service(&self) -> u8
+        ensures service { result ≡ self.now.service }
+    {
+        self.service
+    }
+
     /// The request is acknowledged without a result.
     pub(crate) fn simple_ack(&self, alloc: Global) -> Result<Send, NoMemory>
         ensures reply { IfOk result (λ send. send ≡ simple_ack self.now) }
@@ -84,7 +128,6 @@ impl Requester {
     // An answer, unless it is longer than the requester takes.
     #[tactic(auto, unfolding(crate::specs::Replies::within_max_apdu))]
     fn within_max_apdu(&self, alloc: Global, apdu: &[u8]) -> Result<Send, NoMemory>
-        requires most { self.now.max_apdu ≤ longest_apdu }
         ensures reply { IfOk result (λ send. send ≡ within_max_apdu self.now apdu.now) }
     {
         if apdu.len() > usize::from(self.max_apdu) {
@@ -95,7 +138,6 @@ impl Requester {
 
     /// The request is answered by its result, where that isn't longer than the requester takes.
     pub(crate) fn complex_ack(&self, alloc: Global, body: &[u8]) -> Result<Send, NoMemory>
-        requires most { self.now.max_apdu ≤ longest_apdu }
         ensures reply { IfOk result (λ send. send ≡ complex_ack self.now body.now) }
     {
         let apdu = complex_ack(alloc, self.invoke, self.service, body)?;

@@ -1,6 +1,6 @@
 ghost use Rattle.std.specs.Prelude.{◌≡◌, IfOk, Option, Result};
 ghost use Rattle.bac_tags.specs.declared.malformed.Malformed.{Malformed};
-ghost use Rattle.service_desk.specs.Decisions.{names_device, i_am, who_is_decision};
+ghost use Rattle.service_desk.specs.WhoIs.{names_device, i_am, who_is_decision};
 
 use crate::Decision;
 use crate::replies::reply_to;

@@ -3,7 +3,8 @@ ghost use Rattle.alarm_core.specs.declared.event.Act.TheVariants.{Write};
 ghost use Rattle.alarm_core.specs.Allowed.{IsAllowed};
 ghost use Rattle.alarm_core.specs.Reading.{write_of};
 ghost use Rattle.alarm_core.specs.State.{CoreState};
-ghost use Rattle.service_desk.specs.Decisions.{EntersAllowed, change_decision, write_decision};
+ghost use Rattle.service_desk.specs.WriteProperty.{change_decision, write_decision};
+ghost use Rattle.service_desk.specs.Decisions.{EntersAllowed};
 
 use crate::Decision;
 use crate::replies::Requester;

@@ -4,33 +4,36 @@ use Rattle.std.specs.Prelude.{codes, Result, IsTrue, if◌then◌else◌}
 use Rattle.std.specs.List.{All}
 use Rattle.std.specs.Str.{bytes_eq}
 use Rattle.std.proofs.lemmas.List.Elements.{All-from_recursion, All-nil}
-use Rattle.toml.specs.Data.{Data, Members, as_str, as_bool}
+use Rattle.toml.specs.Data.{Data, Members, as_str, as_bool, get_member}
 use Rattle.bac_values.specs.declared.object_kind.ObjectKind.{ObjectKind}
 use Rattle.bac_values.specs.declared.object_kind.ObjectKind.TheVariants.{BinaryValue, Device, EventEnrollment, NotificationClass, MultiStateValue, EventLog, BitStringValue, CharacterStringValue, IntegerValue, PositiveIntegerValue}
 use Rattle.bac_values.specs.declared.value.Value.{Value}
 use Rattle.bac_values.specs.declared.value.Value.TheVariants.{Unsigned, Text, Bits, Enumerated}
-use Rattle.object_table.specs.Objects.{IsWithin, IsAlarmValue, KeepsLimits, KeepsAlarmValue, NeedsAlarmValues, KeepsMask}
+use Rattle.object_table.specs.Objects.{AreTexts, IsWithin, IsAlarmValue, KeepsLimits, KeepsAlarmValue, NeedsAlarmValues, KeepsMask}
 use Rattle.object_table.specs.Values.{is_binary_value}
 use Rattle.site_config.specs.declared.alarm_keys.AlarmKeys.{AlarmKeys}
 use Rattle.site_config.specs.declared.kind_keys.KindKeys.{KindKeys}
 use Rattle.site_config.specs.declared.object.ValuePart.{ValuePart}
 use Rattle.toml_items.specs.declared.item_fault.ItemFault.{ItemFault}
-use Rattle.site_config.specs.AlarmKeys.{alarm_keys_of}
+use Rattle.site_config.specs.AlarmKeys.{alarm_keys_of, reference_beside}
 use Rattle.site_config.specs.KindKeys.{no_kind_keys, limit_keys_of, binary_keys_of, value_keys_of, bits_keys_of, kind_keys_of}
 use Rattle.toml_items.specs.Members.{required, or_else, optional}
 use Rattle.site_config.specs.Objects.{joined}
 use Rattle.site_config.specs.Values.{notify_in, limit_in, value_in, bits_in, state_of, binary_in}
 use Rattle.toml_items.specs.Values.{three_flags_in, two_flags_in, unsigned_in, last_unsigned, text_in}
 use Rattle.toml_items.specs.Lists.{list_in}
+use Rattle.site_config.proofs.KeptInhibition.{KeepsReference, reference_kept, texts_kept}
 use Rattle.site_config.proofs.Numbers.{integer_limit, positive_limit, notify_kept}
 use Rattle.toml_items.proofs.Numbers.{two_flags_kept, three_flags_kept, KeptList, list_kept}
-use Rattle.toml_items.proofs.Steps.{after, found, mapped, required_keeps, or_else_keeps}
+use Rattle.toml_items.proofs.Steps.{after, found, mapped, ok_is, required_keeps, or_else_keeps}
 
 -- ---- those of every kind
 
 pub record KeepsAlarm (alarm : AlarmKeys) : Type 0 where
   pub notify : alarm.notify ≤ 1
   pub enable : length alarm.enable ≡ 3
+  pub reference : KeepsReference alarm.inhibit alarm.inhibit_ref
+  pub texts : AreTexts alarm.texts
 
 pub alarm_kept : (ms : Members) (alarm : AlarmKeys) → alarm_keys_of ms ≡ Ok alarm → KeepsAlarm alarm
 unfolding alarm_keys_of
@@ -41,12 +44,17 @@ alarm_kept ms alarm h =
     let normal = after (optional (unsigned_in 0 last_unsigned) (codes "time_delay_normal") ms) _ alarm delay.next_is in
     let detection = after (or_else true as_bool (codes "detection") ms) _ alarm normal.next_is in
     let inhibit = after (or_else false as_bool (codes "inhibit") ms) _ alarm detection.next_is in
-    let is : record { notify = notify.value; enable = enable.value; time_delay = delay.value; time_delay_normal = normal.value; detection = detection.value; inhibit = inhibit.value } ≡ alarm = cc in
+    let reference = after (optional (reference_beside (get_member (codes "inhibit") ms)) (codes "inhibit_ref") ms) _ alarm inhibit.next_is in
+    let texts = after (or_else [] (list_in 3 3 text_in) (codes "texts") ms) _ alarm reference.next_is in
+    let whole : AlarmKeys = record { notify = notify.value; enable = enable.value; time_delay = delay.value; time_delay_normal = normal.value; detection = detection.value; inhibit = inhibit.value; inhibit_ref = reference.value; texts = texts.value } in
+    let is : whole ≡ alarm = ok_is whole alarm texts.next_is in
     let N : ℕ → Type 0 = λ n. n ≤ 1 in
     let F : List Bool → Type 0 = λ flags. length flags ≡ 3 in
     rw (← is) (record {
       notify = or_else_keeps N notify_in notify_kept (codes "notify") 0 (omega arith) ms notify.value notify.first_is;
       enable = or_else_keeps F three_flags_in three_flags_kept (codes "enable") (true ∷ true ∷ true ∷ []) refl ms enable.value enable.first_is;
+      reference = reference_kept (get_member (codes "inhibit") ms) (get_member (codes "inhibit_ref") ms) inhibit.value reference.value inhibit.first_is reference.first_is;
+      texts = texts_kept ms texts.value texts.first_is;
     })
 
 -- ---- those of a kind, wherever they stand

@@ -10,6 +10,7 @@ use Rattle.bac_values.specs.Identifier.{ObjectIdData}
 use Rattle.bac_values.specs.declared.object_kind.ObjectKind.TheVariants as kinds
 use Rattle.enrollment.specs.declared.enrollment_site.EnrollmentSite.{EnrollmentSite}
 use Rattle.event_log.specs.declared.log_site.LogSite.{LogSite}
+use Rattle.object_table.specs.Objects.{AreTexts}
 use Rattle.alarm_core.specs.Sites.{IsLogSite}
 use Rattle.site_config.specs.declared.enrollment_item.Watch.{Watch}
 use Rattle.toml_items.specs.declared.item_fault.ItemFault.{ItemFault}
@@ -25,6 +26,7 @@ use Rattle.site_config.specs.Values.{instance_in, algorithm_of, algorithm_in, ob
 use Rattle.toml_items.specs.Values.{unsigned_in}
 use Rattle.toml_items.specs.Lists.{list_in}
 use Rattle.site_config.proofs.KeptAlarms.{alarm_kept}
+use Rattle.site_config.proofs.KeptInhibition.{KeepsReference}
 use Rattle.site_config.proofs.Numbers.{instance_kept}
 use Rattle.toml_items.proofs.Numbers.{unsigned_kept}
 use Rattle.toml_items.proofs.Steps.{after, ok_is, found, required_keeps}
@@ -95,6 +97,8 @@ pub record KeepsKeys (site : EnrollmentSite) : Type 0 where
   pub parameters : KeepsParameters site.algorithm site.feedback site.low site.high
   pub notify : site.notify ≤ 1
   pub enable : length site.enable ≡ 3
+  pub reference : KeepsReference site.inhibit site.inhibit_ref
+  pub texts : AreTexts site.texts
 
 enrollment_part_kept : (ms : Members) (site : EnrollmentSite) → enrollment_of ms ≡ Ok site → KeepsKeys site
 unfolding enrollment_of
@@ -120,6 +124,8 @@ enrollment_part_kept ms site h =
       time_delay_normal = alarm.value.time_delay_normal;
       detection = alarm.value.detection;
       inhibit = alarm.value.inhibit;
+      inhibit_ref = alarm.value.inhibit_ref;
+      texts = alarm.value.texts;
     } in
     let is : whole ≡ site = ok_is whole site alarm.next_is in
     let of_alarm = alarm_kept ms alarm.value alarm.first_is in
@@ -130,6 +136,8 @@ enrollment_part_kept ms site h =
       parameters = watch_kept ms watch.value watch.first_is;
       notify = of_alarm.notify;
       enable = of_alarm.enable;
+      reference = of_alarm.reference;
+      texts = of_alarm.texts;
     })
 
 pub enrollment_kept : (ms : Members) (site : EnrollmentSite) → enrollment_item ms ≡ Ok site → KeepsKeys site

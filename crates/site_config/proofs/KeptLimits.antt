@@ -1,5 +1,5 @@
 -- The site of a draft that keeps to the limits keeps to them.
-use Rattle.bac_values.specs.Limits.{most_objects, most_records, most_classes, most_destinations, most_logs}
+use Rattle.bac_values.specs.Limits.{most_bindings, most_objects, most_records, most_classes, most_destinations, most_logs}
 use Rattle.std.proofs.Common.{◌≡◌, ◌⊎◌, ℕ, ◌+◌, ◌≤◌, nat_lt, cond, Bool, true, false, List, [], ◌∷◌, length, get_or, Result, Ok, Err, if◌then◌else◌, refl, ap, arith, inl, inr}
 use Rattle.std.specs.List.{list_any, sum_by}
 use Rattle.std.proofs.lemmas.Bool.{cases_Bool, eqb-true, ltb-false, or_parts}
@@ -13,9 +13,9 @@ use Rattle.site_config.specs.declared.class.ClassItem.{ClassItem}
 use Rattle.site_config.specs.declared.destination.DestinationSite.{DestinationSite}
 use Rattle.site_config.specs.declared.draft.Draft.{Draft}
 use Rattle.site_config.specs.declared.fault.SiteFault.{SiteFault}
-use Rattle.site_config.specs.Identifiers.{id_of_class, id_of_object, id_of_enrollment, id_of_log}
+use Rattle.site_config.specs.Identifiers.{id_of_class, id_of_object, id_of_enrollment, id_of_log, id_of_binding}
 use Rattle.site_config.specs.Limits.{are_crowded, count_of, limits_of, names_class, size_of}
-use Rattle.site_config.specs.Sites.{in_order, site_of_draft, with_destinations}
+use Rattle.site_config.specs.Sites.{bound, in_order, site_of_draft, with_destinations}
 use Rattle.site_config.proofs.InOrder.{fold_weighs}
 use Rattle.site_config.proofs.KeptRoom.{recipients}
 
@@ -32,6 +32,7 @@ pub record IsSmall (draft : Draft) : Type 0 where
   pub crowded : are_crowded draft.destinations ≡ false
   pub objects : length draft.objects + length draft.enrollments ≤ most_objects
   pub logs : length draft.logs ≤ most_logs
+  pub bindings : length draft.bindings ≤ most_bindings
   pub records : sum_by size_of draft.logs ≤ most_records
 
 pub small_draft : (draft : Draft) (verdict : Unit {0}) → limits_of draft ≡ Ok verdict → IsSmall draft
@@ -41,12 +42,14 @@ small_draft draft verdict h =
     let objects = passed (nat_lt most_objects (length draft.objects)) _ _ verdict crowded.1 in
     let both = passed (nat_lt most_objects (length draft.objects + length draft.enrollments)) _ _ verdict objects.1 in
     let logs = passed (nat_lt most_logs (length draft.logs)) _ _ verdict both.1 in
-    let records = passed (nat_lt most_records (sum_by size_of draft.logs)) _ _ verdict logs.1 in
+    let bindings = passed (nat_lt most_bindings (length draft.bindings)) _ _ verdict logs.1 in
+    let records = passed (nat_lt most_records (sum_by size_of draft.logs)) _ _ verdict bindings.1 in
     record {
       classes = ltb-false most_classes (length draft.classes) classes.0;
       crowded = crowded.0;
       objects = ltb-false most_objects (length draft.objects + length draft.enrollments) both.0;
       logs = ltb-false most_logs (length draft.logs) logs.0;
+      bindings = ltb-false most_bindings (length draft.bindings) bindings.0;
       records = ltb-false most_records (sum_by size_of draft.logs) records.0;
     }
 
@@ -91,4 +94,5 @@ limits_kept draft small = record {
   destinations = All-map HasFewDestinations (with_destinations draft.destinations) (in_order id_of_class draft.classes) (λ k d within. has_few draft.destinations (get_or (in_order id_of_class draft.classes) k d) small.crowded);
   logs = omega (arith, no_more id_of_log draft.logs, small.logs);
   records = omega (arith, fold_weighs identifier_order id_of_log size_of draft.logs, small.records);
+  bindings = omega (arith, length-map (in_order id_of_binding draft.bindings) bound, no_more id_of_binding draft.bindings, small.bindings);
 }

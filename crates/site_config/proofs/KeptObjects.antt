@@ -77,6 +77,8 @@ class_kept kind ms part None class h =
       time_delay_normal = refl;
       detection = refl;
       inhibit = refl;
+      inhibit_ref = refl;
+      texts = refl;
       limits = record { low = refl; high = refl; deadband = refl; flags = refl };
       alarm_value = refl;
       alarm_values = refl;
@@ -91,6 +93,9 @@ class_kept kind ms part (Some instance) class h =
     rw (← is) (record {
       notify = of_alarm.notify;
       enable = of_alarm.enable;
+      inhibit = of_alarm.reference.alone;
+      reference = of_alarm.reference.names;
+      texts = of_alarm.texts;
       limits = of_kind.limits part (Some instance) alarm.value;
       alarm_value = of_kind.alarm_value;
       alarm_values = of_kind.alarm_values;

@@ -1,27 +1,20 @@
 -- The site of a draft whose notifications fit leaves room for them.
-use Rattle.std.proofs.Common.{◌≡◌, ℕ, ◌+◌, ◌*◌, ◌<◌, ◌≤◌, ◌==◌, suc, cond, nat_lt, Bool, true, false, Option, Some, None, List, [], ◌∷◌, ◌++◌, length, map, Ok, Err, if◌then◌else◌, refl, ap, ◌∙◌, subst, arith}
+use Rattle.std.proofs.Common.{◌≡◌, ℕ, ◌+◌, ◌*◌, ◌≤◌, ◌==◌, cond, nat_lt, Bool, true, false, Option, Some, None, List, [], ◌∷◌, ◌++◌, length, map, Ok, Err, if◌then◌else◌, refl, ap, ◌∙◌, subst, arith}
 use Rattle.std.proofs.Math.Nat.{mul-le-mul_right}
 use Rattle.std.specs.List.{All, AllPairs, cons_option, count_by, filter, filter_map, sum_by}
-use Rattle.std.specs.declared.cmp.Ordering.TheVariants.{Less}
 use Rattle.std.proofs.lemmas.Bool.{ltb-false}
-use Rattle.std.proofs.lemmas.Bool.Decides.{nat_tests}
 use Rattle.std.proofs.lemmas.List.{length-map}
-use Rattle.std.proofs.lemmas.List.Elements.{All-cons, All-head, All-tail, All-nil}
-use Rattle.std.proofs.lemmas.List.Kept.{AllPairs-cons}
 use Rattle.std.proofs.lemmas.List.Folds.{fold-map}
 use Rattle.std.proofs.lemmas.List.Sums.{length-filter, sum_by-append, sum_by-cons, sum_by-le-sum_by}
-use Rattle.bac_values.specs.Identifier.{number_of_kind, ObjectIdData}
+use Rattle.bac_values.specs.Identifier.{number_of_kind}
 use Rattle.bac_values.specs.Orders.{identifier_order}
 use Rattle.bac_values.specs.declared.object_kind.ObjectKind.TheVariants as kinds
 use Rattle.object_table.specs.declared.object_site.ObjectSite.{ObjectSite}
-use Rattle.object_table.specs.declared.row.Row.{Row}
-use Rattle.object_table.specs.Rows.{first_row, rows_of}
 use Rattle.enrollment.specs.declared.enrollment_site.EnrollmentSite.{EnrollmentSite}
 use Rattle.notify_class.specs.declared.class_site.ClassSite.{ClassSite}
-use Rattle.alarm_core.specs.Allowed.{members_of as members_at_start, share_of}
-use Rattle.alarm_core.specs.Classes.{is_member}
-use Rattle.alarm_core.specs.Room.{HasRoom, instance_of}
-use Rattle.alarm_core.specs.State.{state_of}
+use Rattle.alarm_core.specs.Classes.{first_classes, is_member}
+use Rattle.alarm_core.specs.Room.{LeaveRoom, members_at, share_at}
+use Rattle.alarm_core.specs.Sites.{ClassesAscend, instance_of}
 use Rattle.site_config.specs.declared.class.ClassItem.{ClassItem}
 use Rattle.site_config.specs.declared.destination.DestinationSite.{DestinationSite}
 use Rattle.site_config.specs.declared.draft.Draft.{Draft}
@@ -33,12 +26,9 @@ use Rattle.site_config.specs.Notes.{class_of_enrollment, class_of_object, member
 use Rattle.site_config.specs.Sites.{destinations_of, in_order, notes_fit, recipient_of, site_of_draft, with_destinations}
 use Rattle.site_config.proofs.ClassByClass.{times, class_by_class}
 use Rattle.site_config.proofs.InOrder.{fold_weighs}
+use Rattle.site_config.proofs.Instances.{Below, Precedes, instances_ascend}
 
 -- ---- the classes
-
--- identifiers of one type that ascend do so by their instances
-instance_below : (type : ℕ) (earlier later : ObjectIdData) → earlier.number ≡ type → later.number ≡ type → identifier_order earlier later ≡ Less → earlier.instance < later.instance
-instance_below type earlier later first second below = grind (arith, nat_tests)
 
 -- an item's identifier is that of a class
 abbrev pub HasClassId : ClassItem → Type 0
@@ -47,27 +37,9 @@ HasClassId item = item.object.number ≡ number_of_kind kinds.NotificationClass
 abbrev pub instance_of_item : ClassItem → ℕ
 instance_of_item item = item.object.instance
 
-abbrev Below : ℕ → ℕ → Type 0
-Below earlier later = earlier < later
-
-abbrev Precedes : ObjectIdData → ObjectIdData → Type 0
-Precedes earlier later = identifier_order earlier later ≡ Less
-
-all_below : (first : ClassItem) (items : List ClassItem) → HasClassId first → All HasClassId items → All (Precedes first.object) (map id_of_class items) → All (Below first.object.instance) (map instance_of_item items)
-all_below first [] own classes behind = All-nil (Below first.object.instance)
-all_below first (item ∷ items) own classes behind =
-    let below = instance_below (number_of_kind kinds.NotificationClass) first.object item.object own (All-head HasClassId item items classes) (All-head (Precedes first.object) item.object (map id_of_class items) behind) in
-    let others = all_below first items own (All-tail HasClassId item items classes) (All-tail (Precedes first.object) item.object (map id_of_class items) behind) in
-    All-cons (Below first.object.instance) item.object.instance (map instance_of_item items) below others
-
 -- the instances of classes that ascend by their identifiers ascend
-pub instances_ascend : (items : List ClassItem) → All HasClassId items → AllPairs Precedes (map id_of_class items) → AllPairs Below (map instance_of_item items)
-instances_ascend [] classes ascend = λ i j d before within. absurd (omega (arith, within))
-instances_ascend (item ∷ items) classes ascend =
-    let tail : AllPairs Precedes (map id_of_class items) = λ i j d before within. ascend (suc i) (suc j) d (omega (arith, before)) (omega (arith, within)) in
-    let heads : All (Precedes item.object) (map id_of_class items) = λ k d within. ascend 0 (suc k) d (omega arith) (omega (arith, within)) in
-    let others = All-tail HasClassId item items classes in
-    AllPairs-cons Below item.object.instance (map instance_of_item items) (all_below item items (All-head HasClassId item items classes) others heads) (instances_ascend items others tail)
+class_instances : (items : List ClassItem) → All HasClassId items → AllPairs Precedes (map id_of_class items) → AllPairs Below (map instance_of_item items)
+class_instances = instances_ascend id_of_class (number_of_kind kinds.NotificationClass)
 
 instances_of : (destinations : List DestinationSite) (items : List ClassItem) → map instance_of_item items ≡ map instance_of (map (with_destinations destinations) items)
 instances_of destinations [] = refl
@@ -89,11 +61,8 @@ module _ (number : ℕ) where
   enrollment_members : (sites : List EnrollmentSite) → times (map class_of_enrollment sites) number ≡ count_by (λ (site : EnrollmentSite). site.class == number) sites
   enrollment_members sites = fold-map (λ n class. n + (if class == number then 1 else 0)) class_of_enrollment 0 sites
 
-  row_members : (objects : List ObjectSite) → count_by (λ (row : Row). is_member row.site.class number) (rows_of objects) ≡ count_by (λ (site : ObjectSite). is_member site.class number) objects
-  row_members objects = fold-map (λ n (row : Row). n + (if is_member row.site.class number then 1 else 0)) first_row 0 objects
-
   -- a class has no more members in the site than in the draft
-  members_kept : (draft : Draft) → members_at_start (state_of (site_of_draft draft) []) number ≤ times (members_of draft) number
+  members_kept : (draft : Draft) → members_at (site_of_draft draft) number ≤ times (members_of draft) number
   members_kept draft =
       let objects = filter_map class_of_object draft.objects in
       let enrollments = map class_of_enrollment draft.enrollments in
@@ -102,7 +71,7 @@ module _ (number : ℕ) where
       fold_weighs identifier_order id_of_object (λ (site : ObjectSite). if is_member site.class number then 1 else 0) draft.objects in
       let fewer_enrollments : count_by (λ (site : EnrollmentSite). site.class == number) (in_order id_of_enrollment draft.enrollments) ≤ count_by (λ (site : EnrollmentSite). site.class == number) draft.enrollments =
       fold_weighs identifier_order id_of_enrollment (λ (site : EnrollmentSite). if site.class == number then 1 else 0) draft.enrollments in
-      omega (arith, both, fewer_objects, fewer_enrollments, row_members (in_order id_of_object draft.objects), object_members draft.objects, enrollment_members draft.enrollments)
+      omega (arith, both, fewer_objects, fewer_enrollments, object_members draft.objects, enrollment_members draft.enrollments)
 
 -- ---- the notifications
 
@@ -112,7 +81,7 @@ recipients number destinations = length-map (filter (names_class number) destina
 module _ (draft : Draft) where
   -- what a class's members give to its recipients, in the site and in the draft
   share : ℕ → ℕ
-  share number = members_at_start (state_of (site_of_draft draft) []) number * length (destinations_of number draft.destinations)
+  share number = members_at (site_of_draft draft) number * length (destinations_of number draft.destinations)
 
   share_in : ℕ → ℕ
   share_in number = times (members_of draft) number * count_of number draft.destinations
@@ -125,33 +94,34 @@ module _ (draft : Draft) where
       omega (arith, fewer, same)
 
   shares : (items : List ClassItem) →
-      sum_by (share_of (state_of (site_of_draft draft) [])) (map (λ (listed : ClassSite). listed.class) (map (with_destinations draft.destinations) items)) ≡ sum_by share (map instance_of_item items)
+      sum_by (share_at (site_of_draft draft)) (map (λ (listed : ClassSite). listed.class) (map (with_destinations draft.destinations) items)) ≡ sum_by share (map instance_of_item items)
   unfolding share
   shares [] = refl
   shares (item ∷ items) =
       let class = (with_destinations draft.destinations item).class in
-      let own : share_of (state_of (site_of_draft draft) []) class ≡ share item.object.instance = refl in
+      let own : share_at (site_of_draft draft) class ≡ share item.object.instance = refl in
       omega (
         arith,
         own,
         shares items,
         sum_by-cons share item.object.instance (map instance_of_item items),
-        sum_by-cons (share_of (state_of (site_of_draft draft) [])) class (map (λ (listed : ClassSite). listed.class) (map (with_destinations draft.destinations) items)),
+        sum_by-cons (share_at (site_of_draft draft)) class (map (λ (listed : ClassSite). listed.class) (map (with_destinations draft.destinations) items)),
       )
 
+  pub classes_ascend : All HasClassId (in_order id_of_class draft.classes) → AllPairs Precedes (map id_of_class (in_order id_of_class draft.classes)) → ClassesAscend (site_of_draft draft).classes
+  classes_ascend ids ascend =
+      let items = in_order id_of_class draft.classes in
+      subst (AllPairs Below) (instances_of draft.destinations items) (class_instances items ids ascend)
+
   pub room_kept : All HasClassId (in_order id_of_class draft.classes) → AllPairs Precedes (map id_of_class (in_order id_of_class draft.classes))
-      → notes_of draft.destinations (members_of draft) ≤ draft.device.outbox → HasRoom (site_of_draft draft)
+      → notes_of draft.destinations (members_of draft) ≤ draft.device.outbox → LeaveRoom (site_of_draft draft) (first_classes (site_of_draft draft))
   unfolding share_in
   room_kept ids ascend fits =
       let items = in_order id_of_class draft.classes in
       let classes = map instance_of_item items in
-      let ascending = instances_ascend items ids ascend in
       let within = sum_by-le-sum_by share share_in classes share_kept in
-      let whole = class_by_class (λ number. count_of number draft.destinations) classes (members_of draft) ascending in
-      record {
-        distinct = subst (AllPairs Below) (instances_of draft.destinations items) ascending;
-        fits = omega (arith, shares items, within, whole, fits);
-      }
+      let whole = class_by_class (λ number. count_of number draft.destinations) classes (members_of draft) (class_instances items ids ascend) in
+      omega (arith, shares items, within, whole, fits)
 
 pub fit_within : (draft : Draft) (verdict : Unit {0}) → notes_fit draft ≡ Ok verdict → notes_of draft.destinations (members_of draft) ≤ draft.device.outbox
 fit_within draft verdict h = by (nat_lt draft.device.outbox (notes_of draft.destinations (members_of draft))) refl h

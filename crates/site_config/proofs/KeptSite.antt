@@ -12,20 +12,19 @@ use Rattle.bac_values.proofs.OrderLemmas.{identifiers_are_total}
 use Rattle.civil_stamp.specs.LocalTime.{IsZone}
 use Rattle.object_table.specs.declared.object_site.ObjectSite.{ObjectSite}
 use Rattle.object_table.specs.Objects.{IsObject}
-use Rattle.object_table.specs.Rows.{rows_of}
+use Rattle.object_table.specs.Rows.{first_row, rows_of}
+use Rattle.object_table.specs.declared.row.Row.{Row}
 use Rattle.outbox.specs.Outboxes.{AreSettings}
 use Rattle.property_values.specs.declared.device_site.DeviceSite.{DeviceSite}
 use Rattle.alarm_core.specs.declared.site.Site.{Site}
-use Rattle.alarm_core.specs.Limits.{KeepsLimits}
-use Rattle.alarm_core.specs.Room.{HasRoom}
-use Rattle.alarm_core.specs.Sites.{HasInstance, IsLogSite, IsSite, IsSiteRule, is_zone_rule}
+use Rattle.alarm_core.specs.Sites.{HasInstance, HasItsClass, HasItsClasses, HasOwnClass, IsLogSite, IsSite, IsSiteRule, is_zone_rule}
 use Rattle.enrollment.specs.Enrollments.{IsEnrollment}
-use Rattle.enrollment.specs.Snapshots.{HasObjects}
+use Rattle.enrollment.specs.Snapshots.{HasObjects, HasReferred}
 use Rattle.site_config.specs.declared.class.ClassItem.{ClassItem}
 use Rattle.site_config.specs.Classes.{class_of}
 use Rattle.site_config.specs.declared.draft.Draft.{Draft}
 use Rattle.site_config.specs.declared.fault.Section.{Section}
-use Rattle.site_config.specs.declared.fault.Section.TheVariants.{Device, Class, Destination, Object, Enrollment, Log}
+use Rattle.site_config.specs.declared.fault.Section.TheVariants.{Device, Class, Destination, Object, Enrollment, Log, Binding}
 use Rattle.site_config.specs.declared.fault.SiteFault.{SiteFault}
 use Rattle.site_config.specs.declared.fault.SiteFault.TheVariants.{TooLong, NoMemory}
 use Rattle.toml_items.specs.declared.item_fault.ItemFault.{ItemFault}
@@ -33,25 +32,26 @@ use Rattle.site_config.specs.declared.keys.Keys.TheVariants as keys
 use Rattle.toml_items.specs.Answers.{Gives}
 use Rattle.site_config.specs.Devices.{device_of, object_with, name_of, zone_rule_beside, zone_rule_of}
 use Rattle.site_config.specs.Drafts.{draft_of}
-use Rattle.site_config.specs.Identifiers.{id_of_class, id_of_object, id_of_enrollment, id_of_log, identifiers, least_twice}
-use Rattle.site_config.specs.Items.{class_item, destination_item, object_item, enrollment_item, log_item}
+use Rattle.site_config.specs.Identifiers.{id_of_class, id_of_object, id_of_enrollment, id_of_log, id_of_binding, identifiers, least_twice}
+use Rattle.site_config.specs.Items.{class_item, destination_item, object_item, enrollment_item, log_item, binding_item}
 use Rattle.site_config.specs.Keys.{has_key}
 use Rattle.site_config.specs.Limits.{limits_of}
 use Rattle.toml_items.specs.Members.{required, or_else, optional, optional_value, valid_value, value_if_there, value_or, first_unknown, refused_key}
 use Rattle.site_config.specs.Objects.{keys_of_object, object_of}
 use Rattle.site_config.specs.Notes.{members_of, notes_of}
-use Rattle.site_config.specs.References.{enrollment_dangles, least_dangling}
+use Rattle.site_config.specs.References.{least_dangling}
 use Rattle.site_config.specs.Sections.{placed, device_item, device_from, device_table, device_section, lesser_key, items_of, next_number, section_from, section_of, section_name, tables_at}
 use Rattle.site_config.specs.Sites.{document_of, site_or_no_toml, site_of_document, site_of_draft, site_of, duplicate_of, dangling_of, notes_fit, verdict_on, in_order, with_destinations}
 use Rattle.site_config.specs.Values.{instance_in}
 use Rattle.toml_items.specs.Values.{moment_in, text_in, unsigned_in, whole_in}
 use Rattle.toml_items.specs.Lists.{three_in}
 use Rattle.site_config.proofs.Ascending.{fold_ascends, fold_keeps}
+use Rattle.site_config.proofs.KeptBindings.{IsBindingPart, binding_kept, bindings_are, bindings_ascend}
 use Rattle.site_config.proofs.KeptEnrollments.{KeepsKeys, enrollment_kept, log_kept}
 use Rattle.site_config.proofs.KeptLimits.{IsSmall, limits_kept, small_draft}
 use Rattle.site_config.proofs.KeptObjects.{object_kept}
-use Rattle.site_config.proofs.KeptReferences.{same_ids, none_dangles, are_enrollments, have_objects}
-use Rattle.site_config.proofs.KeptRoom.{HasClassId, fit_within, room_kept}
+use Rattle.site_config.proofs.KeptReferences.{same_ids, none_dangles, are_enrollments, have_objects, have_referred, listed, objects_have, enrollments_have, logs_have}
+use Rattle.site_config.proofs.KeptRoom.{HasClassId, classes_ascend, fit_within, room_kept}
 use Rattle.site_config.proofs.Numbers.{instance_kept}
 use Rattle.toml_items.proofs.Numbers.{moment_kept, unsigned_kept, whole_kept}
 use Rattle.toml_items.proofs.Steps.{after, found, ok_is, required_keeps, or_else_keeps}
@@ -200,6 +200,7 @@ record IsDraft (draft : Draft) : Type 0 where
   objects : AllByRecursion IsObject draft.objects
   enrollments : AllByRecursion KeepsKeys draft.enrollments
   logs : AllByRecursion IsLogSite draft.logs
+  bindings : AllByRecursion IsBindingPart draft.bindings
 
 draft_kept : (document : Members) (draft : Draft) → draft_of document ≡ Ok draft → IsDraft draft
 unfolding draft_of
@@ -210,13 +211,16 @@ draft_kept document draft h =
     let objects = after (section_of object_item Object document) _ draft destinations.next_is in
     let enrollments = after (section_of enrollment_item Enrollment document) _ draft objects.next_is in
     let logs = after (section_of log_item Log document) _ draft enrollments.next_is in
-    let is : record { device = device.value; classes = classes.value; destinations = destinations.value; objects = objects.value; enrollments = enrollments.value; logs = logs.value } ≡ draft = cc in
+    let bindings = after (section_of binding_item Binding document) _ draft logs.next_is in
+    let whole : Draft = record { device = device.value; classes = classes.value; destinations = destinations.value; objects = objects.value; enrollments = enrollments.value; logs = logs.value; bindings = bindings.value } in
+    let is : whole ≡ draft = ok_is whole draft bindings.next_is in
     rw (← is) (record {
       device = device_from_kept document (device_table (get_member (codes "device") document)) device.value device.first_is;
       classes = section_kept IsClassPart class_item class_kept Class document classes.value classes.first_is;
       objects = section_kept IsObject object_item item_kept Object document objects.value objects.first_is;
       enrollments = section_kept KeepsKeys enrollment_item enrollment_kept Enrollment document enrollments.value enrollments.first_is;
       logs = section_kept IsLogSite log_item log_kept Log document logs.value logs.first_is;
+      bindings = section_kept IsBindingPart binding_item binding_kept Binding document bindings.value bindings.first_is;
     })
 
 -- no reference of a draft dangles that passes
@@ -243,71 +247,73 @@ verdict_kept draft verdict h =
 classes_kept : (draft : Draft) → IsDraft draft → All IsClassPart (in_order id_of_class draft.classes)
 classes_kept draft kept = fold_keeps identifiers_are_total same_ids id_of_class IsClassPart [] draft.classes (All-nil IsClassPart) kept.classes
 
-of_draft_kept : (draft : Draft) → IsDraft draft → AllByRecursion (λ site. enrollment_dangles draft.classes draft.objects site ≡ false) draft.enrollments → IsSite (site_of_draft draft)
-of_draft_kept draft kept refer = record {
-  start = kept.device.start;
-  zone = kept.device.zone;
-  rule = kept.device.rule;
-  instance = kept.device.instance;
-  settings = kept.device.settings;
-  classes = All-map HasInstance (with_destinations draft.destinations) (in_order id_of_class draft.classes)
-      (All-weaker IsClassPart (λ item. HasInstance (with_destinations draft.destinations item)) (λ item is. is.instance) (in_order id_of_class draft.classes) (classes_kept draft kept));
-  ascending = fold_ascends identifiers_are_total same_ids id_of_object draft.objects;
-  objects = fold_keeps identifiers_are_total same_ids id_of_object IsObject [] draft.objects (All-nil IsObject) kept.objects;
-  enrollments_ascend = fold_ascends identifiers_are_total same_ids id_of_enrollment draft.enrollments;
-  enrollments = fold_keeps identifiers_are_total same_ids id_of_enrollment IsEnrollment [] draft.enrollments (All-nil IsEnrollment)
-      (are_enrollments draft.classes draft.objects draft.enrollments kept.objects kept.enrollments refer);
-  referred = fold_keeps identifiers_are_total same_ids id_of_enrollment (HasObjects (rows_of (in_order id_of_object draft.objects))) [] draft.enrollments (All-nil (HasObjects (rows_of (in_order id_of_object draft.objects))))
-      (have_objects draft.classes draft.objects draft.enrollments refer);
-  logs = fold_keeps identifiers_are_total same_ids id_of_log IsLogSite [] draft.logs (All-nil IsLogSite) kept.logs;
-}
+bindings_in_order : (draft : Draft) → IsDraft draft → All IsBindingPart (in_order id_of_binding draft.bindings)
+bindings_in_order draft kept = fold_keeps identifiers_are_total same_ids id_of_binding IsBindingPart [] draft.bindings (All-nil IsBindingPart) kept.bindings
 
-of_draft_room : (draft : Draft) → IsDraft draft → Passes draft → HasRoom (site_of_draft draft)
-of_draft_room draft kept passes =
-    room_kept draft (All-weaker IsClassPart HasClassId (λ item is. is.class) (in_order id_of_class draft.classes) (classes_kept draft kept))
-    (fold_ascends identifiers_are_total same_ids id_of_class draft.classes) passes.fits
+of_draft_kept : (draft : Draft) → IsDraft draft → Passes draft → IsSite (site_of_draft draft)
+of_draft_kept draft kept passes =
+    let resolved = none_dangles draft passes.refers in
+    let classes = listed draft.classes draft.destinations in
+    let ids = All-weaker IsClassPart HasClassId (λ item is. is.class) (in_order id_of_class draft.classes) (classes_kept draft kept) in
+    let ascending = fold_ascends identifiers_are_total same_ids id_of_class draft.classes in
+    let rows = rows_of (in_order id_of_object draft.objects) in
+    let own = bindings_in_order draft kept in
+    record {
+      start = kept.device.start;
+      zone = kept.device.zone;
+      rule = kept.device.rule;
+      instance = kept.device.instance;
+      settings = kept.device.settings;
+      classes = All-map HasInstance (with_destinations draft.destinations) (in_order id_of_class draft.classes)
+          (All-weaker IsClassPart (λ item. HasInstance (with_destinations draft.destinations item)) (λ item is. is.instance) (in_order id_of_class draft.classes) (classes_kept draft kept));
+      classes_ascend = classes_ascend draft ids ascending;
+      ascending = fold_ascends identifiers_are_total same_ids id_of_object draft.objects;
+      objects = fold_keeps identifiers_are_total same_ids id_of_object IsObject [] draft.objects (All-nil IsObject) kept.objects;
+      object_classes = fold_keeps identifiers_are_total same_ids id_of_object (HasItsClass classes) [] draft.objects (All-nil (HasItsClass classes))
+          (objects_have draft.classes draft.destinations draft.objects draft.objects resolved.objects);
+      enrollments_ascend = fold_ascends identifiers_are_total same_ids id_of_enrollment draft.enrollments;
+      enrollments = fold_keeps identifiers_are_total same_ids id_of_enrollment IsEnrollment [] draft.enrollments (All-nil IsEnrollment)
+          (are_enrollments draft.classes draft.objects draft.enrollments kept.objects kept.enrollments resolved.enrollments);
+      enrollment_classes = fold_keeps identifiers_are_total same_ids id_of_enrollment (HasOwnClass classes) [] draft.enrollments (All-nil (HasOwnClass classes))
+          (enrollments_have draft.classes draft.destinations draft.objects draft.enrollments resolved.enrollments);
+      referred = record {
+        objects = All-map (λ (row : Row). HasReferred rows row.site.inhibit_ref) first_row (in_order id_of_object draft.objects)
+            (fold_keeps identifiers_are_total same_ids id_of_object (λ (site : ObjectSite). HasReferred rows site.inhibit_ref) [] draft.objects (All-nil (λ (site : ObjectSite). HasReferred rows site.inhibit_ref))
+            (have_referred draft.classes draft.objects draft.objects resolved.objects));
+        enrollments = fold_keeps identifiers_are_total same_ids id_of_enrollment (HasObjects rows) [] draft.enrollments (All-nil (HasObjects rows))
+            (have_objects draft.classes draft.objects draft.enrollments resolved.enrollments);
+      };
+      logs_ascend = fold_ascends identifiers_are_total same_ids id_of_log draft.logs;
+      logs = fold_keeps identifiers_are_total same_ids id_of_log IsLogSite [] draft.logs (All-nil IsLogSite) kept.logs;
+      log_classes = fold_keeps identifiers_are_total same_ids id_of_log (HasItsClasses classes) [] draft.logs (All-nil (HasItsClasses classes))
+          (logs_have draft.classes draft.destinations draft.logs resolved.logs);
+      bindings_ascend = bindings_ascend (in_order id_of_binding draft.bindings) own (fold_ascends identifiers_are_total same_ids id_of_binding draft.bindings);
+      bindings = bindings_are (in_order id_of_binding draft.bindings) own;
+      limits = limits_kept draft passes.small;
+      room = room_kept draft ids ascending passes.fits;
+    }
 
--- what is known of a site that is given
-record IsGiven (site : Site) : Type 0 where
-  keeps : IsSite site
-  room : HasRoom site
-  limits : KeepsLimits site
-
-document_kept : (document : Members) (site : Site) → site_of_document document ≡ Ok site → IsGiven site
+document_kept : (document : Members) (site : Site) → site_of_document document ≡ Ok site → IsSite site
 unfolding site_of_document
 document_kept document site h =
     let draft = after (draft_of document) _ site h in
     let verdict = after (verdict_on draft.value) (λ _. Ok (site_of_draft draft.value)) site draft.next_is in
     let is : site_of_draft draft.value ≡ site = cc in
-    let passes = verdict_kept draft.value verdict.value verdict.first_is in
-    let kept = draft_kept document draft.value draft.first_is in
-    rw (← is) (record {
-      keeps = of_draft_kept draft.value kept (none_dangles draft.value passes.refers);
-      room = of_draft_room draft.value kept passes;
-      limits = limits_kept draft.value passes.small;
-    })
+    rw (← is) (of_draft_kept draft.value (draft_kept document draft.value draft.first_is) (verdict_kept draft.value verdict.value verdict.first_is))
 
-found_kept : (found : Option Members) (site : Site) → site_or_no_toml found ≡ Ok site → IsGiven site
+found_kept : (found : Option Members) (site : Site) → site_or_no_toml found ≡ Ok site → IsSite site
 found_kept None site h = absurd cc
 found_kept (Some document) site h = document_kept document site h
 
-site_kept : (text : List ℕ) (site : Site) → site_of text ≡ Ok site → IsGiven site
+site_kept : (text : List ℕ) (site : Site) → site_of text ≡ Ok site → IsSite site
 unfolding site_of
 site_kept text site h = by (nat_lt most_site_octets (length text)) h
   where
-    by : (long : Bool) → (if long then Err TooLong else site_or_no_toml (document_of text)) ≡ Ok site → IsGiven site
+    by : (long : Bool) → (if long then Err TooLong else site_or_no_toml (document_of text)) ≡ Ok site → IsSite site
     by true e = absurd cc
     by false e = found_kept (document_of text) site e
 
 -- what is given where memory isn't refused
 pub gives_kept : (answer : Result Site SiteFault) (text : List ℕ) → Gives NoMemory answer (site_of text) → IfOk answer IsSite
-gives_kept (Ok site) text h = (site_kept text site h).keeps
+gives_kept (Ok site) text h = site_kept text site h
 gives_kept (Err fault) text h = tt
-
-pub gives_room : (answer : Result Site SiteFault) (text : List ℕ) → Gives NoMemory answer (site_of text) → IfOk answer HasRoom
-gives_room (Ok site) text h = (site_kept text site h).room
-gives_room (Err fault) text h = tt
-
-pub gives_limits : (answer : Result Site SiteFault) (text : List ℕ) → Gives NoMemory answer (site_of text) → IfOk answer KeepsLimits
-gives_limits (Ok site) text h = (site_kept text site h).limits
-gives_limits (Err fault) text h = tt

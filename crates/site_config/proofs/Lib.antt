@@ -4,13 +4,16 @@ pub mod Numbers
 pub mod Ascending
 pub mod InOrder
 pub mod ClassByClass
+pub mod Instances
 pub mod KeptRoom
 pub mod KeptLimits
 pub mod Present
 pub mod KeptFaults
+pub mod KeptInhibition
 pub mod KeptAlarms
 pub mod KeptObjects
 pub mod KeptEnrollments
 pub mod KeptReferences
+pub mod KeptBindings
 pub mod KeptSite
 pub mod TextLines

@@ -2,10 +2,10 @@
 use Rattle.std.specs.Prelude.{Result, Ok}
 use Rattle.toml.specs.Data.{Members}
 use Rattle.site_config.specs.declared.draft.Draft.{Draft}
-use Rattle.site_config.specs.declared.fault.Section.TheVariants.{Class, Destination, Object, Enrollment, Log}
+use Rattle.site_config.specs.declared.fault.Section.TheVariants.{Class, Destination, Object, Enrollment, Log, Binding}
 use Rattle.site_config.specs.declared.fault.SiteFault.{SiteFault}
 use Rattle.toml_items.specs.Answers.{◌>>=◌}
-use Rattle.site_config.specs.Items.{class_item, destination_item, object_item, enrollment_item, log_item}
+use Rattle.site_config.specs.Items.{class_item, destination_item, object_item, enrollment_item, log_item, binding_item}
 use Rattle.site_config.specs.Sections.{device_section, section_of}
 
 unfoldable pub draft_of : Members → Result Draft SiteFault
@@ -16,4 +16,5 @@ draft_of document = do
   objects ← section_of object_item Object document
   enrollments ← section_of enrollment_item Enrollment document
   logs ← section_of log_item Log document
-  Ok (record { device = device; classes = classes; destinations = destinations; objects = objects; enrollments = enrollments; logs = logs })
+  bindings ← section_of binding_item Binding document
+  Ok (record { device = device; classes = classes; destinations = destinations; objects = objects; enrollments = enrollments; logs = logs; bindings = bindings })

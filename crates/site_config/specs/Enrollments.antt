@@ -67,4 +67,6 @@ enrollment_of ms = do
     time_delay_normal = alarm.time_delay_normal;
     detection = alarm.detection;
     inhibit = alarm.inhibit;
+    inhibit_ref = alarm.inhibit_ref;
+    texts = alarm.texts;
   })

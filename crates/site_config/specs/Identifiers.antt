@@ -7,6 +7,7 @@ use Rattle.enrollment.specs.declared.enrollment_site.EnrollmentSite.{EnrollmentS
 use Rattle.event_log.specs.declared.log_site.LogSite.{LogSite}
 use Rattle.object_table.specs.Rows.{is_object}
 use Rattle.object_table.specs.declared.object_site.ObjectSite.{ObjectSite}
+use Rattle.site_config.specs.declared.binding_item.BindingItem.{BindingItem}
 use Rattle.site_config.specs.declared.class.ClassItem.{ClassItem}
 use Rattle.site_config.specs.declared.draft.Draft.{Draft}
 
@@ -22,9 +23,13 @@ id_of_enrollment site = site.object
 abbrev pub id_of_log : LogSite → ObjectIdData
 id_of_log site = site.object
 
--- every identifier of the site but the device's, which no other object can have, as often as it is given
+-- that of a device that is bound
+abbrev pub id_of_binding : BindingItem → ObjectIdData
+id_of_binding item = item.object
+
+-- every identifier of the site but the device's own, as often as it is given; a binding gives that of a device
 abbrev pub identifiers : Draft → List ObjectIdData
-identifiers draft = map id_of_class draft.classes ++ map id_of_object draft.objects ++ map id_of_enrollment draft.enrollments ++ map id_of_log draft.logs
+identifiers draft = map id_of_class draft.classes ++ map id_of_object draft.objects ++ map id_of_enrollment draft.enrollments ++ map id_of_log draft.logs ++ map id_of_binding draft.bindings
 
 -- the lesser one, by number and then by instance
 abbrev pub lesser : Option ObjectIdData → ObjectIdData → Option ObjectIdData

@@ -6,10 +6,10 @@ use Rattle.algorithm_rules.specs.declared.table.Algorithm.{Algorithm}
 use Rattle.algorithm_rules.specs.declared.table.Algorithm.TheVariants.{CommandFailure, UnsignedRange}
 use Rattle.toml_items.specs.Members.{is_among}
 use Rattle.site_config.specs.declared.keys.Keys.{Keys}
-use Rattle.site_config.specs.declared.keys.Keys.TheVariants.{Top, Device, Class, Destination, Object, Enrollment, Log}
+use Rattle.site_config.specs.declared.keys.Keys.TheVariants.{Top, Device, Class, Destination, Object, Enrollment, Log, Binding}
 
 abbrev pub section_names : List (List ℕ)
-section_names = codes "device" ∷ codes "class" ∷ codes "destination" ∷ codes "object" ∷ codes "enrollment" ∷ codes "log" ∷ []
+section_names = codes "device" ∷ codes "class" ∷ codes "destination" ∷ codes "object" ∷ codes "enrollment" ∷ codes "log" ∷ codes "binding" ∷ []
 
 abbrev pub device_keys : List (List ℕ)
 device_keys = codes "instance" ∷ codes "name" ∷ codes "vendor" ∷ codes "start" ∷ codes "zone_minutes" ∷ codes "zone_rule" ∷ codes "apdu_timeout" ∷ codes "retries" ∷ codes "outbox" ∷ []
@@ -34,7 +34,7 @@ keys_of_kind _ = []
 
 -- those of objects with a class, and of enrollments
 abbrev pub alarm_keys : List (List ℕ)
-alarm_keys = codes "notify" ∷ codes "enable" ∷ codes "time_delay" ∷ codes "time_delay_normal" ∷ codes "detection" ∷ codes "inhibit" ∷ []
+alarm_keys = codes "notify" ∷ codes "enable" ∷ codes "time_delay" ∷ codes "time_delay_normal" ∷ codes "detection" ∷ codes "inhibit" ∷ codes "inhibit_ref" ∷ codes "texts" ∷ []
 
 -- those of objects of a kind with a class
 abbrev pub alarm_keys_of_kind : Option ObjectKind → List (List ℕ)
@@ -59,6 +59,9 @@ keys_of_algorithm _ = []
 abbrev pub log_keys : List (List ℕ)
 log_keys = codes "instance" ∷ codes "name" ∷ codes "size" ∷ codes "stop_when_full" ∷ codes "enable" ∷ codes "classes" ∷ []
 
+abbrev pub binding_keys : List (List ℕ)
+binding_keys = codes "device" ∷ codes "address" ∷ []
+
 -- whether the items with these keys have the key
 abbrev pub has_key : Keys → List ℕ → Bool
 has_key Top key = is_among section_names key
@@ -70,3 +73,4 @@ has_key (Object kind class) key =
     || (class && (is_among alarm_keys key || is_among (alarm_keys_of_kind kind) key))
 has_key (Enrollment algorithm) key = (is_among enrollment_keys key || is_among (keys_of_algorithm algorithm) key) || is_among alarm_keys key
 has_key Log key = is_among log_keys key
+has_key Binding key = is_among binding_keys key

@@ -10,6 +10,7 @@ pub mod FaultKeys
 pub mod Objects
 pub mod Enrollments
 pub mod Logs
+pub mod Bindings
 pub mod Items
 pub mod Drafts
 pub mod Limits

@@ -1,6 +1,6 @@
 -- How much a site may have.
 use Rattle.std.specs.Prelude.{ℕ, ◌+◌, ◌==◌, nat_lt, Bool, List, length, count_by, sum_by, unwrap_or, Result, Ok, Err, if◌then◌else◌}
-use Rattle.bac_values.specs.Limits.{most_classes, most_destinations, most_logs, most_objects, most_records}
+use Rattle.bac_values.specs.Limits.{most_bindings, most_classes, most_destinations, most_logs, most_objects, most_records}
 use Rattle.std.specs.BTreeMap.{BTreeMap, get}
 use Rattle.std.specs.List.{list_any}
 use Rattle.std.specs.Ordering.{nat_cmp}
@@ -9,7 +9,7 @@ use Rattle.site_config.specs.declared.destination.DestinationSite.{DestinationSi
 use Rattle.site_config.specs.declared.draft.Draft.{Draft}
 use Rattle.site_config.specs.declared.fault.Counted.TheVariants.{Records}
 use Rattle.site_config.specs.declared.fault.Counted.TheVariants as counted
-use Rattle.site_config.specs.declared.fault.Section.TheVariants.{Class, Destination, Object, Enrollment, Log}
+use Rattle.site_config.specs.declared.fault.Section.TheVariants.{Class, Destination, Object, Enrollment, Log, Binding}
 use Rattle.site_config.specs.declared.fault.SiteFault.{SiteFault}
 use Rattle.site_config.specs.declared.fault.SiteFault.TheVariants.{TooMany}
 
@@ -39,4 +39,5 @@ limits_of draft =
     (if nat_lt most_objects (length draft.objects) then Err (TooMany (counted.Section Object)) else
     (if nat_lt most_objects (length draft.objects + length draft.enrollments) then Err (TooMany (counted.Section Enrollment)) else
     (if nat_lt most_logs (length draft.logs) then Err (TooMany (counted.Section Log)) else
-    (if nat_lt most_records (sum_by size_of draft.logs) then Err (TooMany Records) else Ok tt)))))
+    (if nat_lt most_bindings (length draft.bindings) then Err (TooMany (counted.Section Binding)) else
+    (if nat_lt most_records (sum_by size_of draft.logs) then Err (TooMany Records) else Ok tt))))))

@@ -29,12 +29,17 @@ abbrev pub lacks_class : List ClassItem → Option ℕ → Bool
 lacks_class classes None = false
 lacks_class classes (Some instance) = not (has_class classes instance)
 
-abbrev pub object_dangles : List ClassItem → ObjectSite → Bool
-object_dangles classes site = lacks_class classes site.class
-
 -- one of the objects
 abbrev pub is_there : List ObjectSite → ObjectIdData → Bool
 is_there objects object = list_any (λ site. is_object object site.object) objects
+
+-- the binary value that inhibits an object or an enrollment, if it has one, isn't there
+abbrev pub reference_dangles : List ObjectSite → Option ObjectIdData → Bool
+reference_dangles objects None = false
+reference_dangles objects (Some referred) = not (is_there objects referred)
+
+abbrev pub object_dangles : List ClassItem → List ObjectSite → ObjectSite → Bool
+object_dangles classes objects site = lacks_class classes site.class || reference_dangles objects site.inhibit_ref
 
 -- UNSIGNED_RANGE monitors a positive integer or a multi-state value, COMMAND_FAILURE every value
 abbrev pub can_monitor : Algorithm → ObjectIdData → Bool
@@ -48,8 +53,9 @@ feedback_dangles objects monitored (Some feedback) = not (is_there objects feedb
 
 abbrev pub enrollment_dangles : List ClassItem → List ObjectSite → EnrollmentSite → Bool
 enrollment_dangles classes objects site =
-    ((not (has_class classes site.class) || not (is_there objects site.monitored)) || not (can_monitor site.algorithm site.monitored))
-    || feedback_dangles objects site.monitored site.feedback
+    (((not (has_class classes site.class) || not (is_there objects site.monitored)) || not (can_monitor site.algorithm site.monitored))
+    || feedback_dangles objects site.monitored site.feedback)
+    || reference_dangles objects site.inhibit_ref
 
 -- a class of a log isn't there
 abbrev pub log_dangles : List ClassItem → LogSite → Bool
@@ -59,6 +65,6 @@ log_dangles classes site = list_any (λ instance. not (has_class classes instanc
 abbrev pub least_dangling : Draft → Option ObjectIdData
 least_dangling draft =
     let destinations = least_with None (map id_of_destination (filter (destination_dangles draft.classes) draft.destinations)) in
-    let objects = least_with destinations (map id_of_object (filter (object_dangles draft.classes) draft.objects)) in
+    let objects = least_with destinations (map id_of_object (filter (object_dangles draft.classes draft.objects) draft.objects)) in
     let enrollments = least_with objects (map id_of_enrollment (filter (enrollment_dangles draft.classes draft.objects) draft.enrollments)) in
     least_with enrollments (map id_of_log (filter (log_dangles draft.classes) draft.logs))

@@ -5,7 +5,7 @@ use Rattle.std.specs.Ordering.{nat_cmp, is_lt}
 use Rattle.toml.specs.Data.{Data, table, as_table, as_array, Items, no_items, item, Members, no_members, get_member}
 use Rattle.property_values.specs.declared.device_site.DeviceSite.{DeviceSite}
 use Rattle.site_config.specs.declared.fault.Section.{Section}
-use Rattle.site_config.specs.declared.fault.Section.TheVariants.{Device, Class, Destination, Object, Enrollment, Log}
+use Rattle.site_config.specs.declared.fault.Section.TheVariants.{Device, Class, Destination, Object, Enrollment, Log, Binding}
 use Rattle.site_config.specs.declared.fault.SiteFault.{SiteFault}
 use Rattle.site_config.specs.declared.fault.SiteFault.TheVariants as site_faults
 use Rattle.toml_items.specs.declared.item_fault.ItemFault.{ItemFault}
@@ -37,6 +37,7 @@ section_name Destination = codes "destination"
 section_name Object = codes "object"
 section_name Enrollment = codes "enrollment"
 section_name Log = codes "log"
+section_name Binding = codes "binding"
 
 -- a section that isn't a table, or isn't an array of tables
 abbrev pub section_fault : Section → SiteFault

@@ -9,8 +9,10 @@ use Rattle.toml.specs.Parse.{parse_document}
 use Rattle.bac_values.specs.Identifier.{ObjectIdData}
 use Rattle.bac_values.specs.Orders.{identifier_order}
 use Rattle.notify_class.specs.Recipients.{DestinationData}
+use Rattle.notify_class.specs.declared.binding.Binding.{Binding}
 use Rattle.notify_class.specs.declared.class_site.ClassSite.{ClassSite}
 use Rattle.alarm_core.specs.declared.site.Site.{Site}
+use Rattle.site_config.specs.declared.binding_item.BindingItem.{BindingItem}
 use Rattle.site_config.specs.declared.class.ClassItem.{ClassItem}
 use Rattle.site_config.specs.declared.destination.DestinationSite.{DestinationSite}
 use Rattle.site_config.specs.declared.draft.Draft.{Draft}
@@ -19,7 +21,7 @@ use Rattle.site_config.specs.declared.fault.SiteFault.{SiteFault}
 use Rattle.site_config.specs.declared.fault.SiteFault.TheVariants.{TooLong, NotToml, Duplicate, Dangling, TooMany}
 use Rattle.toml_items.specs.Answers.{◌>>=◌}
 use Rattle.site_config.specs.Drafts.{draft_of}
-use Rattle.site_config.specs.Identifiers.{id_of_class, id_of_object, id_of_enrollment, id_of_log, identifiers, least_twice}
+use Rattle.site_config.specs.Identifiers.{id_of_class, id_of_object, id_of_enrollment, id_of_log, id_of_binding, identifiers, least_twice}
 use Rattle.site_config.specs.Limits.{names_class, limits_of}
 use Rattle.site_config.specs.Notes.{members_of, notes_of}
 use Rattle.site_config.specs.References.{least_dangling}
@@ -65,6 +67,10 @@ abbrev pub with_destinations : List DestinationSite → ClassItem → ClassSite
 with_destinations destinations item =
     record { name = item.name; class = record { instance = item.object.instance; priority = item.priority; ack_required = item.ack_required; destinations = destinations_of item.object.instance destinations } }
 
+-- where a device is
+abbrev pub bound : BindingItem → Binding
+bound item = record { device = item.object.instance; peer = item.peer }
+
 abbrev pub site_of_draft : Draft → Site
 site_of_draft draft =
     record {
@@ -73,6 +79,7 @@ site_of_draft draft =
       objects = in_order id_of_object draft.objects;
       enrollments = in_order id_of_enrollment draft.enrollments;
       logs = in_order id_of_log draft.logs;
+      bindings = map bound (in_order id_of_binding draft.bindings);
     }
 
 -- the site of a document: the sections, then what is looked for across them

@@ -4,7 +4,7 @@ use Rattle.std.specs.Str.{bytes_eq}
 use Rattle.toml.specs.Data.{Data, as_str}
 use Rattle.bac_values.specs.Address.{PeerData}
 use Rattle.bac_values.specs.BitString.{BitsData}
-use Rattle.bac_values.specs.Identifier.{ObjectIdData}
+use Rattle.bac_values.specs.Identifier.{number_of_kind, ObjectIdData}
 use Rattle.bac_values.specs.declared.object_kind.ObjectKind.{ObjectKind}
 use Rattle.bac_values.specs.declared.object_kind.ObjectKind.TheVariants.{BinaryValue, MultiStateValue, BitStringValue, CharacterStringValue, IntegerValue, PositiveIntegerValue}
 use Rattle.bac_values.specs.declared.value.Value.{Value}
@@ -42,6 +42,13 @@ with_instance object = if nat_le object.instance last_instance then Some object 
 
 abbrev pub object_in : Data → Option ObjectIdData
 object_in d = (as_str d >>= object_of) >>= with_instance
+
+-- one of them that is a binary value
+abbrev pub as_binary_value : ObjectIdData → Option ObjectIdData
+as_binary_value object = if object.number == number_of_kind BinaryValue then Some object else None
+
+abbrev pub binary_value_in : Data → Option ObjectIdData
+binary_value_in d = object_in d >>= as_binary_value
 
 -- Notify_Type: alarm is 0, event is 1
 abbrev pub notify_of : List ℕ → Option ℕ

@@ -1,19 +1,24 @@
-ghost use Rattle.std.specs.Prelude.{◌≡◌, ◌≤◌, IfOk, IfSome, codes, length};
-ghost use Rattle.toml.specs.View.{table_view};
-ghost use Rattle.site_config.specs.AlarmKeys.{alarm_keys_of, no_alarm_keys};
+ghost use Rattle.std.specs.Prelude.{◌≡◌, ◌≤◌, [], IfOk, codes, option_map};
+ghost use Rattle.toml.specs.Data.{get_member};
+ghost use Rattle.toml.specs.View.{table_view, view};
+ghost use Rattle.site_config.specs.AlarmKeys.{alarm_keys_of, no_alarm_keys, reference_beside};
 ghost use Rattle.toml_items.specs.Answers.{Gives};
-ghost use Rattle.toml_items.specs.Members.{or_else};
+ghost use Rattle.toml_items.specs.Lists.{list_in};
+ghost use Rattle.toml_items.specs.Members.{optional, or_else};
+ghost use Rattle.toml_items.specs.Values.{text_in};
 ghost use Rattle.site_config.specs.Values.{notify_in};
 
-use crate::values::notify_in;
+use crate::lists::texts_in;
+use crate::values::{binary_value_in, notify_in};
+use bac_values::{Items, ObjectId, Text};
 use std::alloc::Global;
-use toml::Table;
+use toml::{Table, Value};
 use toml_items::{
     ItemFault, member_at, optional_unsigned, three_flags_or_all, truth_or, unsigned_or, valid_value,
 };
 
 /// The alarm keys of an object of any kind with a class, and of an enrollment.
-#[derive(Clone, Copy)]
+#[derive(Drop)]
 pub struct AlarmKeys {
     /// Notify_Type: 0 is alarm, 1 is event.
     pub notify: u8,
@@ -27,6 +32,10 @@ pub struct AlarmKeys {
     pub detection: bool,
     /// Event_Algorithm_Inhibit.
     pub inhibit: bool,
+    /// Event_Algorithm_Inhibit_Ref.
+    pub inhibit_ref: Option<ObjectId>,
+    /// Event_Message_Texts_Config: three texts, or none.
+    pub texts: Items<Text>,
 }
 
 /// The Notify_Type at the key `notify`, or that of an alarm.
@@ -37,6 +46,37 @@ fn notify_or_alarm(alloc: Global, table: &Table) -> Result<u8, ItemFault>
     match member_at(table, "notify") {
         Some(value) => valid_value(alloc, "notify", notify_in(value)),
         None => Ok(0),
+    }
+}
+
+/// The binary value that a value names, where there is no `inhibit` beside it.
+fn reference_beside(inhibit: Option<&Value>, value: &Value) -> Option<ObjectId>
+    ensures reference { result ≡ reference_beside (option_map (λ v. view v.now) inhibit.entry) (view value.now) }
+{
+    match inhibit {
+        Some(_) => None,
+        None => binary_value_in(value),
+    }
+}
+
+/// The binary value at the key `inhibit_ref`, if it is there.
+fn inhibit_ref(alloc: Global, table: &Table) -> Result<Option<ObjectId>, ItemFault>
+    ensures answer { let ms = table_view table.now in Gives ItemFault.NoMemory result (optional (reference_beside (get_member (codes "inhibit") ms)) (codes "inhibit_ref") ms) }
+{
+    let Some(value) = member_at(table, "inhibit_ref") else {
+        return Ok(None);
+    };
+    let reference = reference_beside(member_at(table, "inhibit"), value);
+    Ok(Some(valid_value(alloc, "inhibit_ref", reference)?))
+}
+
+/// The three texts at the key `texts`, or none.
+fn texts_or_none(alloc: Global, table: &Table) -> Result<Items<Text>, ItemFault>
+    ensures answer { Gives ItemFault.NoMemory result (or_else [] (list_in 3 3 text_in) (codes "texts") (table_view table.now)) }
+{
+    match member_at(table, "texts") {
+        Some(value) => valid_value(alloc, "texts", texts_in(alloc, value, 3)?),
+        None => Ok(Items::of(Vec::new(alloc))),
     }
 }
 
@@ -52,6 +92,8 @@ pub fn alarm_keys_of(alloc: Global, table: &Table) -> Result<AlarmKeys, ItemFaul
     let time_delay_normal = optional_unsigned(alloc, table, "time_delay_normal", u32::MAX)?;
     let detection = truth_or(alloc, table, "detection", true)?;
     let inhibit = truth_or(alloc, table, "inhibit", false)?;
+    let inhibit_ref = inhibit_ref(alloc, table)?;
+    let texts = texts_or_none(alloc, table)?;
     Ok(AlarmKeys {
         notify,
         enable,
@@ -59,11 +101,13 @@ pub fn alarm_keys_of(alloc: Global, table: &Table) -> Result<AlarmKeys, ItemFaul
         time_delay_normal,
         detection,
         inhibit,
+        inhibit_ref,
+        texts,
     })
 }
 
 /// Those of an object without a class.
-pub fn no_alarm_keys() -> AlarmKeys
+pub fn no_alarm_keys(alloc: Global) -> AlarmKeys
     ensures none { result ≡ no_alarm_keys }
 {
     AlarmKeys {
@@ -73,5 +117,7 @@ pub fn no_alarm_keys() -> AlarmKeys
         time_delay_normal: None,
         detection: false,
         inhibit: false,
+        inhibit_ref: None,
+        texts: Items::of(Vec::new(alloc)),
     }
 }

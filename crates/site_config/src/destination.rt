@@ -1,21 +1,15 @@
 ghost use Rattle.toml.specs.View.{table_view};
-ghost use Rattle.std.specs.Prelude.{codes};
 ghost use Rattle.toml_items.specs.Answers.{Gives};
 ghost use Rattle.site_config.specs.Destinations.{destination_of};
-ghost use Rattle.toml_items.specs.Members.{required};
-ghost use Rattle.site_config.specs.Values.{peer_in};
 
-use crate::members::days_or_all;
+use crate::members::{address, days_or_all};
 use crate::objects::identifier;
-use crate::values::{LAST_INSTANCE, peer_in};
-use bac_values::{ObjectId, ObjectKind, Peer};
+use crate::values::LAST_INSTANCE;
+use bac_values::{ObjectId, ObjectKind};
 use notify_class::Destination;
 use std::alloc::Global;
 use toml::Table;
-use toml_items::{
-    ItemFault, required_member, three_flags_or_all, time_or, truth_or, unsigned, unsigned_or,
-    valid_value,
-};
+use toml_items::{ItemFault, three_flags_or_all, time_or, truth_or, unsigned, unsigned_or};
 
 /// A destination, and the class to which it belongs.
 #[derive(Clone, Copy)]
@@ -24,14 +18,6 @@ pub struct DestinationSite {
     pub class: ObjectId,
     /// The destination.
     pub destination: Destination,
-}
-
-/// The peer at the key `address`.
-fn address(alloc: Global, table: &Table) -> Result<Peer, ItemFault>
-    ensures answer { Gives ItemFault.NoMemory result (required peer_in (codes "address") (table_view table.now)) }
-{
-    let value = required_member(alloc, table, "address")?;
-    valid_value(alloc, "address", peer_in(value))
 }
 
 /// The destination of a table, whose keys are all known.

@@ -2,6 +2,7 @@ ghost use Rattle.toml.specs.View.{table_view};
 ghost use Rattle.toml_items.specs.Answers.{Gives};
 ghost use Rattle.site_config.specs.Drafts.{draft_of};
 
+use crate::binding_item::BindingItem;
 use crate::class::ClassItem;
 use crate::destination::DestinationSite;
 use crate::fault::{Section, SiteFault};
@@ -27,6 +28,8 @@ pub struct Draft {
     pub enrollments: Items<EnrollmentSite>,
     /// The logs.
     pub logs: Items<LogSite>,
+    /// The bindings.
+    pub bindings: Items<BindingItem>,
 }
 
 /// What the sections of a document say, or the first fault in one.
@@ -40,6 +43,7 @@ pub fn draft_of(alloc: Global, document: &Table) -> Result<Draft, SiteFault>
     let objects = read_section::<ObjectSite>(alloc, Section::Object, document)?;
     let enrollments = read_section::<EnrollmentSite>(alloc, Section::Enrollment, document)?;
     let logs = read_section::<LogSite>(alloc, Section::Log, document)?;
+    let bindings = read_section::<BindingItem>(alloc, Section::Binding, document)?;
     Ok(Draft {
         device,
         classes,
@@ -47,5 +51,6 @@ pub fn draft_of(alloc: Global, document: &Table) -> Result<Draft, SiteFault>
         objects,
         enrollments,
         logs,
+        bindings,
     })
 }

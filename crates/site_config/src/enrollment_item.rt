@@ -135,5 +135,7 @@ pub fn enrollment_of(alloc: Global, table: &Table) -> Result<EnrollmentSite, Ite
         time_delay_normal: alarm.time_delay_normal,
         detection: alarm.detection,
         inhibit: alarm.inhibit,
+        inhibit_ref: alarm.inhibit_ref,
+        texts: alarm.texts,
     })
 }

@@ -15,6 +15,8 @@ pub enum Section {
     Enrollment,
     /// The array of tables `log`.
     Log,
+    /// The array of tables `binding`.
+    Binding,
 }
 
 /// Where in a site's text something is wrong.

@@ -30,7 +30,7 @@ fn add_identifiers<T: Identified>(objects: &mut Vec<ObjectId>, items: &[T]) -> R
     Ok(())
 }
 
-/// Every identifier of a site but the device's, as often as it is given.
+/// Every identifier of a site but the device's own, as often as it is given.
 pub fn identifiers(alloc: Global, draft: &Draft) -> Result<Vec<ObjectId>, NoMemory>
     ensures identifiers { IfOk result (λ objects. objects.items ≡ identifiers draft.now) }
 {
@@ -39,6 +39,7 @@ pub fn identifiers(alloc: Global, draft: &Draft) -> Result<Vec<ObjectId>, NoMemo
     add_identifiers(&mut objects, draft.objects.as_slice())?;
     add_identifiers(&mut objects, draft.enrollments.as_slice())?;
     add_identifiers(&mut objects, draft.logs.as_slice())?;
+    add_identifiers(&mut objects, draft.bindings.as_slice())?;
     Ok(objects)
 }
 

@@ -1,7 +1,8 @@
 ghost use Rattle.toml.specs.View.{table_view};
 ghost use Rattle.toml_items.specs.Answers.{Gives};
-ghost use Rattle.site_config.specs.Items.{class_item, destination_item, object_item, enrollment_item, log_item};
+ghost use Rattle.site_config.specs.Items.{class_item, destination_item, object_item, enrollment_item, log_item, binding_item};
 
+use crate::binding_item::{BindingItem, binding_of};
 use crate::class::{ClassItem, class_of};
 use crate::destination::{DestinationSite, destination_of};
 use crate::enrollment_item::{enrollment_of, keys_of_enrollment};
@@ -70,5 +71,14 @@ impl Item for LogSite {
     fn read(alloc: Global, table: &Table) -> Result<LogSite, ItemFault> {
         check_keys(alloc, table, Keys::Log)?;
         log_of(alloc, table)
+    }
+}
+
+impl Item for BindingItem {
+    ghost item_of = { binding_item };
+
+    fn read(alloc: Global, table: &Table) -> Result<BindingItem, ItemFault> {
+        check_keys(alloc, table, Keys::Binding)?;
+        binding_of(alloc, table)
     }
 }

@@ -31,15 +31,18 @@ pub enum Keys {
     },
     /// Those of a log.
     Log,
+    /// Those of a binding.
+    Binding,
 }
 
-const SECTIONS: [&str; 6] = [
+const SECTIONS: [&str; 7] = [
     "device",
     "class",
     "destination",
     "object",
     "enrollment",
     "log",
+    "binding",
 ];
 
 const DEVICE: [&str; 9] = [
@@ -77,13 +80,15 @@ const OBJECT: [&str; 7] = [
     "class",
 ];
 
-const ALARM: [&str; 6] = [
+const ALARM: [&str; 8] = [
     "notify",
     "enable",
     "time_delay",
     "time_delay_normal",
     "detection",
     "inhibit",
+    "inhibit_ref",
+    "texts",
 ];
 
 const ENROLLMENT: [&str; 5] = ["instance", "name", "class", "algorithm", "monitored"];
@@ -96,6 +101,8 @@ const LOG: [&str; 6] = [
     "enable",
     "classes",
 ];
+
+const BINDING: [&str; 2] = ["device", "address"];
 
 /// Whether objects of the kind have the key, with a class or without one.
 fn kind_has(kind: Option<ObjectKind>, key: &str) -> bool
@@ -171,6 +178,7 @@ fn has_key(keys: Keys, key: &str) -> bool
             is_among(&ENROLLMENT, key) || algorithm_has(algorithm, key) || is_among(&ALARM, key)
         }
         Keys::Log => is_among(&LOG, key),
+        Keys::Binding => is_among(&BINDING, key),
     }
 }
 

@@ -5,6 +5,7 @@
 #![tactic(auto)]
 
 mod alarm_keys;
+mod binding_item;
 mod class;
 mod counts;
 mod destination;

@@ -9,7 +9,7 @@ use crate::draft::Draft;
 use crate::fault::{Counted, Section, SiteFault};
 use alarm_core::LogSite;
 use bac_values::{
-    MOST_CLASSES, MOST_DESTINATIONS, MOST_LOGS, MOST_OBJECTS, MOST_RECORDS, NoMemory,
+    MOST_BINDINGS, MOST_CLASSES, MOST_DESTINATIONS, MOST_LOGS, MOST_OBJECTS, MOST_RECORDS, NoMemory,
 };
 use std::alloc::Global;
 
@@ -74,6 +74,9 @@ pub fn limits_of(alloc: Global, draft: &Draft) -> Result<(), SiteFault>
     }
     if draft.logs.as_slice().len() > MOST_LOGS {
         return Err(too_many(Section::Log));
+    }
+    if draft.bindings.as_slice().len() > MOST_BINDINGS {
+        return Err(too_many(Section::Binding));
     }
     if are_large(draft.logs.as_slice()) {
         return Err(SiteFault::TooMany {

@@ -1,10 +1,11 @@
 ghost use Rattle.std.specs.Prelude.{◌≡◌, IfOk};
 ghost use Rattle.toml.specs.View.{view, array_view};
-ghost use Rattle.site_config.specs.Values.{value_in, present_in};
+ghost use Rattle.site_config.specs.Values.{present_in, value_in};
 ghost use Rattle.toml_items.specs.Lists.{all_in, list_in};
+ghost use Rattle.toml_items.specs.Values.{text_in};
 
 use crate::values::{binary_in, bits_in, limit_in};
-use bac_values::{Items, NoMemory, ObjectKind, Value, push};
+use bac_values::{Items, NoMemory, ObjectKind, Text, Value, push};
 use std::alloc::Global;
 use toml::value::Array;
 use toml_items::{array_in, text_in, unsigned_in};
@@ -77,6 +78,35 @@ pub fn values_in(
 {
     match array_in(value, least, most) {
         Some(array) => all_values(alloc, array, kind),
+        None => Ok(None),
+    }
+}
+
+/// The texts that the items of an array are.
+#[tactic(auto, using(toml_items::proofs::Fronts::one_more_read, toml_items::proofs::Fronts::one_bad, toml_items::proofs::Fronts::all_read, toml_items::proofs::Fronts::none_read))]
+fn all_texts(alloc: Global, array: &Array) -> Result<Option<Items<Text>>, NoMemory>
+    ensures texts { IfOk result (λ found. found ≡ all_in text_in (array_view array.now)) }
+{
+    let mut texts = Vec::new(alloc);
+    for item in array {
+        let Some(text) = text_in(alloc, item)? else {
+            return Ok(None);
+        };
+        push(&mut texts, text)?;
+    }
+    Ok(Some(Items::of(texts)))
+}
+
+/// The array of so many texts that a value of the document is.
+pub fn texts_in(
+    alloc: Global,
+    value: &toml::Value,
+    count: usize,
+) -> Result<Option<Items<Text>>, NoMemory>
+    ensures texts { IfOk result (λ found. found ≡ list_in count count text_in (view value.now)) }
+{
+    match array_in(value, count, count) {
+        Some(array) => all_texts(alloc, array),
         None => Ok(None),
     }
 }

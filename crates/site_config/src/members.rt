@@ -4,10 +4,10 @@ ghost use Rattle.script_lines.specs.Report.{object_text};
 ghost use Rattle.toml_items.specs.Answers.{Gives};
 ghost use Rattle.toml_items.specs.Members.{named, required, or_else};
 ghost use Rattle.toml_items.specs.Values.{text_in};
-ghost use Rattle.site_config.specs.Values.{days_in, limit_in};
+ghost use Rattle.site_config.specs.Values.{days_in, limit_in, peer_in};
 
-use crate::values::{days_in, limit_in};
-use bac_values::{ObjectId, ObjectKind, Text};
+use crate::values::{days_in, limit_in, peer_in};
+use bac_values::{ObjectId, ObjectKind, Peer, Text};
 use std::alloc::Global;
 use toml::Table;
 use toml_items::{ItemFault, member_at, named, required_member, text_in, valid_value};
@@ -31,6 +31,14 @@ pub fn name_or(alloc: Global, table: &Table, object: ObjectId) -> Result<Text, I
             Ok(named(alloc, text.as_str())?)
         }
     }
+}
+
+/// The peer at the key `address`.
+pub fn address(alloc: Global, table: &Table) -> Result<Peer, ItemFault>
+    ensures answer { Gives ItemFault.NoMemory result (required peer_in (codes "address") (table_view table.now)) }
+{
+    let value = required_member(alloc, table, "address")?;
+    valid_value(alloc, "address", peer_in(value))
 }
 
 /// The days of the week at a key, or all of them.

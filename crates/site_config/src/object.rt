@@ -116,7 +116,7 @@ fn class_part_of(alloc: Global, table: &Table, kind: ObjectKind) -> Result<Class
     if class.is_none() {
         return Ok(ClassPart {
             class,
-            alarm: no_alarm_keys(),
+            alarm: no_alarm_keys(alloc),
             kind: no_kind_keys(alloc),
         });
     }
@@ -129,56 +129,37 @@ fn class_part_of(alloc: Global, table: &Table, kind: ObjectKind) -> Result<Class
 fn joined(part: ValuePart, of_class: ClassPart) -> ObjectSite
     ensures object { result ≡ joined part of_class }
 {
-    let ValuePart {
-        kind: _,
-        object,
-        name,
-        value,
-        out_of_service,
-        reliability_inhibit,
-        faults,
-    } = part;
-    let FaultKeys {
-        states,
-        fault_low,
-        fault_high,
-        fault_values,
-    } = faults;
-    let ClassPart { class, alarm, kind } = of_class;
-    let KindKeys {
-        low,
-        high,
-        deadband,
-        limit_enable,
-        alarm_value,
-        alarm_values,
-        mask,
-    } = kind;
+    let faults = part.faults;
+    let alarm = of_class.alarm;
+    let kind = of_class.kind;
     let enable = alarm.enable;
+    let limit_enable = kind.limit_enable;
     ObjectSite {
-        object,
-        name,
-        value,
-        out_of_service,
-        reliability_inhibit,
-        states,
-        fault_low,
-        fault_high,
-        fault_values,
-        class,
+        object: part.object,
+        name: part.name,
+        value: part.value,
+        out_of_service: part.out_of_service,
+        reliability_inhibit: part.reliability_inhibit,
+        states: faults.states,
+        fault_low: faults.fault_low,
+        fault_high: faults.fault_high,
+        fault_values: faults.fault_values,
+        class: of_class.class,
         notify: alarm.notify,
         enable,
         time_delay: alarm.time_delay,
         time_delay_normal: alarm.time_delay_normal,
         detection: alarm.detection,
         inhibit: alarm.inhibit,
-        low,
-        high,
-        deadband,
+        inhibit_ref: alarm.inhibit_ref,
+        texts: alarm.texts,
+        low: kind.low,
+        high: kind.high,
+        deadband: kind.deadband,
         limit_enable,
-        alarm_value,
-        alarm_values,
-        mask,
+        alarm_value: kind.alarm_value,
+        alarm_values: kind.alarm_values,
+        mask: kind.mask,
     }
 }
 

@@ -1,6 +1,7 @@
 ghost use Rattle.std.specs.Prelude.{◌≡◌, [], fold, IfOk};
 ghost use Rattle.site_config.specs.Sites.{put, in_order};
 
+use crate::binding_item::BindingItem;
 use crate::class::ClassItem;
 use alarm_core::{EnrollmentSite, LogSite};
 use bac_values::{Items, NoMemory, ObjectId};
@@ -54,6 +55,16 @@ impl Identified for LogSite {
     ghost use Rattle.site_config.specs.Identifiers.{id_of_log};
 
     ghost id_of = { id_of_log };
+
+    fn object(&self) -> ObjectId {
+        self.object
+    }
+}
+
+impl Identified for BindingItem {
+    ghost use Rattle.site_config.specs.Identifiers.{id_of_binding};
+
+    ghost id_of = { id_of_binding };
 
     fn object(&self) -> ObjectId {
         self.object

@@ -1,6 +1,6 @@
 ghost use Rattle.std.specs.Prelude.{◌≡◌, None, map, filter};
 ghost use Rattle.site_config.specs.Identifiers.{id_of_object, id_of_enrollment, id_of_log, least_with};
-ghost use Rattle.site_config.specs.References.{has_class, destination_dangles, lacks_class, object_dangles, is_there, can_monitor, feedback_dangles, enrollment_dangles, log_dangles, least_dangling, id_of_destination};
+ghost use Rattle.site_config.specs.References.{has_class, destination_dangles, lacks_class, object_dangles, is_there, reference_dangles, can_monitor, feedback_dangles, enrollment_dangles, log_dangles, least_dangling, id_of_destination};
 
 use crate::class::ClassItem;
 use crate::destination::DestinationSite;
@@ -37,6 +37,23 @@ fn is_there(objects: &[ObjectSite], object: ObjectId) -> bool
     objects.iter().any(|site| site.object == object)
 }
 
+/// Whether the binary value that inhibits, if there is one, isn't there.
+fn reference_dangles(objects: &[ObjectSite], reference: Option<ObjectId>) -> bool
+    ensures dangles { result ≡ reference_dangles objects.now reference }
+{
+    match reference {
+        Some(referred) => !is_there(objects, referred),
+        None => false,
+    }
+}
+
+/// Whether the class of an object or the binary value that inhibits it isn't there.
+fn object_dangles(classes: &[ClassItem], objects: &[ObjectSite], site: &ObjectSite) -> bool
+    ensures dangles { result ≡ object_dangles classes.now objects.now site.now }
+{
+    lacks_class(classes, site.class) || reference_dangles(objects, site.inhibit_ref)
+}
+
 /// Whether the algorithm can monitor the object.
 fn can_monitor(algorithm: Algorithm, object: ObjectId) -> bool
     ensures can { result ≡ can_monitor algorithm object }
@@ -62,7 +79,7 @@ fn feedback_dangles(objects: &[ObjectSite], monitored: ObjectId, feedback: Optio
     }
 }
 
-/// Whether the class of an enrollment or what it monitors isn't there, or is of the wrong kind.
+/// Whether the class of an enrollment or an object to which it refers isn't there, or is of the wrong kind.
 fn enrollment_dangles(classes: &[ClassItem], objects: &[ObjectSite], site: &EnrollmentSite) -> bool
     ensures dangles { result ≡ enrollment_dangles classes.now objects.now site.now }
 {
@@ -70,6 +87,7 @@ fn enrollment_dangles(classes: &[ClassItem], objects: &[ObjectSite], site: &Enro
         || !is_there(objects, site.monitored)
         || !can_monitor(site.algorithm, site.monitored)
         || feedback_dangles(objects, site.monitored, site.feedback)
+        || reference_dangles(objects, site.inhibit_ref)
 }
 
 /// Whether a class of a log isn't there.
@@ -93,17 +111,17 @@ fn of_destinations(classes: &[ClassItem], destinations: &[DestinationSite]) -> O
         .fold(None, lesser)
 }
 
-/// The least of what was found and of the objects whose class isn't there.
+/// The least of what was found and of the objects that refer to what isn't there.
 fn of_objects(
     found: Option<ObjectId>,
     classes: &[ClassItem],
     objects: &[ObjectSite],
 ) -> Option<ObjectId>
-    ensures least { result ≡ least_with found (map id_of_object (filter (object_dangles classes.now) objects.now)) }
+    ensures least { result ≡ least_with found (map id_of_object (filter (object_dangles classes.now objects.now) objects.now)) }
 {
     objects
         .iter()
-        .filter(|site| lacks_class(classes, site.class))
+        .filter(|site| object_dangles(classes, objects, site))
         .map(|site| site.object)
         .fold(found, lesser)
 }

@@ -29,6 +29,7 @@ pub fn section_name(section: Section) -> &'static str
         Section::Object => "object",
         Section::Enrollment => "enrollment",
         Section::Log => "log",
+        Section::Binding => "binding",
     }
 }
 

@@ -1,13 +1,12 @@
 ghost use Rattle.std.specs.Prelude.{◌≡◌, ◌⊎◌, Some, None, map, IfOk, IfErr};
 ghost use Rattle.toml.specs.View.{table_view};
-ghost use Rattle.alarm_core.specs.Limits.{KeepsLimits};
-ghost use Rattle.alarm_core.specs.Room.{HasRoom};
 ghost use Rattle.alarm_core.specs.Sites.{IsSite};
 ghost use Rattle.toml_items.specs.Answers.{Gives};
-ghost use Rattle.site_config.specs.Identifiers.{id_of_class, identifiers, least_twice};
+ghost use Rattle.site_config.specs.Identifiers.{id_of_binding, id_of_class, identifiers, least_twice};
 ghost use Rattle.site_config.specs.References.{least_dangling};
-ghost use Rattle.site_config.specs.Sites.{duplicate_of, dangling_of, notes_fit, verdict_on, destinations_of, with_destinations, in_order, site_of_draft, site_of_document, document_of, site_of};
+ghost use Rattle.site_config.specs.Sites.{duplicate_of, dangling_of, notes_fit, verdict_on, bound, destinations_of, with_destinations, in_order, site_of_draft, site_of_document, document_of, site_of};
 
+use crate::binding_item::BindingItem;
 use crate::class::ClassItem;
 use crate::destination::DestinationSite;
 use crate::draft::{Draft, draft_of};
@@ -19,7 +18,7 @@ use crate::order::in_order;
 use crate::references::least_dangling;
 use alarm_core::{ClassSite, Site};
 use bac_values::{Items, MOST_SITE_OCTETS, NoMemory, push};
-use notify_class::{Class, Destination};
+use notify_class::{Binding, Class, Destination};
 use std::alloc::Global;
 use toml::Table;
 
@@ -136,6 +135,35 @@ fn classes_with(
     classes_of(alloc, items.as_slice(), destinations.as_slice())
 }
 
+/// Where a device is that is bound.
+fn bound(item: &BindingItem) -> Binding
+    ensures binding { result ≡ bound item.now }
+{
+    Binding {
+        device: item.object.instance(),
+        peer: item.peer,
+    }
+}
+
+/// Where the devices are that are bound.
+fn bindings_of(alloc: Global, items: &[BindingItem]) -> Result<Items<Binding>, NoMemory>
+    ensures bindings { IfOk result (λ bindings. bindings ≡ map bound items.now) }
+{
+    let mut bindings = Vec::new(alloc);
+    for item in items {
+        push(&mut bindings, bound(item))?;
+    }
+    Ok(Items::of(bindings))
+}
+
+/// Where the devices are that are bound, in their order.
+fn bindings_in_order(alloc: Global, items: Items<BindingItem>) -> Result<Items<Binding>, NoMemory>
+    ensures bindings { IfOk result (λ bindings. bindings ≡ map bound (in_order id_of_binding items)) }
+{
+    let items = in_order(alloc, items)?;
+    bindings_of(alloc, items.as_slice())
+}
+
 /// The site of what the sections say.
 fn site_of_draft(alloc: Global, draft: Draft) -> Result<Site, NoMemory>
     ensures site { IfOk result (λ site. site ≡ site_of_draft draft) }
@@ -147,17 +175,20 @@ fn site_of_draft(alloc: Global, draft: Draft) -> Result<Site, NoMemory>
         objects,
         enrollments,
         logs,
+        bindings,
     } = draft;
     let classes = classes_with(alloc, classes, destinations)?;
     let objects = in_order(alloc, objects)?;
     let enrollments = in_order(alloc, enrollments)?;
     let logs = in_order(alloc, logs)?;
+    let bindings = bindings_in_order(alloc, bindings)?;
     Ok(Site {
         device,
         classes,
         objects,
         enrollments,
         logs,
+        bindings,
     })
 }
 
@@ -204,13 +235,11 @@ fn site_of_text(alloc: Global, text: &[u8]) -> Result<Site, SiteFault>
 }
 
 /// Reads the text of a site: TOML of at most `MOST_SITE_OCTETS` octets. The answer is the site that the text is, or the first fault
-/// in the order of `docs/SITE.md`, unless memory is refused. The core can start from that site, the notifications of one tick
-/// always fit its empty outbox, and it keeps to the limits on which the size of a snapshot rests.
+/// in the order of `docs/SITE.md`, unless memory is refused. The core can start from that site: it keeps to the limits, and
+/// the notifications of one tick always fit its empty outbox.
 pub fn read_site(alloc: Global, text: &[u8]) -> Result<Site, SiteFault>
     ensures answer { Gives SiteFault.NoMemory result (site_of text.now) }
     ensures keeps { IfOk result IsSite }
-    ensures room { IfOk result HasRoom }
-    ensures limits { IfOk result KeepsLimits }
 {
     site_of_text(alloc, text)
 }

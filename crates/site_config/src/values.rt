@@ -1,6 +1,6 @@
 ghost use Rattle.std.specs.Prelude.{◌≡◌, ◌≤◌, ◌<◌, IfSome};
 ghost use Rattle.toml.specs.View.{view};
-ghost use Rattle.site_config.specs.Values.{bits_in, days_in, peer_in, object_in, notify_in, algorithm_in, value_kind, kind_in, binary_in, limit_in};
+ghost use Rattle.site_config.specs.Values.{bits_in, days_in, peer_in, object_in, binary_value_in, notify_in, algorithm_in, value_kind, kind_in, binary_in, limit_in};
 
 use algorithm_rules::Algorithm;
 use bac_values::{Bits, ObjectId, ObjectKind, Peer};
@@ -44,6 +44,18 @@ pub fn object_in(value: &Value) -> Option<ObjectId>
 {
     let object = read_object(value.as_str()?.as_bytes())?;
     if object.instance() <= LAST_INSTANCE {
+        Some(object)
+    } else {
+        None
+    }
+}
+
+/// The binary value that a value names.
+pub fn binary_value_in(value: &Value) -> Option<ObjectId>
+    ensures object { result ≡ binary_value_in (view value.now) }
+{
+    let object = object_in(value)?;
+    if object.number() == ObjectKind::BinaryValue.number() {
         Some(object)
     } else {
         None

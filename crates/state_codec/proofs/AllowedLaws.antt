@@ -1,6 +1,6 @@
 -- Events that are allowed have records.
 use Rattle.bac_values.specs.Limits.{most_destinations}
-use Rattle.std.proofs.Common.{◌≡◌, ℕ, ◌≤◌, Bool, true, false, cond, ltb, IsTrue, IsSomeAnd, List, length, Option, Some, None, Result, Ok, Err, refl, inl, inr}
+use Rattle.std.proofs.Common.{◌≡◌, ℕ, ◌≤◌, Bool, true, false, cond, ltb, IsTrue, IsSomeAnd, is_none, List, length, Option, Some, None, Result, Ok, Err, refl, inl, inr}
 use Rattle.std.proofs.lemmas.Bool.{ltb-false}
 use Rattle.bac_values.specs.Moments.{IsMoment}
 use Rattle.bac_values.specs.declared.object_kind.ObjectKind.{ObjectKind}
@@ -108,21 +108,21 @@ can_be_type kind site Deadband value e = unsigned_type value e
 can_be_type kind site LimitEnable value e = flags_type 2 value e
 can_be_type kind site AlarmValue value e = binary_type value e
 can_be_type kind site EventEnable value e = flags_type 3 value e
-can_be_type kind site EventAlgorithmInhibit value e = truth_type value e
+can_be_type kind site EventAlgorithmInhibit value e = truth_type value (both_true (is_none site.inhibit_ref) (rows.is_truth value) e).1
 can_be_type kind site _ value e = absurd cc
 
 known_type : (kind : Option ObjectKind) (site : ObjectSite) (property : Option ObjectProperty) (value : Value) → rows.takes_known kind site property value ≡ true → HasType value
 known_type kind site (Some property) value e = can_be_type kind site property value (both_true (has kind site property) (rows.can_be kind site property value) e).1
 known_type kind site None value e = absurd cc
 
-enrolled_type : (property : EnrollmentProperty) (value : Value) → enrollment_values.can_be property value ≡ true → HasType value
-enrolled_type enrolled.EventEnable value e = flags_type 3 value e
-enrolled_type enrolled.EventAlgorithmInhibit value e = truth_type value e
-enrolled_type _ value e = absurd cc
+enrolled_type : (site : EnrollmentSite) (property : EnrollmentProperty) (value : Value) → enrollment_values.can_be site property value ≡ true → HasType value
+enrolled_type site enrolled.EventEnable value e = flags_type 3 value e
+enrolled_type site enrolled.EventAlgorithmInhibit value e = truth_type value (both_true (is_none site.inhibit_ref) (rows.is_truth value) e).1
+enrolled_type site _ value e = absurd cc
 
-known_enrolled_type : (property : Option EnrollmentProperty) (value : Value) → enrollments.takes_known property value ≡ true → HasType value
-known_enrolled_type (Some property) value e = enrolled_type property value e
-known_enrolled_type None value e = absurd cc
+known_enrolled_type : (site : EnrollmentSite) (property : Option EnrollmentProperty) (value : Value) → enrollments.takes_known site property value ≡ true → HasType value
+known_enrolled_type site (Some property) value e = enrolled_type site property value e
+known_enrolled_type site None value e = absurd cc
 
 log_type : (number : ℕ) (value : Value) → logs.takes_value number value ≡ true → HasType value
 log_type number (values.Bool flag) e = tt
@@ -147,9 +147,9 @@ row_takes : (what : What) (site : ObjectSite) → FitsWhat what → IsTrue (chan
 row_takes (Property property value) site f e = (f.0, value_has value f.1 (known_type (kind_in site) site (property_of property.0) value e))
 row_takes (FieldFault reliability) site f e = f
 
-enrollment_takes : (what : What) → FitsWhat what → IsTrue (enrollments.takes what) → IsRecordedWhat what
-enrollment_takes (Property property value) f e = (f.0, value_has value f.1 (known_enrolled_type (enrollment_properties.property_of property.0) value e))
-enrollment_takes (FieldFault reliability) f e = f
+enrollment_takes : (what : What) (site : EnrollmentSite) → FitsWhat what → IsTrue (enrollments.takes what site) → IsRecordedWhat what
+enrollment_takes (Property property value) site f e = (f.0, value_has value f.1 (known_enrolled_type site (enrollment_properties.property_of property.0) value e))
+enrollment_takes (FieldFault reliability) site f e = f
 
 log_takes : (what : What) → FitsWhat what → IsTrue (logs.takes what) → IsRecordedWhat what
 log_takes (Property property value) f e = (f.0, value_has value f.1 (log_type property.0 value e))
@@ -173,7 +173,7 @@ act_has state (Write change) f a = (
   elim a [
     | inl taken ↦ elim taken [
       | inl row ↦ of_some (row_of change.object state.values.rows) (λ (x : Row). IsTrue (changes.takes change.what x.site)) (λ x e. row_takes change.what x.site f.1 e) row
-      | inr enrollment ↦ of_some (site_of change.object state.values.enrollments) (λ (x : EnrollmentSite). IsTrue (enrollments.takes change.what)) (λ x e. enrollment_takes change.what f.1 e) enrollment
+      | inr enrollment ↦ of_some (site_of change.object state.values.enrollments) (λ (x : EnrollmentSite). IsTrue (enrollments.takes change.what x)) (λ x e. enrollment_takes change.what x f.1 e) enrollment
     ]
     | inr log ↦ of_some (kept_log change.object state.logs) (λ (x : SiteLogState). IsTrue (logs.takes change.what)) (λ x e. log_takes change.what f.1 e) log
   ],

@@ -7,7 +7,6 @@ use Rattle.alarm_core.specs.declared.event.Event.{Event}
 use Rattle.alarm_core.specs.declared.site.Site.{Site}
 use Rattle.alarm_core.specs.Allowed.{IsHistory}
 use Rattle.alarm_core.specs.Fits.{FitsEvent, FitsSite}
-use Rattle.alarm_core.specs.Limits.{KeepsLimits}
 use Rattle.alarm_core.specs.Sites.{IsSite}
 use Rattle.alarm_core.specs.State.{state_of}
 use Rattle.alarm_core.proofs.KeptSites.{keeps_to_its_site}
@@ -38,14 +37,14 @@ after_history site history [] some spells = absurd (omega (arith, some))
 after_history site history (octet ∷ octets) some spells = spells
 
 -- the snapshot of the state that a history leaves
-pub snapshot_stands : (site : Site) (history : List Event) (octets : List ℕ) → IsSite site → KeepsLimits site → FitsSite site → IsHistory site history → All FitsEvent history → length history < 2 ^ 63
+pub snapshot_stands : (site : Site) (history : List Event) (octets : List ℕ) → IsSite site → FitsSite site → IsHistory site history → All FitsEvent history → length history < 2 ^ 63
     → 0 < length octets → octets ≡ written_state (state_of site history) → FitsState (state_of site history) → StandsForHistory site (only_snapshot octets) history
-snapshot_stands site history octets is_site limits fits is fit few some same typed = record {
+snapshot_stands site history octets is_site fits is fit few some same typed = record {
   is_history = is;
   fit = fit;
   older = history;
   later = [];
   together = refl;
-  snapshot = after_history site history octets some (record { octets_are = same; own = keeps_to_its_site.keeps site is_site limits fits history is fit few; fits = typed });
+  snapshot = after_history site history octets some (record { octets_are = same; own = keeps_to_its_site.keeps site is_site fits history is fit few; fits = typed });
   records = refl;
 }

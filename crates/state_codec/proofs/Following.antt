@@ -12,8 +12,8 @@ use Rattle.alarm_core.specs.State.{CoreState}
 use Rattle.state_codec.specs.Contents.{SpellsEvents, SpellEvents}
 use Rattle.alarm_journal.specs.Opened.{pieces, sum_of}
 use Rattle.alarm_journal.specs.declared.body.Body.{Body}
-use Rattle.state_codec.specs.DamageSteps.{LeadsTo, BodiesLeadTo, IsDamagedIn, IsDamagedRecord}
-use Rattle.alarm_core.specs.FollowingSteps.{AreAllowed, MayFollow, state_over}
+use Rattle.state_codec.specs.Damage.{LeadsTo, BodiesLeadTo, IsDamagedIn, IsDamagedRecord}
+use Rattle.alarm_core.specs.Following.{AreAllowed, MayFollow, state_over}
 use Rattle.state_codec.specs.Records.{SpellsEvent, HasRecord, written_act}
 use Rattle.state_codec.specs.declared.fault.CodecFault.{CodecFault}
 use Rattle.state_codec.specs.declared.fault.CodecFault.TheVariants as faults

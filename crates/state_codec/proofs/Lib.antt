@@ -34,9 +34,14 @@ pub mod WrittenSubjects
 pub mod SnapshotReads
 pub mod SnapshotStates
 pub mod StatesAgain
+pub mod Referrers
 pub mod TablesRead
 pub mod ReadState
 pub mod Following
 pub mod Recovered
 pub mod Committed
+pub mod Quiet
+pub mod Works
+pub mod Committing
+pub mod Openings
 pub mod StateTypes

@@ -1,5 +1,4 @@
 -- The posts of a site's outbox: the test of what was read tells what is so of every outbox.
-use Rattle.bac_values.specs.Limits.{most_peers}
 use Rattle.std.proofs.Common.{◌≡◌, ◌↔◌, IsTrue, ℕ, zero, suc, ◌≤◌, ◌&&◌, leb, Bool, true, false, true≢false, List, [], ◌∷◌, length, map, drop, refl, sym, ◌∙◌, ap, subst, arith}
 use Rattle.std.specs.List.{All, AllPairs, list_all}
 use Rattle.std.specs.Ordering.{is_lt}
@@ -17,8 +16,10 @@ use Rattle.outbox.specs.declared.post.Post.{Post}
 use Rattle.outbox.specs.Outboxes.{AreParts, AreSettings, IsOutbox, notes_told, peers_of, restored_posts, unfinished_in}
 use Rattle.outbox.specs.Posts.{IsPost, TestsPosts, is_post, MailboxState}
 use Rattle.alarm_core.specs.Known.{Knows, KnowsClass}
+use Rattle.alarm_core.specs.Room.{LeaveRoom}
 use Rattle.alarm_core.specs.declared.site.Site.{Site}
-use Rattle.state_codec.specs.SnapshotSteps.{are_posts_of, ascends, knows_class, knows_classes, may_have_posts, outbox_with}
+use Rattle.bac_values.specs.Limits.{most_peers}
+use Rattle.state_codec.specs.SnapshotSteps.{are_posts_of, ascends, knows_class, knows_classes, leave_room, may_have_posts, outbox_with}
 use Rattle.state_codec.proofs.Behind.{both_true}
 
 both_are : (a b : Bool) → a ≡ true → b ≡ true → (a && b) ≡ true
@@ -107,6 +108,10 @@ same_test true true P tells forth back = refl
 same_test true false P tells forth back = sym (back (tells.0 refl))
 same_test false true P tells forth back = tells.1 (forth refl)
 same_test false false P tells forth back = refl
+
+-- whether lists leave room
+pub room_same : (site : Site) (classes : List Class) (b : Bool) → IsTrue b ↔ LeaveRoom site classes → b ≡ leave_room site classes
+room_same site classes b tells = same_test b (leave_room site classes) (LeaveRoom site classes) tells (λ e. leb-true _ _ e) (λ room. le-leb _ _ room)
 
 -- whether an outbox can be made of what was told, where the notes are as many
 pub tested : TestsPosts → (site : Site) (posts : List Post) (notes : List Note) (few can : Bool) → AreSettings site.device.outbox site.device.apdu_timeout site.device.retries → notes_told posts ≡ length notes

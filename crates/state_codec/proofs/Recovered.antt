@@ -9,7 +9,7 @@ use Rattle.alarm_core.specs.declared.site.Site.{Site}
 use Rattle.alarm_core.specs.Allowed.{Comes, IsHistory, Represents}
 use Rattle.alarm_core.specs.CoreSteps.{next_notes, next_state}
 use Rattle.alarm_core.specs.Deliveries.{outbox_after}
-use Rattle.alarm_core.specs.FollowingSteps.{AreAllowed, MayFollow, state_over}
+use Rattle.alarm_core.specs.Following.{AreAllowed, MayFollow, state_over}
 use Rattle.alarm_core.specs.Sites.{IsSite}
 use Rattle.alarm_core.specs.State.{CoreState, state_of}
 use Rattle.alarm_core.specs.Verdicts.{queue_verdict}
@@ -23,7 +23,7 @@ use Rattle.alarm_journal.specs.Opened.{content_in, pieces, sum_of}
 use Rattle.alarm_journal.specs.declared.body.Body.{Body}
 use Rattle.alarm_journal.specs.declared.opened.Opened.{Opened}
 use Rattle.state_codec.specs.Contents.{IsSnapshotAfter, SpellEvents, SpellsEvents, StandsForHistory, records_of}
-use Rattle.state_codec.specs.DamageSteps.{BodiesLeadTo, IsDamagedIn, IsDamagedRecord, IsDamagedSnapshot, Tells}
+use Rattle.state_codec.specs.Damage.{BodiesLeadTo, IsDamagedIn, IsDamagedRecord, IsDamagedSnapshot, Tells}
 use Rattle.state_codec.specs.Records.{HasRecord, written_act, written_event}
 use Rattle.state_codec.specs.Spelled.{SpellsState}
 use Rattle.state_codec.proofs.EventLaws.{one_spelling}

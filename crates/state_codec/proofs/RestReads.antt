@@ -1,6 +1,6 @@
 -- Enrollments, classes, logs and posts: each is read exactly as it is written, and those that a site may have.
 use Rattle.bac_values.specs.Limits.{most_note_octets}
-use Rattle.std.proofs.Common.{IsTrue, ◌≡◌, ℕ, zero, suc, ◌^◌, ◌<◌, ◌≤◌, Bool, true, false, eqb, ltb, leb, ◌||◌, if◌then◌else◌, List, [], ◌∷◌, ◌++◌, length, All, refl, sym, ap, subst, ◌∙◌, arith}
+use Rattle.std.proofs.Common.{IsTrue, ◌≡◌, ℕ, zero, suc, ◌^◌, ◌<◌, ◌≤◌, Bool, true, false, eqb, ltb, leb, ◌||◌, not, is_some, if◌then◌else◌, List, [], ◌∷◌, ◌++◌, length, All, refl, sym, ap, subst, ◌∙◌, arith}
 use Rattle.std.specs.Int.{w16, w32, w64, to_be_bytes}
 use Rattle.std.specs.List.{AllZip, flat_map}
 use Rattle.std.proofs.lemmas.Bool.{leb-true, le-leb}
@@ -21,10 +21,12 @@ use Rattle.alarm_core.specs.SiteStates.{hundredths_shown}
 use Rattle.state_codec.specs.Records.{written_destination, written_destinations, written_flag, written_flags, written_peer, AreDestinations, IsPeer}
 use Rattle.state_codec.specs.Snapshots.{written_body, written_class, written_entry, written_log, written_note, written_post, written_stamp}
 use Rattle.state_codec.specs.ReadingSteps.{either_at, nothing_at, octet_at, octets_at, number_at, flag_at, flags_at, peer_at, destinations_at}
-use Rattle.state_codec.specs.SnapshotSteps.{PostData, and_at, where_at, times_at, stamp_at, enrollment_at, class_with, class_at, body_at, hundredths_at, entry_with, entry_at, numbers_up_to, may_hold, entries_at, log_with, log_at, note_with, note_at, post_with, post_at, posts_at}
+use Rattle.state_codec.specs.SnapshotSteps.{PostData, and_at, kept_at, where_at, times_at, stamp_at, enrollment_at, class_with, class_at, body_at, hundredths_at, entry_with, entry_at, numbers_up_to, may_hold, entries_at, log_with, log_at, note_with, note_at, post_with, post_at, posts_at}
 use Rattle.state_codec.specs.SnapshotLaws.{AreHundredths, ArePosts, HasClass, HasEnrollment, HasEntry, HasNote, HasPost, IsStamp}
 use Rattle.state_codec.proofs.Behind.{Reads, both_true, reads_then}
 use Rattle.state_codec.proofs.PartLaws.{written_octet, IsOctet, as_they_are, HasLength, IsBelow, IsAny, AreThree, octet_reads, octets_reads, u16_reads, u32_reads, u64_reads, flag_reads, flags_reads, peer_reads}
+use Rattle.state_codec.proofs.KeysLaws.{Kept, reads_kept}
+use Rattle.state_codec.proofs.RowsOf.{alone, not_beside}
 use Rattle.state_codec.proofs.DestinationLaws.{destinations_reads, reads_if}
 use Rattle.state_codec.proofs.Together.{AreSoMany, reads_done, reads_each, reads_made, reads_pair, reads_times, reads_where}
 use Rattle.state_codec.proofs.AlarmReads.{stamp_reads}
@@ -41,10 +43,11 @@ enrollment_with site inhibit enable = record site { inhibit = inhibit; enable = 
 pub enrollment_reads : (site : EnrollmentSite) → Reads (enrollment_at site) written_settings (HasEnrollment site)
 unfolding enrollment_at
 enrollment_reads site =
-    reads_made (and_at flag_at λ inhibit. flags_at) (λ x. enrollment_with site x.0 x.1) (λ it. (it.inhibit, it.enable)) (λ x. written_flag x.0 ++ written_flags x.1) (λ x. Unit {0} × AreThree x.1) written_settings (HasEnrollment site)
-    (reads_pair flag_at (λ inhibit. flags_at) written_flag written_flags IsAny (λ inhibit. AreThree) flag_reads (λ inhibit any. flags_reads))
-    (λ x f. (record { own = record { same = refl; enable = f.1 } }, refl))
-    (λ it f. ((tt, f.own.enable), sym f.own.same, refl))
+    let own = not (is_some site.inhibit_ref) in
+    reads_made (and_at (kept_at own flag_at not) λ inhibit. flags_at) (λ x. enrollment_with site x.0 x.1) (λ it. (it.inhibit, it.enable)) (λ x. written_flag x.0 ++ written_flags x.1) (λ x. Kept own not IsAny x.0 × AreThree x.1) written_settings (HasEnrollment site)
+    (reads_pair (kept_at own flag_at not) (λ inhibit. flags_at) written_flag written_flags (Kept own not IsAny) (λ inhibit. AreThree) (reads_kept own flag_at not written_flag IsAny flag_reads) (λ inhibit any. flags_reads))
+    (λ x f. (record { own = record { same = refl; enable = f.1; inhibit = not_beside site.inhibit_ref x.0 f.0.1 } }, refl))
+    (λ it f. (((tt, alone site.inhibit_ref it.inhibit f.own.inhibit), f.own.enable), sym f.own.same, refl))
 
 -- ---- classes
 

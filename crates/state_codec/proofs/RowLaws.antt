@@ -11,7 +11,7 @@ use Rattle.state_codec.specs.Records.{written_flag, written_flags, written_value
 use Rattle.state_codec.specs.Snapshots.{written_delay, written_keys}
 use Rattle.state_codec.specs.declared.reading_keys.Keys.{Keys}
 use Rattle.state_codec.specs.ReadingSteps.{octet_at, number_at, flag_at, flags_at, value_at}
-use Rattle.state_codec.specs.SnapshotSteps.{DetectionData, SettingsData, where_at, kept_at, are_clear, delay_at, present_at, detection_at, settings_at}
+use Rattle.state_codec.specs.SnapshotSteps.{DetectionData, SettingsData, where_at, kept_at, are_clear, delay_at, has_inhibit, present_at, detection_at, settings_at}
 use Rattle.state_codec.proofs.Behind.{Reads}
 use Rattle.state_codec.proofs.PartLaws.{written_octet, IsOctet, IsBelow, IsAny, AreThree, octet_reads, u32_reads, flag_reads, flags_reads}
 use Rattle.state_codec.proofs.ValueLaws.{value_reads}
@@ -67,17 +67,17 @@ written_settings kind x =
 
 abbrev pub AreSettings : ObjectSite → SettingsData → Type 0
 AreSettings site x =
-    IsPresent site x.0 × (Unit {0} × (Kept (is_some site.class) not IsAny x.1.1.0 × (Unit {0} × (IsFieldFault x.1.1.1.1.0 × AreDetection site x.1.1.1.1.1))))
+    IsPresent site x.0 × (Unit {0} × (Kept (has_inhibit site) not IsAny x.1.1.0 × (Unit {0} × (IsFieldFault x.1.1.1.1.0 × AreDetection site x.1.1.1.1.1))))
 
 pub settings_reads : (site : ObjectSite) → Reads (settings_at site) (written_settings (kind_in site)) (AreSettings site)
 unfolding settings_at
 settings_reads site =
     reads_pair (present_at site) _ written_value (λ (x : Bool × (Bool × (Bool × (ℕ × DetectionData)))). written_flag x.0 ++ (written_flag x.1.0 ++ (written_flag x.1.1.0 ++ (written_octet x.1.1.1.0 ++ written_detection (kind_in site) x.1.1.1.1)))) (IsPresent site)
-    (λ a x. Unit {0} × (Kept (is_some site.class) not IsAny x.1.0 × (Unit {0} × (IsFieldFault x.1.1.1.0 × AreDetection site x.1.1.1.1)))) (present_reads site) (λ value is_value.
+    (λ a x. Unit {0} × (Kept (has_inhibit site) not IsAny x.1.0 × (Unit {0} × (IsFieldFault x.1.1.1.0 × AreDetection site x.1.1.1.1)))) (present_reads site) (λ value is_value.
     reads_pair flag_at _ written_flag (λ (x : Bool × (Bool × (ℕ × DetectionData))). written_flag x.0 ++ (written_flag x.1.0 ++ (written_octet x.1.1.0 ++ written_detection (kind_in site) x.1.1.1))) IsAny
-    (λ a x. Kept (is_some site.class) not IsAny x.0 × (Unit {0} × (IsFieldFault x.1.1.0 × AreDetection site x.1.1.1))) flag_reads (λ out is_out.
-    reads_pair (kept_at (is_some site.class) flag_at not) _ written_flag (λ (x : Bool × (ℕ × DetectionData)). written_flag x.0 ++ (written_octet x.1.0 ++ written_detection (kind_in site) x.1.1)) (Kept (is_some site.class) not IsAny)
-    (λ a x. Unit {0} × (IsFieldFault x.1.0 × AreDetection site x.1.1)) (reads_kept (is_some site.class) flag_at not written_flag IsAny flag_reads) (λ inhibit is_inhibit.
+    (λ a x. Kept (has_inhibit site) not IsAny x.0 × (Unit {0} × (IsFieldFault x.1.1.0 × AreDetection site x.1.1.1))) flag_reads (λ out is_out.
+    reads_pair (kept_at (has_inhibit site) flag_at not) _ written_flag (λ (x : Bool × (ℕ × DetectionData)). written_flag x.0 ++ (written_octet x.1.0 ++ written_detection (kind_in site) x.1.1)) (Kept (has_inhibit site) not IsAny)
+    (λ a x. Unit {0} × (IsFieldFault x.1.0 × AreDetection site x.1.1)) (reads_kept (has_inhibit site) flag_at not written_flag IsAny flag_reads) (λ inhibit is_inhibit.
     reads_pair flag_at _ written_flag (λ (x : ℕ × DetectionData). written_octet x.0 ++ written_detection (kind_in site) x.1) IsAny (λ a x. IsFieldFault x.0 × AreDetection site x.1) flag_reads (λ reliability is_reliability.
     reads_pair (where_at octet_at is_field_fault) _ written_octet (written_detection (kind_in site)) IsFieldFault (λ a. AreDetection site) fault_reads (λ fault is_fault.
     detection_reads site)))))

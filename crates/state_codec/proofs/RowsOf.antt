@@ -1,9 +1,10 @@
 -- The row of an object of a site is what the settings that were read make of it, and no other row has them.
-use Rattle.std.proofs.Common.{◌≡◌, ℕ, zero, suc, ℤ, pos, negsuc, ◌^◌, ◌<◌, Bool, true, false, not, eqb, List, [], ◌∷◌, ◌++◌, length, IsNone, Option, Some, None, is_some, refl, sym, ap, subst, ◌∙◌, arith}
+use Rattle.std.proofs.Common.{◌≡◌, ℕ, zero, suc, ℤ, pos, negsuc, ◌^◌, ◌<◌, Bool, true, false, not, ◌&&◌, ◌||◌, eqb, List, [], ◌∷◌, ◌++◌, length, IsNone, IsSome, Option, Some, None, is_some, refl, sym, ap, subst, ◌∙◌, arith}
 use Rattle.std.specs.Int.{w32, to_be_bytes}
 use Rattle.std.proofs.lemmas.Bool.{eqb-true, eq-eqb}
 use Rattle.std.proofs.lemmas.Int.{ints}
 use mir.ValLaws as laws
+use Rattle.bac_values.specs.Identifier.{ObjectIdData}
 use Rattle.bac_values.specs.declared.object_kind.ObjectKind.{ObjectKind}
 use Rattle.bac_values.specs.declared.object_kind.ObjectKind.TheVariants.{BinaryValue, Device, EventEnrollment, NotificationClass, MultiStateValue, EventLog, BitStringValue, CharacterStringValue, IntegerValue, PositiveIntegerValue}
 use Rattle.bac_values.specs.declared.value.Value.{Value}
@@ -17,7 +18,7 @@ use Rattle.state_codec.specs.Records.{written_flag, written_flags, written_value
 use Rattle.state_codec.specs.Types.{FitsValue}
 use Rattle.state_codec.specs.Snapshots.{written_delay, written_row}
 use Rattle.state_codec.specs.declared.reading_keys.Keys.{Keys}
-use Rattle.state_codec.specs.SnapshotSteps.{SettingsData, no_keys, are_clear, is_none, object_with, row_with, settings_at, row_at}
+use Rattle.state_codec.specs.SnapshotSteps.{SettingsData, no_keys, are_clear, has_inhibit, is_none, object_with, row_with, settings_at, row_at}
 use Rattle.state_codec.specs.SnapshotLaws.{HasRow}
 use Rattle.state_codec.proofs.Behind.{Reads}
 use Rattle.state_codec.proofs.PartLaws.{IsAny, AreThree}
@@ -363,13 +364,34 @@ not_set : (flag : Bool) → not flag ≡ true → flag ≡ false
 not_set true e = absurd cc
 not_set false e = refl
 
+-- a flag that isn't set where an object has a reference
+pub not_beside : (reference : Option ObjectIdData) (flag : Bool) → (not (is_some reference) || not flag) ≡ true → IsSome reference → flag ≡ false
+not_beside None flag kept some = absurd cc
+not_beside (Some referred) flag kept some = not_set flag kept
+
+pub alone : (reference : Option ObjectIdData) (flag : Bool) → (IsSome reference → flag ≡ false) → (not (is_some reference) || not flag) ≡ true
+alone None flag h = refl
+alone (Some referred) flag h = ap not (h refl)
+
 -- an object with other settings, which were read, may have the class that it had
 alarm_with : (kind : Option ObjectKind) (class : Option ℕ) (site : ObjectSite) (x : SettingsData) → KeepsAlarmKeys kind class site
-    → Kept (is_some class) not IsAny x.1.1.0 → Kept (is_some class) are_clear AreThree x.1.1.1.1.1.0 → Kept (is_some class) (λ n. eqb n 0) (λ n. n < 2 ^ 32) x.1.1.1.1.1.1.0
+    → Kept (is_some class && not (is_some site.inhibit_ref)) not IsAny x.1.1.0 → Kept (is_some class) are_clear AreThree x.1.1.1.1.1.0 → Kept (is_some class) (λ n. eqb n 0) (λ n. n < 2 ^ 32) x.1.1.1.1.1.1.0
     → IsDelay (is_some site.time_delay_normal) x.1.1.1.1.1.1.1.0 → AreKeys kind (is_some class) x.1.1.1.1.1.1.1.1 → KeepsAlarmKeys kind class (object_with site x)
 alarm_with kind (Some class) site x keeps inhibit enable delay normal keys =
     let t = has_keys kind (object_with site x) keys in
-    record { notify = keeps.notify; enable = enable.0; limits = t.0; alarm_value = t.1; alarm_values = keeps.alarm_values; few = keeps.few; some = keeps.some; mask = keeps.mask }
+    record {
+      notify = keeps.notify;
+      enable = enable.0;
+      inhibit = not_beside site.inhibit_ref x.1.1.0 inhibit.1;
+      reference = keeps.reference;
+      texts = keeps.texts;
+      limits = t.0;
+      alarm_value = t.1;
+      alarm_values = keeps.alarm_values;
+      few = keeps.few;
+      some = keeps.some;
+      mask = keeps.mask;
+    }
 alarm_with kind None site x keeps inhibit enable delay normal keys =
     let t = lacks_keys kind (object_with site x) keys in
     record {
@@ -379,6 +401,8 @@ alarm_with kind None site x keeps inhibit enable delay normal keys =
       time_delay_normal = normal.0 ∙ keeps.time_delay_normal;
       detection = keeps.detection;
       inhibit = not_set x.1.1.0 inhibit.1;
+      inhibit_ref = keeps.inhibit_ref;
+      texts = keeps.texts;
       limits = t.0;
       alarm_value = t.1;
       alarm_values = keeps.alarm_values;
@@ -387,8 +411,8 @@ alarm_with kind None site x keeps inhibit enable delay normal keys =
 
 -- what an object with a class or one without has
 alarm_from : (kind : Option ObjectKind) (class : Option ℕ) (site : ObjectSite) → KeepsAlarmKeys kind class site → site.time_delay < 2 ^ 32 → site.deadband < 2 ^ 32
-    → Kept (is_some class) not IsAny site.inhibit × Kept (is_some class) are_clear AreThree site.enable × Kept (is_some class) (λ n. eqb n 0) (λ n. n < 2 ^ 32) site.time_delay × AreKeys kind (is_some class) (keys_of site)
-alarm_from kind (Some class) site keeps delay deadband = ((tt, refl), (keeps.enable, refl), (delay, refl), keys_from_has kind site keeps.limits keeps.alarm_value deadband)
+    → Kept (is_some class && not (is_some site.inhibit_ref)) not IsAny site.inhibit × Kept (is_some class) are_clear AreThree site.enable × Kept (is_some class) (λ n. eqb n 0) (λ n. n < 2 ^ 32) site.time_delay × AreKeys kind (is_some class) (keys_of site)
+alarm_from kind (Some class) site keeps delay deadband = ((tt, alone site.inhibit_ref site.inhibit keeps.inhibit), (keeps.enable, refl), (delay, refl), keys_from_has kind site keeps.limits keeps.alarm_value deadband)
 alarm_from kind None site keeps delay deadband =
     ((tt, ap not keeps.inhibit), (ap (λ (f : List Bool). length f) keeps.enable, ap are_clear keeps.enable), (delay, eq-eqb site.time_delay 0 keeps.time_delay), keys_from_lacks kind site keeps.limits keeps.alarm_value)
 
@@ -447,11 +471,13 @@ row_back : (site : ObjectSite) → IsObject site → (row : Row) → HasRow site
 row_back site is row f =
     let kind_same : kind_in row.site ≡ kind_in site = ap kind_in f.written.same in
     let class_same : row.site.class ≡ site.class = ap (λ (s : ObjectSite). s.class) f.written.same in
+    let reference_same : row.site.inhibit_ref ≡ site.inhibit_ref = ap (λ (s : ObjectSite). s.inhibit_ref) f.written.same in
     let keeps : KeepsAlarmKeys (kind_in site) site.class row.site = subst (λ (c : Option ℕ). KeepsAlarmKeys (kind_in site) c row.site) class_same (subst (λ (k : Option ObjectKind). KeepsAlarmKeys k row.site.class row.site) kind_same f.written.takes.site.alarm) in
-    let t = alarm_from (kind_in site) site.class row.site keeps f.fits.delay f.fits.deadband in (
+    let t = alarm_from (kind_in site) site.class row.site keeps f.fits.delay f.fits.deadband in
+    let inhibit : Kept (has_inhibit site) not IsAny row.site.inhibit = subst (λ (r : Option ObjectIdData). Kept (is_some site.class && not (is_some r)) not IsAny row.site.inhibit) reference_same t.0 in (
       (
         (recorded_present (kind_in site) site row.site.value f.fits.value f.written.value, f.written.value),
-        (tt, (t.0, (tt, ((f.fits.field_fault, f.written.takes.field_fault), (t.1, (t.2, ((f.written.delay, f.fits.normal_delay), t.3))))))),
+        (tt, (inhibit, (tt, ((f.fits.field_fault, f.written.takes.field_fault), (t.1, (t.2, ((f.written.delay, f.fits.normal_delay), t.3))))))),
       ),
       ap (λ (s : ObjectSite). row_of_object s row.field_fault) (sym f.written.same),
       ap (behind_settings (settings_of row)) (keys_written (kind_in row.site) row.site ∙ ap (λ (k : Option ObjectKind). written_keys_of k (keys_of row.site)) kind_same),

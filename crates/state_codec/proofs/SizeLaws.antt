@@ -34,7 +34,7 @@ use Rattle.enrollment.specs.declared.subject.Subject.{Subject}
 use Rattle.enrollment.specs.Enrollments.{site_of}
 use Rattle.enrollment.specs.Subjects.{is_before_enrollments, is_behind_enrollments, subject_of_enrollment, subject_of_object}
 use Rattle.alarm_core.specs.Found.{alarm_in, alarm_or_new, detected_object_in}
-use Rattle.alarm_core.specs.Limits.{KeepsLimits, size_of}
+use Rattle.alarm_core.specs.Limits.{size_of}
 use Rattle.alarm_core.specs.Logs.{SiteLogState}
 use Rattle.alarm_core.specs.SiteStates.{IsClassOf, IsDetectedOf, IsLastState, IsLogOf, IsRowOf, IsRunAt, IsStateOf}
 use Rattle.alarm_core.specs.State.{CoreState, DetectedObjectState}
@@ -338,14 +338,15 @@ record_octets_by : (rule : Bool) → cond rule 1_042 1_034 ≤ 1_042
 record_octets_by true = omega arith
 record_octets_by false = omega arith
 
-bound_least : (site : Site) → IsSite site → KeepsLimits site → snapshot_bound site ≤ 35_299_747
-bound_least site is keeps =
+bound_least : (site : Site) → IsSite site → snapshot_bound site ≤ 35_299_747
+bound_least site is =
     let alarms : count_by has_alarm site.objects ≤ length site.objects = count_by-le-length has_alarm site.objects in
     let records : record_octets site * log_records site ≤ 1_042 * log_records site = mul-le-mul_right (log_records site) (record_octets_by (has_rule site)) in
+    let keeps = is.limits in
     omega (arith, alarms, records, keeps.objects, keeps.classes, keeps.logs, keeps.records, is.settings.fits)
 
-pub bound_low : (site : Site) → IsSite site → KeepsLimits site → snapshot_bound site < 36_000_000
-bound_low site is keeps = omega (arith, bound_least site is keeps)
+pub bound_low : (site : Site) → IsSite site → snapshot_bound site < 36_000_000
+bound_low site is = omega (arith, bound_least site is)
 
-pub need_low : (site : Site) (text : ℕ) → IsSite site → KeepsLimits site → text ≤ most_text → need site text < 72_000_000
-need_low site text is keeps short = omega (arith, bound_least site is keeps, short)
+pub need_low : (site : Site) (text : ℕ) → IsSite site → text ≤ most_text → need site text < 72_000_000
+need_low site text is short = omega (arith, bound_least site is, short)

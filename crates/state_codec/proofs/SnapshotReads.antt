@@ -31,7 +31,7 @@ use Rattle.state_codec.specs.Snapshots.{has_rule, version_of, written_alarm, wri
 use Rattle.state_codec.specs.Records.{written_flag}
 use Rattle.alarm_core.specs.declared.parts.Parts.{Parts}
 use Rattle.state_codec.specs.ReadingSteps.{◌>>=◌, number_at, octet_at}
-use Rattle.state_codec.specs.SnapshotSteps.{AlarmsData, HeadData, RestData, SnapshotData, alarm_parts, alarm_parts_at, alarms_at, all_alarms_at, all_enrolled_at, and_at, are_posts_of, classes_at, each_at, enrolled_at, enrollment_at, events_at, head_at, held_at, is_before, is_behind, kept_with, last_moment_at, listed_class_at, log_at, logs_at, may_be_last, object_subjects, outbox_at, outbox_with, parts_at, parts_in, parts_with, posts_at, rest_at, row_at, site_outbox_at, snapshot_at, subject_at, values_in, version_at, whole_of}
+use Rattle.state_codec.specs.SnapshotSteps.{AlarmsData, HeadData, RestData, SnapshotData, alarm_parts, alarm_parts_at, alarms_at, all_alarms_at, all_enrolled_at, and_at, are_posts_of, classes_at, each_at, enrolled_at, enrollment_at, events_at, head_at, held_at, is_before, is_behind, kept_with, last_moment_at, leave_room, listed_class_at, log_at, logs_at, may_be_last, object_subjects, outbox_at, outbox_with, parts_at, parts_in, parts_with, posts_at, rest_at, row_at, site_classes_at, site_outbox_at, snapshot_at, subject_at, values_in, version_at, whole_of}
 use Rattle.state_codec.specs.SnapshotLaws.{ArePosts, HasClass, HasEnrollment, HasRow}
 use Rattle.state_codec.proofs.Behind.{AreOctets, Reads, bind_some, both_true, some_is}
 use Rattle.state_codec.proofs.FewValues.{few_values}
@@ -179,6 +179,15 @@ IsListed listed = HasClass listed.class
 pub classes_reads : (sites : List ClassSite) → Reads (classes_at sites) (flat_map written_class) (AllZip IsListed sites)
 classes_reads sites = reads_each listed_class_at written_class IsAny IsListed (λ listed any. class_reads listed.class) sites (all_any sites)
 
+-- classes of a site, with lists that leave room
+abbrev pub AreListed : Site → List Class → Type 0
+AreListed site classes = AllZip IsListed site.classes classes × (leave_room site classes ≡ true)
+
+pub site_classes_reads : (site : Site) → Reads (site_classes_at site) (flat_map written_class) (AreListed site)
+unfolding site_classes_at
+site_classes_reads site =
+    reads_where (classes_at site.classes) (leave_room site) (flat_map written_class) (AllZip IsListed site.classes) (AreListed site) (classes_reads site.classes) (λ classes are e. (are, e)) (λ classes are. are)
+
 -- what a log holds, as it is written
 abbrev pub written_held : Bool → EventLogState → List ℕ
 written_held rule log = written_flag log.enabled ++ (to_be_bytes w32 log.total ++ (to_be_bytes w32 (length log.records) ++ flat_map (written_entry rule) log.records))
@@ -217,15 +226,15 @@ abbrev pub written_rest : Bool → RestData → List ℕ
 written_rest rule x = flat_map written_class x.0 ++ (flat_map (written_held rule) x.1.0 ++ written_outbox x.1.1)
 
 abbrev pub IsRest : Site → RestData → Type 0
-IsRest site x = AllZip IsListed site.classes x.0 × (AllZip (HasHeld (has_rule site) (site_zone site)) site.logs x.1.0 × HasOutbox site x.0 x.1.1)
+IsRest site x = AreListed site x.0 × (AllZip (HasHeld (has_rule site) (site_zone site)) site.logs x.1.0 × HasOutbox site x.0 x.1.1)
 
 pub rest_reads : (site : Site) → IsSite site → Reads (rest_at site) (written_rest (has_rule site)) (IsRest site)
 unfolding rest_at
 rest_reads site is =
     let rule = has_rule site in
     let zone = site_zone site in
-    reads_pair (classes_at site.classes) _ (flat_map written_class) (λ (x : List EventLogState × OutboxState). flat_map (written_held rule) x.0 ++ written_outbox x.1) (AllZip IsListed site.classes)
-    (λ classes x. AllZip (HasHeld rule zone) site.logs x.0 × HasOutbox site classes x.1) (classes_reads site.classes) (λ classes are.
+    reads_pair (site_classes_at site) _ (flat_map written_class) (λ (x : List EventLogState × OutboxState). flat_map (written_held rule) x.0 ++ written_outbox x.1) (AreListed site)
+    (λ classes x. AllZip (HasHeld rule zone) site.logs x.0 × HasOutbox site classes x.1) (site_classes_reads site) (λ classes are.
     reads_pair (logs_at rule zone site.logs) _ (flat_map (written_held rule)) written_outbox (AllZip (HasHeld rule zone) site.logs) (λ logs. HasOutbox site classes) (logs_reads rule zone site.logs is.logs) (λ logs have.
     outbox_reads site classes))
 

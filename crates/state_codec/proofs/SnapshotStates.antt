@@ -2,6 +2,7 @@
 use Rattle.std.proofs.Common.{IsTrue, IsNone, ◌≡◌, ℕ, ◌^◌, ◌<◌, Bool, true, false, true≢false, Option, Some, None, is_some, List, [], ◌∷◌, ◌++◌, append_assoc, filter, length, map, refl, sym, ap, subst, ◌∙◌, arith}
 use Rattle.std.specs.Int.{w64, to_be_bytes}
 use Rattle.std.specs.List.{All, AllZip, flat_map, zip}
+use Rattle.std.proofs.lemmas.Bool.{leb-true}
 use Rattle.std.proofs.lemmas.List.Elements.{All-nil, All-cons, All-head, All-tail}
 use Rattle.std.proofs.lemmas.Slice.Zip.{AllZip-long}
 use Rattle.bac_values.specs.declared.stamp.Stamp.{Stamp}
@@ -135,7 +136,8 @@ module _ (site : Site) where
           rows = beside_each HasRow IsRowOf (λ s r h. h.written) site.objects x.1.0 whole.1.0;
           enrollments = enrolled_of x.1.0 x.0.1.1 x.1.1.0 whole.1.1.0;
           alarms = subst (λ (ss : List Subject). AllZip (IsDetectedOf site told_state) ss told_state.alarms) (detecting_among (subjects_of site)) detected.0;
-          classes = beside_each IsListed IsClassOf (λ listed class h. record { same = h.same; few = h.destinations.0 }) site.classes x.1.1.1.0 whole.1.1.1.0;
+          classes = beside_each IsListed IsClassOf (λ listed class h. record { same = h.same; few = h.destinations.0 }) site.classes x.1.1.1.0 whole.1.1.1.0.0;
+          room = leb-true _ _ whole.1.1.1.0.1;
           known = classes_told (peers_of x.1.1.1.1.1.posts) x.1.1.1.0 posts_are.1;
           peers = posts.few;
           outbox = subst IsOutbox (sym outbox.settings) posts.outbox;
@@ -147,6 +149,7 @@ module _ (site : Site) where
 
     pub are_parts : ArePartsOf site (data_with x)
     are_parts = record {
+      references = refl;
       alarms = may_have;
       logs = AllZip-long (HasHeld (has_rule site) (site_zone site)) site.logs x.1.1.1.1.0 whole.1.1.1.1.0;
       state = its_state;
@@ -156,7 +159,7 @@ module _ (site : Site) where
     its_types = record {
       rows = seconds_all HasRow FitsRow (λ s r h. h.fits) site.objects x.1.0 whole.1.0;
       alarms = (detected_all site told_state (alarm_subjects site) own_alarms have).1;
-      classes = seconds_all IsListed FitsClass (λ listed class h. h.destinations.1) site.classes x.1.1.1.0 whole.1.1.1.0;
+      classes = seconds_all IsListed FitsClass (λ listed class h. h.destinations.1) site.classes x.1.1.1.0 whole.1.1.1.0.0;
       logs = (logs_kept site.logs x.1.1.1.1.0 is.logs whole.1.1.1.1.0).1;
       posts = fits_all x.1.1.1.1.1.posts whole.1.1.1.1.1.posts.0;
     }

@@ -19,6 +19,7 @@ use Rattle.outbox.specs.Outboxes.{IsOutbox, peers_of, unfinished_in}
 use Rattle.outbox.specs.Posts.{IsPost, MailboxState, TestsPosts}
 use Rattle.enrollment.specs.Subjects.{is_detecting, subject_of_enrollment}
 use Rattle.enrollment.specs.declared.enrollment_site.EnrollmentSite.{EnrollmentSite}
+use Rattle.enrollment.specs.References.{enrollments_in}
 use Rattle.enrollment.specs.declared.subject.Subject.{Subject}
 use Rattle.alarm_core.specs.Evaluations.{site_zone}
 use Rattle.alarm_core.specs.Found.{alarm_in}
@@ -229,7 +230,7 @@ module _ (state : CoreState) where
         (
           alarms_have,
           (
-            beside_with IsClassOf IsListed FitsClass (λ listed class h f. record { same = h.same; destinations = (h.few, f) }) state.site.classes state.classes own.classes fits.classes,
+            (beside_with IsClassOf IsListed FitsClass (λ listed class h f. record { same = h.same; destinations = (h.few, f) }) state.site.classes state.classes own.classes fits.classes, le-leb _ _ own.room),
             (logs_held state.site state.site.logs state.logs own.logs fits.logs, outbox_has),
           ),
         ),
@@ -244,7 +245,7 @@ module _ (state : CoreState) where
       events = state.events;
       last_moment = state.last_moment;
       table = state.values.rows;
-      enrollments = seconds (map its_alarm middle_of_it) state.values.enrollments paired k;
+      enrollments = enrollments_in (record { rows = state.values.rows; enrollments = seconds (map its_alarm middle_of_it) state.values.enrollments paired k });
       alarms = (ap (λ (rest : List AlarmState). map its_alarm before_it ++ (rest ++ map its_alarm behind_it)) (firsts (map its_alarm middle_of_it) state.values.enrollments paired) ∙ sym split) k;
       classes = state.classes;
       logs = map log_of state.logs;

@@ -22,7 +22,7 @@ use Rattle.state_codec.proofs.SnapshotStates.{enrolled_of}
 
 -- ---- the table
 
-rows_have : (site : Site) → IsSite site → (octets : List ℕ) → AreOctets octets → (rows : List Row) (rest : List ℕ) → each_at row_at site.objects octets ≡ Some (rows, rest) → AllZip HasRow site.objects rows
+pub rows_have : (site : Site) → IsSite site → (octets : List ℕ) → AreOctets octets → (rows : List Row) (rest : List ℕ) → each_at row_at site.objects octets ≡ Some (rows, rest) → AllZip HasRow site.objects rows
 rows_have site is octets are rows rest e = ((rows_reads site.objects is.objects).takes octets rows rest are e).1
 
 pub rows_ascend : (site : Site) → IsSite site → (octets : List ℕ) → AreOctets octets → (rows : List Row) (rest : List ℕ) → each_at row_at site.objects octets ≡ Some (rows, rest) → RowsAscend rows
@@ -49,6 +49,9 @@ still_enrollment site written of is =
       algorithm = algorithm_kept site.algorithm site written.inhibit written.enable is.algorithm;
       notify = is.notify;
       enable = of.enable;
+      inhibit = of.inhibit;
+      reference = is.reference;
+      texts = is.texts;
     } in
     subst IsEnrollment (sym of.same) kept
 

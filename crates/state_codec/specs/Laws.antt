@@ -5,7 +5,6 @@ use Rattle.bac_values.specs.Moments.{IsMoment}
 use Rattle.alarm_core.specs.Allowed.{IsAllowed}
 use Rattle.alarm_core.specs.State.{CoreState}
 use Rattle.alarm_core.specs.declared.event.Event.{Event}
-use Rattle.alarm_core.specs.Limits.{KeepsLimits}
 use Rattle.alarm_core.specs.SiteStates.{IsStateOf}
 use Rattle.alarm_core.specs.Sites.{IsSite}
 use Rattle.alarm_core.specs.declared.site.Site.{Site}
@@ -35,10 +34,10 @@ pub record SnapshotsAreShort : Type 0 where
   pub most : (site : Site) (state : CoreState) → IsStateOf site state → FitsState state → length (written_state state) ≤ snapshot_bound site
   pub some : (state : CoreState) → 1 ≤ length (written_state state)
 
--- a site that keeps its limits needs fewer than 36,000,000 octets for a snapshot, and fewer than 72,000,000 for its device
+-- a site needs fewer than 36,000,000 octets for a snapshot, and fewer than 72,000,000 for its device
 pub record BoundsAreLow : Type 0 where
-  pub snapshot : (site : Site) → IsSite site → KeepsLimits site → snapshot_bound site < snapshot_octets_limit
-  pub device : (site : Site) (text : ℕ) → IsSite site → KeepsLimits site → text ≤ most_text → need site text < 72_000_000
+  pub snapshot : (site : Site) → IsSite site → snapshot_bound site < snapshot_octets_limit
+  pub device : (site : Site) (text : ℕ) → IsSite site → text ≤ most_text → need site text < 72_000_000
 
 -- octets are the snapshot of one state of a site at most; and a state has one snapshot
 pub record OneSnapshot : Type 0 where

@@ -9,4 +9,8 @@ pub mod WritingSteps
 pub mod Sizes
 pub mod Laws
 pub mod Contents
-pub mod DamageSteps
+pub mod Damage
+pub mod Emission
+pub mod Keeping
+pub mod Openings
+pub mod Work

@@ -1,6 +1,5 @@
 -- How what a snapshot has of a site is read: the value at the front of octets and the octets behind it, or nothing.
-use Rattle.std.specs.Prelude.{◌≡◌, ◌^◌, ℕ, zero, suc, Result, Ok, Err, ℤ, pos, ◌==◌, ◌&&◌, ◌||◌, not, nat_lt, nat_le, bytes_eq, if◌then◌else◌, Bool, true, false, Option, Some, None, is_some, List, [], ◌∷◌, ◌++◌, length, map, filter}
-use Rattle.bac_values.specs.Limits.{most_peers, most_note_octets}
+use Rattle.std.specs.Prelude.{◌≡◌, ℕ, zero, suc, Result, Ok, Err, ℤ, pos, ◌==◌, ◌&&◌, ◌||◌, not, nat_lt, nat_le, bytes_eq, if◌then◌else◌, Bool, true, false, Option, Some, None, is_some, List, [], ◌∷◌, ◌++◌, length, map, filter, sum_by}
 use Rattle.std.specs.Int.{w16, w32, w64, cast_signed}
 use Rattle.std.specs.List.{list_all}
 use Rattle.std.specs.Option.{option_map_or}
@@ -9,6 +8,7 @@ use Rattle.bac_values.specs.BitString.{two_flags}
 use Rattle.bac_values.specs.Address.{PeerData}
 use Rattle.bac_values.specs.EventStates.{state_of_number, transition_to}
 use Rattle.bac_values.specs.Identifier.{ObjectIdData, number_of_kind}
+use Rattle.bac_values.specs.Limits.{most_events, most_note_octets, most_peers}
 use Rattle.bac_values.specs.Moments.{first_moment, last_moment}
 use Rattle.bac_values.specs.Orders.{is_among, peer_order}
 use Rattle.bac_values.specs.Reliabilities.{reliability_of_number}
@@ -42,10 +42,12 @@ use Rattle.outbox.specs.Posts.{is_post, MailboxState}
 use Rattle.alarm_core.specs.Evaluations.{site_zone}
 use Rattle.alarm_core.specs.Logs.{SiteLogState, log_of}
 use Rattle.alarm_core.specs.Parts.{state_of_parts}
+use Rattle.alarm_core.specs.Room.{share_at}
 use Rattle.alarm_core.specs.State.{CoreState}
 use Rattle.alarm_core.specs.declared.parts.Parts.{Parts}
 use Rattle.alarm_core.specs.declared.site.Site.{Site}
 use Rattle.enrollment.specs.Subjects.{is_detecting, subject_of_enrollment, subjects_of}
+use Rattle.enrollment.specs.References.{enrollments_in}
 use Rattle.enrollment.specs.declared.subject.Subject.{Subject}
 use Rattle.enrollment.specs.declared.enrollment_site.EnrollmentSite.{EnrollmentSite}
 use Rattle.alarm_core.specs.SiteStates.{alarm_values_in, hundredths_shown, is_state_of}
@@ -76,7 +78,7 @@ made_at read make = last_at read λ value. Some (make value)
 abbrev pub where_at : {A : Type 0} → (List ℕ → Option (A × List ℕ)) → (A → Bool) → List ℕ → Option (A × List ℕ)
 where_at read test = last_at read λ value. value_if (test value) value
 
--- a part of which an object without a notification class has what it lacks
+-- a part that an object may lack, as one without a notification class does: then it is what such an object has there
 abbrev pub kept_at : {A : Type 0} → Bool → (List ℕ → Option (A × List ℕ)) → (A → Bool) → List ℕ → Option (A × List ℕ)
 kept_at has read is_absent = where_at read λ value. has || is_absent value
 
@@ -163,6 +165,10 @@ detection_at site =
     and_at (delay_at (is_some site.time_delay_normal)) λ normal.
     keys_at (kind_in site) (is_some site.class)
 
+-- whether an object has an Event_Algorithm_Inhibit of its own: it has a notification class, and no other object inhibits it
+abbrev pub has_inhibit : ObjectSite → Bool
+has_inhibit site = is_some site.class && not (is_some site.inhibit_ref)
+
 -- what a row has beside what its site says
 abbrev pub SettingsData : Type 0
 SettingsData = Value × (Bool × (Bool × (Bool × (ℕ × (List Bool × (ℕ × (Option ℕ × Keys)))))))
@@ -171,7 +177,7 @@ unfoldable pub settings_at : ObjectSite → List ℕ → Option (SettingsData ×
 settings_at site =
     and_at (present_at site) λ value.
     and_at flag_at λ out_of_service.
-    and_at (kept_at (is_some site.class) flag_at not) λ inhibit.
+    and_at (kept_at (has_inhibit site) flag_at not) λ inhibit.
     and_at flag_at λ reliability_inhibit.
     and_at (where_at octet_at is_field_fault) λ field_fault.
     detection_at site
@@ -299,9 +305,9 @@ new_alarm_at = last_at (octets_at 73) λ octets. value_if (bytes_eq octets (writ
 
 -- ---- enrollments
 
--- Event_Algorithm_Inhibit and Event_Enable
+-- Event_Algorithm_Inhibit, of an enrollment that no other object inhibits, and Event_Enable
 unfoldable pub enrollment_at : EnrollmentSite → List ℕ → Option (EnrollmentSite × List ℕ)
-enrollment_at site = made_at (and_at flag_at λ inhibit. flags_at) λ x. record site { inhibit = x.0; enable = x.1 }
+enrollment_at site = made_at (and_at (kept_at (not (is_some site.inhibit_ref)) flag_at not) λ inhibit. flags_at) λ x. record site { inhibit = x.0; enable = x.1 }
 
 -- ---- classes
 
@@ -380,6 +386,14 @@ listed_class_at listed = class_at listed.class
 
 abbrev pub classes_at : List ClassSite → List ℕ → Option (List Class × List ℕ)
 classes_at = each_at listed_class_at
+
+-- whether lists leave room in the outbox of a site: the notifications of one transition of every object are no more than may wait
+abbrev pub leave_room : Site → List Class → Bool
+leave_room site classes = nat_le (sum_by (share_at site) classes) site.device.outbox
+
+-- the classes of a site, with such lists
+unfoldable pub site_classes_at : Site → List ℕ → Option (List Class × List ℕ)
+site_classes_at site = where_at (classes_at site.classes) (leave_room site)
 
 -- a log of a site with what it holds
 abbrev pub kept_with : LogSite → EventLogState → SiteLogState
@@ -464,7 +478,7 @@ version_at site = where_at octet_at λ version. version == version_of site
 
 -- how many events there were
 unfoldable pub events_at : List ℕ → Option (ℕ × List ℕ)
-events_at = where_at (number_at w64) λ events. nat_lt events (2 ^ 63)
+events_at = where_at (number_at w64) λ events. nat_lt events most_events
 
 -- the last moment: in range, and not before the start
 abbrev pub may_be_last : Site → ℕ → Bool
@@ -510,7 +524,7 @@ RestData = List Class × (List EventLogState × OutboxState)
 
 unfoldable pub rest_at : Site → List ℕ → Option (RestData × List ℕ)
 rest_at site =
-    and_at (classes_at site.classes) λ classes.
+    and_at (site_classes_at site) λ classes.
     and_at (logs_at (has_rule site) (site_zone site) site.logs) λ logs.
     site_outbox_at site classes
 
@@ -530,7 +544,7 @@ parts_with x = record {
   events = x.0.1.0;
   last_moment = x.0.1.1;
   table = x.1.0;
-  enrollments = x.1.1.0.1;
+  enrollments = enrollments_in (record { rows = x.1.0; enrollments = x.1.1.0.1 });
   alarms = x.1.1.0.0;
   classes = x.1.1.1.0;
   logs = x.1.1.1.1.0;

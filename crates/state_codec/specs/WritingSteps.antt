@@ -9,13 +9,11 @@ use Rattle.object_table.specs.declared.row.Row.{Row}
 use Rattle.outbox.specs.declared.post.Post.{Post}
 use Rattle.outbox.specs.Outboxes.{OutboxState}
 use Rattle.outbox.specs.Posts.{MailboxState}
-use Rattle.alarm_core.specs.Found.{alarm_in}
 use Rattle.alarm_core.specs.State.{CoreState}
 use Rattle.alarm_core.specs.Subjects.{has_class}
 use Rattle.state_codec.specs.Records.{IsPeer, written_flag, written_flags, written_peer}
 use Rattle.alarm_core.specs.declared.site.Site.{Site}
 use Rattle.state_codec.specs.Sizes.{alarm_objects, alarm_octets, class_octets, log_octets, log_records, note_octets, object_octets, post_octets, record_octets}
-use Rattle.state_codec.specs.SnapshotLaws.{FitsAlarm}
 use Rattle.state_codec.specs.Snapshots.{version_of, written_subject}
 
 -- the version, how many events there were, and the moment of the last
@@ -59,11 +57,7 @@ written_told post = written_peer post.peer ++ written_delivery post
 
 -- ---- what types say
 
--- what the types say of the alarm that is found of an object
-abbrev pub FitsFound : CoreState → Subject → Type 0
-FitsFound state subject = FitsAlarm (alarm_in state subject.object)
-
--- what they say of what is told of a post
+-- what the types say of what is told of a post
 pub record FitsTold (post : Post) : Type 0 where
   pub peer : IsPeer post.peer
   pub invoke : post.next_invoke < 2 ^ 8

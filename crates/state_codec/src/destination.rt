@@ -3,12 +3,9 @@ ghost use Rattle.state_codec.specs.ReadingSteps.{Gives, destination_at, destinat
 
 use crate::parts::{take_flag, take_flags, take_octet, take_peer, take_u32};
 use crate::reading::ReadFault;
-use bac_values::{Items, push};
+use bac_values::{Items, MOST_DESTINATIONS, push};
 use notify_class::Destination;
 use std::alloc::Global;
-
-/// The most recipients of a class.
-const MOST_DESTINATIONS: u8 = 32;
 
 /// Takes the recipient at the front.
 #[tactic(auto, unfolding(crate::specs::ReadingSteps::destination_at))]
@@ -57,7 +54,7 @@ pub(crate) fn take_destinations(
     ensures exact { Gives (λ x. (x, bytes.new.now)) result (destinations_at bytes.old.now) }
 {
     let count = take_octet(bytes)?;
-    if count > MOST_DESTINATIONS {
+    if usize::from(count) > MOST_DESTINATIONS {
         return Err(ReadFault::NothingThere);
     }
     Ok(Items::of(take_list(alloc, count, bytes)?))

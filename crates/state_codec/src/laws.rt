@@ -34,7 +34,7 @@ pub fn snapshots_are_short()
     ensures short { SnapshotsAreShort }
 {}
 
-/// No site that keeps its limits needs 36,000,000 octets for a snapshot, nor 72,000,000 for its device.
+/// No site needs 36,000,000 octets for a snapshot, nor 72,000,000 for its device.
 pub fn bounds_are_low()
     ensures low { BoundsAreLow }
 {}

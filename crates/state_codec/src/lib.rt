@@ -8,9 +8,11 @@ mod act;
 mod destination;
 mod event;
 mod fault;
+mod keep_fault;
+mod keeping;
 mod laws;
+mod opening;
 mod parts;
-mod present;
 mod reading;
 mod reading_alarms;
 mod reading_keys;
@@ -23,11 +25,14 @@ mod reading_rows;
 mod reading_site;
 mod reading_state;
 mod reading_subjects;
+mod recording;
 mod recovering;
 mod sizes;
+mod snapshot;
 mod state_types;
 mod types;
 mod value;
+mod work;
 mod writing;
 mod writing_alarms;
 mod writing_rest;
@@ -36,15 +41,19 @@ mod writing_state;
 
 pub use event::{read_event, write_event};
 pub use fault::CodecFault;
+pub use keep_fault::KeepFault;
+pub use keeping::{keep_event, keep_events};
 pub use laws::{
     allowed_event_has_record, bounds_are_low, reads_what_it_writes, records_are_short,
     records_have_one_spelling, snapshots_are_short, snapshots_have_one_spelling,
 };
+pub use opening::open_journal;
 pub use parts::{take_octet, take_octets, take_u16, take_u32, take_u64};
 pub use reading::ReadFault;
 pub use reading_state::read_state;
+pub use recording::event_to_record;
 pub use recovering::{RecoverFault, recover};
 pub use sizes::{need, snapshot_bound};
-pub use state_types::state_fits;
+pub use work::{Work, work_of, write_work};
 pub use writing::{put_count, put_long, put_octet_count, put_word};
 pub use writing_state::write_state;

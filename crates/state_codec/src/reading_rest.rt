@@ -8,17 +8,15 @@ use crate::destination::take_destinations;
 use crate::parts::{take_flag, take_flags, take_octets, take_u16, take_u64};
 use crate::reading::ReadFault;
 use crate::reading_alarms::take_stamp;
-use bac_values::{Items, Note, Peer, Stamp};
+use crate::reading_keys::take_kept_flag;
+use bac_values::{Items, MOST_NOTE_OCTETS, Note, Peer, Stamp};
 use civil_stamp::{Zone, hundredths_of};
 use enrollment::EnrollmentSite;
 use event_log::LogRecord;
 use notify_class::Class;
 use std::alloc::Global;
 
-/// The most octets of an event notification's parameters.
-const MOST_OCTETS: u16 = 1_024;
-
-/// Takes Event_Algorithm_Inhibit and Event_Enable of an enrollment.
+/// Takes Event_Algorithm_Inhibit and Event_Enable of an enrollment; the first isn't set where another object inhibits it.
 #[tactic(auto, unfolding(crate::specs::SnapshotSteps::enrollment_at))]
 pub(crate) fn take_enrollment(
     mut site: EnrollmentSite,
@@ -26,7 +24,7 @@ pub(crate) fn take_enrollment(
 ) -> Result<EnrollmentSite, ReadFault>
     ensures exact { Gives (λ x. (x, bytes.new.now)) result (enrollment_at site bytes.old.now) }
 {
-    let inhibit = take_flag(bytes)?;
+    let inhibit = take_kept_flag(site.inhibit_ref.is_none(), bytes)?;
     let enable = take_flags(bytes)?;
     site.inhibit = inhibit;
     site.enable = enable;
@@ -69,10 +67,11 @@ fn take_body(alloc: Global, bytes: &mut &[u8]) -> Result<Items<u8>, ReadFault>
     ensures exact { Gives (λ x. (x, bytes.new.now)) result (body_at bytes.old.now) }
 {
     let count = take_u16(bytes)?;
-    if count > MOST_OCTETS {
+    let count = usize::from(count);
+    if count > MOST_NOTE_OCTETS {
         return Err(ReadFault::NothingThere);
     }
-    let octets = take_octets(bytes, usize::from(count))?;
+    let octets = take_octets(bytes, count)?;
     copy_of(alloc, octets)
 }
 

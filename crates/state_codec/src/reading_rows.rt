@@ -1,17 +1,16 @@
 ghost use Rattle.state_codec.specs.ReadingSteps.{Gives, octet_at};
 ghost use Rattle.object_table.specs.Values.{is_field_fault};
 ghost use Rattle.std.specs.Prelude.{◌≡◌};
-ghost use Rattle.state_codec.specs.SnapshotSteps.{detecting_with, detection_at, detection_data, present_at, row_at, row_with, settings_at, settings_data, where_at};
+ghost use Rattle.state_codec.specs.SnapshotSteps.{detecting_with, detection_at, detection_data, has_inhibit, present_at, row_at, row_with, settings_at, settings_data, where_at};
 
 use crate::parts::{take_flag, take_octet};
-use crate::present::{is_field_fault, is_present_value};
 use crate::reading::ReadFault;
 use crate::reading_keys::{
     Keys, take_delay, take_kept_flag, take_kept_flags, take_kept_number, take_keys,
 };
 use crate::value::take_value;
 use bac_values::Value;
-use object_table::{ObjectSite, Row};
+use object_table::{ObjectSite, Row, is_field_fault, is_present_value};
 use std::alloc::Global;
 
 /// Takes the present value of an object, where it is one that a write of it takes.
@@ -32,7 +31,7 @@ fn take_field_fault(bytes: &mut &[u8]) -> Result<u8, ReadFault>
     ensures exact { Gives (λ x. (x, bytes.new.now)) result (where_at octet_at is_field_fault bytes.old.now) }
 {
     let number = take_octet(bytes)?;
-    if is_field_fault(number) {
+    if is_field_fault(u32::from(number)) {
         Ok(number)
     } else {
         Err(ReadFault::NothingThere)
@@ -77,6 +76,13 @@ fn take_detection(site: &ObjectSite, bytes: &mut &[u8]) -> Result<Detection, Rea
     })
 }
 
+/// Whether an object has an Event_Algorithm_Inhibit of its own.
+fn has_inhibit(site: &ObjectSite) -> bool
+    ensures has { result ≡ has_inhibit site.now }
+{
+    site.class.is_some() && site.inhibit_ref.is_none()
+}
+
 /// Takes what the row of an object has beside what its site says.
 #[tactic(auto, unfolding(crate::specs::SnapshotSteps::settings_at))]
 fn take_settings(alloc: Global, site: &ObjectSite, bytes: &mut &[u8]) -> Result<Settings, ReadFault>
@@ -84,7 +90,7 @@ fn take_settings(alloc: Global, site: &ObjectSite, bytes: &mut &[u8]) -> Result<
 {
     let value = take_present(alloc, site, bytes)?;
     let out_of_service = take_flag(bytes)?;
-    let inhibit = take_kept_flag(site.class.is_some(), bytes)?;
+    let inhibit = take_kept_flag(has_inhibit(site), bytes)?;
     let reliability_inhibit = take_flag(bytes)?;
     let field_fault = take_field_fault(bytes)?;
     let detection = take_detection(site, bytes)?;

@@ -49,6 +49,7 @@ fn subject_of(site: &EnrollmentSite) -> Subject
         enable: site.enable,
         detection: site.detection,
         inhibit: site.inhibit,
+        inhibit_ref: site.inhibit_ref,
     }
 }
 

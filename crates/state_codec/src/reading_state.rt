@@ -1,11 +1,14 @@
 ghost use Rattle.std.specs.Prelude.{◌≡◌, ◌++◌, ◌⊎◌, ℕ, All, IfErr, IfOk, IsOkAnd, OnOk, Some};
+ghost use Rattle.std.specs.List.{AllZip};
 ghost use Rattle.object_table.specs.Objects.{IsRow};
 ghost use Rattle.alarm_core.specs.Sites.{IsSite};
 ghost use Rattle.alarm_core.specs.State.{CoreState};
 ghost use Rattle.alarm_core.specs.Parts.{ArePartsOf, state_of_parts};
 ghost use Rattle.enrollment.specs.Enrollments.{AscendById, IsEnrollment};
+ghost use Rattle.enrollment.specs.References.{enrollments_in};
 ghost use Rattle.state_codec.specs.ReadingSteps.{Gives};
-ghost use Rattle.state_codec.specs.SnapshotSteps.{GivesParts, GivesState, alarm_parts_at, each_at, events_at, head_at, last_moment_at, parts_at, parts_in, row_at, version_at};
+ghost use Rattle.state_codec.specs.SnapshotLaws.{HasRow};
+ghost use Rattle.state_codec.specs.SnapshotSteps.{GivesParts, GivesState, alarm_parts_at, each_at, events_at, head_at, last_moment_at, leave_room, parts_at, parts_in, row_at, site_classes_at, version_at};
 ghost use Rattle.state_codec.specs.Spelled.{SpellsNothing, SpellsState};
 
 use crate::CodecFault;
@@ -18,10 +21,13 @@ use crate::reading_site::{
 };
 use crate::types::octets_fit;
 use crate::writing_state::{has_rule, version_of};
-use alarm_core::{Core, EnrollmentSite, Parts, Site, restores_what_it_tells, site_zone};
+use alarm_core::{
+    Core, EnrollmentSite, Parts, Site, leave_room, restores_what_it_tells, site_zone,
+};
 use bac_values::{FIRST_MOMENT, Items, LAST_MOMENT, MOST_EVENTS, NoMemory};
 use enrollment::{Enrollments, copy_of_enrollments};
 use event_machine::Alarm;
+use notify_class::Class;
 use object_table::{Table, copy_of_objects};
 use outbox::tests_posts;
 use std::alloc::Global;
@@ -81,6 +87,7 @@ fn take_table(alloc: Global, site: &Site, bytes: &mut &[u8]) -> Result<Table, Re
     requires site { IsSite site.now }
     ensures exact { Gives (λ x. (x, bytes.new.now)) result (each_at row_at site.now.objects bytes.old.now) }
     ensures allowed { IfOk result (λ x. All IsRow x) }
+    ensures own { IfOk result (λ x. AllZip HasRow site.now.objects x) }
 {
     octets_fit(*bytes);
     let sites = copy_of_objects(alloc, site.objects.as_slice())?;
@@ -126,13 +133,21 @@ fn take_alarm_parts(
     Ok((alarms, enrollments))
 }
 
-/// The enrollments of a site with what was read of them.
-fn restored(alloc: Global, enrollments: Vec<EnrollmentSite>) -> Result<Enrollments, ReadFault>
+/// The enrollments of a site with what was read of them, beside its value objects with what was read of these.
+#[tactic(auto, using(crate::proofs::Referrers::known_as_read))]
+fn restored(
+    alloc: Global,
+    site: &Site,
+    table: &Table,
+    enrollments: Vec<EnrollmentSite>,
+) -> Result<Enrollments, ReadFault>
+    requires site { IsSite site.now }
+    requires own { AllZip HasRow site.now.objects table.now }
     requires ascending { AscendById enrollments.items }
     requires allowed { All IsEnrollment enrollments.items }
-    ensures exact { Gives (λ x. x) result (Some enrollments.items) }
+    ensures exact { Gives (λ x. x) result (Some (enrollments_in (record { rows = table.now; enrollments = enrollments.items }))) }
 {
-    match Enrollments::new(alloc, enrollments) {
+    match Enrollments::new(alloc, enrollments, site.objects.as_slice()) {
         Ok(enrollments) => Ok(enrollments),
         Err(_) => Err(ReadFault::NoMemory),
     }
@@ -148,12 +163,35 @@ fn take_detecting(
 ) -> Result<(Vec<Alarm>, Enrollments), ReadFault>
     requires site { IsSite site.now }
     requires allowed { All IsRow table.now }
-    ensures exact { Gives (λ x. ((x.0.items, x.1), bytes.new.now)) result (alarm_parts_at site.now table.now last bytes.old.now) }
+    requires own { AllZip HasRow site.now.objects table.now }
+    ensures exact { Gives (λ x. ((x.0.items, x.1.sites), bytes.new.now)) result (alarm_parts_at site.now table.now last bytes.old.now) }
+    ensures references { IfOk result (λ x. x.1 ≡ enrollments_in (record { rows = table.now; enrollments = x.1.sites })) }
 {
     octets_fit(*bytes);
     let (alarms, enrollments) = take_alarm_parts(alloc, site, table, last, bytes)?;
-    let enrollments = restored(alloc, enrollments)?;
+    let enrollments = restored(alloc, site, table, enrollments)?;
     Ok((alarms, enrollments))
+}
+
+/// Whether the lists of a site's classes leave room in its outbox.
+#[tactic(auto, using(crate::proofs::PostsOf::room_same))]
+fn have_room(site: &Site, classes: &[Class]) -> bool
+    ensures exact { result ≡ leave_room site.now classes.now }
+{
+    leave_room(site, classes)
+}
+
+/// Takes the classes of a site, with lists that leave room in its outbox.
+#[tactic(auto, unfolding(crate::specs::SnapshotSteps::site_classes_at))]
+fn take_site_classes(alloc: Global, site: &Site, bytes: &mut &[u8]) -> Result<Vec<Class>, ReadFault>
+    ensures exact { Gives (λ x. (x.items, bytes.new.now)) result (site_classes_at site.now bytes.old.now) }
+{
+    let classes = take_classes(alloc, site.classes.as_slice(), bytes)?;
+    if have_room(site, &classes) {
+        Ok(classes)
+    } else {
+        Err(ReadFault::NothingThere)
+    }
 }
 
 /// Takes the parts of a core of a site.
@@ -165,7 +203,7 @@ fn take_parts(alloc: Global, site: &Site, bytes: &mut &[u8]) -> Result<Parts, Re
     let (_, (events, last_moment)) = take_head(site, bytes)?;
     let table = take_table(alloc, site, bytes)?;
     let (alarms, enrollments) = take_detecting(alloc, site, &table, last_moment, bytes)?;
-    let classes = take_classes(alloc, site.classes.as_slice(), bytes)?;
+    let classes = take_site_classes(alloc, site, bytes)?;
     let zone = site_zone(site);
     let logs = take_logs(alloc, has_rule(site), &zone, site.logs.as_slice(), bytes)?;
     let outbox = take_outbox(alloc, site, &classes, bytes)?;

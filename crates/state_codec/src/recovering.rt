@@ -2,29 +2,23 @@
 //! its records, one after the other.
 ghost use Rattle.std.specs.Prelude.{◌≡◌, All, ◌≤◌, ◌<◌, ◌^◌, ◌+◌, ℕ, List, IfOk, OnErr, OnOk, Err, length};
 ghost use Rattle.bac_tags.specs.Places.{IsSpelledAt};
-ghost use Rattle.bac_values.specs.Moments.{IsMoment};
 ghost use Rattle.alarm_core.specs.declared.event.Event.{Event as Happening};
-ghost use Rattle.alarm_core.specs.Allowed.{IsAllowed, Represents};
+ghost use Rattle.alarm_core.specs.Allowed.{Represents};
 ghost use Rattle.alarm_core.specs.CoreSteps.{next_state};
-ghost use Rattle.alarm_core.specs.History.{raised};
 ghost use Rattle.alarm_core.specs.Sites.{IsSite};
-ghost use Rattle.alarm_core.specs.Verdicts.{Answers, step_verdict};
 ghost use Rattle.alarm_journal.specs.Opened.{EndsOnDevice, content_in, pieces, sum_of};
 ghost use Rattle.state_codec.specs.Contents.{StandsForHistory};
-ghost use Rattle.state_codec.specs.DamageSteps.{BodiesLeadTo, ContentLeadsTo, IsDamagedAt, IsDamagedIn, IsDamagedRecord, IsDamagedSnapshot, LeadsTo, Tells};
+ghost use Rattle.state_codec.specs.Damage.{BodiesLeadTo, ContentLeadsTo, IsDamagedAt, IsDamagedIn, IsDamagedRecord, IsDamagedSnapshot, LeadsTo, Tells};
 ghost use Rattle.state_codec.specs.Spelled.{SpellsState};
 ghost use Rattle.alarm_core.specs.State.{CoreState};
-ghost use Rattle.alarm_core.specs.FollowingSteps.{MayFollow};
+ghost use Rattle.alarm_core.specs.Following.{MayFollow};
 ghost use Rattle.state_codec.specs.Records.{SpellsEvent};
 
 use crate::{CodecFault, read_event, read_state};
 use alarm_core::{Core, Event, Site, StepFault};
 use alarm_journal::{Body, Opened};
-use bac_values::{MOST_EVENTS, NoMemory};
-use event_machine::Steps;
+use bac_values::NoMemory;
 use std::alloc::Global;
-use std::marker::Brand;
-use std::sync::ledger::{Blank, Ledger};
 
 /// Why no core is made of what a journal holds.
 #[derive(Clone, Copy, Debug, PartialEq, Eq)]
@@ -49,25 +43,8 @@ impl From<NoMemory> for RecoverFault {
     }
 }
 
-// The core takes an event. Its steps are counted in a ledger of their own, that nobody reads.
-fn take_event<L: Ledger>(core: &mut Core, event: &Event, blank: Blank) -> Result<(), StepFault>
-    requires name { blank.name ≡ L.name }
-    requires parts { blank.parts ≡ L.parts }
-    requires some { 0 < blank.parts }
-    requires moment { IsMoment event.now.moment }
-    requires allowed { IsAllowed core.old event.now.act }
-    requires few { core.old.events < 2 ^ 63 }
-    ensures state { OnOk result (core.new ≡ next_state (raised core.old.last_moment event.now) core.old) }
-    ensures same { OnErr result (core.new ≡ core.old) }
-    ensures verdict { Answers result (step_verdict (raised core.old.last_moment event.now) core.old) }
-{
-    let mut steps = Steps::<L>::new(blank);
-    let _outcome = core.step(event, &mut steps)?;
-    Ok(())
-}
-
 // The core takes an event, if that may follow.
-fn follow(core: &mut Core, event: &Event, at: usize) -> Result<(), CodecFault>
+fn follow(alloc: Global, core: &mut Core, event: &Event, at: usize) -> Result<(), CodecFault>
     ensures followed { OnOk result (MayFollow event.now core.old × (core.new ≡ next_state event.now core.old)) }
     ensures refused { (place : ℕ) → result ≡ Err (CodecFault.Malformed place) → (place ≡ at) × (MayFollow event.now core.old → ⊥) }
     ensures same { OnErr result (core.new ≡ core.old) }
@@ -75,11 +52,8 @@ fn follow(core: &mut Core, event: &Event, at: usize) -> Result<(), CodecFault>
     if !core.admits(event) {
         return Err(CodecFault::Malformed { at });
     }
-    if core.events() >= MOST_EVENTS {
-        return Err(CodecFault::NoMemory);
-    }
-    match take_event::<Brand>(core, event, Blank::new(1)) {
-        Ok(()) => Ok(()),
+    match core.take(alloc, event) {
+        Ok(_outcome) => Ok(()),
         Err(StepFault::Full { .. }) => Err(CodecFault::Malformed { at }),
         Err(StepFault::NoMemory) => Err(CodecFault::NoMemory),
     }
@@ -99,7 +73,7 @@ fn follow_record(
     ensures same { OnErr result (core.new ≡ core.old) }
 {
     let (event, end) = read_event(alloc, body, at)?;
-    follow(core, &event, at)?;
+    follow(alloc, core, &event, at)?;
     Ok(end)
 }
 

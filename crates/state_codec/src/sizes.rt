@@ -1,6 +1,8 @@
 //! How long a snapshot may become, and how large a device has to be.
 ghost use Rattle.std.specs.Prelude.{◌≡◌, ◌<◌, ◌≤◌, ◌^◌, count_by, length, sum_by};
-ghost use Rattle.alarm_core.specs.Limits.{KeepsLimits, most_records, size_of};
+ghost use Rattle.bac_values.specs.Limits.{most_records};
+ghost use Rattle.alarm_core.specs.Limits.{size_of};
+ghost use Rattle.alarm_core.specs.Sites.{IsSite};
 ghost use Rattle.state_codec.specs.Sizes.{has_alarm, most_text, need, record_octets, snapshot_bound};
 ghost use Rattle.state_codec.specs.WritingSteps.{logs_bound, objects_bound, outbox_bound};
 
@@ -78,7 +80,7 @@ fn record_octets(site: &Site) -> u64
 
 /// The longest of a site's objects, alarms and classes together.
 fn objects_bound(site: &Site) -> u64
-    requires limits { KeepsLimits site.now }
+    requires site { IsSite site.now }
     ensures bound { result ≡ objects_bound site.now }
     ensures fits { result < 2 ^ 60 }
 {
@@ -90,7 +92,7 @@ fn objects_bound(site: &Site) -> u64
 
 /// The longest of a site's logs together.
 fn logs_bound(site: &Site) -> u64
-    requires limits { KeepsLimits site.now }
+    requires site { IsSite site.now }
     ensures bound { result ≡ logs_bound site.now }
     ensures fits { result < 2 ^ 60 }
 {
@@ -108,16 +110,16 @@ fn outbox_bound(site: &Site) -> u64
 
 /// The longest of all parts together.
 fn bound_of(site: &Site) -> u64
-    requires limits { KeepsLimits site.now }
+    requires site { IsSite site.now }
     ensures bound { result ≡ snapshot_bound site.now }
     ensures fits { result < 2 ^ 62 }
 {
     FRAME_OCTETS + objects_bound(site) + logs_bound(site) + outbox_bound(site)
 }
 
-/// No snapshot of the site is longer. It is below 36,000,000 for a site that may be.
+/// No snapshot of the site is longer. It is below 36,000,000.
 pub fn snapshot_bound(site: &Site) -> u64
-    requires limits { KeepsLimits site.now }
+    requires site { IsSite site.now }
     ensures bound { result ≡ snapshot_bound site.now }
 {
     bound_of(site)
@@ -125,7 +127,7 @@ pub fn snapshot_bound(site: &Site) -> u64
 
 /// How many octets the device of a site's journal has to have, where the site's text has so many.
 pub fn need(site: &Site, text: u64) -> u64
-    requires limits { KeepsLimits site.now }
+    requires site { IsSite site.now }
     requires short { text ≤ most_text }
     ensures need { result ≡ need site.now text }
 {

@@ -1,174 +1,203 @@
-//! What the types of a core's parts say of its state. The calls do nothing.
-ghost use Rattle.std.specs.Prelude.{◌≡◌, ◌<◌, ◌^◌, Bool, All, IfSome, OnOk, length, slice_get};
-ghost use Rattle.alarm_core.specs.SiteStates.{IsStateOf};
+//! What the types of a core's parts say of its state, for proofs alone: what is asked in a `prove!` costs nothing as the
+//! program runs.
+ghost use Rattle.std.specs.Prelude.{◌≡◌, ◌<◌, ◌^◌, true, All, IfSome, OnOk, length, slice_get};
 ghost use Rattle.state_codec.specs.SnapshotLaws.{FitsAlarm, FitsRow, FitsRunAt, IsStamp};
 ghost use Rattle.state_codec.specs.Spelled.{FitsClass, FitsDetected, FitsEntry, FitsLog, FitsPost, FitsState};
-ghost use Rattle.state_codec.specs.WritingSteps.{FitsFound, FitsTold};
+ghost use Rattle.state_codec.specs.WritingSteps.{FitsTold};
 
 use crate::types::{destinations_fit, peer_fits, value_fits};
-use crate::writing_alarms::alarm_of;
-use alarm_core::{Core, SiteLog, restores_what_it_tells};
+use crate::writing_state::has_rule;
+use alarm_core::{Core, DetectedObject, SiteLog};
 use bac_values::{NoMemory, Stamp};
-use enrollment::{Subject, subjects_of};
 use event_log::{EventLog, LogRecord};
-use event_machine::{Alarm, Run};
+use event_machine::Run;
 use notify_class::Class;
 use object_table::Row;
 use outbox::{Outbox, Post};
-use std::alloc::Global;
 
-/// A delay is below 2^32, where there is one.
-fn delay_fits(delay: Option<u32>)
+// Whether a delay is below 2^32, where there is one.
+fn delay_fits(delay: Option<u32>) -> bool
     ensures fits { IfSome delay (λ seconds. seconds < 2 ^ 32) }
+    ensures always { result ≡ true }
 {
     let _delay = delay;
+    true
 }
 
-/// A row keeps the rules of the types of its parts.
-fn row_fits(row: &Row)
+// Whether a row keeps the rules of the types of its parts, as each does.
+fn row_fits(row: &Row) -> bool
     ensures fits { FitsRow row.now }
+    ensures always { result ≡ true }
 {
-    value_fits(&row.site.value);
-    delay_fits(row.site.time_delay_normal);
+    prove!(delay_fits(row.site.time_delay_normal));
     let _delay = row.site.time_delay;
     let _deadband = row.site.deadband;
     let _fault = row.field_fault;
+    value_fits(&row.site.value)
 }
 
-/// So do rows.
+// Rows do.
 fn rows_fit(rows: &[Row])
     ensures fit { All FitsRow rows.now }
 {
-    for row in rows {
-        row_fits(row);
-    }
+    prove!(rows.iter().all(|row| row_fits(row)));
 }
 
-/// A stamp has eight octets.
-fn stamp_fits(stamp: Stamp)
+// Whether a stamp has eight octets.
+fn stamp_fits(stamp: Stamp) -> bool
     ensures fits { IsStamp stamp }
+    ensures always { result ≡ true }
 {
     let _octets = stamp.octets;
+    true
 }
 
-/// Three stamps have eight octets each.
+// Whether the key of a run is below 2^32, if there is one.
+fn run_fits(run: Option<Run>) -> bool
+    ensures fits { FitsRunAt run }
+    ensures always { result ≡ true }
+{
+    let _run = run;
+    true
+}
+
+// Three stamps have eight octets each.
 fn stamps_fit(stamps: [Stamp; 3])
     ensures fit { All IsStamp stamps }
 {
-    let [first, second, third] = stamps;
-    stamp_fits(first);
-    stamp_fits(second);
-    stamp_fits(third);
+    prove!(stamps.iter().all(|stamp| stamp_fits(*stamp)));
 }
 
-/// The key of a run is below 2^32, if there is one.
-fn run_fits(run: Option<Run>)
-    ensures fits { FitsRunAt run }
-{
-    let _run = run;
-}
-
-/// So are those of runs.
+// The keys of runs are below 2^32.
 fn runs_fit(runs: [Option<Run>; 3])
     ensures fit { All FitsRunAt runs }
 {
-    let [first, second, third] = runs;
-    run_fits(first);
-    run_fits(second);
-    run_fits(third);
+    prove!(runs.iter().all(|run| run_fits(*run)));
 }
 
-/// An alarm keeps the rules of the types of its parts.
-fn alarm_fits(alarm: &Alarm)
-    ensures fits { FitsAlarm alarm.now }
+// Whether the alarm of an object keeps the rules of the types of its parts.
+fn detected_fits(detected: &DetectedObject) -> bool
+    ensures fits { FitsDetected detected.now }
+    ensures always { result ≡ true }
 {
+    let alarm = detected.alarm();
     stamps_fit(alarm.stamps());
     runs_fit(alarm.runs());
+    true
 }
 
-/// So do the alarms of some objects.
-fn alarms_fit(core: &Core, subjects: &[Subject])
-    ensures fit { All (FitsFound core.now) subjects.now }
+// The alarms of objects do.
+fn alarms_fit(alarms: &[DetectedObject])
+    ensures fit { All FitsDetected alarms.now }
 {
-    for subject in subjects {
-        alarm_fits(&alarm_of(core, subject.object));
-    }
+    prove!(alarms.iter().all(|detected| detected_fits(detected)));
 }
 
-/// So do classes.
+// Whether a class does.
+fn class_fits(class: &Class) -> bool
+    ensures fits { FitsClass class.now }
+    ensures always { result ≡ true }
+{
+    destinations_fit(class.destinations.as_slice());
+    true
+}
+
+// Classes do.
 fn classes_fit(classes: &[Class])
     ensures fit { All FitsClass classes.now }
 {
-    for class in classes {
-        destinations_fit(class.destinations.as_slice());
-    }
+    prove!(classes.iter().all(|class| class_fits(class)));
 }
 
-/// A record of a log keeps the rules of the types of its parts.
-fn entry_fits(entry: &LogRecord)
-    ensures fits { (rule : Bool) → FitsEntry rule entry.now }
+// Whether a record of a log does.
+fn entry_fits(rule: bool, entry: &LogRecord) -> bool
+    ensures fits { FitsEntry rule entry.now }
+    ensures always { result ≡ true }
 {
-    stamp_fits(entry.stamp);
     let _hundredths = entry.hundredths;
+    stamp_fits(entry.stamp)
 }
 
-/// So does the record at a place of a log, if there is one.
-fn item_fits(log: &EventLog, place: u32)
-    ensures fits { (rule : Bool) → IfSome (slice_get log.now.records place) (FitsEntry rule) }
+// Whether the record at a place of a log does, if there is one.
+fn item_fits(rule: bool, log: &EventLog, place: u32) -> bool
+    ensures fits { IfSome (slice_get log.now.records place) (FitsEntry rule) }
+    ensures always { result ≡ true }
 {
-    if let Some(entry) = log.item(place) {
-        entry_fits(entry);
+    match log.item(place) {
+        Some(entry) => entry_fits(rule, entry),
+        None => true,
     }
 }
 
-/// So do the records of a log.
-fn items_fit(log: &EventLog)
-    ensures fit { (rule : Bool) → All (FitsEntry rule) log.now.records }
+// Whether the records of a log do.
+fn items_fit(rule: bool, log: &EventLog) -> bool
+    ensures fit { All (FitsEntry rule) log.now.records }
+    ensures always { result ≡ true }
 {
     for place in 0..log.len() {
-        item_fits(log, place);
+        prove!(item_fits(rule, log, place));
     }
+    true
 }
 
-/// So do the records of logs.
-fn logs_fit(logs: &[SiteLog])
-    ensures fit { (rule : Bool) → All (FitsLog rule) logs.now }
+// Whether a log does.
+fn log_fits(rule: bool, kept: &SiteLog) -> bool
+    ensures fits { FitsLog rule kept.now }
+    ensures always { result ≡ true }
 {
-    for kept in logs {
-        items_fit(kept.log());
-    }
+    items_fit(rule, kept.log())
 }
 
-/// What is told of a post keeps the rules of the types of its parts.
-fn told_fits(post: &Post)
+// Logs do.
+fn logs_fit(rule: bool, logs: &[SiteLog])
+    ensures fit { All (FitsLog rule) logs.now }
+{
+    prove!(logs.iter().all(|kept| log_fits(rule, kept)));
+}
+
+// Whether what is told of a post does.
+fn told_fits(post: &Post) -> bool
     ensures fits { FitsTold post.now }
+    ensures always { result ≡ true }
 {
-    peer_fits(&post.peer);
     let _invoke = post.next_invoke;
     let _attempts = post.attempts;
     let _deadline = post.deadline;
+    peer_fits(post.peer)
 }
 
-/// So does the post at a place, if there is one.
-fn post_fits(outbox: &Outbox, place: u32)
+// Whether the post at a place does, if there is one.
+fn post_fits(outbox: &Outbox, place: u32) -> bool
     ensures fits { IfSome (slice_get outbox.now.posts place) FitsPost }
+    ensures always { result ≡ true }
 {
-    if let Some(post) = outbox.post(place) {
-        told_fits(&post);
+    match outbox.post(place) {
+        Some(post) => told_fits(&post),
+        None => true,
     }
 }
 
-/// So do the first posts of an outbox.
+// Whether the posts of an outbox do, of which there are so many.
+fn are_fit(outbox: &Outbox, count: u32) -> bool
+    requires all { count ≡ length outbox.now.posts }
+    ensures fit { All FitsPost outbox.now.posts }
+    ensures always { result ≡ true }
+{
+    for place in 0..count {
+        prove!(post_fits(outbox, place));
+    }
+    true
+}
+
+// The posts of an outbox do.
 fn posts_fit(outbox: &Outbox, count: u32)
     requires all { count ≡ length outbox.now.posts }
     ensures fit { All FitsPost outbox.now.posts }
 {
-    for place in 0..count {
-        post_fits(outbox, place);
-    }
+    prove!(are_fit(outbox, count));
 }
 
-/// So do the posts of a core. Memory wouldn't hold more of them than a number of 32 bits counts.
+// So do those of a core. Memory wouldn't hold more of them than a number of 32 bits counts.
 fn outbox_fits(core: &Core) -> Result<(), NoMemory>
     ensures fit { OnOk result (All FitsPost core.now.outbox.posts) }
 {
@@ -180,26 +209,15 @@ fn outbox_fits(core: &Core) -> Result<(), NoMemory>
     Ok(())
 }
 
-/// So do the alarms of a core. It goes over the objects of the site.
-fn found_fit(alloc: Global, core: &Core) -> Result<(), NoMemory>
-    ensures fit { OnOk result (IsStateOf core.now.site core.now → All FitsDetected core.now.alarms) }
+/// Every core's state keeps the rules of the types of its parts: each number fits its field, and values, stamps, recipients
+/// and peers keep the rules of their types. It takes no memory.
+pub(crate) fn state_fits(core: &Core) -> Result<(), NoMemory>
+    ensures fits { OnOk result (FitsState core.now) }
 {
-    let site = core.site();
-    let subjects = subjects_of(alloc, site.objects.as_slice(), site.enrollments.as_slice())?;
-    alarms_fit(core, &subjects);
-    restores_what_it_tells();
-    Ok(())
-}
-
-/// What the types of a core's parts say of its state: each number fits its field, and values, stamps, recipients and peers
-/// keep the rules of their types.
-pub fn state_fits(alloc: Global, core: &Core) -> Result<(), NoMemory>
-    ensures fits { OnOk result (IsStateOf core.now.site core.now → FitsState core.now) }
-{
-    found_fit(alloc, core)?;
     outbox_fits(core)?;
     rows_fit(core.table().rows());
+    alarms_fit(core.alarms());
     classes_fit(core.classes());
-    logs_fit(core.logs());
+    logs_fit(has_rule(core.site()), core.logs());
     Ok(())
 }

@@ -1,4 +1,6 @@
-ghost use Rattle.std.specs.Prelude.{◌≡◌, ◌<◌, ◌^◌, All, length};
+//! What the types of an event's parts say of it, for proofs alone: what is asked in a `prove!` costs nothing as the program
+//! runs.
+ghost use Rattle.std.specs.Prelude.{◌≡◌, ◌<◌, ◌^◌, All, true};
 ghost use Rattle.state_codec.specs.Records.{IsDestination, IsPeer};
 ghost use Rattle.state_codec.specs.Types.{AreOctets, FitsAct, FitsValue, FitsWhat};
 
@@ -14,95 +16,85 @@ pub(crate) fn octets_fit(octets: &[u8])
     let _octets = octets;
 }
 
-/// A number of 16 bits is below 2^16.
-fn half_fits(number: u16)
-    ensures below { number < 2 ^ 16 }
+/// Whether a peer keeps the rules of its type, as each does.
+pub(crate) fn peer_fits(peer: Peer) -> bool
+    ensures fits { IsPeer peer }
+    ensures always { result ≡ true }
 {
-    let _number = number;
-}
-
-/// A number of 32 bits is below 2^32.
-fn word_fits(number: u32)
-    ensures below { number < 2 ^ 32 }
-{
-    let _number = number;
-}
-
-/// Three flags are three.
-fn flags_fit(flags: [bool; 3])
-    ensures three { length flags ≡ 3 }
-{
-    let _flags = flags;
-}
-
-/// A peer keeps the rules of its type.
-pub(crate) fn peer_fits(peer: &Peer)
-    ensures fits { IsPeer peer.now }
-{
-    word_fits(peer.ip);
-    half_fits(peer.port);
-    half_fits(peer.net);
+    let _parts = (peer.ip, peer.port, peer.net);
     let _octets = peer.mac.octets();
+    true
 }
 
-/// A value keeps the rules of its type.
-pub(crate) fn value_fits(value: &Value)
+/// Whether a value does.
+pub(crate) fn value_fits(value: &Value) -> bool
     ensures fits { FitsValue value.now }
+    ensures always { result ≡ true }
 {
     match value {
         Value::Unsigned(number) | Value::Enumerated(number) => {
             let _number = *number;
+            true
         }
         Value::Signed(number) => {
             let _number = *number;
+            true
         }
         Value::Text(text) => {
             let _octets = text.octets();
+            true
         }
         Value::Bits(string) => {
             let _length = string.length();
+            true
         }
         Value::Object(object) => {
             let _number = object.number();
+            true
         }
-        _ => {}
+        _ => true,
     }
 }
 
-/// A change keeps the rules of its types.
-fn what_fits(what: &What)
+// Whether a change does.
+fn what_fits(what: &What) -> bool
     ensures fits { FitsWhat what.now }
+    ensures always { result ≡ true }
 {
     match what {
         What::Property { property, value } => {
             let _number = property.0;
-            value_fits(value);
+            value_fits(value)
         }
         What::FieldFault { reliability } => {
             let _number = *reliability;
+            true
         }
     }
 }
 
-/// A recipient keeps the rules of its type.
-fn destination_fits(recipient: &Destination)
-    ensures fits { IsDestination recipient.now }
+// Whether a recipient does.
+fn destination_fits(recipient: Destination) -> bool
+    ensures fits { IsDestination recipient }
+    ensures always { result ≡ true }
 {
-    word_fits(recipient.process);
-    flags_fit(recipient.transitions);
-    peer_fits(&recipient.peer);
+    let _process = recipient.process;
+    let _flags = recipient.transitions;
+    peer_fits(recipient.peer)
 }
 
-/// Recipients keep the rules of their type.
+/// Recipients do. The call does nothing.
 pub(crate) fn destinations_fit(recipients: &[Destination])
     ensures fit { All IsDestination recipients.now }
 {
-    for recipient in recipients {
-        destination_fits(recipient);
-    }
+    prove!(
+        recipients
+            .iter()
+            .all(|recipient| destination_fits(*recipient))
+    );
 }
 
-/// Every event keeps the rules of the types of its parts.
+/// Every event keeps the rules of the types of its parts. The call does nothing.
 pub(crate) fn event_fits(event: &Event)
     ensures fits { FitsAct event.now.act }
 {
@@ -110,14 +102,14 @@ pub(crate) fn event_fits(event: &Event)
         Act::Tick | Act::Pump => {}
         Act::Write { change } => {
             let _number = change.object.number();
-            what_fits(&change.what);
+            prove!(what_fits(&change.what));
         }
         Act::Ack { object, .. } => {
             let _number = object.number();
         }
         Act::Answer { peer, invoke, kind } => {
             let _numbers = (*invoke, *kind);
-            peer_fits(peer);
+            prove!(peer_fits(*peer));
         }
         Act::Edit {
             class,

@@ -2,16 +2,15 @@
 ghost use Rattle.std.specs.Prelude.{◌≡◌, ◌++◌, OnOk};
 ghost use Rattle.std.specs.List.{flat_map};
 ghost use Rattle.std.specs.Option.{option_copied};
-ghost use Rattle.alarm_core.specs.Found.{alarm_in};
 ghost use Rattle.alarm_core.specs.Subjects.{alarm_subjects};
 ghost use Rattle.state_codec.specs.Snapshots.{written_alarm, written_cause, written_enrollment, written_last, written_run, written_stamp, written_subject};
 ghost use Rattle.state_codec.specs.WritingSteps.{written_if_alarm};
 
 use crate::writing::{put_flag, put_flags, put_long, put_word};
 use alarm_core::{Core, EnrollmentSite};
-use bac_values::{EventState, NoMemory, ObjectId, Stamp, push};
+use bac_values::{EventState, NoMemory, Stamp, push};
 use enrollment::{Subject, subjects_of};
-use event_machine::{Alarm, Found, Run};
+use event_machine::{Alarm, Run};
 use std::alloc::Global;
 
 /// What stands in place of a state's number where none was entered.
@@ -112,16 +111,6 @@ fn put_enrollment(out: &mut Vec<u8>, enrollment: Option<&EnrollmentSite>) -> Res
     }
 }
 
-/// The alarm of an object; one whose event detection isn't enabled has that of an object that never moved.
-pub(crate) fn alarm_of(core: &Core, object: ObjectId) -> Alarm
-    ensures alarm { result ≡ alarm_in core.now object }
-{
-    match core.found(object) {
-        Found::Has(alarm) => *alarm,
-        _ => Alarm::new(),
-    }
-}
-
 /// Appends the alarm of an object, where it has a notification class.
 fn put_subject(out: &mut Vec<u8>, core: &Core, subject: &Subject) -> Result<(), NoMemory>
     ensures written { OnOk result (out.new.items ≡ out.old.items ++ written_if_alarm core.now subject.now) }
@@ -129,7 +118,7 @@ fn put_subject(out: &mut Vec<u8>, core: &Core, subject: &Subject) -> Result<(), 
     if subject.class.is_none() {
         return Ok(());
     }
-    put_alarm(out, &alarm_of(core, subject.object))?;
+    put_alarm(out, &core.alarm_of(subject.object))?;
     put_enrollment(out, core.enrollments().row(subject.object))
 }
 

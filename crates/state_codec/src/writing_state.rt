@@ -1,8 +1,10 @@
 //! States in octets: snapshots.
 ghost use Rattle.std.specs.Prelude.{◌≡◌, ◌++◌, IfOk, OnOk};
 ghost use Rattle.state_codec.specs.Snapshots.{has_rule, version_of, written_state};
+ghost use Rattle.state_codec.specs.Spelled.{FitsState};
 ghost use Rattle.state_codec.specs.WritingSteps.{written_head};
 
+use crate::state_types::state_fits;
 use crate::writing::put_long;
 use crate::writing_alarms::put_alarms;
 use crate::writing_rest::{put_classes, put_logs, put_outbox};
@@ -34,10 +36,12 @@ fn put_head(out: &mut Vec<u8>, core: &Core) -> Result<(), NoMemory>
     put_long(out, core.last_moment())
 }
 
-/// The snapshot of a state.
+/// The snapshot of a state. The state keeps the rules of the types of its parts, as every one that the program holds.
 pub fn write_state(alloc: Global, core: &Core) -> Result<Vec<u8>, NoMemory>
     ensures written { IfOk result (λ octets. octets.items ≡ written_state core.now) }
+    ensures fits { OnOk result (FitsState core.now) }
 {
+    state_fits(core)?;
     let mut out = Vec::new(alloc);
     put_head(&mut out, core)?;
     put_rows(&mut out, core.table().rows())?;

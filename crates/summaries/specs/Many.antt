@@ -16,10 +16,6 @@ use Rattle.summaries.specs.ManyRequests.{ObjectAsked}
 abbrev pub Reads : Type 0
 Reads = ObjectIdData → ℕ → Option ℕ → Part
 
--- ALL (clause 21), which stands for many properties
-abbrev pub all_property : ℕ
-all_property = 8
-
 -- the properties that an object of the server may have and that are read, ascending; Log_Buffer is read by ReadRange alone
 abbrev pub readable_properties : List ℕ
 readable_properties =
@@ -84,15 +80,15 @@ all_read reads object = flat_map (λ property. written_if_read property (reads o
 
 -- All of an object's properties, by ascending number; every object has an Object_Identifier. Where there is no such object, or an index is given, it is one result, which is an error
 abbrev pub all_with : Reads → ObjectIdData → Option ℕ → Part → List ℕ
-all_with reads object index (Error class code) = written_result all_property index (Error class code)
-all_with reads object (Some index) (Octets octets) = written_result all_property (Some index) (as_part property_is_not_an_array_error)
+all_with reads object index (Error class code) = written_result properties.all_properties index (Error class code)
+all_with reads object (Some index) (Octets octets) = written_result properties.all_properties (Some index) (as_part property_is_not_an_array_error)
 all_with reads object None (Octets octets) = all_read reads object
 
 -- ---- the answer
 
 abbrev pub results_of : Reads → ObjectIdData → PropertyAsked → List ℕ
 results_of reads object asked =
-    if asked.property == all_property then all_with reads object asked.index (reads object properties.object_identifier_property None)
+    if asked.property == properties.all_properties then all_with reads object asked.index (reads object properties.object_identifier_property None)
     else written_result asked.property asked.index (reads object asked.property asked.index)
 
 -- of each object [0] its identifier, and [1] its results between their tags: a ReadAccessResult for each ReadAccessSpecification

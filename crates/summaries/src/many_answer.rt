@@ -28,9 +28,6 @@ const VALUE: u8 = 4;
 
 const ERROR: u8 = 5;
 
-/// ALL, which stands for all properties of an object.
-const ALL: u32 = 8;
-
 fn write_enclosed(out: &mut Vec<u8>, number: u8, octets: &[u8]) -> Result<(), NoMemory>
     ensures written { OnOk result (out.new.items ≡ out.old.items ++ written_enclosed number octets.now) }
 {
@@ -167,11 +164,11 @@ fn write_all<C: Shown>(
 {
     let part = shown.part(alloc, object, PropertyId::OBJECT_IDENTIFIER, None)?;
     if let Part::Error { .. } = part {
-        return write_result(out, ALL, index, &part);
+        return write_result(out, PropertyId::ALL.0, index, &part);
     }
     if index.is_some() {
         let ServiceError { class, code } = ServiceError::PROPERTY_IS_NOT_AN_ARRAY;
-        return write_result(out, ALL, index, &Part::Error { class, code });
+        return write_result(out, PropertyId::ALL.0, index, &Part::Error { class, code });
     }
     write_these(alloc, shown, object, &READABLE, out)
 }
@@ -186,7 +183,7 @@ fn write_results<C: Shown>(
 ) -> Result<(), NoMemory>
     ensures written { OnOk result (out.new.items ≡ out.old.items ++ results_of (C.reads shown.now) object asked) }
 {
-    if asked.property == ALL {
+    if asked.property == PropertyId::ALL.0 {
         return write_all(alloc, shown, object, asked.index, out);
     }
     let part = shown.part(alloc, object, PropertyId(asked.property), asked.index)?;

@@ -1,4 +1,4 @@
-use Rattle.std.proofs.Common.{◌++◌, Option, ap, ◌∙◌}
+use Rattle.std.proofs.Common.{[], ◌++◌, Option, ap, ◌∙◌}
 use Rattle.std.specs.Option.{option_to_list}
 use Rattle.std.proofs.lemmas.Result.{IfOk-from_err}
 use Rattle.enrollment.proofs.Appended.{gives_next, gives_all}
@@ -10,7 +10,7 @@ pub loop-transition-preserved : goal.loop-transition-preserved
 loop-transition-preserved c =
     let seen = c.args.view.now in
     let now = c.loop-transition.list.items in
-    gives_next (λ (transition : ObjectTransition). option_to_list (addressed_in seen (transition_in seen transition))) c.args.transitions.now c.loop-transition.transition-index c.transition-item.result now c.add_addressed.new.list.items
+    gives_next (λ (transition : ObjectTransition). option_to_list (addressed_in seen (transition_in seen transition))) c.args.transitions.now c.loop-transition.transition-index c.transition-item.result [] now c.add_addressed.new.list.items
     c.loop-transition-test.true c.transition-item.is c.loop-transition.invariant
     (c.in_ok-add_addressed.ensures.added ∙ ap (λ (told : Option AddressedData). now ++ option_to_list told) c.in_ok-addressed.ensures.addressed)
 
@@ -24,6 +24,6 @@ pub returns : goal.returns
 returns c =
     let seen = c.args.view.now in
     record {
-      addressed = gives_all (λ (transition : ObjectTransition). option_to_list (addressed_in seen (transition_in seen transition))) c.args.transitions.now c.loop-transition.transition-index c.loop-transition.list.items
+      addressed = gives_all (λ (transition : ObjectTransition). option_to_list (addressed_in seen (transition_in seen transition))) c.args.transitions.now c.loop-transition.transition-index [] c.loop-transition.list.items
           c.loop-transition-test.false c.loop-transition.invariant;
     }

@@ -1,4 +1,4 @@
-use Rattle.std.proofs.Common.{◌≡◌, ◌+◌, [], ◌∷◌, length, arith, ap, subst, sym, ◌∙◌, List, ℕ, Ok, Err, IsTrue, Bool, false, true}
+use Rattle.std.proofs.Common.{◌≡◌, ◌+◌, [], ◌∷◌, length, arith, ap, subst, sym, ◌∙◌, List, ℕ, Ok, Err, IsTrue, Bool, false, true, inl, inr, refl, ◌≤◌}
 use Rattle.std.proofs.lemmas.Result.{err_from_is_err_and}
 use Rattle.ground_io.specs.Trace.{HasSize}
 use Rattle.ground_io.specs.declared.entry.Entry.TheVariants.{Synced}
@@ -12,7 +12,7 @@ use Rattle.alarm_journal.proofs.Showing.{always_so}
 use Rattle.alarm_journal.specs.Press.{Answers, Settled, Blank, Begun, IsOpening, start_of, WasBlank}
 use Rattle.alarm_journal.specs.Protocol.{AddsSome}
 use Rattle.alarm_journal.specs.declared.open_fault.OpenFault.{OpenFault}
-use Rattle.alarm_journal.proofs.Reopening.{reopens, stays, blank_now, begun_now, formatting, small_answer, answers_then, answers_read, answers_blank, was_begun, was_blank, opening_cut}
+use Rattle.alarm_journal.proofs.Reopening.{reopens, stays, blank_now, begun_now, formatting, small_answer, answers_then, answers_read, answers_blank, was_begun, was_blank, opening_cut, adds_those, at_most, may_format}
 use Rattle.alarm_journal.proofs.open.open_device.Goals as goal
 
 not_true : IsTrue false → ⊥
@@ -175,3 +175,71 @@ returns-clause-stand g c =
       snapshot = ap (λ (l : List ℕ). octets_at c.in_ok-layout-2.layout.next (length l) image) none ∙ sym none;
       bodies = ap (found_at image) no_bodies ∙ ap (λ (l : List Body). pieces l c.of-2.result) (sym no_bodies);
     })
+
+pub returns-in_err-size-clause-formats : goal.returns-in_err-size-clause-formats
+returns-in_err-size-clause-formats g c =
+    let az = adds_both (g.G.Ground.told c.args.device.now) (g.G.Ground.told c.sync.new.self) (g.G.Ground.told c.size.new.self) (Synced ∷ []) [] c.in_ok-sync.ensures.synced c.in_err-size.ensures.told in
+    inr (at_most (Synced ∷ []) (g.G.Ground.told c.args.device.now) (g.G.Ground.told c.size.new.self) (inr refl) az)
+
+pub returns-then-size-need-clause-formats : goal.returns-then-size-need-clause-formats
+returns-then-size-need-clause-formats g c =
+    let az = adds_both (g.G.Ground.told c.args.device.now) (g.G.Ground.told c.sync.new.self) (g.G.Ground.told c.size.new.self) (Synced ∷ []) [] c.in_ok-sync.ensures.synced c.in_ok-size.ensures.told in
+    inr (at_most (Synced ∷ []) (g.G.Ground.told c.args.device.now) (g.G.Ground.told c.size.new.self) (inr refl) az)
+
+pub returns-then-size-need-clause-refused : goal.returns-then-size-need-clause-refused
+returns-then-size-need-clause-refused g c =
+    let az = adds_both (g.G.Ground.told c.args.device.now) (g.G.Ground.told c.sync.new.self) (g.G.Ground.told c.size.new.self) (Synced ∷ []) [] c.in_ok-sync.ensures.synced c.in_ok-size.ensures.told in
+    λ _. az
+
+pub returns-in_err-begun-clause-formats : goal.returns-in_err-begun-clause-formats
+returns-in_err-begun-clause-formats g c =
+    let az = adds_both (g.G.Ground.told c.args.device.now) (g.G.Ground.told c.sync.new.self) (g.G.Ground.told c.size.new.self) (Synced ∷ []) [] c.in_ok-sync.ensures.synced c.in_ok-size.ensures.told in
+    let ar = adds_both (g.G.Ground.told c.args.device.now) (g.G.Ground.told c.size.new.self) (g.G.Ground.told c.read_gate.new.device) (Synced ∷ []) [] az c.in_err-begun.ensures.told in
+    inr (at_most (Synced ∷ []) (g.G.Ground.told c.args.device.now) (g.G.Ground.told c.read_gate.new.device) (inr refl) ar)
+
+pub returns-in_err-layout-clause-formats : goal.returns-in_err-layout-clause-formats
+returns-in_err-layout-clause-formats g c =
+    let az = adds_both (g.G.Ground.told c.args.device.now) (g.G.Ground.told c.sync.new.self) (g.G.Ground.told c.size.new.self) (Synced ∷ []) [] c.in_ok-sync.ensures.synced c.in_ok-size.ensures.told in
+    let ar = adds_both (g.G.Ground.told c.args.device.now) (g.G.Ground.told c.size.new.self) (g.G.Ground.told c.read_gate.new.device) (Synced ∷ []) [] az c.in_ok-begun.ensures.told in
+    let ad = adds_both (g.G.Ground.told c.args.device.now) (g.G.Ground.told c.read_gate.new.device) (g.G.Ground.told c.read_journal.new.device) (Synced ∷ []) [] ar c.in_err-layout.ensures.told in
+    inr (at_most (Synced ∷ []) (g.G.Ground.told c.args.device.now) (g.G.Ground.told c.read_journal.new.device) (inr refl) ad)
+
+pub returns-then-begun-clause-formats : goal.returns-then-begun-clause-formats
+returns-then-begun-clause-formats g c =
+    let az = adds_both (g.G.Ground.told c.args.device.now) (g.G.Ground.told c.sync.new.self) (g.G.Ground.told c.size.new.self) (Synced ∷ []) [] c.in_ok-sync.ensures.synced c.in_ok-size.ensures.told in
+    let ar = adds_both (g.G.Ground.told c.args.device.now) (g.G.Ground.told c.size.new.self) (g.G.Ground.told c.read_gate.new.device) (Synced ∷ []) [] az c.in_ok-begun.ensures.told in
+    let ad = adds_both (g.G.Ground.told c.args.device.now) (g.G.Ground.told c.read_gate.new.device) (g.G.Ground.told c.read_journal.new.device) (Synced ∷ []) [] ar c.in_ok-layout.ensures.told in
+    inr (at_most (Synced ∷ []) (g.G.Ground.told c.args.device.now) (g.G.Ground.told c.read_journal.new.device) (inr refl) ad)
+
+pub returns-then-begun-clause-begun : goal.returns-then-begun-clause-begun
+returns-then-begun-clause-begun g c =
+    let az = adds_both (g.G.Ground.told c.args.device.now) (g.G.Ground.told c.sync.new.self) (g.G.Ground.told c.size.new.self) (Synced ∷ []) [] c.in_ok-sync.ensures.synced c.in_ok-size.ensures.told in
+    let ar = adds_both (g.G.Ground.told c.args.device.now) (g.G.Ground.told c.size.new.self) (g.G.Ground.told c.read_gate.new.device) (Synced ∷ []) [] az c.in_ok-begun.ensures.told in
+    let ad = adds_both (g.G.Ground.told c.args.device.now) (g.G.Ground.told c.read_gate.new.device) (g.G.Ground.told c.read_journal.new.device) (Synced ∷ []) [] ar c.in_ok-layout.ensures.told in
+    λ _. ad
+
+pub returns-in_err-layout-clause-refused : goal.returns-in_err-layout-clause-refused
+returns-in_err-layout-clause-refused g c =
+    let az = adds_both (g.G.Ground.told c.args.device.now) (g.G.Ground.told c.sync.new.self) (g.G.Ground.told c.size.new.self) (Synced ∷ []) [] c.in_ok-sync.ensures.synced c.in_ok-size.ensures.told in
+    let ar = adds_both (g.G.Ground.told c.args.device.now) (g.G.Ground.told c.size.new.self) (g.G.Ground.told c.read_gate.new.device) (Synced ∷ []) [] az c.in_ok-begun.ensures.told in
+    let ad = adds_both (g.G.Ground.told c.args.device.now) (g.G.Ground.told c.read_gate.new.device) (g.G.Ground.told c.read_journal.new.device) (Synced ∷ []) [] ar c.in_err-layout.ensures.told in
+    let p = err_from_is_err_and c.from_residual-in_err-layout.result c.from_residual-in_err-layout.ensures.1 in
+    rw p.1 (λ _. ad)
+
+pub returns-in_err-layout-2-clause-formats : goal.returns-in_err-layout-2-clause-formats
+returns-in_err-layout-2-clause-formats g c =
+    let az = adds_both (g.G.Ground.told c.args.device.now) (g.G.Ground.told c.sync.new.self) (g.G.Ground.told c.size.new.self) (Synced ∷ []) [] c.in_ok-sync.ensures.synced c.in_ok-size.ensures.told in
+    let ar = adds_both (g.G.Ground.told c.args.device.now) (g.G.Ground.told c.size.new.self) (g.G.Ground.told c.read_gate.new.device) (Synced ∷ []) [] az c.in_ok-begun.ensures.told in
+    let blank : Blank (g.G.Ground.told c.read_gate.new.device) = blank_now (g.G.Ground.told c.args.device.now) (g.G.Ground.told c.size.new.self) (g.G.Ground.told c.read_gate.new.device) _ az c.in_ok-begun.ensures.told c.in_ok-begun.ensures.open (λ is. not_true (sym c.if-begun.false ∙ is)) in
+    let size_is : c.in_ok-size.size ≡ g.G.Ground.size c.args.device.now = c.in_ok-size.ensures.answer ∙ c.in_ok-sync.ensures.same in
+    let fits : c.args.need ≤ g.G.Ground.size c.args.device.now = omega (arith, c.if-size-need.false, size_is) in
+    inl (may_format _ c.args.need _ (g.G.Ground.told c.args.device.now) (g.G.Ground.told c.read_gate.new.device) (g.G.Ground.told c.format.new.device) fits ar blank c.in_err-layout-2.ensures.cut_short)
+
+pub returns-clause-formats : goal.returns-clause-formats
+returns-clause-formats g c =
+    let az = adds_both (g.G.Ground.told c.args.device.now) (g.G.Ground.told c.sync.new.self) (g.G.Ground.told c.size.new.self) (Synced ∷ []) [] c.in_ok-sync.ensures.synced c.in_ok-size.ensures.told in
+    let ar = adds_both (g.G.Ground.told c.args.device.now) (g.G.Ground.told c.size.new.self) (g.G.Ground.told c.read_gate.new.device) (Synced ∷ []) [] az c.in_ok-begun.ensures.told in
+    let blank : Blank (g.G.Ground.told c.read_gate.new.device) = blank_now (g.G.Ground.told c.args.device.now) (g.G.Ground.told c.size.new.self) (g.G.Ground.told c.read_gate.new.device) _ az c.in_ok-begun.ensures.told c.in_ok-begun.ensures.open (λ is. not_true (sym c.if-begun.false ∙ is)) in
+    let size_is : c.in_ok-size.size ≡ g.G.Ground.size c.args.device.now = c.in_ok-size.ensures.answer ∙ c.in_ok-sync.ensures.same in
+    let fits : c.args.need ≤ g.G.Ground.size c.args.device.now = omega (arith, c.if-size-need.false, size_is) in
+    inl (may_format _ c.args.need (λ _. Unit {0}) (g.G.Ground.told c.args.device.now) (g.G.Ground.told c.read_gate.new.device) (g.G.Ground.told c.format.new.device) fits ar blank (adds_those _ (g.G.Ground.told c.read_gate.new.device) (g.G.Ground.told c.format.new.device) c.in_ok-layout-2.ensures.wrote))

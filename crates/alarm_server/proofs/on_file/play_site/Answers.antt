@@ -2,10 +2,12 @@ use Rattle.std.proofs.Common.{◌≡◌, ◌∙◌, Err, ap, subst}
 use Rattle.script_lines.specs.declared.line.Grammar.TheVariants.{Session}
 use Rattle.script_lines.specs.Script.{lines_of}
 use Rattle.alarm_server.specs.declared.status.Status.TheVariants.{Done, JournalRefused, ReadFault}
-use Rattle.floor_desk.specs.Emission.{Emits}
+use Rattle.state_codec.specs.Emission.{Emits}
 use Rattle.alarm_server.specs.Emission.{Ends}
-use Rattle.floor_desk.specs.OpeningSteps.{IsRefusedFor}
-use Rattle.floor_desk.specs.Keeping.{journal_of}
+use Rattle.alarm_journal.specs.Opened.{content_in}
+use Rattle.state_codec.specs.Openings.{IsRefusedFor}
+use Rattle.state_codec.proofs.Openings.{opened_to}
+use Rattle.state_codec.specs.Keeping.{journal_of}
 use Rattle.alarm_server.specs.Keeping.{KeepsOpened}
 use Rattle.alarm_server.specs.Pieces.{piece_text}
 use Rattle.alarm_server.specs.Report.{report_of}
@@ -13,7 +15,7 @@ use Rattle.alarm_server.specs.Script.{spelled_in}
 use Rattle.alarm_server.specs.SessionSteps.{state_front}
 use Rattle.alarm_server.specs.Status.{of_open_fault}
 use Rattle.alarm_server.specs.Stopping.{StopsReading}
-use Rattle.alarm_server.proofs.BehindOpening.{ends_refused, ends_session, keeps_session, stops_session}
+use Rattle.alarm_server.proofs.BehindOpening.{ends_refused, ends_session, keeps_session, not_played, opens_session, stops_session}
 use Rattle.alarm_server.proofs.KeptOpenings.{opening_kept}
 use Rattle.alarm_server.proofs.KeptProgress.{in_any}
 use Rattle.alarm_server.proofs.OfOpenFault.{disk_cause, is_session_fault, refusal_is}
@@ -45,7 +47,7 @@ pub returns-in-Err-clause-refuses_journal : goal.returns-in-Err-clause-refuses_j
 returns-in-Err-clause-refuses_journal g c = λ fault same.
     let came : of_open_fault c.in-Err.fault ≡ JournalRefused fault = cc in
     let is = refusal_is c.in-Err.fault fault came in
-    (subst (λ f. IsRefusedFor c.args.site.now c.args.text.now (g.G.Ground.told c.args.device) (g.G.Ground.told c.in-Err.device) f) is.1 (c.in-Err.ensures.refused is.0), c.in-Err.ensures.quiet)
+    (subst (λ f. IsRefusedFor c.args.site.now c.args.text.now (g.G.Ground.told c.args.device) (g.G.Ground.told c.in-Err.device) f) is.1 (c.in-Err.ensures.refused is.0), c.in-Err.ensures.unchanged is.0)
 
 pub returns-in-Err-clause-fault : goal.returns-in-Err-clause-fault
 returns-in-Err-clause-fault g c = rw c.from.ensures (is_session_fault c.in-Err.fault)
@@ -73,8 +75,8 @@ returns-in-Ok-played-clause-keeps g c = λ history stood.
     let opened = c.in-Ok.ensures in
     keeps_session (journal_of c.args.site.now c.args.text.now) c.args.site.now c.requires.site core opened.site press.layout history Done old mid new stood opened.quiet (opened.represents history) (g.T.Source.left c.args.script.now) opened.reopens (opened.holds history) (rw c.in-Ok-played.is at c.play_session-device.ensures.ends) (c.play_session-device.ensures.keeps (journal_of c.args.site.now c.args.text.now) history)
 
-pub returns-in-Err-played-clause-ends : goal.returns-in-Err-played-clause-ends
-returns-in-Err-played-clause-ends g c = λ history stood.
+pub returns-clause-ends : goal.returns-clause-ends
+returns-clause-ends g c = λ history stood.
     let old = g.G.Ground.told c.args.device in
     let press = c.in-Ok.opened.0 in
     let core = c.in-Ok.opened.1 in
@@ -83,8 +85,8 @@ returns-in-Err-played-clause-ends g c = λ history stood.
     let opened = c.in-Ok.ensures in
     ends_session (journal_of c.args.site.now c.args.text.now) c.args.site.now c.requires.site core opened.site press.layout history c.in-Err-played.status old mid new stood opened.quiet (opened.represents history) (g.T.Source.left c.args.script.now) (rw c.in-Err-played.is at c.play_session-device.ensures.ends)
 
-pub returns-in-Err-played-clause-keeps : goal.returns-in-Err-played-clause-keeps
-returns-in-Err-played-clause-keeps g c = λ history stood.
+pub returns-clause-keeps : goal.returns-clause-keeps
+returns-clause-keeps g c = λ history stood.
     let old = g.G.Ground.told c.args.device in
     let press = c.in-Ok.opened.0 in
     let core = c.in-Ok.opened.1 in
@@ -93,8 +95,8 @@ returns-in-Err-played-clause-keeps g c = λ history stood.
     let opened = c.in-Ok.ensures in
     keeps_session (journal_of c.args.site.now c.args.text.now) c.args.site.now c.requires.site core opened.site press.layout history c.in-Err-played.status old mid new stood opened.quiet (opened.represents history) (g.T.Source.left c.args.script.now) opened.reopens (opened.holds history) (rw c.in-Err-played.is at c.play_session-device.ensures.ends) (c.play_session-device.ensures.keeps (journal_of c.args.site.now c.args.text.now) history)
 
-pub returns-in-Err-played-clause-stops : goal.returns-in-Err-played-clause-stops
-returns-in-Err-played-clause-stops g c = λ history stood e.
+pub returns-clause-stops : goal.returns-clause-stops
+returns-clause-stops g c = λ history stood e.
     let same : c.in-Err-played.status ≡ ReadFault = cc in
     let old = g.G.Ground.told c.args.device in
     let press = c.in-Ok.opened.0 in
@@ -104,9 +106,26 @@ returns-in-Err-played-clause-stops g c = λ history stood e.
     let opened = c.in-Ok.ensures in
     stops_session (journal_of c.args.site.now c.args.text.now) c.args.site.now c.requires.site core opened.site press.layout history c.in-Err-played.status old mid new stood opened.quiet (opened.represents history) (g.T.Source.left c.args.script.now) (g.T.Source.left c.play_session-device.new.script) (c.play_session-device.ensures.stops (c.in-Err-played.is ∙ ap Err same))
 
-pub returns-in-Err-played-clause-script_told : goal.returns-in-Err-played-clause-script_told
-returns-in-Err-played-clause-script_told g c = λ e.
+pub returns-clause-script_told : goal.returns-clause-script_told
+returns-clause-script_told g c = λ e.
     let same : c.in-Err-played.status ≡ ReadFault = cc in
     let old = g.G.Ground.told c.in-Ok.opened.0.device in
     let new = g.G.Ground.told c.play_session-device.result.0 in
     told_more (λ t rest. StopsReading Emits piece_text (state_front c.in-Ok.opened.1) Session t rest old new) (g.T.Source.left c.args.script.now) (g.T.Source.left c.play_session-device.new.script) (c.play_session-device.ensures.stops (c.in-Err-played.is ∙ ap Err same))
+
+pub returns-in-Err-clause-opened : goal.returns-in-Err-clause-opened
+returns-in-Err-clause-opened g c = λ played. absurd (not_played c.in-Err.fault (rw c.from.ensures at played))
+
+pub returns-in-Ok-played-clause-opened : goal.returns-in-Ok-played-clause-opened
+returns-in-Ok-played-clause-opened g c = λ _.
+    let old = g.G.Ground.told c.args.device in
+    let mid = g.G.Ground.told c.in-Ok.opened.0.device in
+    let new = g.G.Ground.told c.play_session-device.result.0 in
+    opens_session c.args.site.now c.args.text.now c.in-Ok.opened.1 Done old mid new (g.T.Source.left c.args.script.now) (opened_to c.args.site.now c.args.text.now (content_in c.in-Ok.opened.2) c.in-Ok.opened.1 old mid c.in-Ok.ensures.opened c.in-Ok.ensures.leads) (rw c.in-Ok-played.is at c.play_session-device.ensures.ends)
+
+pub returns-clause-opened : goal.returns-clause-opened
+returns-clause-opened g c = λ _.
+    let old = g.G.Ground.told c.args.device in
+    let mid = g.G.Ground.told c.in-Ok.opened.0.device in
+    let new = g.G.Ground.told c.play_session-device.result.0 in
+    opens_session c.args.site.now c.args.text.now c.in-Ok.opened.1 c.in-Err-played.status old mid new (g.T.Source.left c.args.script.now) (opened_to c.args.site.now c.args.text.now (content_in c.in-Ok.opened.2) c.in-Ok.opened.1 old mid c.in-Ok.ensures.opened c.in-Ok.ensures.leads) (rw c.in-Err-played.is at c.play_session-device.ensures.ends)

@@ -4,12 +4,12 @@ use Rattle.script_lines.specs.declared.line.Grammar.TheVariants.{Session}
 use Rattle.script_lines.specs.Script.{lines_of}
 use Rattle.site_config.specs.Sites.{site_of}
 use Rattle.alarm_server.specs.declared.status.Status.TheVariants.{SiteRefused}
-use Rattle.floor_desk.specs.Emission.{Emits}
+use Rattle.state_codec.specs.Emission.{Emits}
 use Rattle.alarm_server.specs.Emission.{Ends}
-use Rattle.floor_desk.specs.Keeping.{StoodFor, journal_of}
+use Rattle.state_codec.specs.Keeping.{StoodFor, journal_of}
 use Rattle.alarm_server.specs.Keeping.{KeepsOpened}
 use Rattle.alarm_server.specs.OnFile.{AcceptsOnFile, EndsOnSite, KeepsOnSite, StopsInScript}
-use Rattle.alarm_server.specs.OpeningSteps.{RefusesOnSite}
+use Rattle.alarm_server.specs.Openings.{OpensOnSite, RefusesOnSite}
 use Rattle.alarm_server.specs.Pieces.{piece_text}
 use Rattle.alarm_server.specs.Report.{front_pieces, report_of}
 use Rattle.alarm_server.specs.Script.{refused_line, spelled_in}
@@ -81,3 +81,10 @@ returns-clause-stops g c = λ e.
     let stood : IfSome (g.S.Source.left c.args.site.now) (λ octets. WhereTold script rest (λ t left. StopsInScript Emits octets (site_of octets) t left old new)) = on_read (λ octets says. WhereTold script rest (λ t left. StopsInScript Emits octets says t left old new)) (g.S.Source.left c.args.site.now) site c.in-Ok.read.1.items text c.as_slice.ensures.value c.in-Ok.ensures.site
     (each_told (λ history. StoodFor (journal_of site text) site history old new) (λ t left history. StopsReading Emits piece_text (front_pieces site history) Session t left old new) script rest (c.play_site.ensures.script_told e) (λ history before. c.play_site.ensures.stops history before e)) in
     inr (c.play_site.ensures.read_cause.rose e, stood)
+
+pub returns-clause-opened : goal.returns-clause-opened
+returns-clause-opened g c = λ played.
+    let old = g.G.Ground.told c.args.device in
+    let new = g.G.Ground.told c.play_site.result.0 in
+    let script = g.T.Source.left c.args.script.now in
+    on_read (λ octets says. IfSome script (λ t. OpensOnSite octets says old new)) (g.S.Source.left c.args.site.now) c.in-Ok.read.0 c.in-Ok.read.1.items c.as_slice.result.now c.as_slice.ensures.value c.in-Ok.ensures.site (c.play_site.ensures.opened played)

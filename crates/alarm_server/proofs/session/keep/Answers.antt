@@ -1,4 +1,4 @@
-use Rattle.floor_desk.proofs.Committing.{nothing_committed}
+use Rattle.state_codec.proofs.Committing.{nothing_committed}
 use Rattle.alarm_server.proofs.session.keep.Goals as goal
 
 pub returns-in-Ok-clause-holds : goal.returns-in-Ok-clause-holds

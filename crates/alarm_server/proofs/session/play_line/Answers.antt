@@ -2,7 +2,7 @@ use Rattle.std.proofs.Common.{◌∷◌, [], ◌∙◌, subst, arith}
 use Rattle.std.proofs.lemmas.Result.{err_from_is_err_and}
 use Rattle.ground_io.specs.Trace.{Adds}
 use Rattle.alarm_server.specs.Emission.{sent, SendsUpTo}
-use Rattle.floor_desk.specs.Keeping.{Commits, HoldsHistory}
+use Rattle.state_codec.specs.Keeping.{Commits, HoldsHistory}
 use Rattle.alarm_server.specs.Pieces.{piece_of, piece_text}
 use Rattle.alarm_server.proofs.Emitting.{emits_sent}
 use Rattle.alarm_server.proofs.KeptLine.{line_ends, line_sent, line_told, not_taken, with_line}

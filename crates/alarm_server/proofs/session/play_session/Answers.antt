@@ -1,17 +1,17 @@
 use Rattle.std.proofs.Common.{◌≡◌, ◌∷◌, [], List, Err, ap, subst, ◌∙◌, arith, refl}
 use Rattle.ground_io.specs.Trace.{WhereTold}
 use Rattle.script_lines.specs.declared.line.Grammar.TheVariants.{Session}
-use Rattle.script_lines.specs.ReadingSteps.{octets_to_come}
+use Rattle.script_lines.specs.Reading.{octets_to_come}
 use Rattle.script_lines.specs.Script.{lines_of, ReadsLine}
 use Rattle.alarm_server.specs.declared.status.Status.TheVariants.{ScriptRefused, ReadFault}
 use Rattle.alarm_journal.specs.Journal.{Site as Journal}
 use Rattle.alarm_core.specs.declared.event.Event.{Event}
 use Rattle.alarm_core.specs.declared.site.Site.{Site}
 use Rattle.alarm_core.specs.Allowed.{Represents}
-use Rattle.floor_desk.specs.Keeping.{HoldsHistory}
+use Rattle.state_codec.specs.Keeping.{HoldsHistory}
 use Rattle.alarm_server.specs.Keeping.{KeepsLines, KeepsReport}
 use Rattle.alarm_server.specs.Pieces.{end_piece, open_piece, piece_of, piece_text}
-use Rattle.floor_desk.specs.Emission.{Emits}
+use Rattle.state_codec.specs.Emission.{Emits}
 use Rattle.alarm_server.specs.Script.{spelled_in}
 use Rattle.alarm_server.specs.SessionSteps.{session_over}
 use Rattle.alarm_server.specs.Status.{of_line_fault}

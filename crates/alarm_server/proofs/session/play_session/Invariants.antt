@@ -1,7 +1,7 @@
 use Rattle.std.proofs.Common.{◌≡◌, ◌-◌, ◌≤◌, true}
 use Rattle.std.specs.Io.KnownBytes.{IsAtEnd}
 use Rattle.script_lines.specs.declared.line.Grammar.TheVariants.{Session}
-use Rattle.script_lines.specs.ReadingSteps.{octets_to_come}
+use Rattle.script_lines.specs.Reading.{octets_to_come}
 use Rattle.alarm_server.proofs.KeptProgress.{Plays}
 use Rattle.alarm_server.proofs.session.play_session.Given as goal
 

@@ -4,7 +4,7 @@ use Rattle.std.proofs.lemmas.Result.{err_from_is_err_and}
 use Rattle.bac_values.specs.declared.report.ReportLine.TheVariants.{TrialEnd}
 use Rattle.ground_io.specs.Trace.{Adds, WhereTold}
 use Rattle.script_lines.specs.declared.line.Grammar.TheVariants.{Trial}
-use Rattle.script_lines.specs.ReadingSteps.{octets_to_come}
+use Rattle.script_lines.specs.Reading.{octets_to_come}
 use Rattle.script_lines.specs.Script.{ReadsLine}
 use Rattle.alarm_server.specs.declared.status.Status.TheVariants.{ScriptRefused, ReadFault}
 use Rattle.alarm_server.specs.Emission.{SendsUpTo, sent}

@@ -1,14 +1,15 @@
-use Rattle.std.proofs.lemmas.Result.{IfOk-from_err}
-use Rattle.enrollment.specs.References.{references_of}
-use Rattle.enrollment.proofs.Appended.{gives_next, gives_all}
+use Rattle.std.proofs.Common.{true, ◌++◌, List, ap, ◌∙◌, filter}
+use Rattle.std.specs.List.{flat_map}
+use Rattle.enrollment.specs.declared.references.Reference.{Reference}
+use Rattle.enrollment.specs.References.{references_by, stands}
+use Rattle.enrollment.specs.Watchers.{referrer_of_object}
+use Rattle.enrollment.proofs.Watched.{all_added}
 use Rattle.enrollment.proofs.references.collected.Goals as goal
 
-pub loop-site-preserved : goal.loop-site-preserved
-loop-site-preserved c =
-    gives_next references_of c.args.sites.now c.loop-site.site-index c.site-item.result c.loop-site.references.items c.add_references.new.references.items c.loop-site-test.true c.site-item.is c.loop-site.invariant c.in_ok-add_references.ensures.added
-
-pub returns-in_err-add_references : goal.returns-in_err-add_references
-returns-in_err-add_references c = record { references = IfOk-from_err c.from_residual.result _ c.from_residual.ensures.0 }
-
 pub returns : goal.returns
-returns c = record { references = gives_all references_of c.args.sites.now c.loop-site.site-index c.loop-site.references.items c.loop-site-test.false c.loop-site.invariant }
+returns c =
+    let before : List Reference = flat_map (λ site. references_by (referrer_of_object site)) (filter (stands true) c.args.objects.now) in
+    record {
+      references = all_added c.args.objects.now c.args.enrollments.now c.add_objects.new.references.items c.add_enrollments.new.references.items c.add_objects-2.new.references.items
+          (c.in_ok-add_objects.ensures.added ∙ ap (λ references. references ++ before) c.new-references.ensures.items) c.in_ok-add_enrollments.ensures.added c.in_ok-add_objects-2.ensures.added;
+    }

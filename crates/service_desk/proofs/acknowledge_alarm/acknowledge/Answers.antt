@@ -2,7 +2,8 @@ use Rattle.std.proofs.Common.{◌≡◌, ◌∙◌, IfOk, Ok, ap, subst, rules}
 use Rattle.ack_alarm.specs.Verdicts.{AcceptsAllowed, acknowledgement_verdict}
 use Rattle.event_services.specs.AcknowledgementSteps.{acknowledge_request_of}
 use Rattle.alarm_core.specs.Found.{found_in}
-use Rattle.service_desk.specs.Decisions.{EntersAllowed, acknowledge_with, verdict_decision}
+use Rattle.service_desk.specs.AcknowledgeAlarm.{acknowledge_with, verdict_decision}
+use Rattle.service_desk.specs.Decisions.{EntersAllowed}
 use Rattle.service_desk.proofs.Entering.{holds_of, verdict_enters}
 use Rattle.service_desk.proofs.acknowledge_alarm.acknowledge.Goals as goal
 

@@ -1,6 +1,6 @@
 use Rattle.std.proofs.Common.{◌≡◌, ◌+◌, ◌++◌, length, Some, None, arith, rules, slice_get, sym, ◌∙◌, ap}
 use Rattle.std.specs.Prelude.{flat_map}
-use Rattle.service_desk.specs.Ranges.{greatest, items_from, written_item}
+use Rattle.service_desk.specs.Ranges.{items_from, written_item}
 use Rattle.service_desk.proofs.Room.{has_room, is_there, no_number, one_more_fails, one_more_passes, with_one_more}
 use Rattle.service_desk.proofs.read_range.leading_with_room.Goals as goal
 

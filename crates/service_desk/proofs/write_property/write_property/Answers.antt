@@ -1,6 +1,6 @@
 use Rattle.std.proofs.Common.{◌≡◌, IfOk, Ok, ap, subst, rules}
 use Rattle.property_services.specs.ReadingSteps.{write_property_of}
-use Rattle.service_desk.specs.Decisions.{write_with}
+use Rattle.service_desk.specs.WriteProperty.{write_with}
 use Rattle.service_desk.proofs.write_property.write_property.Goals as goal
 
 pub returns-in-Ok-clause-decision : goal.returns-in-Ok-clause-decision

@@ -1,8 +1,8 @@
-use Rattle.std.proofs.Common.{◌≡◌, ◌<◌, ◌≤◌, ◌++◌, ◌∷◌, [], length, get_or, Some, None, Ok, ap, sym, subst, ◌∙◌, inl, inr}
+use Rattle.std.proofs.Common.{◌≡◌, ◌<◌, ◌≤◌, ◌++◌, ◌∷◌, [], length, get_or, Some, Ok, ap, sym, subst, ◌∙◌, inl, inr}
 use Rattle.std.proofs.lemmas.Result.{err_from_is_err_and}
 use Rattle.toml.specs.Data.{as_table}
 use Rattle.toml.specs.View.{items_view, table_view, view}
-use Rattle.site_config.specs.Sections.{items_of, placed}
+use Rattle.site_config.specs.Sections.{items_of}
 use Rattle.site_config.proofs.Tables.{nothing_read, table_read, table_refused, tables_read}
 use Rattle.site_config.proofs.sections.read_items.Goals as goal
 

@@ -2,7 +2,7 @@ use Rattle.std.proofs.Common.{◌≡◌, ◌+◌, List, take, drop, get_or, sym,
 use Rattle.std.proofs.lemmas.List.{take_more}
 use Rattle.alarm_journal.specs.Opened.{EndsOnDevice}
 use Rattle.alarm_journal.specs.declared.body.Body.{Body}
-use Rattle.state_codec.specs.DamageSteps.{IsDamagedIn}
+use Rattle.state_codec.specs.Damage.{IsDamagedIn}
 use Rattle.state_codec.specs.declared.recovering.RecoverFault.TheVariants.{Damaged}
 use Rattle.state_codec.proofs.Following.{IsBehind, around, behind_more, damaged_in, damaged_within, next_fits}
 use Rattle.state_codec.proofs.recovering.follow_bodies.Goals as goal

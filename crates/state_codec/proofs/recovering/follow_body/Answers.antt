@@ -1,7 +1,7 @@
 use Rattle.std.proofs.Common.{◌≡◌, ◌<◌, Err, sym, subst, arith, length}
 use Rattle.std.proofs.lemmas.Result.{err_from_is_err_and}
 use Rattle.state_codec.specs.declared.fault.CodecFault.TheVariants.{Malformed}
-use Rattle.state_codec.specs.DamageSteps.{IsDamagedIn}
+use Rattle.state_codec.specs.Damage.{IsDamagedIn}
 use Rattle.state_codec.proofs.Following.{damaged_here, ends_later, leads_next}
 use Rattle.state_codec.proofs.recovering.follow_body.Goals as goal
 

@@ -1,5 +1,5 @@
 use Rattle.std.proofs.Common.{◌-◌, ◌≤◌, length, take}
-use Rattle.state_codec.specs.DamageSteps.{LeadsTo}
+use Rattle.state_codec.specs.Damage.{LeadsTo}
 use Rattle.state_codec.proofs.recovering.follow_body.Given as goal
 
 -- the records up to here lead to the core as it is

@@ -2,7 +2,7 @@ use Rattle.std.proofs.Common.{◌≡◌, Err, subst}
 use Rattle.std.proofs.lemmas.Result.{err_from_is_err_and}
 use Rattle.alarm_core.specs.declared.event.Event.{Event as Happening}
 use Rattle.state_codec.specs.declared.fault.CodecFault.TheVariants.{Malformed}
-use Rattle.alarm_core.specs.FollowingSteps.{MayFollow}
+use Rattle.alarm_core.specs.Following.{MayFollow}
 use Rattle.state_codec.proofs.Following.{only_this}
 use Rattle.state_codec.proofs.recovering.follow_record.Goals as goal
 

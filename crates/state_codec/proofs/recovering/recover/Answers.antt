@@ -3,7 +3,7 @@ use Rattle.std.proofs.lemmas.Result.{err_from_is_err_and}
 use Rattle.alarm_journal.specs.Opened.{content_in, pieces}
 use Rattle.alarm_journal.specs.declared.body.Body.{Body}
 use Rattle.alarm_core.specs.State.{state_of}
-use Rattle.state_codec.specs.DamageSteps.{BodiesLeadTo, IsDamagedRecord}
+use Rattle.state_codec.specs.Damage.{BodiesLeadTo, IsDamagedRecord}
 use Rattle.state_codec.specs.declared.recovering.RecoverFault.TheVariants.{Damaged}
 use Rattle.state_codec.proofs.Recovered.{begun_so, led_site, no_damaged_snapshot, not_damaged_so, recovered}
 use Rattle.state_codec.proofs.recovering.recover.Goals as goal

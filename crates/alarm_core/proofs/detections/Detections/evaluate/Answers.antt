@@ -4,17 +4,17 @@ use Rattle.alarm_core.proofs.Places.{as_many_objects, ascend_still}
 use Rattle.alarm_core.proofs.Rounds.{exact_early}
 use Rattle.alarm_core.proofs.detections.Detections.evaluate.Goals as goal
 
-pub look_at_due-requires-clause-early : goal.look_at_due-requires-clause-early
-look_at_due-requires-clause-early g c =
+pub evaluate_due-requires-clause-early : goal.evaluate_due-requires-clause-early
+evaluate_due-requires-clause-early g c =
     let inside = c.self.inside in
     subst (λ (timers : List (Option ℕ)). AreEarly inside.objects inside.timed.alarms.items timers) (sym c.self.invariant.timers) (exact_early inside.objects inside.timed.alarms.items)
 
 pub invariant_of-self : goal.invariant_of-self
 invariant_of-self g c =
     let inside = c.self.inside in
-    let objects = c.look_at_due.ensures.objects in
+    let objects = c.evaluate_due.ensures.objects in
     record {
-      timers = c.look_at_due.ensures.exact c.self.invariant.timers;
+      timers = c.evaluate_due.ensures.exact c.self.invariant.timers;
       few = omega (arith, as_many_objects inside.timed.alarms.items _ objects, c.self.invariant.few);
       ascending = ascend_still inside.timed.alarms.items _ objects c.self.invariant.ascending;
     }

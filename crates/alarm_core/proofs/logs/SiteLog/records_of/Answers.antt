@@ -1,4 +1,4 @@
-use Rattle.std.proofs.Common.{◌++◌, List, ap, ◌∙◌}
+use Rattle.std.proofs.Common.{[], ◌++◌, List, ap, ◌∙◌}
 use Rattle.std.proofs.lemmas.Result.{IfOk-from_err}
 use Rattle.event_log.specs.History.{Call}
 use Rattle.enrollment.proofs.Appended.{gives_next, gives_all}
@@ -8,7 +8,7 @@ use Rattle.alarm_core.proofs.logs.SiteLog.records_of.Goals as goal
 pub loop-told-preserved : goal.loop-told-preserved
 loop-told-preserved c =
     let now = c.loop-told.entries.items in
-    gives_next (record_to c.args.at.now c.args.self.now.site) c.args.addressed.now c.loop-told.told-index c.told-item.result now c.add_entry.new.entries.items
+    gives_next (record_to c.args.at.now c.args.self.now.site) c.args.addressed.now c.loop-told.told-index c.told-item.result [] now c.add_entry.new.entries.items
     c.loop-told-test.true c.told-item.is c.loop-told.invariant
     (c.in_ok-add_entry.ensures.added ∙ ap (λ (calls : List Call). now ++ calls) c.in_ok-entry.ensures.record)
 
@@ -20,4 +20,4 @@ returns-in_err-add_entry c = record { records = IfOk-from_err c.from_residual-in
 
 pub returns : goal.returns
 returns c =
-    record { records = gives_all (record_to c.args.at.now c.args.self.now.site) c.args.addressed.now c.loop-told.told-index c.loop-told.entries.items c.loop-told-test.false c.loop-told.invariant }
+    record { records = gives_all (record_to c.args.at.now c.args.self.now.site) c.args.addressed.now c.loop-told.told-index [] c.loop-told.entries.items c.loop-told-test.false c.loop-told.invariant }

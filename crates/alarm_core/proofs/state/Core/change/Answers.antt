@@ -28,6 +28,9 @@ invariant_of-self-2 g c =
       limit = c.self.invariant.limit;
       peers = c.self.invariant.peers;
       known = c.self.invariant.known;
+      lists = c.self.invariant.lists;
+      members = c.self.invariant.members;
+      identifiers = c.self.invariant.identifiers;
       apart = subst HasNoLog (sym c.in_ok-undo.ensures.values) (written_apart c.in_ok-copy_of_change.field-0 old c.self.invariant.apart);
     }
 
@@ -50,7 +53,7 @@ returns-in_err-evaluate g c =
       takes = IfOk-from_err result _ failed;
       same = MatchResult-from_err result _ _ failed (λ fault. c.evaluate.ensures.values ∙ ap (λ (s : CoreState). s.values) c.self.view_is);
       undoes = c.evaluate.ensures.undoes start (subst (LeadsBack formers start) (ap detections_of (sym c.self.view_is)) c.requires.undoes);
-      steps = at_most c.evaluate.new.steps (due_count moment (dues_of (detections_of old))) _ c.args.steps.now steps (touching_raises moment (touched_by c.args.change.now.object old.values.enrollments) (detections_of old));
+      steps = at_most c.evaluate.new.steps (due_count moment (dues_of (detections_of old))) _ c.args.steps.now steps (touching_raises moment (touched_by c.args.change.now.object old.values) (detections_of old));
     }
 
 pub returns-then-is_of_log : goal.returns-then-is_of_log
@@ -73,7 +76,7 @@ returns-then-is_of_log g c =
       takes = tt;
       same = tt;
       undoes = c.evaluate.ensures.undoes start (subst (LeadsBack formers start) (ap detections_of (sym c.self.view_is)) c.requires.undoes);
-      steps = at_most c.evaluate.new.steps (due_count at.moment (dues_of (detections_of old))) _ c.args.steps.now steps (touching_raises at.moment (touched_by c.args.change.now.object old.values.enrollments) (detections_of old));
+      steps = at_most c.evaluate.new.steps (due_count at.moment (dues_of (detections_of old))) _ c.args.steps.now steps (touching_raises at.moment (touched_by c.args.change.now.object old.values) (detections_of old));
     }
 
 pub returns-in_err-copy_of_change : goal.returns-in_err-copy_of_change
@@ -109,7 +112,7 @@ returns-in_err-undo g c =
       same = MatchResult-from_err result _ _ failed (λ fault. c.in_err-undo.ensures.same ∙ ap (λ (s : CoreState). s.values) c.self.view_is);
       undoes = subst (λ (s : DetectionsState). LeadsBack c.write.new.round.formers.items (start_of formers s) c.write.new.self) (ap detections_of c.self.view_is) c.write.ensures.undoes;
       steps = subst (λ (n : ℕ). c.write.new.steps ≤ c.args.steps.now + n)
-          (λ k. due_count c.args.at.now.moment (all_once (touched_by (copy k).object (c.self.view_is k).values.enrollments) (c.self.view_is k).alarms (dues_of (detections_of (c.self.view_is k))))) c.write.ensures.steps;
+          (λ k. due_count c.args.at.now.moment (all_once (touched_by (copy k).object (c.self.view_is k).values) (c.self.view_is k).alarms (dues_of (detections_of (c.self.view_is k))))) c.write.ensures.steps;
     }
 
 pub returns : goal.returns
@@ -133,5 +136,5 @@ returns g c =
       same = tt;
       undoes = subst (λ (s : DetectionsState). LeadsBack c.write.new.round.formers.items (start_of formers s) c.write.new.self) (ap detections_of c.self.view_is) c.write.ensures.undoes;
       steps = subst (λ (n : ℕ). c.write.new.steps ≤ c.args.steps.now + n)
-          (λ k. due_count at.moment (all_once (touched_by (copy k).object (c.self.view_is k).values.enrollments) (c.self.view_is k).alarms (dues_of (detections_of (c.self.view_is k))))) c.write.ensures.steps;
+          (λ k. due_count at.moment (all_once (touched_by (copy k).object (c.self.view_is k).values) (c.self.view_is k).alarms (dues_of (detections_of (c.self.view_is k))))) c.write.ensures.steps;
     }

@@ -1,4 +1,4 @@
-use Rattle.std.proofs.Common.{◌≡◌, ℕ, zero, ◌+◌, ◌-◌, ◌<◌, length, Bool, true, false, if◌then◌else◌, nat_lt, List, [], ◌∷◌, ◌++◌, suc, map, take, drop, filter, get_or, refl, sym, ap, subst, ◌∙◌, arith}
+use Rattle.std.proofs.Common.{◌≡◌, ℕ, zero, ◌+◌, ◌-◌, ◌/◌, ◌<◌, length, Bool, true, false, if◌then◌else◌, nat_lt, List, [], ◌∷◌, ◌++◌, suc, map, take, drop, filter, get_or, refl, sym, ap, subst, ◌∙◌, arith}
 use Rattle.std.proofs.lemmas.Bool.{ltb-false, ltb-true}
 use Rattle.std.proofs.lemmas.List.{append_assoc, append-nil, at_drop_more, drop_all}
 use Rattle.std.proofs.lemmas.Result.{IfOk-from_err}
@@ -60,15 +60,25 @@ more_than left x rest = by_tests (nat_lt left (length rest)) (nat_lt (suc left) 
         let below = ltb-true (suc left) (length (x ∷ rest)) g in
         absurd (omega (arith, below, above))
 
+pub loop-detected-init : goal.loop-detected-init
+loop-detected-init c =
+    let told = is_told c.args.last in
+    let tell = summary_of c.args.self.now in
+    let behind = c.behind_last-behind.result.now in
+    let same : c.alarms.result.now ≡ c.args.self.now.alarms = c.alarms.ensures.alarms ∙ ap (λ (s : CoreState). s.alarms) c.self.view_is in
+    let kept : filter told behind ≡ filter told c.args.self.now.alarms = subst (λ last. filter (is_told last) behind ≡ filter (is_told last) c.alarms.result.now) c.as_ref-last.ensures.value c.behind_last-behind.ensures.told ∙ ap (filter told) same in (
+      ap (λ (front : List EventSummary). front ++ map tell (take (c.args.room / 61) (filter told behind))) c.new-summaries.ensures.items ∙ ap (λ items. map tell (take (c.args.room / 61) items)) kept,
+      ap (λ items. nat_lt (c.args.room / 61) (length items)) kept,
+    )
+
 pub loop-detected-preserved-then-not-is_told : goal.loop-detected-preserved-then-not-is_told
 loop-detected-preserved-then-not-is_told c =
-    let alarms = c.args.self.now.alarms in
+    let alarms = c.behind_last-behind.result.now in
     let index = c.loop-detected.detected-index in
     let told = is_told c.args.last in
-    let same : c.alarms-detected-items.result.now ≡ alarms = c.alarms-detected-items.ensures.alarms ∙ ap (λ (s : CoreState). s.alarms) c.self.view_is in
     let item = c.detected-item.result in
-    let within : index < length alarms = subst (λ (ds : List DetectedObjectState). index < length ds) same c.loop-detected-test.true in
-    let is : item ≡ get_or alarms index item = subst (λ (ds : List DetectedObjectState). item ≡ get_or ds index item) same c.detected-item.is in
+    let within : index < length alarms = c.loop-detected-test.true in
+    let is : item ≡ get_or alarms index item = c.detected-item.is in
     let left = c.loop-detected.left in
     let active : told item ≡ false = ap (λ last. is_told last item) (sym c.as_ref-last.ensures.value) ∙ sym c.is_told.ensures.told ∙ c.if-not-is_told.true in
     let rest : filter told (drop index alarms) ≡ filter told (drop (index + 1) alarms) = passed_here told alarms index item within is active in (
@@ -78,13 +88,12 @@ loop-detected-preserved-then-not-is_told c =
 
 pub loop-detected-preserved : goal.loop-detected-preserved
 loop-detected-preserved c =
-    let alarms = c.args.self.now.alarms in
+    let alarms = c.behind_last-behind.result.now in
     let index = c.loop-detected.detected-index in
     let told = is_told c.args.last in
-    let same : c.alarms-detected-items.result.now ≡ alarms = c.alarms-detected-items.ensures.alarms ∙ ap (λ (s : CoreState). s.alarms) c.self.view_is in
     let item = c.detected-item.result in
-    let within : index < length alarms = subst (λ (ds : List DetectedObjectState). index < length ds) same c.loop-detected-test.true in
-    let is : item ≡ get_or alarms index item = subst (λ (ds : List DetectedObjectState). item ≡ get_or ds index item) same c.detected-item.is in
+    let within : index < length alarms = c.loop-detected-test.true in
+    let is : item ≡ get_or alarms index item = c.detected-item.is in
     let left = c.loop-detected.left in
     let now = c.loop-detected.summaries.items in
     let tell = summary_of c.args.self.now in
@@ -104,13 +113,12 @@ loop-detected-preserved c =
 
 pub returns-then-left-eq0 : goal.returns-then-left-eq0
 returns-then-left-eq0 c =
-    let alarms = c.args.self.now.alarms in
+    let alarms = c.behind_last-behind.result.now in
     let index = c.loop-detected.detected-index in
     let told = is_told c.args.last in
-    let same : c.alarms-detected-items.result.now ≡ alarms = c.alarms-detected-items.ensures.alarms ∙ ap (λ (s : CoreState). s.alarms) c.self.view_is in
     let item = c.detected-item.result in
-    let within : index < length alarms = subst (λ (ds : List DetectedObjectState). index < length ds) same c.loop-detected-test.true in
-    let is : item ≡ get_or alarms index item = subst (λ (ds : List DetectedObjectState). item ≡ get_or ds index item) same c.detected-item.is in
+    let within : index < length alarms = c.loop-detected-test.true in
+    let is : item ≡ get_or alarms index item = c.detected-item.is in
     let now = c.loop-detected.summaries.items in
     let active : told item ≡ true = ap (λ last. is_told last item) (sym c.as_ref-last.ensures.value) ∙ sym c.is_told.ensures.told ∙ c.if-not-is_told.false in
     let here : filter told (drop index alarms) ≡ item ∷ filter told (drop (index + 1) alarms) = kept_here told alarms index item within is active in
@@ -127,14 +135,13 @@ returns-in_err-push c = record {
 
 pub returns : goal.returns
 returns c =
-    let alarms = c.args.self.now.alarms in
+    let alarms = c.behind_last-behind.result.now in
     let index = c.loop-detected.detected-index in
     let told = is_told c.args.last in
-    let same : c.alarms-detected-items.result.now ≡ alarms = c.alarms-detected-items.ensures.alarms ∙ ap (λ (s : CoreState). s.alarms) c.self.view_is in
     let left = c.loop-detected.left in
     let now = c.loop-detected.summaries.items in
     let tell = summary_of c.args.self.now in
-    let none : drop index alarms ≡ [] = subst (λ (ds : List DetectedObjectState). drop index ds ≡ []) same (drop_all index c.alarms-detected-items.result.now c.loop-detected-test.false) in
+    let none : drop index alarms ≡ [] = drop_all index alarms c.loop-detected-test.false in
     record {
       summaries = sym (none_left tell left now) ∙ ap (λ items. now ++ map tell (take left (filter told items))) (sym none) ∙ c.loop-detected.invariant.0;
       more = sym (no_more left) ∙ ap (λ items. nat_lt left (length (filter told items))) (sym none) ∙ c.loop-detected.invariant.1;

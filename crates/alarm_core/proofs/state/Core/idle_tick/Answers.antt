@@ -1,30 +1,7 @@
-use Rattle.std.proofs.Common.{◌≡◌, ◌↔◌, ◌≤◌, ◌∙◌, [], rules, arith, max, IsTrue, ap, sym}
-use Rattle.std.specs.List.{flat_map}
-use Rattle.alarm_core.specs.History.{raised, tick_at, transition_of}
-use Rattle.alarm_core.specs.Evaluations.{site_moment}
-use Rattle.alarm_core.specs.CoreSteps.{evaluated_all, states_of, transitions_by}
-use Rattle.alarm_core.specs.Sites.{IsSite}
-use Rattle.alarm_core.proofs.MovesTold.{at_site, none_moved}
-use Rattle.alarm_core.proofs.Standing.{comes_after, idle-adds_none}
 use Rattle.alarm_core.proofs.state.Core.idle_tick.Goals as goal
 
 pub returns-clause-still : goal.returns-clause-still
-returns-clause-still c =
-    let state = c.args.self.now in
-    let moment = max c.args.moment state.last_moment in
-    let look = site_moment state.site moment in
-    let transitions = flat_map (transitions_by look state.values) state.alarms in
-    let none = none_moved (transition_of moment state.values (states_of (evaluated_all look state.values state.alarms))) transitions in
-    let at = c.at.result in
-    let here : at ≡ look = at_site at state.site moment (search rules) (search rules) in
-    let still : IsTrue c.is_still.result ↔ (flat_map (transitions_by at state.values) state.alarms ≡ []) = search rules in
-    let same : flat_map (transitions_by at state.values) state.alarms ≡ transitions = ap (λ a. flat_map (transitions_by a state.values) state.alarms) here in
-    (λ t. none.0 (sym same ∙ still.0 t), λ e. still.1 (same ∙ none.1 e))
+returns-clause-still c = c.idle_tick_counted-still.ensures.still
 
 pub returns-clause-history : goal.returns-clause-history
-returns-clause-history c =
-    let state = c.args.self.now in
-    let event = raised state.last_moment (tick_at c.args.moment) in
-    let is : IsSite state.site = search rules in
-    let low : state.last_moment ≤ event.moment = omega arith in
-    λ history r. idle-adds_none history state event c.is_still.result (comes_after history state event is low r) r (returns-clause-still c)
+returns-clause-history c = c.idle_tick_counted-still.ensures.history

@@ -1,8 +1,8 @@
-use Rattle.std.proofs.Common.{◌≡◌, ◌∙◌, IfOk, List, Vec, Global, map, refl, ap, sym, subst}
+use Rattle.std.proofs.Common.{◌≡◌, ◌∙◌, IfOk, OnOk, Result, Ok, Err, List, Vec, Global, map, refl, ap, sym, subst}
 use Rattle.std.specs.List.{flat_map}
 use Rattle.event_log.specs.History.{Call}
 use Rattle.outbox.specs.Outboxes.{AreKnown}
-use Rattle.alarm_core.specs.CoreSteps.{transitions_all, transitions_by}
+use Rattle.alarm_core.specs.CoreSteps.{evaluated_all, transitions_all, transitions_by}
 use Rattle.alarm_core.specs.DueSteps.{detections_of}
 use Rattle.alarm_core.specs.Evaluations.{site_moment}
 use Rattle.alarm_core.specs.History.{StateTransition, moved_by}
@@ -69,3 +69,19 @@ returns-clause-known g c =
     let known = look_known core.site core.classes.items core.peers core.outbox.posts (record { peers_are = c.self.invariant.peers; knows = c.self.invariant.known }) old.values transitions in
     if_told_known c.told.result (notes_of_transitions old.site old.classes transitions) old.outbox.posts
     (subst (λ (s : CoreState). AreKnown (notes_of_transitions s.site s.classes transitions) s.outbox.posts) c.self.view_is known) (returns-clause-notes g c)
+
+where_told : {A F : Type 0} (P : Type 0) (answer : Result A F) → P → OnOk answer P
+where_told P (Ok told) holds = holds
+where_told P (Err fault) holds = tt
+
+pub returns-clause-alarms : goal.returns-clause-alarms
+returns-clause-alarms g c =
+    let old = c.args.self.now in
+    let at = c.args.at.now in
+    let core = c.self.inside in
+    let look = site_moment old.site at.moment in
+    let here = at_site at old.site at.moment c.requires.zone refl in
+    let alarms : c.evaluate.new.self.alarms ≡ evaluated_all look old.values old.alarms =
+    c.in_ok-evaluate.ensures.alarms
+    ∙ (ap (λ a. evaluated_all a core.detections.values core.detections.alarms) here ∙ ap (λ (s : CoreState). evaluated_all look s.values s.alarms) c.self.view_is) in
+    where_told (c.evaluate.new.self.alarms ≡ evaluated_all look old.values old.alarms) c.told.result alarms

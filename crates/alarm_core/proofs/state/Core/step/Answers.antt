@@ -5,7 +5,7 @@ use Rattle.civil_stamp.specs.LocalTime.{LocalMomentData}
 use Rattle.alarm_core.specs.DueSteps.{detections_of, due_steps}
 use Rattle.alarm_core.specs.Allowed.{Represents}
 use Rattle.alarm_core.specs.Evaluations.{site_moment}
-use Rattle.alarm_core.specs.FollowingSteps.{MayFollow}
+use Rattle.alarm_core.specs.Following.{MayFollow}
 use Rattle.alarm_core.specs.Moving.{moving_of, touched_of}
 use Rattle.alarm_core.specs.Sites.{IsSite}
 use Rattle.alarm_core.specs.State.{CoreState}
@@ -41,13 +41,13 @@ returns-in_err-done-clause-notifications g c =
     λ history r. notifications_after history state event (comes_after history state event is low r) r
 
 pub returns-in_err-done-clause-ticks_fit : goal.returns-in_err-done-clause-ticks_fit
-returns-in_err-done-clause-ticks_fit g c = λ room history r. tick_never_full history c.args.self.now (raised c.args.self.now.last_moment c.args.event.now) (subst (λ (s : CoreState). IsSite s.site) c.self.view_is c.self.invariant.site) room r
+returns-in_err-done-clause-ticks_fit g c = λ history r. tick_never_full history c.args.self.now (raised c.args.self.now.last_moment c.args.event.now) (subst (λ (s : CoreState). IsSite s.site) c.self.view_is c.self.invariant.site) r
 
 pub returns-clause-state : goal.returns-clause-state
 returns-clause-state g c =
     let state = c.args.self.now in
     let event = raised state.last_moment c.args.event.now in
-    let moment : c.max-moment.result ≡ event.moment = search rules in
+    let moment : c.raised_moment-moment.result ≡ event.moment = search rules in
     let after : c.act.new.self ≡ acted event state = search rules in
     let counted = λ (s : CoreState) (m : ℕ). record s { events = s.events + 1; last_moment = m } in
     stepped event state c.act.new.self _ after (λ k. counted (c.self-2.view_is k) (moment k))
@@ -82,7 +82,7 @@ returns-clause-notifications g c =
     λ history r. notifications_after history state event (comes_after history state event is low r) r
 
 pub returns-clause-ticks_fit : goal.returns-clause-ticks_fit
-returns-clause-ticks_fit g c = λ room history r. tick_never_full history c.args.self.now (raised c.args.self.now.last_moment c.args.event.now) (subst (λ (s : CoreState). IsSite s.site) c.self.view_is c.self.invariant.site) room r
+returns-clause-ticks_fit g c = λ history r. tick_never_full history c.args.self.now (raised c.args.self.now.last_moment c.args.event.now) (subst (λ (s : CoreState). IsSite s.site) c.self.view_is c.self.invariant.site) r
 
 pub returns-in_err-done-clause-counts : goal.returns-in_err-done-clause-counts
 returns-in_err-done-clause-counts g c =

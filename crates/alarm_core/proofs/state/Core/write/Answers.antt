@@ -30,6 +30,9 @@ invariant_of-self g c =
       limit = c.self.invariant.limit;
       peers = c.self.invariant.peers;
       known = c.self.invariant.known;
+      lists = c.self.invariant.lists;
+      members = c.self.invariant.members;
+      identifiers = c.self.invariant.identifiers;
       apart = subst HasNoLog (sym undone) (written_apart undo c.self.inside.detections.values c.self.invariant.apart);
     }
 

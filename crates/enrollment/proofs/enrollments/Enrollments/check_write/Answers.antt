@@ -1,5 +1,4 @@
-use Rattle.std.proofs.Common.{◌≡◌, false, is_none, rules, sym, subst}
-use Rattle.std.specs.Option.{option_copied}
+use Rattle.std.proofs.Common.{sym, subst}
 use Rattle.object_table.specs.Verdicts.{property_change}
 use Rattle.enrollment.specs.Properties.{property_of}
 use Rattle.enrollment.specs.Writes.{IsTaken}
@@ -9,11 +8,12 @@ use Rattle.enrollment.proofs.enrollments.Enrollments.check_write.Goals as goal
 pub copy_of-requires : goal.copy_of-requires
 copy_of-requires c =
     let number = c.args.property.0 in
-    record { small = taken_is_small (property_of number) c.args.value.now (write_ok number c.args.index c.args.value.now (sym c.in_ok-check_property.ensures.verdict)) }
+    let site = c.in-Some.site.now in
+    record { small = taken_is_small site (property_of number) c.args.value.now (write_ok site number c.args.index c.args.value.now (sym c.in_ok-check_property.ensures.verdict)) }
 
 pub returns-clause-takes : goal.returns-clause-takes
 returns-clause-takes c =
     let number = c.args.property.0 in
-    let there : is_none (option_copied c.row.result) ≡ false = search rules in
-    let taken = taken_where (property_change c.args.object number c.args.value.now) c.args.self.now (option_copied c.row.result) c.row.ensures.row there (write_ok number c.args.index c.args.value.now (sym c.in_ok-check_property.ensures.verdict)) in
-    subst (λ value. IsTaken (property_change c.args.object number value) c.args.self.now) (sym c.copy_of.ensures.same) taken
+    let site = c.in-Some.site.now in
+    let taken = taken_where (property_change c.args.object number c.args.value.now) c.args.self.now.sites site c.in-Some.ensures.row (write_ok site number c.args.index c.args.value.now (sym c.in_ok-check_property.ensures.verdict)) in
+    subst (λ value. IsTaken (property_change c.args.object number value) c.args.self.now.sites) (sym c.copy_of.ensures.same) taken

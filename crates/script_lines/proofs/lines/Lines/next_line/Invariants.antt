@@ -1,7 +1,7 @@
 use Rattle.std.proofs.Common.{◌≡◌, ◌-◌, ◌≤◌, true, false}
 use Rattle.std.specs.Io.KnownBytes.{IsAtEnd}
 use Rattle.ground_io.specs.Trace.{WhereTold}
-use Rattle.script_lines.specs.ReadingSteps.{octets_to_come}
+use Rattle.script_lines.specs.Reading.{octets_to_come}
 use Rattle.script_lines.specs.Script.{lines_of, next_in, TakesLines}
 use Rattle.script_lines.proofs.lines.Lines.next_line.Given as goal
 

@@ -1,5 +1,5 @@
 use Rattle.std.proofs.Common.{◌<◌, length, rules}
-use Rattle.script_lines.specs.ReadingSteps.{LinesState}
+use Rattle.script_lines.specs.Reading.{LinesState}
 use Rattle.script_lines.proofs.TakenLine.{IsFoundBy, judged, judged_whole}
 use Rattle.script_lines.proofs.lines.Lines.take_line.Goals as goal
 

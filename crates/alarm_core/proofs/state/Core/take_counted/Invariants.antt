@@ -1,0 +1,4 @@
+use Rattle.alarm_core.proofs.state.Core.take_counted.Given as goal
+
+abbrev pub ghosts-take_alone : goal.ghosts-take_alone
+ghosts-take_alone a = record { name = a.blank.name; parts = a.blank.parts }
