@@ -1,17 +1,19 @@
 -- Reading an area, batch by batch.
-use Rattle.std.proofs.Common.{◌≡◌, ◌⊎◌, inl, inr, ℕ, ◌+◌, ◌-◌, ◌<◌, ◌≤◌, List, [], ◌∷◌, ◌++◌, length, take, drop, get_or, refl, sym, ◌∙◌, ap, subst, arith, length-drop, length-append, Option, Some, None, Err}
+use Rattle.std.proofs.Common.{◌≡◌, ◌⊎◌, inl, inr, ℕ, ◌+◌, ◌-◌, ◌<◌, ◌≤◌, List, [], ◌∷◌, ◌++◌, length, take, drop, get_or, refl, sym, ◌∙◌, ap, subst, arith, length-drop, length-append, Option, Some, None}
 use Rattle.std.proofs.lemmas.List.{drop-drop, get_or-drop, length-take-le, take-take}
 use Rattle.byteorder.specs.Endian.{big_number}
 use Rattle.ground_io.specs.Disk.{Disk, octets_at}
 use Rattle.ground_io.specs.Trace.{Told, Adds, Reads, HasSize, disk_of}
 use Rattle.ground_io.proofs.Crashes.{disk_adds}
-use Rattle.alarm_journal.specs.Journal.{Content, content_of, with_batch, only_snapshot}
+use Rattle.alarm_journal.specs.Journal.{Content, BeginsWith, with_batch, only_snapshot}
+use Rattle.alarm_journal.specs.Journal.{LeavesAt}
 use Rattle.alarm_journal.specs.Opened.{LieBetween, Shows, StandsAt, content_in, found_at, pieces, sum_of}
-use Rattle.alarm_journal.specs.Areas.{ReadsAs, IsRead, IsHead, IsEnd, IsBadHead, IsSoFar, IsWithin, IsDamage, IsLaid}
+use Rattle.alarm_journal.specs.Areas.{IsRead, IsHead, IsEnd, IsBadHead, IsSoFar, IsWithin, IsDamage, IsLaid}
 use Rattle.alarm_journal.specs.declared.body.Body.{Body}
 use Rattle.alarm_journal.specs.declared.opened.Opened.{Opened}
 use Rattle.alarm_journal.specs.declared.open_fault.OpenFault.{OpenFault}
-use Rattle.alarm_journal.proofs.Parsing.{reads_snapshot, reads_batch, bad_snapshot, bad_batch}
+use Rattle.alarm_journal.proofs.Parsing.{reads_snapshot, reads_batch, bad_batch}
+use Rattle.alarm_journal.proofs.Rules.{computed_leaves}
 use Rattle.alarm_journal.proofs.Places.{sum_more, lie_more, found_more, pieces_more}
 
 -- octets within those from a place on
@@ -41,8 +43,8 @@ one_more start half next size snapshot batches body bodies image so inside head 
     let all : pieces (bodies ++ here ∷ []) (batches ++ body) ≡ pieces bodies batches ++ body ∷ [] = pieces_more bodies batches here body inside.whole long in
     let read = reads_batch (drop start image) content next size so.reads room (gate_in start next image head.gate) (head.size ∙ word_in start next image) in
     record {
-      reads = subst (λ (l : List (List ℕ)). ReadsAs (drop start image) (record { snapshot = snapshot; bodies = l }) (next + (5 + size))) (sym all)
-          (subst (λ (k : ℕ). ReadsAs (drop start image) (with_batch content body) k) sum2 (subst (λ (l : List ℕ). ReadsAs (drop start image) (with_batch content l) (next + 5 + size)) is read));
+      reads = subst (λ (l : List (List ℕ)). BeginsWith (octets_at start (next + (5 + size)) image) (record { snapshot = snapshot; bodies = l }) []) (sym all)
+          (subst (λ (k : ℕ). BeginsWith (octets_at start k image) (with_batch content body) []) sum2 (subst (λ (l : List ℕ). BeginsWith (octets_at start (next + 5 + size) image) (with_batch content l) []) is read));
       stands = so.stands;
       found = found_more image bodies here ∙ (λ i. so.found i ++ at i ∷ []) ∙ sym all;
     }
@@ -81,23 +83,25 @@ more_so_far start half next size whole snapshot batches body bodies (Some a) (So
 
 -- the next batch's length leaves the area
 head_damage : (start half next whole : ℕ) (snapshot batches : List ℕ) (bodies : List Body) (image : List ℕ) → IsSoFar start snapshot batches bodies next image → IsBadHead (start + next) (half - next) image → length image ≡ whole → start + half ≤ whole
-    → content_of start (octets_at start half image) ≡ Err (start + next + 1)
+    → LeavesAt start (octets_at start half image) (start + next + 1)
 head_damage start half next whole snapshot batches bodies image so bad sized room =
-    bad_batch (drop start image) (record { snapshot = snapshot; bodies = pieces bodies batches }) start half next so.reads (omega (arith, sized, room, length-drop start image)) (gate_in start next image bad.gate) (over bad.over) (omega (arith, bad.some))
+    computed_leaves start (octets_at start half image) (start + next + 1)
+    (bad_batch (drop start image) (record { snapshot = snapshot; bodies = pieces bodies batches }) start half next so.reads (omega (arith, sized, room, length-drop start image)) (gate_in start next image bad.gate) (over bad.over) (omega (arith, bad.some)))
   where
     over : (half - next < 5) ⊎ (half - next < 5 + big_number 4 (octets_at (start + next + 1) 4 image)) → (half < next + 5) ⊎ (half < next + 5 + big_number 4 (octets_at (next + 1) 4 (drop start image)))
     over (inl short) = inl (omega (arith, short))
     over (inr long) = inr (subst (λ (k : ℕ). half < next + 5 + k) (word_in start next image) (omega (arith, long)))
 
 bad_so_far : (start half next whole at : ℕ) (snapshot batches : List ℕ) (bodies : List Body) (a b : Option Told) → Shows a (IsSoFar start snapshot batches bodies next) → Adds a b [] → HasSize whole b → start + half ≤ whole
-    → Shows b (λ image. (at ≡ start + next + 1) × IsBadHead (start + next) (half - next) image) → Shows b (λ image. content_of start (octets_at start half image) ≡ Err at)
+    → Shows b (λ image. (at ≡ start + next + 1) × IsBadHead (start + next) (half - next) image) → Shows b (λ image. LeavesAt start (octets_at start half image) at)
 bad_so_far start half next whole at snapshot batches bodies a None so ab sized room bad = tt
 bad_so_far start half next whole at snapshot batches bodies None (Some b) so ab sized room bad = absurd ab
 bad_so_far start half next whole at snapshot batches bodies (Some a) (Some b) so ab sized room bad =
-    head_damage start half next whole snapshot batches bodies (disk_of b).contents (subst (IsSoFar start snapshot batches bodies next) (same_after a b ab) so) bad.1 sized room ∙ ap (λ (k : ℕ). Err k) (sym bad.0)
+    subst (λ (k : ℕ). LeavesAt start (octets_at start half (disk_of b).contents) k) (sym bad.0)
+    (head_damage start half next whole snapshot batches bodies (disk_of b).contents (subst (IsSoFar start snapshot batches bodies next) (same_after a b ab) so) bad.1 sized room)
 
 pub damage_so_far : (start half next whole : ℕ) (snapshot batches : List ℕ) (bodies : List Body) (fault : OpenFault) (a b : Option Told) → Shows a (IsSoFar start snapshot batches bodies next) → Adds a b [] → HasSize whole b → start + half ≤ whole
-    → IsDamage b (λ at image. (at ≡ start + next + 1) × IsBadHead (start + next) (half - next) image) fault → IsDamage b (λ at image. content_of start (octets_at start half image) ≡ Err at) fault
+    → IsDamage b (λ at image. (at ≡ start + next + 1) × IsBadHead (start + next) (half - next) image) fault → IsDamage b (λ at image. LeavesAt start (octets_at start half image) at) fault
 damage_so_far start half next whole snapshot batches bodies fault a b so ab sized room (inl disk) = inl disk
 damage_so_far start half next whole snapshot batches bodies fault a b so ab sized room (inr (inl memory)) = inr (inl memory)
 damage_so_far start half next whole snapshot batches bodies fault a b so ab sized room (inr (inr (at, is, bad))) = inr (inr (at, is, bad_so_far start half next whole at snapshot batches bodies a b so ab sized room bad))
@@ -114,21 +118,22 @@ begun_so_far start half count whole snapshot (Some b) (Some d) word bd reads lon
     let stands : octets_at (start + 4) (length snapshot) image ≡ snapshot = sym (reads ∙ ap (octets_at (start + 4) (length snapshot)) same) in
     let is : octets_at 4 count (drop start image) ≡ snapshot = part start 4 count image ∙ ap (λ (k : ℕ). octets_at (start + 4) k image) (sym long) ∙ stands in
     record {
-      reads = subst (λ (l : List ℕ). ReadsAs (drop start image) (only_snapshot l) (4 + count)) is
+      reads = subst (λ (l : List ℕ). BeginsWith (octets_at start (4 + count) image) (only_snapshot l) []) is
           (reads_snapshot (drop start image) count room (subst (λ (l : List ℕ). count ≡ big_number 4 (octets_at start 4 l)) same word));
       stands = stands;
       found = refl;
     }
 
 -- its length leaves the area
-pub snapshot_damage : (start half count whole : ℕ) (b : Option Told) → Shows b (λ image. count ≡ big_number 4 (octets_at start 4 image)) → HasSize whole b → start + half ≤ whole → 5 ≤ half → half < 4 + count → Shows b (λ image. content_of start (octets_at start half image) ≡ Err start)
+pub snapshot_damage : (start half count whole : ℕ) (b : Option Told) → Shows b (λ image. count ≡ big_number 4 (octets_at start 4 image)) → HasSize whole b → start + half ≤ whole → 5 ≤ half → half < 4 + count → Shows b (λ image. LeavesAt start (octets_at start half image) start)
 snapshot_damage start half count whole None word sized room some over = tt
 snapshot_damage start half count whole (Some b) word sized room some over =
     let image = (disk_of b).contents in
     let area : List ℕ = octets_at start half image in
     let long : length area ≡ half = length-take-le half (drop start image) (omega (arith, sized, room, length-drop start image)) in
     let four : take 4 area ≡ octets_at start 4 image = take-take 4 half (drop start image) (omega (arith, some)) in
-    bad_snapshot area start count (word ∙ ap (λ (l : List ℕ). big_number 4 l) (sym four)) (omega (arith, long, over))
+    let number : count ≡ big_number 4 (take 4 area) = word ∙ ap (λ (l : List ℕ). big_number 4 l) (sym four) in
+    inl (refl, omega (arith, long, over, number))
 
 -- what an area was opened as
 pub area_read : (start half : ℕ) (next : ℕ) (snapshot batches : List ℕ) (bodies : List Body) (d : Option Told) → Shows d (IsSoFar start snapshot batches bodies next) → Shows d (IsEnd (start + next) (half - next)) → Shows d (IsRead start half next (record { snapshot = snapshot; bodies = pieces bodies batches }))

@@ -4,7 +4,8 @@ use Rattle.std.proofs.lemmas.Bool.Decides.{nat_tests}
 use Rattle.std.proofs.lemmas.List.{take_at}
 use Rattle.byteorder.specs.Endian.{big_number, big_bytes}
 use Rattle.byteorder.specs.Numbers.{big_number-reads_back}
-use Rattle.alarm_journal.specs.Journal.{in_front, batches_from, framed, with_more, with_batch, Content}
+use Rattle.alarm_journal.specs.Journal.{framed}
+use Rattle.alarm_journal.specs.JournalSteps.{in_front, batches_from}
 
 pub is_one : (k : ℕ) → k ≡ 1 → (k == 1) ≡ true
 is_one k is = grind (arith, nat_tests)
@@ -107,7 +108,3 @@ batch_framed place body rest few =
   where
     zero_not_one : zero ≡ 1 → ⊥
     zero_not_one is = omega arith
-
-pub more_twice : (content : Content) (body : List ℕ) (r : Result (List (List ℕ)) ℕ) → with_more content (in_front body r) ≡ with_more (with_batch content body) r
-more_twice content body (Ok more) = λ i. Ok (record { snapshot = content.snapshot; bodies = sym (append_assoc content.bodies (body ∷ []) more) i })
-more_twice content body (Err place) = refl

@@ -1,6 +1,6 @@
 -- What a crash may leave while a blank device is formatted.
 use Rattle.bac_values.specs.Limits.{most_site_octets}
-use Rattle.std.proofs.Common.{◌≡◌, ◌≢◌, inl, inr, ℕ, zero, suc, ◌+◌, ◌-◌, ◌/◌, ◌%◌, ◌<◌, ◌≤◌, ◌^◌, Bool, false, List, [], ◌∷◌, ◌++◌, length, take, drop, get_or, refl, sym, ◌∙◌, ap, subst, arith, append_assoc, length-append, nat_lt, if◌then◌else◌, Err, Option, Some, None}
+use Rattle.std.proofs.Common.{◌≡◌, ◌≢◌, inl, inr, ℕ, zero, suc, ◌+◌, ◌-◌, ◌/◌, ◌%◌, ◌<◌, ◌≤◌, ◌^◌, false, List, [], ◌∷◌, ◌++◌, length, take, drop, get_or, refl, sym, ◌∙◌, ap, subst, arith, append_assoc, length-append, Option, Some, None}
 use Rattle.std.proofs.lemmas.List.{drop_more, drop-drop, drop_at, take_at, get_or_at, get_or-drop}
 use Rattle.std.proofs.lemmas.Bool.{cases_eq}
 use Rattle.byteorder.specs.Numbers.{big_number-reads_back}
@@ -8,10 +8,9 @@ use Rattle.ground_io.specs.Disk.{Disk, Each, with_octets}
 use Rattle.ground_io.specs.Trace.{Told, HasSize, disk_of}
 use Rattle.ground_io.proofs.Crashes.{only_read, one_loose}
 use Rattle.ground_io.proofs.Disks.{length-with_octets}
-use Rattle.alarm_journal.specs.Journal.{Site, nothing, OpensTo, formatted_size, content_of, batches_from, with_more, heading}
+use Rattle.alarm_journal.specs.Journal.{Site, BeginsWith, nothing, OpensTo, formatted_size, heading}
 use Rattle.alarm_journal.specs.Press.{StandsFor, IsSound, Settled, Blank}
 use Rattle.alarm_journal.specs.declared.layout.Layout.{Layout}
-use Rattle.alarm_journal.proofs.Batches.{not_below}
 use Rattle.alarm_journal.proofs.Fronts.{octet_front, put_front, put_from, put_past}
 use Rattle.alarm_journal.proofs.Headers.{opens_blank}
 use Rattle.alarm_journal.proofs.Rest.{opens_now}
@@ -33,11 +32,9 @@ module _ (site : Site) (size : ℕ) (text : length site.text ≤ most_site_octet
   pub sound : IsSound size first_layout
   sound = record { fits = omega (arith, room, enough); behind = omega arith; within = omega (arith, room, enough); header = omega arith; word = word }
 
-  -- no snapshot, whatever stands behind it
-  no_snapshot : (place : ℕ) (tail : List ℕ) → content_of place (0 ∷ 0 ∷ 0 ∷ 0 ∷ tail) ≡ with_more nothing (batches_from (place + 4) zero tail)
-  no_snapshot place tail =
-      let whole : nat_lt (length (0 ∷ 0 ∷ 0 ∷ 0 ∷ tail)) 4 ≡ false = not_below 4 (length (0 ∷ 0 ∷ 0 ∷ 0 ∷ tail)) (omega arith) in
-      ap (λ (b : Bool). if b then Err place else with_more nothing (batches_from (place + 4) zero tail)) whole
+  -- no snapshot
+  no_snapshot : BeginsWith (0 ∷ 0 ∷ 0 ∷ 0 ∷ []) nothing []
+  no_snapshot = record { four = 0 ∷ 0 ∷ 0 ∷ 0 ∷ []; behind = []; whole = refl; size = (refl, refl); batches = refl }
 
   -- the device once the gate is open
   pub formatted : (more : List ℕ) → length (1 ∷ (heading site.text size ++ more)) ≡ size → StandsFor site first_layout (1 ∷ (heading site.text size ++ more)) nothing
@@ -62,9 +59,7 @@ module _ (site : Site) (size : ℕ) (text : length site.text ≤ most_site_octet
       record {
         ours = record {
           gate = refl;
-          mark = refl;
-          count = refl;
-          text = ap (take n) rest ∙ take_at site.text (0 ∷ 0 ∷ 0 ∷ 0 ∷ 0 ∷ 0 ∷ more) n refl;
+          own = record { mark = refl; count = refl; text = ap (take n) rest ∙ take_at site.text (0 ∷ 0 ∷ 0 ∷ 0 ∷ 0 ∷ 0 ∷ more) n refl };
           enough = subst (λ (k : ℕ). site.need ≤ k) (sym size_is) enough;
           whole = subst (λ (k : ℕ). k ≤ length x) (sym size_is) (same_le size (length x) (sym long));
         };
@@ -72,7 +67,7 @@ module _ (site : Site) (size : ℕ) (text : length site.text ≤ most_site_octet
         half = ap (λ (k : ℕ). (k - 22 - n) / 2) size_is ∙ ap (λ (k : ℕ). k / 2) half_is;
         selected = ap (λ (k : ℕ). k % 2) (sym (get_or-drop 21 x n 0) ∙ ap (λ (l : List ℕ). get_or l n 0) rest ∙ get_or_at site.text 0 (0 ∷ 0 ∷ 0 ∷ 0 ∷ 0 ∷ more) 0 n refl);
         closed = λ _ is. not_one (sym gate ∙ is);
-        reads = λ tail. ap (λ (l : List ℕ). content_of (n + 22) (l ++ tail)) (ap (λ (k : ℕ). take k (drop (n + 22) x)) four ∙ ap (take 4) area) ∙ no_snapshot (n + 22) tail;
+        reads = subst (λ (l : List ℕ). BeginsWith l nothing []) (sym (ap (λ (k : ℕ). take k (drop (n + 22) x)) four ∙ ap (take 4) area)) no_snapshot;
       }
     where
       not_one : zero ≡ 1 → ⊥

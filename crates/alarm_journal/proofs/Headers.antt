@@ -1,19 +1,22 @@
 -- A header that is this site's, and what it opens to.
-use Rattle.std.proofs.Common.{◌≡◌, ◌≢◌, inl, inr, ℕ, ◌+◌, ◌<◌, ◌≤◌, ◌==◌, if◌then◌else◌, Bool, true, false, List, [], ◌∷◌, length, get_or, refl, sym, ◌∙◌, ap, arith, Option, Some, None, Result, Ok, Err, nat_lt}
+use Rattle.std.proofs.Common.{◌≡◌, ◌≢◌, inl, inr, ℕ, ◌+◌, ◌<◌, ◌≤◌, ◌==◌, if◌then◌else◌, Bool, true, false, List, [], ◌∷◌, length, take, drop, get_or, refl, sym, ◌∙◌, ap, arith, Option, Some, None, Result, Ok, Err, nat_lt}
 use Rattle.std.proofs.lemmas.Bool.{cases_eq}
+use Rattle.std.proofs.lemmas.List.{length-take}
 use Rattle.std.proofs.lemmas.Bool.Decides.{nat_tests}
 use Rattle.byteorder.specs.Endian.{big_bytes}
 use Rattle.ground_io.specs.Disk.{octets_at}
-use Rattle.alarm_journal.specs.Journal.{Site, Content, nothing, mark, formatted_size, half_of, selected_place, content_of, first_other, or_else, foreign_place, own_header, checked_header, or_damaged, selected_content, opened_from, OpensTo}
-use Rattle.alarm_journal.specs.Press.{IsOurs}
+use Rattle.alarm_journal.specs.Journal.{Site, Content, nothing, mark, formatted_size, selected_area, selected_place, IsOwn, OpensTo}
+use Rattle.alarm_journal.specs.JournalSteps.{content_of, first_other, or_else, foreign_place, own_header, checked_header, or_damaged, selected_content, opened_from}
+use Rattle.alarm_journal.specs.Journal.{IsOurs}
 use Rattle.alarm_journal.specs.declared.open_fault.OpenFault.{OpenFault}
 use Rattle.alarm_journal.specs.declared.open_fault.OpenFault.TheVariants.{SmallDevice, Foreign, Damaged}
 use Rattle.alarm_journal.proofs.Batches.{is_one, not_one, not_below, below, at_least}
+use Rattle.alarm_journal.proofs.Rules.{computed_holds}
 
-same_octet : (x : ℕ) → (x == x) ≡ true
+pub same_octet : (x : ℕ) → (x == x) ≡ true
 same_octet x = grind (arith, nat_tests)
 
-other_octet : (x y : ℕ) → x ≢ y → (x == y) ≡ false
+pub other_octet : (x y : ℕ) → x ≢ y → (x == y) ≡ false
 other_octet x y is = grind (arith, nat_tests)
 
 pub none_other : (place : ℕ) (xs : List ℕ) → first_other place xs xs ≡ None
@@ -24,10 +27,10 @@ some_none : (place : ℕ) → (let o : Option ℕ = Some place in o) ≡ None �
 some_none place is = cc
 
 -- where none is other, they are the ones wanted
-pub all_wanted : (place : ℕ) (wanted found : List ℕ) → length found ≡ length wanted → first_other place wanted found ≡ None → found ≡ wanted
+pub all_wanted : (place : ℕ) (wanted found : List ℕ) → length found ≤ length wanted → first_other place wanted found ≡ None → found ≡ wanted
 all_wanted place [] [] size none = refl
 all_wanted place [] (x ∷ found) size none = absurd (omega (arith, size))
-all_wanted place (octet ∷ wanted) [] size none = absurd (omega (arith, size))
+all_wanted place (octet ∷ wanted) [] size none = absurd (some_none place none)
 all_wanted place (octet ∷ wanted) (x ∷ found) size none = elim (cases_eq x octet) [
   | inl same ↦
       let more : first_other (place + 1) wanted found ≡ None = sym (ap (λ (t : Bool). if t then first_other (place + 1) wanted found else Some place) (ap (λ (k : ℕ). k == octet) same ∙ same_octet octet)) ∙ none in
@@ -53,7 +56,7 @@ pub checked : (site : Site) (x : List ℕ) → IsOurs site x → checked_header 
 checked site x ours =
     let size : ℕ = formatted_size x in
     ap (λ (t : Bool). if t then Err (SmallDevice (length x) size) else own_header site x (foreign_place site.text x)) (not_below size (length x) ours.whole)
-    ∙ ap (own_header site x) (none_foreign site x ours.mark ours.count ours.text)
+    ∙ ap (own_header site x) (none_foreign site x ours.own.mark ours.own.count ours.own.text)
     ∙ ap (λ (t : Bool). if t then Err (Damaged 9) else Ok size) (not_below site.need size ours.enough)
 
 -- what a device opens to whose size is enough and whose gate is open, by its header
@@ -63,14 +66,17 @@ opens_by_header site x enough gate =
     ∙ ap (λ (t : Bool). if t then selected_content site x (checked_header site (length x) x) else Ok nothing) (is_one (get_or x 0 0) gate)
 
 -- this site's header leaves it to the selected area
-pub opens_selected : (site : Site) (x : List ℕ) → IsOurs site x → opened_from site x ≡ or_damaged (content_of (selected_place site.text x) (octets_at (selected_place site.text x) (half_of site.text x) x))
+pub opens_selected : (site : Site) (x : List ℕ) → IsOurs site x → opened_from site x ≡ or_damaged (content_of (selected_place site.text x) (selected_area site.text x))
 opens_selected site x ours = opens_by_header site x (omega (arith, ours.enough, ours.whole)) ours.gate ∙ ap (selected_content site x) (checked site x ours)
 
-pub opens_ours : (site : Site) (x : List ℕ) (content : Content) → IsOurs site x → content_of (selected_place site.text x) (octets_at (selected_place site.text x) (half_of site.text x) x) ≡ Ok content → OpensTo site x content
-opens_ours site x content ours is = opens_selected site x ours ∙ ap or_damaged is
+pub opens_ours : (site : Site) (x : List ℕ) (content : Content) → IsOurs site x → content_of (selected_place site.text x) (selected_area site.text x) ≡ Ok content → OpensTo site x content
+opens_ours site x content ours is = record { enough = omega (arith, ours.enough, ours.whole); holds = inr (ours, computed_holds (selected_place site.text x) (selected_area site.text x) content is) }
 
 pub opens_blank : (site : Site) (x : List ℕ) → site.need ≤ length x → get_or x 0 0 ≢ 1 → OpensTo site x nothing
-opens_blank site x enough shut =
+opens_blank site x enough shut = record { enough = enough; holds = inl (shut, refl) }
+
+pub blank_computed : (site : Site) (x : List ℕ) → site.need ≤ length x → get_or x 0 0 ≢ 1 → opened_from site x ≡ Ok nothing
+blank_computed site x enough shut =
     ap (λ (t : Bool). if t then Err (SmallDevice (length x) site.need) else (if get_or x 0 0 == 1 then selected_content site x (checked_header site (length x) x) else Ok nothing)) (not_below site.need (length x) enough)
     ∙ ap (λ (t : Bool). if t then selected_content site x (checked_header site (length x) x) else Ok nothing) (not_one (get_or x 0 0) shut)
 
@@ -111,19 +117,17 @@ checked_ok site size header formatted is =
       own = second.0;
     }
 
--- a header without foreign octets is this site's
-pub record Owned (site : Site) (header : List ℕ) : Type 0 where
-  pub mark : octets_at 1 8 header ≡ mark
-  pub count : octets_at 17 4 header ≡ big_bytes 4 (length site.text)
-  pub text : octets_at 21 (length site.text) header ≡ site.text
+pub at_most : (n : ℕ) (xs : List ℕ) → length (take n xs) ≤ n
+at_most n xs = omega (arith, length-take n xs)
 
-pub owned : (site : Site) (header : List ℕ) → length (octets_at 1 8 header) ≡ 8 → length (octets_at 17 4 header) ≡ 4 → length (octets_at 21 (length site.text) header) ≡ length site.text → foreign_place site.text header ≡ None → Owned site header
-owned site header l1 l2 l3 none =
-    let n : ℕ = length site.text in
-    let first = or_else_none (first_other 1 mark (octets_at 1 8 header)) (or_else (first_other 17 (big_bytes 4 n) (octets_at 17 4 header)) (first_other 21 site.text (octets_at 21 n header))) none in
-    let second = or_else_none (first_other 17 (big_bytes 4 n) (octets_at 17 4 header)) (first_other 21 site.text (octets_at 21 n header)) first.1 in
+-- a header without foreign octets is this site's
+pub owned : (text header : List ℕ) → foreign_place text header ≡ None → IsOwn text header
+owned text header none =
+    let n : ℕ = length text in
+    let first = or_else_none (first_other 1 mark (octets_at 1 8 header)) (or_else (first_other 17 (big_bytes 4 n) (octets_at 17 4 header)) (first_other 21 text (octets_at 21 n header))) none in
+    let second = or_else_none (first_other 17 (big_bytes 4 n) (octets_at 17 4 header)) (first_other 21 text (octets_at 21 n header)) first.1 in
     record {
-      mark = all_wanted 1 mark (octets_at 1 8 header) l1 first.0;
-      count = all_wanted 17 (big_bytes 4 n) (octets_at 17 4 header) l2 second.0;
-      text = all_wanted 21 site.text (octets_at 21 n header) l3 second.1;
+      mark = all_wanted 1 mark (octets_at 1 8 header) (at_most 8 (drop 1 header)) first.0;
+      count = all_wanted 17 (big_bytes 4 n) (octets_at 17 4 header) (at_most 4 (drop 17 header)) second.0;
+      text = all_wanted 21 text (octets_at 21 n header) (at_most n (drop 21 header)) second.1;
     }

@@ -5,11 +5,13 @@ pub mod Emitting
 pub mod Formatting
 pub mod Fronts
 pub mod Headers
+pub mod Images
 pub mod Opening
 pub mod Parsing
 pub mod Places
 pub mod Reopening
 pub mod Rest
+pub mod Rules
 pub mod Showing
 pub mod Snapshots
 pub mod Standings

@@ -1,13 +1,13 @@
 -- What is read of a journal whose gate is open.
-use Rattle.std.proofs.Common.{◌≡◌, ◌⊎◌, inl, inr, ℕ, ◌+◌, ◌-◌, ◌/◌, ◌%◌, ◌<◌, ◌≤◌, ◌^◌, if◌then◌else◌, List, [], ◌++◌, length, take, get_or, sym, ◌∙◌, ap, subst, arith, Option, Some, None, Result, Ok, Err, nat_lt}
+use Rattle.std.proofs.Common.{◌≡◌, ◌⊎◌, inl, inr, ℕ, ◌+◌, ◌-◌, ◌/◌, ◌%◌, ◌<◌, ◌≤◌, ◌^◌, if◌then◌else◌, List, [], length, take, get_or, sym, ◌∙◌, ap, subst, arith, Option, Some, None, Result, Ok, Err, nat_lt}
 use Rattle.std.proofs.lemmas.List.{take-take}
 use Rattle.byteorder.specs.Endian.{big_number, big_bytes}
 use Rattle.ground_io.specs.Disk.{Disk, octets_at}
 use Rattle.ground_io.specs.Trace.{Told, Adds, Reads, HasSize, disk_of}
 use Rattle.ground_io.specs.declared.entry.Entry.{Entry}
 use Rattle.ground_io.proofs.Crashes.{disk_adds}
-use Rattle.ground_io.proofs.Disks.{length-octets_at}
-use Rattle.alarm_journal.specs.Journal.{Site, Content, mark, formatted_size, content_of, or_else, first_other, foreign_place, checked_header, or_damaged, selected_content}
+use Rattle.alarm_journal.specs.Journal.{LeavesAt, Site, Content, BeginsWith, mark, formatted_size}
+use Rattle.alarm_journal.specs.JournalSteps.{or_else, first_other, foreign_place, checked_header, or_damaged, selected_content}
 use Rattle.alarm_journal.specs.Press.{StandsFor, Settled, IsSound, Begun, Answers, start_of}
 use Rattle.alarm_journal.specs.Areas.{IsRead, IsDamage}
 use Rattle.alarm_journal.specs.Opened.{Shows}
@@ -16,6 +16,8 @@ use Rattle.alarm_journal.specs.declared.open_fault.OpenFault.{OpenFault}
 use Rattle.alarm_journal.specs.declared.open_fault.OpenFault.TheVariants.{DiskFault, SmallDevice, Foreign, Damaged, NoMemory}
 use Rattle.alarm_journal.proofs.Fronts.{slice_front, octet_front}
 use Rattle.alarm_journal.proofs.Headers.{checked_ok, owned, opens_by_header}
+use Rattle.alarm_journal.proofs.Images.{computed_refused}
+use Rattle.alarm_journal.proofs.Rules.{leaves_computed}
 use Rattle.alarm_journal.proofs.Standings.{Heads, area_opens}
 
 -- the header by its size and its first foreign place
@@ -52,14 +54,16 @@ heads site size header c formatted layout found whole gate is =
     let m : ℕ = 22 + n in
     let same = front site header c is found.long in
     let seen = checked_ok site size header formatted found.checked in
-    let own = owned site header (length-octets_at 1 8 header (omega (arith, found.long))) (length-octets_at 17 4 header (omega (arith, found.long))) (length-octets_at 21 n header (omega (arith, found.long))) seen.own in
+    let own = owned site.text header seen.own in
     let size_is : formatted_size header ≡ formatted_size c = ap (λ (l : List ℕ). big_number 8 l) (slice_front m 9 8 header c (omega arith) same) in
     record {
       ours = record {
         gate = gate;
-        mark = sym (slice_front m 1 8 header c (omega arith) same) ∙ own.mark;
-        count = sym (slice_front m 17 4 header c (omega arith) same) ∙ own.count;
-        text = sym (slice_front m 21 n header c (omega arith) same) ∙ own.text;
+        own = record {
+          mark = sym (slice_front m 1 8 header c (omega arith) same) ∙ own.mark;
+          count = sym (slice_front m 17 4 header c (omega arith) same) ∙ own.count;
+          text = sym (slice_front m 21 n header c (omega arith) same) ∙ own.text;
+        };
         enough = subst (λ (k : ℕ). site.need ≤ k) size_is seen.enough;
         whole = subst (λ (k : ℕ). k ≤ length c) size_is (subst (λ (k : ℕ). formatted_size header ≤ k) (sym whole) seen.whole);
       };
@@ -82,7 +86,7 @@ stands site layout c content inner heads read =
       half = heads.half;
       selected = heads.selected;
       closed = λ lt is. read.closed (omega (arith, lt)) is;
-      reads = λ tail. ap (λ (k : ℕ). content_of s (octets_at s k c ++ tail)) inside ∙ read.reads s tail;
+      reads = subst (λ (k : ℕ). BeginsWith (octets_at s k c) content []) (sym inside) read.reads;
     }
 
 pub sound : (size : ℕ) (layout : Layout) (inner : ℕ) → layout.areas + layout.half + layout.half ≤ size → 22 ≤ layout.areas → size < 2 ^ 64 → 4 ≤ inner → inner ≤ layout.half → IsSound size (at_next layout (start_of layout + inner))
@@ -111,19 +115,19 @@ bad_header site size header fault None (Some b) checked long whole enough ab fir
 bad_header site size header fault (Some a) (Some b) checked long whole enough ab first begun =
     let c = (disk_of a).contents in
     let as_read : checked_header site (length c) c ≡ Err fault = ap (λ (k : ℕ). checked_header site k c) whole ∙ header_same site size header c (front site header c first long) ∙ checked in
-    inr (inr (opens_by_header site c (subst (λ (k : ℕ). site.need ≤ k) (sym whole) enough) begun.gate ∙ ap (selected_content site c) as_read))
+    inr (inr (computed_refused site c fault (opens_by_header site c (subst (λ (k : ℕ). site.need ≤ k) (sym whole) enough) begun.gate ∙ ap (selected_content site c) as_read)))
 
 -- a length leaves the area
 bad_area : (site : Site) (size : ℕ) (header : List ℕ) (formatted at : ℕ) (layout : Layout) (a d : Option Told) → Found site size header formatted layout → HasSize size a → Adds a d []
-    → Reads a 0 header → Shows d (λ image. content_of (start_of layout) (octets_at (start_of layout) layout.half image) ≡ Err at) → Begun a → Answers site a d (Err (Damaged at))
+    → Reads a 0 header → Shows d (λ image. LeavesAt (start_of layout) (octets_at (start_of layout) layout.half image) at) → Begun a → Answers site a d (Err (Damaged at))
 bad_area site size header formatted at layout a None found whole ad first bad begun = tt
 bad_area site size header formatted at layout None (Some d) found whole ad first bad begun = absurd ad
 bad_area site size header formatted at layout (Some a) (Some d) found whole ad first bad begun =
     let c = (disk_of a).contents in
     let head = heads site size header c formatted layout found whole begun.gate first in
-    let here : content_of (start_of layout) (octets_at (start_of layout) layout.half c) ≡ Err at =
-    subst (λ (k : Disk). content_of (start_of layout) (octets_at (start_of layout) layout.half k.contents) ≡ Err at) (same_disk a d ad) bad in
-    inr (inr (area_opens site layout c head ∙ ap or_damaged here))
+    let here : LeavesAt (start_of layout) (octets_at (start_of layout) layout.half c) at =
+    subst (λ (k : Disk). LeavesAt (start_of layout) (octets_at (start_of layout) layout.half k.contents) at) (same_disk a d ad) bad in
+    inr (inr (computed_refused site c (Damaged at) (area_opens site layout c head ∙ ap or_damaged (leaves_computed (start_of layout) (octets_at (start_of layout) layout.half c) at here))))
 
 -- a failing device, or want of memory
 pub no_answer : (site : Site) (fault : OpenFault) (a b : Option Told) (entries : List Entry) → (fault ≡ DiskFault) ⊎ (fault ≡ NoMemory) → Adds a b entries → Answers site a b (Err fault)
@@ -134,7 +138,7 @@ no_answer site fault (Some a) (Some b) entries (inr is) adds = inr (inl is)
 
 -- whatever came in the way of reading the area
 pub no_area : (site : Site) (size : ℕ) (header : List ℕ) (formatted : ℕ) (layout : Layout) (fault : OpenFault) (a d : Option Told) → Found site size header formatted layout → HasSize size a → Adds a d []
-    → Reads a 0 header → IsDamage d (λ at image. content_of (start_of layout) (octets_at (start_of layout) layout.half image) ≡ Err at) fault → Begun a → Answers site a d (Err fault)
+    → Reads a 0 header → IsDamage d (λ at image. LeavesAt (start_of layout) (octets_at (start_of layout) layout.half image) at) fault → Begun a → Answers site a d (Err fault)
 no_area site size header formatted layout fault a d found whole ad first (inl disk) begun = no_answer site fault a d [] (inl disk) ad
 no_area site size header formatted layout fault a d found whole ad first (inr (inl memory)) begun = no_answer site fault a d [] (inr memory) ad
 no_area site size header formatted layout fault a d found whole ad first (inr (inr (at, is, bad))) begun =

@@ -5,14 +5,15 @@ use Rattle.ground_io.specs.Trace.{Told, Adds, HasSize, disk_of}
 use Rattle.ground_io.specs.declared.entry.Entry.{Entry}
 use Rattle.ground_io.specs.declared.entry.Entry.TheVariants.{Synced}
 use Rattle.ground_io.proofs.Crashes.{only_read, adds_both, disk_adds, always_weaker}
-use Rattle.alarm_journal.specs.Journal.{Site, Content, nothing, OpensTo, opened_from, heading}
+use Rattle.alarm_journal.specs.Journal.{Site, Content, nothing, IsRefused, OpenAlike, OpensTo, heading}
 use Rattle.alarm_journal.specs.Opened.{Shows}
 use Rattle.alarm_journal.specs.Press.{Settled, IsAtMostSynced, IsSound, Begun, IsBlank, Blank, MayFormat, Reopens, ReopensSynced, Answers, WasBlank, IsOpening}
 use Rattle.alarm_journal.specs.Protocol.{AddsSome, Leads, two_writes, IsTwoCutShort}
 use Rattle.alarm_journal.specs.declared.layout.Layout.{Layout}
 use Rattle.alarm_journal.specs.declared.open_fault.OpenFault.{OpenFault}
 use Rattle.alarm_journal.specs.declared.open_fault.OpenFault.TheVariants.{SmallDevice}
-use Rattle.alarm_journal.proofs.Headers.{opens_blank, opens_small}
+use Rattle.alarm_journal.proofs.Headers.{opens_blank}
+use Rattle.alarm_journal.proofs.Images.{same_alike, both_alike}
 use Rattle.alarm_journal.proofs.Rest.{opens_now}
 
 -- once the sync was done, it was done or failed
@@ -29,7 +30,7 @@ stays site (Some a) (Some x) adds = record {
   entries = [];
   adds = adds;
   quiet = tt;
-  always = λ image may. ap (opened_from site) (only_read (disk_of a).contents image may);
+  always = λ image may. same_alike site image (disk_of a).contents (only_read (disk_of a).contents image may);
 }
 
 -- once the disk was synced
@@ -56,7 +57,7 @@ begun_now (Some a) (Some z) (Some r) flag az zr reads is =
 contents_then : (a r : Told) → Adds (Some a) (Some r) (Synced ∷ []) → (disk_of r).contents ≡ (disk_of a).contents
 contents_then a r adds = ap (λ (k : Disk). k.contents) (synced a r adds)
 
-blank_then : (site : Site) (size : ℕ) (a r : Told) → Adds (Some a) (Some r) (Synced ∷ []) → IsBlank r → length (disk_of a).contents ≡ size → site.need ≤ size → opened_from site (disk_of a).contents ≡ Ok nothing
+blank_then : (site : Site) (size : ℕ) (a r : Told) → Adds (Some a) (Some r) (Synced ∷ []) → IsBlank r → length (disk_of a).contents ≡ size → site.need ≤ size → OpensTo site (disk_of a).contents nothing
 blank_then site size a r adds blank whole enough =
     opens_blank site (disk_of a).contents (omega (arith, whole, enough)) (λ is. blank.gate (ap (λ (l : List ℕ). get_or l 0 0) (contents_then a r adds) ∙ is))
 
@@ -70,29 +71,29 @@ formatting site size (Some a) (Some r) (Some f) whole enough ar blank formats =
       entries = formats.entries;
       adds = adds_both (Some a) (Some r) (Some f) (Synced ∷ []) formats.entries ar formats.adds;
       quiet = formats.quiet;
-      always = subst (λ (k : Disk). Always (λ image. opened_from site image ≡ opened_from site (disk_of a).contents) k formats.entries) (synced a r ar)
-          (always_weaker (λ image. OpensTo site image nothing) (λ image. opened_from site image ≡ opened_from site (disk_of a).contents) (λ image opens. opens ∙ sym before) (disk_of r) formats.entries formats.always);
+      always = subst (λ (k : Disk). Always (λ image. OpenAlike site image (disk_of a).contents) k formats.entries) (synced a r ar)
+          (always_weaker (λ image. OpensTo site image nothing) (λ image. OpenAlike site image (disk_of a).contents) (λ image opens. both_alike site image (disk_of a).contents nothing opens before) (disk_of r) formats.entries formats.always);
     }
 
 pub small_answer : (site : Site) (size : ℕ) (a z : Option Told) → HasSize size a → size < site.need → Adds a z (Synced ∷ []) → Answers site a z (Err (SmallDevice size site.need))
 small_answer site size a None whole small adds = tt
 small_answer site size None (Some z) whole small adds = absurd adds
 small_answer site size (Some a) (Some z) whole small adds =
-    inr (inr (opens_small site (disk_of a).contents (omega (arith, whole, small)) ∙ ap (λ (k : ℕ). Err (SmallDevice k site.need)) whole))
+    inr (inr (sym whole, small, inl refl))
 
 pub answers_then : (site : Site) (a r d : Option Told) (answer : Result Content OpenFault) → Adds a r (Synced ∷ []) → Answers site r d answer → Answers site a d answer
 answers_then site a r None answer adds answers = tt
 answers_then site a None (Some d) answer adds answers = absurd answers
 answers_then site None (Some r) (Some d) answer adds answers = absurd adds
-answers_then site (Some a) (Some r) (Some d) (Ok content) adds answers = ap (opened_from site) (sym (contents_then a r adds)) ∙ answers
+answers_then site (Some a) (Some r) (Some d) (Ok content) adds answers = subst (λ (l : List ℕ). OpensTo site l content) (contents_then a r adds) answers
 answers_then site (Some a) (Some r) (Some d) (Err fault) adds answers =
-    ⊎_elim (λ disk. inl disk) (λ more. inr (⊎_elim (λ memory. inl memory) (λ is. inr (ap (opened_from site) (sym (contents_then a r adds)) ∙ is)) more)) answers
+    ⊎_elim (λ disk. inl disk) (λ more. inr (⊎_elim (λ memory. inl memory) (λ is. inr (subst (λ (l : List ℕ). IsRefused site l fault) (contents_then a r adds) is)) more)) answers
 
 pub answers_read : (site : Site) (layout : Layout) (size : ℕ) (content : Content) (a d : Option Told) → IsSound size layout → Adds a d (Synced ∷ []) → Settled site layout d content → Answers site a d (Ok content)
 answers_read site layout size content a None sound ad settled = tt
 answers_read site layout size content None (Some d) sound ad settled = absurd ad
 answers_read site layout size content (Some a) (Some d) sound ad settled =
-    ap (opened_from site) (sym (contents_then a d ad)) ∙ opens_now site layout (disk_of d).contents content size sound settled.stands
+    subst (λ (l : List ℕ). OpensTo site l content) (contents_then a d ad) (opens_now site layout (disk_of d).contents content size sound settled.stands)
 
 pub answers_blank : (site : Site) (size : ℕ) (a r f : Option Told) (entries : List Entry) → HasSize size a → site.need ≤ size → Adds a r (Synced ∷ []) → Blank r → Adds r f entries → Answers site a f (Ok nothing)
 answers_blank site size a r None entries whole enough ar blank rf = tt

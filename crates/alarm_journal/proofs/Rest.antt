@@ -5,7 +5,8 @@ use Rattle.std.proofs.lemmas.List.{append-nil}
 use Rattle.ground_io.specs.Disk.{Each, octets_at}
 use Rattle.ground_io.specs.Trace.{Told, disk_of}
 use Rattle.ground_io.proofs.Crashes.{only_read}
-use Rattle.alarm_journal.specs.Journal.{Site, Content, OpensTo, batches_from}
+use Rattle.alarm_journal.specs.Journal.{Site, Content, OpensTo}
+use Rattle.alarm_journal.specs.JournalSteps.{batches_from}
 use Rattle.alarm_journal.specs.Press.{StandsFor, Settled, Lasts, IsSound, end_of, behind_batch, behind_snapshot}
 use Rattle.alarm_journal.specs.declared.layout.Layout.{Layout}
 use Rattle.alarm_journal.proofs.Standings.{reads_on, reads_closed}

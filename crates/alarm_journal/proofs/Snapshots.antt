@@ -1,33 +1,35 @@
 -- What a crash may leave at each moment of a snapshot's commit.
 use Rattle.std.proofs.Common.{◌≡◌, ◌⊎◌, ⊎_elim, add_assoc, inl, inr, ℕ, zero, ◌+◌, ◌-◌, ◌/◌, ◌%◌, ◌<◌, ◌≤◌, ◌^◌, Bool, true, false, not, if◌then◌else◌, List, [], ◌∷◌, ◌++◌, length, take, drop, get_or, refl, sym, ◌∙◌, ap, subst, arith, append_assoc, length-append, Ok, Option, Some, None}
-use Rattle.std.proofs.lemmas.List.{append-nil, take_at, take_all, drop-drop, get_or-drop, get_or-take, get_or_at}
+use Rattle.std.proofs.lemmas.List.{append-nil, take_at, drop-drop, get_or-drop, get_or-take, get_or_at}
 use Rattle.std.proofs.Math.Seq.{take-append-add}
 use Rattle.std.proofs.lemmas.Bool.{cases_eq, cases_lt}
-use Rattle.byteorder.specs.Endian.{big_number, big_bytes}
+use Rattle.byteorder.specs.Endian.{big_bytes}
 use Rattle.ground_io.specs.Disk.{Disk, Each, octets_at, with_octets}
 use Rattle.ground_io.specs.Trace.{Told, HasSize, disk_of}
 use Rattle.ground_io.proofs.Crashes.{only_read, one_loose}
 use Rattle.ground_io.proofs.Disks.{length-with_octets}
-use Rattle.alarm_journal.specs.Journal.{Site, Content, OpensTo, content_of, batches_from, with_more, framed, only_snapshot, half_of}
-use Rattle.alarm_journal.specs.Press.{IsOurs, StandsFor, IsSound, Settled, start_of, end_of, other_of, selector_of, behind_snapshot}
+use Rattle.alarm_journal.specs.Journal.{Site, Content, BeginsWith, OpensTo, framed, only_snapshot, half_of}
+use Rattle.alarm_journal.specs.JournalSteps.{content_of, batches_from, with_more}
+use Rattle.alarm_journal.specs.Journal.{IsOurs}
+use Rattle.alarm_journal.specs.Press.{StandsFor, IsSound, Settled, start_of, end_of, other_of, selector_of, behind_snapshot}
 use Rattle.alarm_journal.specs.declared.layout.Layout.{Layout}
-use Rattle.alarm_journal.proofs.Batches.{batches_closed, length-framed, reads_back}
+use Rattle.alarm_journal.proofs.Batches.{batches_closed, length-four, length-framed, reads_back}
 use Rattle.alarm_journal.proofs.Fronts.{slice_front, slice_back, take_front, put_front, put_from, put_past}
 use Rattle.alarm_journal.proofs.Standings.{area_on, start_low, Heads, heads_front, ours_front, opens_area}
 use Rattle.alarm_journal.proofs.Rest.{opens_now}
-use Rattle.alarm_journal.proofs.Parsing.{reads_snapshot}
+use Rattle.alarm_journal.proofs.Rules.{begins_snapshot, reads_any}
 use Rattle.alarm_journal.proofs.TwoWrites.{TwoWrites, Ready, Ended}
 
--- a length and a snapshot, whatever stands behind
+-- a length and a snapshot
+state_alone : (state : List ℕ) → length state < 2 ^ 32 → BeginsWith (big_bytes 4 (length state) ++ state) (only_snapshot state) []
+state_alone state few = begins_snapshot (big_bytes 4 (length state)) state (length-four (length state), reads_back (length state) few)
+
+-- whatever stands behind
 content_state : (place : ℕ) (state tail : List ℕ) → length state < 2 ^ 32 → content_of place ((big_bytes 4 (length state) ++ state) ++ tail) ≡ with_more (only_snapshot state) (batches_from (place + (4 + length state)) zero tail)
 content_state place state tail few =
-    let area : List ℕ = big_bytes 4 (length state) ++ state in
-    let n : ℕ = length state in
-    let long : length area ≡ 4 + n = length-append (big_bytes 4 n) state in
-    let all : take (4 + n) area ≡ area = take_all (4 + n) area (omega (arith, long)) in
-    let number : n ≡ big_number 4 (take 4 area) = sym (reads_back n few) in
-    let read = reads_snapshot area n (omega (arith, long)) number place tail in
-    ap (λ (l : List ℕ). content_of place (l ++ tail)) (sym all) ∙ read ∙ (λ i. with_more (only_snapshot (take_all n state (omega arith) i)) (batches_from (place + (4 + n)) zero tail))
+    let lead : List ℕ = big_bytes 4 (length state) ++ state in
+    let long : length lead ≡ 4 + length state = length-append (big_bytes 4 (length state)) state in
+    reads_any lead (only_snapshot state) (state_alone state few) place tail ∙ ap (λ (k : ℕ). with_more (only_snapshot state) (batches_from (place + k) zero tail)) long
 
 -- what stands in the selected area now
 area_now : (site : Site) (layout : Layout) (c : List ℕ) (content : Content) (size : ℕ) → IsSound size layout → StandsFor site layout c content → content_of (start_of layout) (octets_at (start_of layout) layout.half c) ≡ Ok content
@@ -243,7 +245,7 @@ module _ (site : Site) (layout : Layout) (content : Content) (state : List ℕ) 
           half = (ours_kept c2 long2 front2).1;
           selected = ap (λ (k : ℕ). k % 2) octet ∙ selector_behind layout.second;
           closed = λ _ is. zero_not_one (sym gate ∙ is);
-          reads = λ tail. (λ i. content_of (begins i) (part i ++ tail)) ∙ content_state p1 state tail few ∙ ap (λ (p : ℕ). with_more (only_snapshot state) (batches_from p zero tail)) (sym (add_assoc p1 4 n));
+          reads = subst (λ (l : List ℕ). BeginsWith l (only_snapshot state) []) (sym part) (state_alone state few);
         }
       where
         zero_not_one : zero ≡ 1 → ⊥

@@ -1,15 +1,18 @@
 -- Images that keep what stands in front of a place.
-use Rattle.std.proofs.Common.{◌≡◌, ◌≢◌, ℕ, zero, suc, ◌+◌, ◌-◌, ◌%◌, ◌<◌, ◌≤◌, ◌^◌, ◌==◌, ◌/◌, if◌then◌else◌, add-zero, Bool, true, false, List, [], ◌∷◌, ◌++◌, length, take, drop, get_or, refl, sym, ◌∙◌, ap, subst, arith, append_assoc, length-append, Ok}
-use Rattle.std.proofs.lemmas.List.{append-nil, drop-drop, get_or-take, get_or-drop, get_or_at, take_at}
+use Rattle.std.proofs.Common.{◌≡◌, ◌≢◌, ℕ, zero, suc, ◌+◌, ◌-◌, ◌%◌, ◌<◌, ◌≤◌, ◌^◌, ◌==◌, ◌/◌, if◌then◌else◌, add-zero, Bool, true, false, List, [], ◌∷◌, ◌++◌, length, take, drop, get_or, refl, sym, ◌∙◌, ap, subst, arith, append_assoc, length-append, length-drop, Ok}
+use Rattle.std.proofs.lemmas.List.{append-nil, drop-drop, get_or-take, get_or-drop, get_or_at, length-take-le, take_at}
 use Rattle.std.proofs.Math.Seq.{take-add, take-append-add}
 use Rattle.byteorder.specs.Endian.{big_number, big_bytes}
 use Rattle.ground_io.specs.Disk.{octets_at}
-use Rattle.alarm_journal.specs.Journal.{Site, Content, with_batch, with_bodies, OpensTo, opened_from, or_damaged, formatted_size, half_of, selected_place, content_of, batches_from, with_more, in_front, framed}
-use Rattle.alarm_journal.specs.Press.{IsOurs, StandsFor, IsSound, start_of, end_of}
+use Rattle.alarm_journal.specs.Journal.{Site, Content, BeginsWith, with_batch, with_bodies, OpensTo, formatted_size, half_of, selected_area, selected_place, framed}
+use Rattle.alarm_journal.specs.JournalSteps.{opened_from, or_damaged, content_of, batches_from, with_more}
+use Rattle.alarm_journal.specs.Journal.{IsOurs}
+use Rattle.alarm_journal.specs.Press.{StandsFor, IsSound, start_of, end_of}
 use Rattle.alarm_journal.specs.declared.layout.Layout.{Layout}
-use Rattle.alarm_journal.proofs.Batches.{batch_open, batch_framed, batches_closed, length-framed, more_twice}
+use Rattle.alarm_journal.proofs.Batches.{batch_framed, batches_closed, length-four, length-framed, reads_back}
 use Rattle.alarm_journal.proofs.Fronts.{slice_front, octet_front, take_front}
-use Rattle.alarm_journal.proofs.Headers.{opens_selected}
+use Rattle.alarm_journal.proofs.Headers.{opens_ours, opens_selected}
+use Rattle.alarm_journal.proofs.Rules.{begins_batch, reads_any}
 
 start_is : (q a h : ℕ) (b : Bool) → q ≡ (if b then 1 else 0) → (if q == 0 then a else a + h) ≡ (if b then a + h else a)
 start_is q a h true is = ap (λ (n : ℕ). if n == 0 then a else a + h) is
@@ -21,6 +24,13 @@ start_low layout = low layout.second layout.areas layout.half
     low : (b : Bool) (a h : ℕ) → a ≤ (if b then a + h else a)
     low true a h = omega arith
     low false a h = omega arith
+
+start_high : (layout : Layout) → start_of layout ≤ layout.areas + layout.half
+start_high layout = high layout.second layout.areas layout.half
+  where
+    high : (b : Bool) (a h : ℕ) → (if b then a + h else a) ≤ a + h
+    high true a h = omega arith
+    high false a h = omega arith
 
 -- the header and the selector of a device
 pub record Heads (site : Site) (layout : Layout) (x : List ℕ) : Type 0 where
@@ -34,9 +44,11 @@ ours_front site m x c enough size same ours =
     let formatted : formatted_size x ≡ formatted_size c = ap (λ (l : List ℕ). big_number 8 l) (slice_front m 9 8 x c (omega (arith, enough)) same) in (
       record {
         gate = octet_front m 0 x c (omega (arith, enough)) same ∙ ours.gate;
-        mark = slice_front m 1 8 x c (omega (arith, enough)) same ∙ ours.mark;
-        count = slice_front m 17 4 x c (omega (arith, enough)) same ∙ ours.count;
-        text = slice_front m 21 (length site.text) x c enough same ∙ ours.text;
+        own = record {
+          mark = slice_front m 1 8 x c (omega (arith, enough)) same ∙ ours.own.mark;
+          count = slice_front m 17 4 x c (omega (arith, enough)) same ∙ ours.own.count;
+          text = slice_front m 21 (length site.text) x c enough same ∙ ours.own.text;
+        };
         enough = subst (λ (n : ℕ). site.need ≤ n) (sym formatted) ours.enough;
         whole = subst (λ (n : ℕ). n ≤ length x) (sym formatted) (subst (λ (n : ℕ). formatted_size c ≤ n) (sym size) ours.whole);
       },
@@ -54,15 +66,18 @@ heads_front site layout x c size same heads =
     }
 
 -- what a device with this header opens to
-pub area_opens : (site : Site) (layout : Layout) (x : List ℕ) → Heads site layout x → opened_from site x ≡ or_damaged (content_of (start_of layout) (octets_at (start_of layout) layout.half x))
-area_opens site layout x heads =
+area_is : (site : Site) (layout : Layout) (x : List ℕ) → Heads site layout x → content_of (selected_place site.text x) (selected_area site.text x) ≡ content_of (start_of layout) (octets_at (start_of layout) layout.half x)
+area_is site layout x heads =
     let start : selected_place site.text x ≡ start_of layout =
     start_is (get_or x (21 + length site.text) 0 % 2) (22 + length site.text) (half_of site.text x) layout.second heads.selected
     ∙ (λ i. if layout.second then (sym heads.areas i) + heads.half i else sym heads.areas i) in
-    opens_selected site x heads.ours ∙ (λ i. or_damaged (content_of (start i) (octets_at (start i) (heads.half i) x)))
+    λ i. content_of (start i) (octets_at (start i) (heads.half i) x)
+
+pub area_opens : (site : Site) (layout : Layout) (x : List ℕ) → Heads site layout x → opened_from site x ≡ or_damaged (content_of (start_of layout) (octets_at (start_of layout) layout.half x))
+area_opens site layout x heads = opens_selected site x heads.ours ∙ ap or_damaged (area_is site layout x heads)
 
 pub opens_area : (site : Site) (layout : Layout) (x : List ℕ) (content : Content) → Heads site layout x → content_of (start_of layout) (octets_at (start_of layout) layout.half x) ≡ Ok content → OpensTo site x content
-opens_area site layout x content heads is = area_opens site layout x heads ∙ ap or_damaged is
+opens_area site layout x content heads is = opens_ours site x content heads.ours (area_is site layout x heads ∙ is)
 
 module _ (site : Site) (layout : Layout) (c : List ℕ) (content : Content) (size : ℕ) (sound : IsSound size layout) (stands : StandsFor site layout c content) where
   pub heads : Heads site layout c
@@ -70,6 +85,18 @@ module _ (site : Site) (layout : Layout) (c : List ℕ) (content : Content) (siz
 
   low : layout.areas ≤ layout.next
   low = omega (arith, start_low layout, sound.behind)
+
+  -- the next gate is on the device, or at its end
+  next_on : layout.next ≤ length c
+  next_on = omega (arith, sound.behind, sound.within, stands.half, stands.areas, stands.ours.whole, start_high layout)
+
+  -- what stands is read as it, whatever stands behind it
+  reads : (tail : List ℕ) → content_of (start_of layout) (octets_at (start_of layout) (layout.next - start_of layout) c ++ tail) ≡ with_more content (batches_from layout.next zero tail)
+  reads tail =
+      let s = start_of layout in
+      let long : length (octets_at s (layout.next - s) c) ≡ layout.next - s = length-take-le (layout.next - s) (drop s c) (omega (arith, length-drop s c, next_on)) in
+      let up_to : s + length (octets_at s (layout.next - s) c) ≡ layout.next = omega (arith, long, sound.behind) in
+      reads_any (octets_at s (layout.next - s) c) content stands.reads s tail ∙ ap (λ (k : ℕ). with_more content (batches_from k zero tail)) up_to
 
   -- an image with this front is read as what stands, and what it has behind
   pub area_on : (x : List ℕ) → take layout.next x ≡ take layout.next c → content_of (start_of layout) (octets_at (start_of layout) layout.half x) ≡ with_more content (batches_from layout.next zero (octets_at layout.next (end_of layout - layout.next) x))
@@ -82,7 +109,7 @@ module _ (site : Site) (layout : Layout) (c : List ℕ) (content : Content) (siz
       let parts : octets_at s layout.half x ≡ octets_at s before c ++ octets_at layout.next behind x =
       ap (λ (n : ℕ). octets_at s n x) whole ∙ take-add before behind (drop s x)
       ∙ (λ i. slice_front layout.next s before x c (omega (arith, up_to)) same i ++ take behind ((drop-drop before s x ∙ ap (λ (n : ℕ). drop n x) up_to) i)) in
-      ap (content_of s) parts ∙ stands.reads (octets_at layout.next behind x)
+      ap (content_of s) parts ∙ reads (octets_at layout.next behind x)
 
   pub reads_on : (x : List ℕ) (more : List (List ℕ)) → length x ≡ length c → take layout.next x ≡ take layout.next c → batches_from layout.next zero (octets_at layout.next (end_of layout - layout.next) x) ≡ Ok more → OpensTo site x (with_bodies content more)
   reads_on x more long same is =
@@ -131,7 +158,6 @@ module _ (site : Site) (layout : Layout) (c : List ℕ) (content : Content) (siz
       let up_to : s + before ≡ layout.next = omega (arith, sound.behind) in
       let lead_long : length lead ≡ 4 + length body = length-append (big_bytes 4 (length body)) body in
       let mid_long : length mid ≡ 5 + length body = five (length lead) lead_long in
-      let ends : layout.next + 5 + length body ≡ next = omega (arith, next_is, length-framed body) in
       let longer : next - s ≡ before + length mid = omega (arith, sound.behind, next_is, length-framed body, mid_long) in
       let split : framed body ++ more ≡ lead ++ 0 ∷ more =
       ap (λ (l : List ℕ). l ++ more) (sym (append_assoc (big_bytes 4 (length body)) body (0 ∷ []))) ∙ append_assoc lead (0 ∷ []) more in
@@ -148,9 +174,7 @@ module _ (site : Site) (layout : Layout) (c : List ℕ) (content : Content) (siz
         selected = head.selected;
         closed = λ _ is. zero_not_one (sym (get_or_at mid 0 more 0 (length mid) refl) ∙ ap (λ (l : List ℕ). get_or l (length mid) 0) (sym behind) ∙ get_or-drop layout.next x (length mid) 0
             ∙ ap (λ (n : ℕ). get_or x n 0) (omega (arith, next_is, length-framed body, mid_long)) ∙ is);
-        reads = λ tail. ap (λ (l : List ℕ). content_of s (l ++ tail)) part ∙ ap (content_of s) (append_assoc (octets_at s before c) mid tail) ∙ stands.reads (mid ++ tail)
-            ∙ ap (with_more content) (ap (λ (l : List ℕ). batches_from layout.next zero (1 ∷ l)) (append_assoc (big_bytes 4 (length body)) body tail) ∙ batch_open layout.next body tail few ∙ ap (λ (p : ℕ). in_front body (batches_from p zero tail)) ends)
-            ∙ more_twice content body (batches_from next zero tail);
+        reads = subst (λ (l : List ℕ). BeginsWith l (with_batch content body) []) (sym part) (begins_batch (octets_at s before c) content (big_bytes 4 (length body)) body stands.reads (length-four (length body), reads_back (length body) few));
       }
     where
       zero_not_one : zero ≡ 1 → ⊥

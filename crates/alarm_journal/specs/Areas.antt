@@ -1,9 +1,9 @@
 -- What was read of an area.
-use Rattle.std.specs.Prelude.{◌≡◌, ◌≢◌, ◌⊎◌, ◌<◌, ◌≤◌, ℕ, ◌+◌, List, ◌++◌, length, take, drop, slice_index, Option}
+use Rattle.std.specs.Prelude.{◌≡◌, ◌≢◌, ◌⊎◌, ◌<◌, ◌≤◌, ℕ, ◌+◌, List, [], length, slice_index, Option}
 use Rattle.byteorder.specs.Endian.{big_number}
 use Rattle.ground_io.specs.Disk.{octets_at}
 use Rattle.ground_io.specs.Trace.{Told}
-use Rattle.alarm_journal.specs.Journal.{Content, content_of, batches_from, with_more}
+use Rattle.alarm_journal.specs.Journal.{Content, BeginsWith}
 use Rattle.alarm_journal.specs.Opened.{LieBetween, Shows, found_at, pieces, sum_of}
 use Rattle.alarm_journal.specs.declared.area.Area.{Area}
 use Rattle.alarm_journal.specs.declared.body.Body.{Body}
@@ -11,14 +11,10 @@ use Rattle.alarm_journal.specs.declared.open_fault.OpenFault.{OpenFault}
 use Rattle.alarm_journal.specs.declared.open_fault.OpenFault.TheVariants.{Damaged, DiskFault, NoMemory}
 use Rattle.alarm_journal.specs.declared.opened.Opened.{Opened}
 
--- what stands before the next gate is this, whatever stands behind it
-abbrev pub ReadsAs : List ℕ → Content → ℕ → Type 0
-ReadsAs octets content next = (place : ℕ) (tail : List ℕ) → content_of place (take next octets ++ tail) ≡ with_more content (batches_from (place + next) 0 tail)
-
--- and in an area of so many octets from a place of the device on, that gate is closed, or the area is full
+-- In an area of so many octets from a place of the device on, this stands up to the next gate, and that gate is closed, or the area is full.
 pub record IsRead (start half next : ℕ) (content : Content) (image : List ℕ) : Type 0 where
   pub closed : next < half → slice_index image (start + next) ≢ 1
-  pub reads : ReadsAs (drop start image) content next
+  pub reads : BeginsWith (octets_at start next image) content []
 
 -- an open gate, and the length of its body
 pub record IsHead (place count : ℕ) (image : List ℕ) : Type 0 where
@@ -43,7 +39,7 @@ pub record IsLaid (start next : ℕ) (opened : Opened) : Type 0 where
 
 -- Of an area that begins at a place: its snapshot and its batches up to a gate were read, and stand there.
 pub record IsSoFar (start : ℕ) (snapshot batches : List ℕ) (bodies : List Body) (next : ℕ) (image : List ℕ) : Type 0 where
-  pub reads : ReadsAs (drop start image) (record { snapshot = snapshot; bodies = pieces bodies batches }) next
+  pub reads : BeginsWith (octets_at start next image) (record { snapshot = snapshot; bodies = pieces bodies batches }) []
   pub stands : octets_at (start + 4) (length snapshot) image ≡ snapshot
   pub found : found_at image bodies ≡ pieces bodies batches
 

@@ -1,9 +1,10 @@
 -- What emissions leave in the trace.
-use Rattle.std.specs.Prelude.{◌≡◌, ℕ, ◌+◌, List, [], ◌∷◌, Option, Some, None, ⊤}
+use Rattle.std.specs.Prelude.{◌≡◌, ℕ, ◌+◌, List, [], ◌∷◌, Option, Some}
 use Rattle.bac_values.specs.declared.note.Send.{Send}
 use Rattle.ground_io.specs.Trace.{Told, Adds}
 use Rattle.ground_io.specs.declared.entry.Entry.{Entry}
 use Rattle.ground_io.specs.declared.entry.Entry.TheVariants.{Emitted, Lost}
+use Rattle.alarm_journal.specs.Protocol.{IfToldOn}
 
 -- One entry for each datagram, in order: so many of them were sent, and so many lost, which may have gone out in part.
 abbrev pub AreEmissions : List Send → ℕ → ℕ → List Entry → Type 0
@@ -20,6 +21,4 @@ pub record EmitsOnly (sends : List Send) (sent lost : ℕ) (old new : Told) : Ty
 
 -- where it tells
 abbrev pub EmitsAll : List Send → ℕ → ℕ → Option Told → Option Told → Type 0
-EmitsAll sends sent lost old None = ⊤
-EmitsAll sends sent lost None (Some new) = ⊥
-EmitsAll sends sent lost (Some old) (Some new) = EmitsOnly sends sent lost old new
+EmitsAll sends sent lost old new = IfToldOn old new (EmitsOnly sends sent lost)

@@ -10,11 +10,11 @@
 --
 -- An area is the length of its snapshot in four octets, where 0 is no snapshot, the snapshot, and its batches. A batch
 -- is a gate, the length of its body in four octets, and the body. Only a gate of 1 opens a batch; any other ends them.
-use Rattle.std.specs.Prelude.{◌≡◌, ◌==◌, ℕ, ◌+◌, ◌-◌, ◌/◌, ◌%◌, zero, suc, List, [], ◌∷◌, ◌++◌, length, take, drop, slice_index, nat_lt, flat_map, Option, Some, None, Result, Ok, Err, if◌then◌else◌}
+use Rattle.std.specs.Prelude.{◌≡◌, ◌≢◌, ◌⊎◌, ◌↔◌, ◌<◌, ◌≤◌, ◌==◌, ℕ, ◌+◌, ◌-◌, ◌/◌, ◌%◌, List, [], ◌∷◌, ◌++◌, length, take, slice_get, slice_index, flat_map, if◌then◌else◌}
 use Rattle.byteorder.specs.Endian.{big_number, big_bytes}
 use Rattle.ground_io.specs.Disk.{octets_at}
 use Rattle.alarm_journal.specs.declared.open_fault.OpenFault.{OpenFault}
-use Rattle.alarm_journal.specs.declared.open_fault.OpenFault.TheVariants.{SmallDevice, Foreign, Damaged}
+use Rattle.alarm_journal.specs.declared.open_fault.OpenFault.TheVariants.{DiskFault, SmallDevice, Foreign, Damaged, NoMemory}
 
 -- whose journal it is: the site's text, and how many octets the device must have
 pub record Site : Type 0 where
@@ -62,74 +62,99 @@ half_of text image = (formatted_size image - 22 - length text) / 2
 abbrev pub selected_place : List ℕ → List ℕ → ℕ
 selected_place text image = if slice_index image (21 + length text) % 2 == 0 then 22 + length text else 22 + length text + half_of text image
 
--- a body in front of those that are read behind it, where they are read
-abbrev pub in_front : List ℕ → Result (List (List ℕ)) ℕ → Result (List (List ℕ)) ℕ
-in_front body (Ok bodies) = Ok (body ∷ bodies)
-in_front body (Err place) = Err place
+-- its octets
+abbrev pub selected_area : List ℕ → List ℕ → List ℕ
+selected_area text image = octets_at (selected_place text image) (half_of text image) image
 
--- The bodies of the open batches from a place on, where so many octets of a body come first that was read already; or
--- the place of the first length that leaves the area.
-abbrev pub batches_from : ℕ → ℕ → List ℕ → Result (List (List ℕ)) ℕ
-batches_from place zero [] = Ok []
-batches_from place zero (gate ∷ a ∷ b ∷ c ∷ d ∷ rest) =
-    if gate == 1 then (if nat_lt (length rest) (big_number 4 (a ∷ b ∷ c ∷ d ∷ [])) then Err (place + 1) else in_front (take (big_number 4 (a ∷ b ∷ c ∷ d ∷ [])) rest) (batches_from (place + 5) (big_number 4 (a ∷ b ∷ c ∷ d ∷ [])) rest)) else Ok []
-batches_from place zero (gate ∷ rest) = if gate == 1 then Err (place + 1) else Ok []
-batches_from place (suc left) [] = Ok []
-batches_from place (suc left) (octet ∷ rest) = batches_from (place + 1) left rest
+-- four octets that tell a number
+abbrev pub Tell : List ℕ → ℕ → Type 0
+Tell four number = (length four ≡ 4) × (big_number 4 four ≡ number)
 
--- a content with the batches that were read behind it, where they were read
-abbrev pub with_more : Content → Result (List (List ℕ)) ℕ → Result Content ℕ
-with_more content (Ok more) = Ok (with_bodies content more)
-with_more content (Err place) = Err place
+-- Open batches stand first, with these bodies, and behind them the rest: each is a gate of 1, the length of its body in four octets, and the body.
+abbrev pub AreBatches : List ℕ → List (List ℕ) → List ℕ → Type 0
+AreBatches octets [] rest = octets ≡ rest
+AreBatches octets (body ∷ more) rest = (four : List ℕ) × (behind : List ℕ) × (octets ≡ 1 ∷ (four ++ (body ++ behind))) × Tell four (length body) × AreBatches behind more rest
 
--- what an area holds that begins at a place; or the place of the first length that leaves it
-abbrev pub content_of : ℕ → List ℕ → Result Content ℕ
-content_of place area =
-    let count = big_number 4 (take 4 area) in
-    if nat_lt (length area) (4 + count) then Err place else with_more (only_snapshot (octets_at 4 count area)) (batches_from (place + (4 + count)) zero (drop (4 + count) area))
+-- An area begins with this, and behind it stands the rest: the length of the snapshot in four octets, the snapshot, and the batches.
+pub record BeginsWith (area : List ℕ) (content : Content) (rest : List ℕ) : Type 0 where
+  pub four : List ℕ
+  pub behind : List ℕ
+  pub whole : area ≡ four ++ (content.snapshot ++ behind)
+  pub size : Tell four (length content.snapshot)
+  pub batches : AreBatches behind content.bodies rest
 
--- the first place at which the octets from a place on aren't the ones wanted
-abbrev pub first_other : ℕ → List ℕ → List ℕ → Option ℕ
-first_other place [] found = None
-first_other place (octet ∷ wanted) [] = Some place
-first_other place (octet ∷ wanted) (x ∷ found) = if x == octet then first_other (place + 1) wanted found else Some place
+-- no open gate stands first: there are no octets, or the first one isn't 1
+abbrev pub IsShut : List ℕ → Type 0
+IsShut octets = slice_index octets 0 ≢ 1
 
--- this one, or else the other
-abbrev pub or_else : Option ℕ → Option ℕ → Option ℕ
-or_else (Some place) other = Some place
-or_else None other = other
+-- an open gate stands first, without room for its length, or for the body that its length tells
+abbrev pub IsCut : List ℕ → Type 0
+IsCut octets = (slice_index octets 0 ≡ 1) × (length octets < 5 + big_number 4 (octets_at 1 4 octets))
+
+-- an area holds this: its snapshot, and its batches up to the first gate that isn't open
+abbrev pub Holds : List ℕ → Content → Type 0
+Holds area content = (rest : List ℕ) × BeginsWith area content rest × IsShut rest
+
+-- The place of the first length that leaves its area, which begins at a place: that of the snapshot, or behind some open batches that of the next one, which stands behind its gate.
+abbrev pub LeavesAt : ℕ → List ℕ → ℕ → Type 0
+LeavesAt place area at =
+    ((at ≡ place) × (length area < 4 + big_number 4 (take 4 area)))
+    ⊎ ((content : Content) × (rest : List ℕ) × BeginsWith area content rest × IsCut rest × (at ≡ place + (length area - length rest) + 1))
+
+-- a device that is as large as it must be, with an open gate, and as large as it was at its formatting
+pub record IsWhole (site : Site) (image : List ℕ) : Type 0 where
+  pub enough : site.need ≤ length image
+  pub gate : slice_index image 0 ≡ 1
+  pub whole : formatted_size image ≤ length image
+
+-- the header is that of a site with this text, but for the size, which may be any
+pub record IsOwn (site_text : List ℕ) (image : List ℕ) : Type 0 where
+  pub mark : octets_at 1 8 image ≡ mark
+  pub count : octets_at 17 4 image ≡ big_bytes 4 (length site_text)
+  pub text : octets_at 21 (length site_text) image ≡ site_text
+
+-- From a place on these octets are wanted. So many of them stand there, and at the place behind these another octet does, or none.
+pub record DiffersAt (place : ℕ) (wanted image : List ℕ) (at : ℕ) : Type 0 where
+  pub count : ℕ
+  pub is : at ≡ place + count
+  pub within : count < length wanted
+  pub before : octets_at place count image ≡ take count wanted
+  pub other : slice_get image at ≢ slice_get wanted count
 
 -- the first place of the mark, the text's length or the text whose octet isn't this site's
-abbrev pub foreign_place : List ℕ → List ℕ → Option ℕ
-foreign_place text image = or_else (first_other 1 mark (octets_at 1 8 image)) (or_else (first_other 17 (big_bytes 4 (length text)) (octets_at 17 4 image)) (first_other 21 text (octets_at 21 (length text) image)))
+abbrev pub IsForeignAt : List ℕ → List ℕ → ℕ → Type 0
+IsForeignAt text image at =
+    DiffersAt 1 mark image at
+    ⊎ (((octets_at 1 8 image ≡ mark) × DiffersAt 17 (big_bytes 4 (length text)) image at)
+    ⊎ ((octets_at 1 8 image ≡ mark) × (octets_at 17 4 image ≡ big_bytes 4 (length text)) × DiffersAt 21 text image at))
 
--- the size at formatting in the header of an open device of this size, where nothing is wrong with the header
-abbrev pub own_header : Site → List ℕ → Option ℕ → Result ℕ OpenFault
-own_header site header (Some place) = Err (Foreign place)
-own_header site header None = if nat_lt (formatted_size header) site.need then Err (Damaged 9) else Ok (formatted_size header)
+-- the header is this site's, with an open gate, and the device is as large as it was at formatting and large enough
+pub record IsOurs (site : Site) (image : List ℕ) : Type 0 where
+  pub gate : slice_index image 0 ≡ 1
+  pub own : IsOwn site.text image
+  pub enough : site.need ≤ formatted_size image
+  pub whole : formatted_size image ≤ length image
 
-abbrev pub checked_header : Site → ℕ → List ℕ → Result ℕ OpenFault
-checked_header site size header =
-    if nat_lt size (formatted_size header) then Err (SmallDevice size (formatted_size header)) else own_header site header (foreign_place site.text header)
+-- A device with these octets opens for a site, and to this: it is as large as it must be; and its gate isn't open, and nothing is held, or its header is the site's and its selected area holds it.
+pub record OpensTo (site : Site) (image : List ℕ) (content : Content) : Type 0 where
+  pub enough : site.need ≤ length image
+  pub holds : ((slice_index image 0 ≢ 1) × (content ≡ nothing)) ⊎ (IsOurs site image × Holds (selected_area site.text image) content)
 
--- a length that leaves its area damages the journal
-abbrev pub or_damaged : Result Content ℕ → Result Content OpenFault
-or_damaged (Ok content) = Ok content
-or_damaged (Err place) = Err (Damaged place)
+-- Why it isn't opened; each is looked for behind the ones before it. A failing device and want of memory are no matter of its octets.
+abbrev pub IsRefused : Site → List ℕ → OpenFault → Type 0
+IsRefused site image DiskFault = ⊥
+IsRefused site image (SmallDevice size need) =
+    (size ≡ length image) × (size < need) × ((need ≡ site.need) ⊎ ((site.need ≤ size) × (slice_index image 0 ≡ 1) × (need ≡ formatted_size image)))
+IsRefused site image (Foreign at) = IsWhole site image × IsForeignAt site.text image at
+IsRefused site image (Damaged at) =
+    IsWhole site image × IsOwn site.text image
+    × (((formatted_size image < site.need) × (at ≡ 9)) ⊎ ((site.need ≤ formatted_size image) × LeavesAt (selected_place site.text image) (selected_area site.text image) at))
+IsRefused site image NoMemory = ⊥
 
--- what the selected area of an open device holds, where its header was checked
-abbrev pub selected_content : Site → List ℕ → Result ℕ OpenFault → Result Content OpenFault
-selected_content site image (Ok formatted) = or_damaged (content_of (selected_place site.text image) (octets_at (selected_place site.text image) (half_of site.text image) image))
-selected_content site image (Err fault) = Err fault
-
--- what a device with these octets opens to for a site, or why it isn't opened
-abbrev pub opened_from : Site → List ℕ → Result Content OpenFault
-opened_from site image =
-    if nat_lt (length image) site.need then Err (SmallDevice (length image) site.need) else (if slice_index image 0 == 1 then selected_content site image (checked_header site (length image) image) else Ok nothing)
-
--- it opens, and to this
-abbrev pub OpensTo : Site → List ℕ → Content → Type 0
-OpensTo site image content = opened_from site image ≡ Ok content
+-- two images open to the same, or are refused for the same
+pub record OpenAlike (site : Site) (image other : List ℕ) : Type 0 where
+  pub opens : (content : Content) → OpensTo site image content ↔ OpensTo site other content
+  pub refused : (fault : OpenFault) → IsRefused site image fault ↔ IsRefused site other fault
 
 -- what is written of a batch's or a snapshot's body: its length, the body, and a closed gate behind it
 abbrev pub framed : List ℕ → List ℕ

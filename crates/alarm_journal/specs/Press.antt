@@ -1,13 +1,12 @@
 -- A press at rest, and what its calls leave.
-use Rattle.std.specs.Prelude.{◌≡◌, ◌≢◌, ◌⊎◌, ◌≤◌, ◌<◌, ◌↔◌, ◌^◌, ℕ, ◌+◌, ◌-◌, ◌%◌, Bool, not, List, [], ◌∷◌, ◌++◌, length, slice_index, Option, Some, None, Result, Ok, Err, if◌then◌else◌, ⊤, IsTrue}
-use Rattle.byteorder.specs.Endian.{big_bytes}
+use Rattle.std.specs.Prelude.{◌≡◌, ◌≢◌, ◌⊎◌, ◌≤◌, ◌<◌, ◌↔◌, ◌^◌, ℕ, ◌+◌, ◌-◌, ◌%◌, Bool, not, List, [], ◌∷◌, length, slice_index, Option, Some, None, Result, Ok, Err, if◌then◌else◌, ⊤, IsTrue}
 use Rattle.ground_io.specs.Disk.{Each, Always, octets_at}
 use Rattle.ground_io.specs.Trace.{Told, Adds, disk_of}
 use Rattle.ground_io.specs.declared.entry.Entry.{Entry}
 use Rattle.ground_io.specs.declared.entry.Entry.TheVariants.{Synced}
-use Rattle.alarm_journal.specs.Journal.{Site, Content, OpensTo, opened_from, mark, formatted_size, half_of, content_of, batches_from, with_more, heading}
+use Rattle.alarm_journal.specs.Journal.{Site, Content, OpensTo, OpenAlike, IsRefused, IsOurs, BeginsWith, half_of, heading}
 use Rattle.ground_io.specs.Sent.{AreQuiet}
-use Rattle.alarm_journal.specs.Protocol.{Leads, two_writes, IsTwoCutShort}
+use Rattle.alarm_journal.specs.Protocol.{IfToldOn, Leads, two_writes, IsTwoCutShort}
 use Rattle.alarm_journal.specs.declared.layout.Layout.{Layout}
 use Rattle.alarm_journal.specs.declared.open_fault.OpenFault.{OpenFault}
 use Rattle.alarm_journal.specs.declared.open_fault.OpenFault.TheVariants.{Damaged, DiskFault, Foreign, NoMemory, SmallDevice}
@@ -52,24 +51,15 @@ pub record IsSound (size : ℕ) (layout : Layout) : Type 0 where
   pub header : 22 ≤ layout.areas
   pub word : size < 2 ^ 64
 
--- the header is this site's, with an open gate, and the device is as large as it was at formatting and large enough
-pub record IsOurs (site : Site) (image : List ℕ) : Type 0 where
-  pub gate : slice_index image 0 ≡ 1
-  pub mark : octets_at 1 8 image ≡ mark
-  pub count : octets_at 17 4 image ≡ big_bytes 4 (length site.text)
-  pub text : octets_at 21 (length site.text) image ≡ site.text
-  pub enough : site.need ≤ formatted_size image
-  pub whole : formatted_size image ≤ length image
-
 -- what stands on the device is this content, and the next gate is closed where there is one:
--- what stands before it is read as the content, whatever stands behind it
+-- from the area's beginning up to that gate stands the content, and nothing else
 pub record StandsFor (site : Site) (layout : Layout) (contents : List ℕ) (content : Content) : Type 0 where
   pub ours : IsOurs site contents
   pub areas : layout.areas ≡ 22 + length site.text
   pub half : half_of site.text contents ≡ layout.half
   pub selected : slice_index contents (21 + length site.text) % 2 ≡ (if layout.second then 1 else 0)
   pub closed : layout.next < end_of layout → slice_index contents layout.next ≢ 1
-  pub reads : (tail : List ℕ) → content_of (start_of layout) (octets_at (start_of layout) (layout.next - start_of layout) contents ++ tail) ≡ with_more content (batches_from layout.next 0 tail)
+  pub reads : BeginsWith (octets_at (start_of layout) (layout.next - start_of layout) contents) content []
 
 -- and nothing that was written is off the disk
 pub record IsSettled (site : Site) (layout : Layout) (told : Told) (content : Content) : Type 0 where
@@ -88,10 +78,7 @@ Lasts site (Some told) content = Each (λ image. OpensTo site image content) (di
 
 -- at each moment on the way from one to the other, each image that a crash may leave opens to this, where it tells
 abbrev pub Throughout : Site → Content → Option Told → Option Told → Type 0
-Throughout site content old None = ⊤
-Throughout site content None (Some new) = ⊥
-Throughout site content (Some old) (Some new) =
-    (entries : List Entry) × Adds (Some old) (Some new) entries × Always (λ image. OpensTo site image content) (disk_of old) entries
+Throughout site content old new = IfToldOn old new (λ before now. (entries : List Entry) × Adds (Some before) (Some now) entries × Always (λ image. OpensTo site image content) (disk_of before) entries)
 
 -- a crash at any moment leaves what opens to one of the two
 abbrev pub Between : Site → Content → Content → Option Told → Option Told → Type 0
@@ -102,36 +89,28 @@ pub record OpensSame (site : Site) (old new : Told) : Type 0 where
   pub entries : List Entry
   pub adds : Adds (Some old) (Some new) (Synced ∷ entries)
   pub quiet : AreQuiet entries
-  pub always : Always (λ image. opened_from site image ≡ opened_from site (disk_of old).contents) (record { contents = (disk_of old).contents; loose = [] }) entries
+  pub always : Always (λ image. OpenAlike site image (disk_of old).contents) (record { contents = (disk_of old).contents; loose = [] }) entries
 
 -- where it tells
 abbrev pub ReopensSynced : Site → Option Told → Option Told → Type 0
-ReopensSynced site old None = ⊤
-ReopensSynced site None (Some new) = ⊥
-ReopensSynced site (Some old) (Some new) = OpensSame site old new
+ReopensSynced site old new = IfToldOn old new (OpensSame site)
 
 -- the first sync failed, and nothing else was done; or it was done, and so on
 abbrev pub Reopens : Site → Option Told → Option Told → Type 0
-Reopens site old None = ⊤
-Reopens site None (Some new) = ⊥
-Reopens site (Some old) (Some new) = Adds (Some old) (Some new) [] ⊎ OpensSame site old new
+Reopens site old new = IfToldOn old new (λ before now. Adds (Some before) (Some now) [] ⊎ OpensSame site before now)
 
--- what the octets that stood were opened to, or why they weren't; a failing device and want of memory may come in between
-abbrev pub IsAnswer : Result Content OpenFault → Result Content OpenFault → Type 0
-IsAnswer octets (Ok content) = octets ≡ Ok content
-IsAnswer octets (Err fault) = (fault ≡ DiskFault) ⊎ ((fault ≡ NoMemory) ⊎ (octets ≡ Err fault))
+-- what the octets that stood open to, or why they are refused; a failing device and want of memory may come in between
+abbrev pub IsAnswer : Site → List ℕ → Result Content OpenFault → Type 0
+IsAnswer site image (Ok content) = OpensTo site image content
+IsAnswer site image (Err fault) = (fault ≡ DiskFault) ⊎ ((fault ≡ NoMemory) ⊎ IsRefused site image fault)
 
 -- where it tells
 abbrev pub Answers : Site → Option Told → Option Told → Result Content OpenFault → Type 0
-Answers site old None answer = ⊤
-Answers site None (Some new) answer = ⊥
-Answers site (Some old) (Some new) answer = IsAnswer (opened_from site (disk_of old).contents) answer
+Answers site old new answer = IfToldOn old new (λ before _. IsAnswer site (disk_of before).contents answer)
 
 -- whether the device was blank, where it tells
 abbrev pub WasBlank : Option Told → Option Told → Bool → Type 0
-WasBlank old None fresh = ⊤
-WasBlank None (Some new) fresh = ⊥
-WasBlank (Some old) (Some new) fresh = IsTrue fresh ↔ (slice_index (disk_of old).contents 0 ≢ 1)
+WasBlank old new fresh = IfToldOn old new (λ before _. IsTrue fresh ↔ (slice_index (disk_of before).contents 0 ≢ 1))
 
 -- a device is refused as small only where it is: this is its size, and it must have more
 abbrev pub IsSmall : ℕ → OpenFault → Type 0

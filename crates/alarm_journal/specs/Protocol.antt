@@ -6,11 +6,15 @@ use Rattle.ground_io.specs.Trace.{Told, Adds, disk_of}
 use Rattle.ground_io.specs.declared.entry.Entry.{Entry}
 use Rattle.ground_io.specs.declared.entry.Entry.TheVariants.{Wrote, Broke, Synced}
 
+-- a fact about what a ground told before and tells now, where it tells: it may have stopped, and never begins
+abbrev pub IfToldOn : Option Told → Option Told → (Told → Told → Type 0) → Type 0
+IfToldOn old None P = ⊤
+IfToldOn None (Some now) P = ⊥
+IfToldOn (Some before) (Some now) P = P before now
+
 -- what is told goes on with some entries that have P
 abbrev pub AddsSome : (List Entry → Type 0) → Option Told → Option Told → Type 0
-AddsSome P old None = ⊤
-AddsSome P None (Some now) = ⊥
-AddsSome P (Some before) (Some now) = (entries : List Entry) × P entries × Adds (Some before) (Some now) entries
+AddsSome P old new = IfToldOn old new (λ before now. (entries : List Entry) × P entries × Adds (Some before) (Some now) entries)
 
 -- the entries of two writes, each with its sync
 abbrev pub two_writes : ℕ → List ℕ → ℕ → List ℕ → List Entry
@@ -33,6 +37,4 @@ pub record Quietly (P : List ℕ → Type 0) (old new : Told) : Type 0 where
 
 -- where it tells
 abbrev pub Leads : (List ℕ → Type 0) → Option Told → Option Told → Type 0
-Leads P old None = ⊤
-Leads P None (Some new) = ⊥
-Leads P (Some old) (Some new) = Quietly P old new
+Leads P old new = IfToldOn old new (Quietly P)

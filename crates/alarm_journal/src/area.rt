@@ -3,7 +3,7 @@ ghost use Rattle.ground_io.specs.Counts.{HasCause};
 ghost use Rattle.ground_io.specs.Disk.{octets_at};
 ghost use Rattle.ground_io.specs.Trace.{Adds};
 ghost use Rattle.alarm_journal.specs.Areas.{IsBadHead, IsDamage, IsEnd, IsHead, IsLaid, IsRead, StaysAt, so_far, within};
-ghost use Rattle.alarm_journal.specs.Journal.{content_of};
+ghost use Rattle.alarm_journal.specs.Journal.{LeavesAt};
 ghost use Rattle.alarm_journal.specs.Opened.{Shows, StandsAt, content_in};
 ghost use Rattle.alarm_journal.specs.declared.open_fault.OpenFault.TheVariants.{DiskFault};
 
@@ -37,6 +37,7 @@ fn read_head<G: Ground>(device: &mut G, place: u64, left: u64) -> Result<Option<
     requires word { place + left < 2 ^ 64 }
     ensures same { G.size device.new ≡ G.size device.old }
     ensures cause { HasCause (G.disk_faults device.old) (G.disk_faults device.new) (result ≡ Err DiskFault) }
+    ensures uncounted { OnOk result (G.disk_faults device.new ≡ G.disk_faults device.old) }
     ensures emitted { G.emit_faults device.new ≡ G.emit_faults device.old }
     ensures told { Adds (G.told device.old) (G.told device.new) [] }
     ensures fits { IfOk result (λ head. IfSome head (λ size. 5 + size ≤ left)) }
@@ -64,6 +65,7 @@ fn read_batch<G: Ground>(alloc: Global, device: &mut G, area: &mut Area) -> Resu
     requires so_far { Shows (G.told device.old) (so_far area.old) }
     ensures same { G.size device.new ≡ G.size device.old }
     ensures cause { HasCause (G.disk_faults device.old) (G.disk_faults device.new) (result ≡ Err DiskFault) }
+    ensures uncounted { OnOk result (G.disk_faults device.new ≡ G.disk_faults device.old) }
     ensures emitted { G.emit_faults device.new ≡ G.emit_faults device.old }
     ensures told { Adds (G.told device.old) (G.told device.new) [] }
     ensures stays { OnOk result (StaysAt area.old area.new) }
@@ -71,7 +73,7 @@ fn read_batch<G: Ground>(alloc: Global, device: &mut G, area: &mut Area) -> Resu
     ensures so_far { OnOk result (Shows (G.told device.new) (so_far area.new)) }
     ensures grows { IfOk result (λ more. IsTrue more → area.old.next < area.new.next) }
     ensures end { IfOk result (λ more. IsFalse more → Shows (G.told device.new) (IsEnd (area.new.start + area.new.next) (area.new.half - area.new.next))) }
-    ensures damaged { IfErr result (IsDamage (G.told device.new) (λ at image. content_of area.old.start (octets_at area.old.start area.old.half image) ≡ Err at)) }
+    ensures damaged { IfErr result (IsDamage (G.told device.new) (λ at image. LeavesAt area.old.start (octets_at area.old.start area.old.half image) at)) }
 {
     let place = area.start + area.next;
     let Some(length) = read_head(device, place, area.half - area.next)? else {
@@ -95,13 +97,14 @@ fn read_batches<G: Ground>(alloc: Global, device: &mut G, area: &mut Area) -> Re
     requires so_far { Shows (G.told device.old) (so_far area.old) }
     ensures same { G.size device.new ≡ G.size device.old }
     ensures cause { HasCause (G.disk_faults device.old) (G.disk_faults device.new) (result ≡ Err DiskFault) }
+    ensures uncounted { OnOk result (G.disk_faults device.new ≡ G.disk_faults device.old) }
     ensures emitted { G.emit_faults device.new ≡ G.emit_faults device.old }
     ensures told { Adds (G.told device.old) (G.told device.new) [] }
     ensures stays { OnOk result (StaysAt area.old area.new) }
     ensures within { OnOk result (within area.new) }
     ensures so_far { OnOk result (Shows (G.told device.new) (so_far area.new)) }
     ensures end { OnOk result (Shows (G.told device.new) (IsEnd (area.new.start + area.new.next) (area.new.half - area.new.next))) }
-    ensures damaged { IfErr result (IsDamage (G.told device.new) (λ at image. content_of area.old.start (octets_at area.old.start area.old.half image) ≡ Err at)) }
+    ensures damaged { IfErr result (IsDamage (G.told device.new) (λ at image. LeavesAt area.old.start (octets_at area.old.start area.old.half image) at)) }
 {
     while read_batch(alloc, device, area)? {}
     Ok(())
@@ -140,9 +143,10 @@ pub fn read_area<G: Ground>(
     requires word { start + half < 2 ^ 64 }
     ensures same { G.size device.new ≡ G.size device.old }
     ensures cause { HasCause (G.disk_faults device.old) (G.disk_faults device.new) (result ≡ Err DiskFault) }
+    ensures uncounted { OnOk result (G.disk_faults device.new ≡ G.disk_faults device.old) }
     ensures emitted { G.emit_faults device.new ≡ G.emit_faults device.old }
     ensures told { Adds (G.told device.old) (G.told device.new) [] }
-    ensures damaged { IfErr result (IsDamage (G.told device.new) (λ at image. content_of start (octets_at start half image) ≡ Err at)) }
+    ensures damaged { IfErr result (IsDamage (G.told device.new) (λ at image. LeavesAt start (octets_at start half image) at)) }
     ensures fresh { IfOk result (λ read. read.0.fresh ≡ false) }
     ensures read { IfOk result (λ read. Shows (G.told device.new) (IsRead start half read.1 (content_in read.0))) }
     ensures stand { IfOk result (λ read. Shows (G.told device.new) (StandsAt read.0)) }

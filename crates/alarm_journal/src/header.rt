@@ -2,7 +2,8 @@ ghost use Rattle.std.specs.Prelude.{◌≡◌, ◌+◌, ◌<◌, ◌≤◌, ◌^
 ghost use Rattle.bac_values.specs.Limits.{most_site_octets};
 ghost use Rattle.alarm_journal.specs.Press.{IsSmall};
 ghost use Rattle.alarm_journal.specs.declared.open_fault.OpenFault.TheVariants.{DiskFault};
-ghost use Rattle.alarm_journal.specs.Journal.{checked_header, first_other, foreign_place, formatted_size, heading};
+ghost use Rattle.alarm_journal.specs.Journal.{formatted_size, heading};
+ghost use Rattle.alarm_journal.specs.JournalSteps.{checked_header, first_other, foreign_place};
 
 use crate::OpenFault;
 use byteorder::{BigEndian, ByteOrder};

@@ -9,6 +9,7 @@ mod area;
 mod body;
 mod header;
 mod job;
+mod laws;
 mod layout;
 mod open;
 mod open_fault;
@@ -19,6 +20,7 @@ mod reading;
 
 pub use body::Body;
 pub use job::Job;
+pub use laws::{images_open_once, openings_are_computed};
 pub use layout::Layout;
 pub use open_fault::OpenFault;
 pub use opened::Opened;

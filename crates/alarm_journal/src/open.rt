@@ -33,6 +33,7 @@ fn format<G: Ground>(
     requires room { need ≤ size }
     ensures same { G.size device.new ≡ G.size device.old }
     ensures cause { HasCause (G.disk_faults device.old) (G.disk_faults device.new) (result ≡ Err DiskFault) }
+    ensures uncounted { OnOk result (G.disk_faults device.new ≡ G.disk_faults device.old) }
     ensures emitted { G.emit_faults device.new ≡ G.emit_faults device.old }
     ensures faults { IfErr result (λ fault. (fault ≡ DiskFault) ⊎ (fault ≡ NoMemory)) }
     ensures sound { IfOk result (λ layout. IsSound (G.size device.new) layout) }
@@ -87,6 +88,7 @@ fn read_journal<G: Ground>(
     requires room { need ≤ size }
     ensures same { G.size device.new ≡ G.size device.old }
     ensures cause { HasCause (G.disk_faults device.old) (G.disk_faults device.new) (result ≡ Err DiskFault) }
+    ensures uncounted { OnOk result (G.disk_faults device.new ≡ G.disk_faults device.old) }
     ensures emitted { G.emit_faults device.new ≡ G.emit_faults device.old }
     ensures small { IfErr result (λ fault. IsSmall (G.size device.old) fault) }
     ensures told { Adds (G.told device.old) (G.told device.new) [] }
@@ -118,6 +120,7 @@ pub(crate) fn open_device<G: Ground>(
     requires needed { length text.now + 32 ≤ need }
     ensures same { G.size device.new ≡ G.size device.old }
     ensures cause { HasCause (G.disk_faults device.old) (G.disk_faults device.new) (result ≡ Err DiskFault) }
+    ensures uncounted { OnOk result (G.disk_faults device.new ≡ G.disk_faults device.old) }
     ensures emitted { G.emit_faults device.new ≡ G.emit_faults device.old }
     ensures small { IfErr result (λ fault. IsSmall (G.size device.old) fault) }
     ensures enough { IfOk result (λ _. need ≤ G.size device.old) }

@@ -51,6 +51,7 @@ fn emit_each<G: Ground>(device: &mut G, sends: &[Send]) -> Emits
     ensures told { EmitsAll sends.now result.sent result.lost (G.told device.old) (G.told device.new) }
     ensures all { result.sent + result.lost ≡ length sends.now }
     ensures cause { HasCause (G.emit_faults device.old) (G.emit_faults device.new) (0 < result.lost) }
+    ensures uncounted { result.lost ≡ 0 → G.emit_faults device.new ≡ G.emit_faults device.old }
 {
     let mut sent = 0;
     let mut lost = 0;
@@ -109,7 +110,7 @@ impl<G: Ground> Press<G> {
         ensures below { G.size device < need → IfErr result (λ refused. IsBelow (G.size device) need refused.1) }
 
         ensures cause { MatchResult result
-            (λ read. G.disk_faults device ≤ G.disk_faults read.0.device)
+            (λ read. G.disk_faults read.0.device ≡ G.disk_faults device)
             (λ refused. HasCause (G.disk_faults device) (G.disk_faults refused.0) (refused.1 ≡ DiskFault)) }
 
         // A crash at any moment from the first sync on, which an `Ok` has done.
@@ -175,7 +176,7 @@ impl<G: Ground> Press<G> {
             (λ device. Between site content (with_batch content job.now) (G.told self.device) (G.told device)) }
 
         ensures cause { MatchResult result
-            (λ press. G.disk_faults self.device ≤ G.disk_faults press.device)
+            (λ press. G.disk_faults press.device ≡ G.disk_faults self.device)
             (λ device. HasCause (G.disk_faults self.device) (G.disk_faults device) ⊤) }
         ensures same { MatchResult result (λ press. G.size press.device ≡ G.size self.device) (λ device. G.size device ≡ G.size self.device) }
         ensures emitted { MatchResult result (λ press. G.emit_faults press.device ≡ G.emit_faults self.device) (λ device. G.emit_faults device ≡ G.emit_faults self.device) }
@@ -213,7 +214,7 @@ impl<G: Ground> Press<G> {
             (λ device. Between site content (only_snapshot job.now) (G.told self.device) (G.told device)) }
 
         ensures cause { MatchResult result
-            (λ press. G.disk_faults self.device ≤ G.disk_faults press.device)
+            (λ press. G.disk_faults press.device ≡ G.disk_faults self.device)
             (λ device. HasCause (G.disk_faults self.device) (G.disk_faults device) ⊤) }
         ensures same { MatchResult result (λ press. G.size press.device ≡ G.size self.device) (λ device. G.size device ≡ G.size self.device) }
         ensures emitted { MatchResult result (λ press. G.emit_faults press.device ≡ G.emit_faults self.device) (λ device. G.emit_faults device ≡ G.emit_faults self.device) }
@@ -235,6 +236,7 @@ impl<G: Ground> Press<G> {
         ensures told { EmitsAll sends.now result.sent result.lost (G.told self.old.device) (G.told self.new.device) }
         ensures all { result.sent + result.lost ≡ length sends.now }
         ensures cause { HasCause (G.emit_faults self.old.device) (G.emit_faults self.new.device) (0 < result.lost) }
+        ensures uncounted { result.lost ≡ 0 → G.emit_faults self.new.device ≡ G.emit_faults self.old.device }
         ensures disk { G.disk_faults self.new.device ≡ G.disk_faults self.old.device }
         ensures same { G.size self.new.device ≡ G.size self.old.device }
         ensures settled { (site : Site) (content : Content) → Settled site self.old.layout (G.told self.old.device) content

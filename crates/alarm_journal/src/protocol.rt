@@ -13,6 +13,7 @@ fn write_down<G: Ground>(device: &mut G, place: u64, octets: &[u8]) -> Result<()
     ensures cut_short { OnErr result (AddsSome (IsCutShort place octets.now) (G.told device.old) (G.told device.new)) }
     ensures same { G.size device.new ≡ G.size device.old }
     ensures cause { HasCause (G.disk_faults device.old) (G.disk_faults device.new) (IsErr result) }
+    ensures uncounted { OnOk result (G.disk_faults device.new ≡ G.disk_faults device.old) }
     ensures emitted { G.emit_faults device.new ≡ G.emit_faults device.old }
 {
     device.write_at(place, octets)?;
@@ -34,6 +35,7 @@ pub fn write_both<G: Ground>(
     ensures cut_short { OnErr result (AddsSome (IsTwoCutShort first octets.now second (gate ∷ [])) (G.told device.old) (G.told device.new)) }
     ensures same { G.size device.new ≡ G.size device.old }
     ensures cause { HasCause (G.disk_faults device.old) (G.disk_faults device.new) (IsErr result) }
+    ensures uncounted { OnOk result (G.disk_faults device.new ≡ G.disk_faults device.old) }
     ensures emitted { G.emit_faults device.new ≡ G.emit_faults device.old }
 {
     write_down(device, first, octets)?;

@@ -1,4 +1,4 @@
-ghost use Rattle.std.specs.Prelude.{◌≡◌, ◌⊎◌, ◌+◌, ◌≤◌, ◌↔◌, [], length, slice_index, IfOk, IfErr, IsErr, IsTrue, Err};
+ghost use Rattle.std.specs.Prelude.{◌≡◌, ◌⊎◌, ◌+◌, ◌≤◌, ◌↔◌, [], length, slice_index, IfOk, IfErr, IsErr, IsTrue, OnOk, Err};
 ghost use Rattle.byteorder.specs.Endian.{big_number};
 ghost use Rattle.ground_io.specs.Counts.{HasCause};
 ghost use Rattle.ground_io.specs.Disk.{octets_at};
@@ -21,6 +21,7 @@ pub fn read_piece<G: Ground>(
     requires { place + count ≤ G.size device.old }
     ensures same { G.size device.new ≡ G.size device.old }
     ensures cause { HasCause (G.disk_faults device.old) (G.disk_faults device.new) (result ≡ Err DiskFault) }
+    ensures uncounted { OnOk result (G.disk_faults device.new ≡ G.disk_faults device.old) }
     ensures emitted { G.emit_faults device.new ≡ G.emit_faults device.old }
     ensures faults { IfErr result (λ fault. (fault ≡ DiskFault) ⊎ (fault ≡ NoMemory)) }
     ensures told { Adds (G.told device.old) (G.told device.new) [] }
@@ -37,6 +38,7 @@ pub fn read_gate<G: Ground>(device: &mut G, place: u64) -> Result<bool, Failed>
     requires { place + 1 ≤ G.size device.old }
     ensures same { G.size device.new ≡ G.size device.old }
     ensures cause { HasCause (G.disk_faults device.old) (G.disk_faults device.new) (IsErr result) }
+    ensures uncounted { OnOk result (G.disk_faults device.new ≡ G.disk_faults device.old) }
     ensures emitted { G.emit_faults device.new ≡ G.emit_faults device.old }
     ensures told { Adds (G.told device.old) (G.told device.new) [] }
     ensures open { IfOk result (λ gate. Shows (G.told device.new) (λ image. IsTrue gate ↔ (slice_index image place ≡ 1))) }
@@ -51,6 +53,7 @@ pub fn read_word<G: Ground>(device: &mut G, place: u64) -> Result<u32, Failed>
     requires { place + 4 ≤ G.size device.old }
     ensures same { G.size device.new ≡ G.size device.old }
     ensures cause { HasCause (G.disk_faults device.old) (G.disk_faults device.new) (IsErr result) }
+    ensures uncounted { OnOk result (G.disk_faults device.new ≡ G.disk_faults device.old) }
     ensures emitted { G.emit_faults device.new ≡ G.emit_faults device.old }
     ensures told { Adds (G.told device.old) (G.told device.new) [] }
     ensures word { IfOk result (λ word. Shows (G.told device.new) (λ image. word ≡ big_number 4 (octets_at place 4 image))) }

@@ -60,6 +60,7 @@ impl<G: Ground, F: Flag> Ground for NotingGround<G, F> {
         ensures same { G.size self.new.inner ≡ G.size self.old.inner }
         ensures told { Adds (G.told self.old.inner) (G.told self.new.inner) [] }
         ensures cause { HasCause (G.disk_faults self.old.inner) (G.disk_faults self.new.inner) (IsErr result) }
+        ensures uncounted { OnOk result (G.disk_faults self.new.inner ≡ G.disk_faults self.old.inner) }
         ensures emitted { G.emit_faults self.new.inner ≡ G.emit_faults self.old.inner }
         ensures flag { self.new.flag ≡ self.old.flag }
         ensures raised { OnErr result (F.raised self.new.flag) }
@@ -73,6 +74,7 @@ impl<G: Ground, F: Flag> Ground for NotingGround<G, F> {
         ensures same { G.size self.new.inner ≡ G.size self.old.inner }
         ensures told { Adds (G.told self.old.inner) (G.told self.new.inner) [] }
         ensures cause { HasCause (G.disk_faults self.old.inner) (G.disk_faults self.new.inner) (IsErr result) }
+        ensures uncounted { OnOk result (G.disk_faults self.new.inner ≡ G.disk_faults self.old.inner) }
         ensures emitted { G.emit_faults self.new.inner ≡ G.emit_faults self.old.inner }
         ensures flag { self.new.flag ≡ self.old.flag }
         ensures raised { OnErr result (F.raised self.new.flag) }
@@ -86,6 +88,7 @@ impl<G: Ground, F: Flag> Ground for NotingGround<G, F> {
         ensures broke { OnErr result (AddsBroken (G.told self.old.inner) (G.told self.new.inner) place octets.now) }
         ensures same { G.size self.new.inner ≡ G.size self.old.inner }
         ensures cause { HasCause (G.disk_faults self.old.inner) (G.disk_faults self.new.inner) (IsErr result) }
+        ensures uncounted { OnOk result (G.disk_faults self.new.inner ≡ G.disk_faults self.old.inner) }
         ensures emitted { G.emit_faults self.new.inner ≡ G.emit_faults self.old.inner }
         ensures flag { self.new.flag ≡ self.old.flag }
         ensures raised { OnErr result (F.raised self.new.flag) }
@@ -98,6 +101,7 @@ impl<G: Ground, F: Flag> Ground for NotingGround<G, F> {
         ensures failed { OnErr result (Adds (G.told self.old.inner) (G.told self.new.inner) []) }
         ensures same { G.size self.new.inner ≡ G.size self.old.inner }
         ensures cause { HasCause (G.disk_faults self.old.inner) (G.disk_faults self.new.inner) (IsErr result) }
+        ensures uncounted { OnOk result (G.disk_faults self.new.inner ≡ G.disk_faults self.old.inner) }
         ensures emitted { G.emit_faults self.new.inner ≡ G.emit_faults self.old.inner }
         ensures flag { self.new.flag ≡ self.old.flag }
         ensures raised { OnErr result (F.raised self.new.flag) }
@@ -110,6 +114,7 @@ impl<G: Ground, F: Flag> Ground for NotingGround<G, F> {
         ensures same { G.size self.new.inner ≡ G.size self.old.inner }
         ensures disk { G.disk_faults self.new.inner ≡ G.disk_faults self.old.inner }
         ensures cause { HasCause (G.emit_faults self.old.inner) (G.emit_faults self.new.inner) (IsErr result) }
+        ensures uncounted { OnOk result (G.emit_faults self.new.inner ≡ G.emit_faults self.old.inner) }
         ensures flag { self.new.flag ≡ self.old.flag }
     {
         self.inner.emit(peer, octets)

@@ -9,6 +9,7 @@ use bac_values::Peer;
 /// A device of a fixed size, and the way out for lines and datagrams.
 ///
 /// What was written since the last sync may be any octets after a crash, a failed write included; all else stays.
+/// A call that fails is counted, and none else: where one answers `Ok` no fault was passed over.
 pub trait Ground {
     /// How many octets the device has. No call changes it.
     ghost size: { Self → ℕ };
@@ -31,6 +32,7 @@ pub trait Ground {
         ensures same { size self.new ≡ size self.old }
         ensures told { Adds (told self.old) (told self.new) [] }
         ensures cause { HasCause (disk_faults self.old) (disk_faults self.new) (IsErr result) }
+        ensures uncounted { OnOk result (disk_faults self.new ≡ disk_faults self.old) }
         ensures emitted { emit_faults self.new ≡ emit_faults self.old };
 
     /// Reads octets from a place on, a slice full. The range lies within the device.
@@ -40,6 +42,7 @@ pub trait Ground {
         ensures same { size self.new ≡ size self.old }
         ensures told { Adds (told self.old) (told self.new) [] }
         ensures cause { HasCause (disk_faults self.old) (disk_faults self.new) (IsErr result) }
+        ensures uncounted { OnOk result (disk_faults self.new ≡ disk_faults self.old) }
         ensures emitted { emit_faults self.new ≡ emit_faults self.old };
 
     /// Writes octets from a place on. The range lies within the device.
@@ -49,6 +52,7 @@ pub trait Ground {
         ensures broke { OnErr result (AddsBroken (told self.old) (told self.new) place octets.now) }
         ensures same { size self.new ≡ size self.old }
         ensures cause { HasCause (disk_faults self.old) (disk_faults self.new) (IsErr result) }
+        ensures uncounted { OnOk result (disk_faults self.new ≡ disk_faults self.old) }
         ensures emitted { emit_faults self.new ≡ emit_faults self.old };
 
     /// Brings all that was written onto the disk.
@@ -57,6 +61,7 @@ pub trait Ground {
         ensures failed { OnErr result (Adds (told self.old) (told self.new) []) }
         ensures same { size self.new ≡ size self.old }
         ensures cause { HasCause (disk_faults self.old) (disk_faults self.new) (IsErr result) }
+        ensures uncounted { OnOk result (disk_faults self.new ≡ disk_faults self.old) }
         ensures emitted { emit_faults self.new ≡ emit_faults self.old };
 
     /// Sends octets to a peer; the console is the peer of zeros.
@@ -64,5 +69,6 @@ pub trait Ground {
         ensures told { Adds (told self.old) (told self.new) (emission peer octets.now result ∷ []) }
         ensures same { size self.new ≡ size self.old }
         ensures disk { disk_faults self.new ≡ disk_faults self.old }
-        ensures cause { HasCause (emit_faults self.old) (emit_faults self.new) (IsErr result) };
+        ensures cause { HasCause (emit_faults self.old) (emit_faults self.new) (IsErr result) }
+        ensures uncounted { OnOk result (emit_faults self.new ≡ emit_faults self.old) };
 }

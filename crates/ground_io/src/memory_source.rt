@@ -1,4 +1,4 @@
-ghost use Rattle.std.specs.Prelude.{◌≡◌, ◌≤◌, ◌↔◌, Contains, IsErr, drop, take, min, length, Some};
+ghost use Rattle.std.specs.Prelude.{◌≡◌, ◌≤◌, ◌↔◌, Contains, IsErr, OnOk, drop, take, min, length, Some};
 ghost use Rattle.std.specs.Io.{ReadsAtMost};
 ghost use Rattle.std.specs.Io.KnownBytes.{ReadConsumes};
 ghost use Rattle.ground_io.specs.Counts.{HasCause, next_count};
@@ -61,6 +61,7 @@ impl Source for MemorySource {
         ensures bound { ReadsAtMost result into.new }
         ensures octets { ReadConsumes (Some self.old.left) (Some self.new.left) result into.new }
         ensures cause { HasCause self.old.faults self.new.faults (IsErr result) }
+        ensures uncounted { OnOk result (self.new.faults ≡ self.old.faults) }
         ensures failing { self.new.failing ≡ self.old.failing }
         ensures calls { self.new.calls ≡ next_count self.old.calls }
         ensures listed { IsErr result ↔ Contains self.old.failing self.new.calls }

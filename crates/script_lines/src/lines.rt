@@ -1,4 +1,4 @@
-ghost use Rattle.std.specs.Prelude.{◌≡◌, ◌<◌, ◌≤◌, ◌⊎◌, true, false, length, position, IfOk, IsErr, OnErr, IsErrOf};
+ghost use Rattle.std.specs.Prelude.{◌≡◌, ◌<◌, ◌≤◌, ◌⊎◌, true, false, length, position, IfOk, IsErr, OnErr, OnOk, IsErrOf};
 ghost use Rattle.std.specs.List.{position_or_len};
 ghost use Rattle.std.specs.Io.KnownBytes.{Keeps, prepend_known, IsAtEnd};
 ghost use Rattle.ground_io.specs.Counts.{HasCause};
@@ -79,6 +79,7 @@ fn find_end<S: Source>(
     ensures ended { ended.new ≡ false → ended.old ≡ false }
     ensures waits { OnErr result ((ended.new ≡ false) × (position is_line_feed pending.new ≡ None)) }
     ensures cause { HasCause (S.faults source.old) (S.faults source.new) (IsErr result) }
+    ensures uncounted { OnOk result (S.faults source.new ≡ S.faults source.old) }
 {
     let mut end = 0;
     loop {
@@ -221,6 +222,7 @@ impl Lines {
         ensures ended { self.new.ended ≡ false → self.old.ended ≡ false }
         ensures waits { result ≡ Err LineFault.Read → (self.new.ended ≡ false) × (position is_line_feed self.new.pending ≡ None) }
         ensures cause { HasCause (S.faults source.old) (S.faults source.new) (IsErrOf result LineFault.Read) }
+        ensures uncounted { OnOk result (S.faults source.new ≡ S.faults source.old) }
         ensures wants { result ≡ Err LineFault.NoMemory → HoldsOctets (front_says self.new) }
         ensures trial { self.old.grammar ≡ Trial → result ≢ Err LineFault.NoMemory }
     {
@@ -256,6 +258,7 @@ impl Lines {
         ensures ended { self.new.ended ≡ false → self.old.ended ≡ false }
         ensures waits { result ≡ Err LineFault.Read → (self.new.ended ≡ false) × (position is_line_feed self.new.pending ≡ None) }
         ensures cause { HasCause (S.faults source.old) (S.faults source.new) (IsErrOf result LineFault.Read) }
+        ensures uncounted { OnOk result (S.faults source.new ≡ S.faults source.old) }
         ensures wants { result ≡ Err LineFault.NoMemory → HoldsOctets (front_says self.new) }
         ensures trial { self.old.grammar ≡ Trial → result ≢ Err LineFault.NoMemory }
     {

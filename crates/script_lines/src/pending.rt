@@ -1,4 +1,4 @@
-ghost use Rattle.std.specs.Prelude.{◌≡◌, ◌+◌, ◌<◌, ◌≤◌, [], length, take, drop, vec_len, vec_capacity, IfOk, IsErr, OnErr, MatchBool};
+ghost use Rattle.std.specs.Prelude.{◌≡◌, ◌+◌, ◌<◌, ◌≤◌, [], length, take, drop, vec_len, vec_capacity, IfOk, IsErr, OnErr, OnOk, MatchBool};
 ghost use Rattle.std.specs.Io.KnownBytes.{Keeps, prepend_known, IsAtEnd};
 ghost use Rattle.ground_io.specs.Counts.{HasCause};
 
@@ -23,6 +23,7 @@ fn read_behind<S: Source>(source: &mut S, octets: &mut Vec<u8>) -> Result<bool, 
     ensures front { take (length octets.old.items) octets.new.items ≡ octets.old.items }
     ensures same { OnErr result (octets.new.items ≡ octets.old.items) }
     ensures cause { HasCause (S.faults source.old) (S.faults source.new) (IsErr result) }
+    ensures uncounted { OnOk result (S.faults source.new ≡ S.faults source.old) }
 {
     let mut chunk = [0; CHUNK];
     let count = source.read(&mut chunk)?;
@@ -92,6 +93,7 @@ impl Pending {
         ensures front { take (length self.old) self.new ≡ self.old }
         ensures same { OnErr result (self.new ≡ self.old) }
         ensures cause { HasCause (S.faults source.old) (S.faults source.new) (IsErr result) }
+        ensures uncounted { OnOk result (S.faults source.new ≡ S.faults source.old) }
     {
         bring_forward(&mut self.buffer, self.start);
         self.start = 0;

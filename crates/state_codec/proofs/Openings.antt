@@ -1,7 +1,7 @@
 -- What an opening of a journal does, and why it is refused.
 use Rattle.std.proofs.Common.{◌≡◌, ℕ, ◌+◌, Bool, true, false, Option, Some, None, Ok, Err, List, [], ◌∷◌, ◌++◌, length, refl, ap, ◌∙◌, sym, subst, inl, inr, arith, IsTrue, IsFalse}
 use Rattle.ground_io.specs.declared.entry.Entry.TheVariants.{Synced}
-use Rattle.ground_io.specs.Trace.{Told, Adds}
+use Rattle.ground_io.specs.Trace.{Told, Adds, disk_of}
 use Rattle.ground_io.proofs.Sendings.{quiet_sends_nothing}
 use Rattle.alarm_journal.specs.Journal.{Content, nothing}
 use Rattle.alarm_journal.specs.Journal.{Site as Journal}
@@ -11,6 +11,7 @@ use Rattle.alarm_journal.specs.declared.body.Body.{Body}
 use Rattle.alarm_journal.specs.declared.layout.Layout.{Layout}
 use Rattle.alarm_journal.specs.declared.open_fault.OpenFault.{OpenFault}
 use Rattle.alarm_journal.specs.declared.opened.Opened.{Opened}
+use Rattle.alarm_journal.proofs.Images.{opens_once}
 use Rattle.alarm_core.specs.declared.event.Event.{Event}
 use Rattle.alarm_core.specs.declared.site.Site.{Site}
 use Rattle.state_codec.specs.Contents.{StandsForHistory}
@@ -54,7 +55,7 @@ module _ (site : Site) (text : List ℕ) (fault : OpenFault) where
   never_by_octets history (Some old) None stood answers refusal = stood
   never_by_octets history (Some old) (Some new) stood (inl disk) refusal = subst (λ (f : OpenFault). IsRefusal f) disk refusal
   never_by_octets history (Some old) (Some new) stood (inr (inl memory)) refusal = subst (λ (f : OpenFault). IsRefusal f) memory refusal
-  never_by_octets history (Some old) (Some new) stood (inr (inr octets)) refusal = let both = sym octets ∙ stood.opens in cc
+  never_by_octets history (Some old) (Some new) stood (inr (inr octets)) refusal = opens_once.never_both (journal_of site text) (disk_of old).contents stood.content fault stood.opens octets
 
 -- ---- a snapshot or a record that can't be there
 
@@ -74,8 +75,7 @@ module _ (site : Site) (text : List ℕ) (opened : Opened) where
   never_refused history None new found stood answers never refusal = stood
   never_refused history (Some old) None found stood answers never refusal = stood
   never_refused history (Some old) (Some new) (Damaged at) stood answers never refusal =
-      let both = sym answers ∙ stood.opens in
-      let content : stood.content ≡ content_in opened = cc in
+      let content : stood.content ≡ content_in opened = opens_once.content (journal_of site text) (disk_of old).contents stood.content (content_in opened) stood.opens answers in
       never (subst (λ (c : Content). StandsForHistory site c history) content stood.stands) at refl
   never_refused history (Some old) (Some new) NoMemory stood answers never refusal = refusal
 
@@ -84,8 +84,7 @@ module _ (site : Site) (text : List ℕ) (opened : Opened) where
   opened_stands history None new stood answers = absurd stood
   opened_stands history (Some old) None stood answers = absurd stood
   opened_stands history (Some old) (Some new) stood answers =
-      let both = sym answers ∙ stood.opens in
-      let content : stood.content ≡ content_in opened = cc in
+      let content : stood.content ≡ content_in opened = opens_once.content (journal_of site text) (disk_of old).contents stood.content (content_in opened) stood.opens answers in
       subst (λ (c : Content). StandsForHistory site c history) content stood.stands
 
 -- ---- a device that is refused is as it was

@@ -1,7 +1,7 @@
 -- What a journal opens to, and why it is refused: by its header or a length, or by a snapshot or a record that can't be there.
-use Rattle.std.specs.Prelude.{◌≡◌, ◌⊎◌, ℕ, ◌+◌, ⊤, Option, Some, None, List, length, Ok, Err}
+use Rattle.std.specs.Prelude.{◌≡◌, ◌⊎◌, ℕ, ◌+◌, ⊤, Option, Some, None, List, length}
 use Rattle.ground_io.specs.Trace.{Told, disk_of}
-use Rattle.alarm_journal.specs.Journal.{Content, opened_from}
+use Rattle.alarm_journal.specs.Journal.{Content, IsRefused, OpensTo}
 use Rattle.alarm_journal.specs.Opened.{LieBetween, StandsAt, content_in}
 use Rattle.alarm_journal.specs.Press.{StandsFor, start_of}
 use Rattle.alarm_journal.specs.declared.layout.Layout.{Layout}
@@ -19,7 +19,7 @@ use Rattle.state_codec.specs.Keeping.{journal_of}
 pub record IsDamagedWithin (site : Site) (text : List ℕ) (old new : Told) (at : ℕ) : Type 0 where
   pub opened : Opened
   pub layout : Layout
-  pub opens : opened_from (journal_of site text) (disk_of old).contents ≡ Ok (content_in opened)
+  pub opens : OpensTo (journal_of site text) (disk_of old).contents (content_in opened)
   pub laid : StandsFor (journal_of site text) layout (disk_of new).contents (content_in opened)
   pub snapshot : opened.snapshot_place ≡ start_of layout + 4
   pub bodies : LieBetween (start_of layout + 4 + length opened.snapshot) opened.bodies layout.next
@@ -34,12 +34,12 @@ open_fault_of recovering.NoMemory = NoMemory
 -- where it tells, and goes on telling
 abbrev pub IsRefusedFor : Site → List ℕ → Option Told → Option Told → OpenFault → Type 0
 IsRefusedFor site text (Some old) (Some new) fault =
-    (opened_from (journal_of site text) (disk_of old).contents ≡ Err fault) ⊎ ((at : ℕ) × (fault ≡ Damaged at) × IsDamagedWithin site text old new at)
+    IsRefused (journal_of site text) (disk_of old).contents fault ⊎ ((at : ℕ) × (fault ≡ Damaged at) × IsDamagedWithin site text old new at)
 IsRefusedFor site text None new fault = ⊤
 IsRefusedFor site text old None fault = ⊤
 
 -- the octets of a device opened to a content that leads to this state of its site, where its ground told them and still tells
 abbrev pub OpenedTo : Site → List ℕ → Option Told → Option Told → CoreState → Type 0
-OpenedTo site text (Some old) (Some new) state = (content : Content) × (opened_from (journal_of site text) (disk_of old).contents ≡ Ok content) × ContentLeadsTo site content state
+OpenedTo site text (Some old) (Some new) state = (content : Content) × OpensTo (journal_of site text) (disk_of old).contents content × ContentLeadsTo site content state
 OpenedTo site text None new state = ⊤
 OpenedTo site text old None state = ⊤

@@ -40,7 +40,7 @@ pub fn keep_events<G: Ground>(
     ensures unwritten { IfErr result (λ lost. lost.1 ≡ faults.NoMemory → lost.0 ≡ press.device) }
     ensures quiet { MatchResult result (λ kept. Emits (G.told press.device) (G.told kept.device) []) (λ lost. Emits (G.told press.device) (G.told lost.0) []) }
     ensures cause { MatchResult result
-        (λ kept. G.disk_faults press.device ≤ G.disk_faults kept.device)
+        (λ kept. G.disk_faults kept.device ≡ G.disk_faults press.device)
         (λ lost. HasCause (G.disk_faults press.device) (G.disk_faults lost.0) (lost.1 ≡ faults.DiskFault)) }
     ensures same { MatchResult result (λ kept. G.size kept.device ≡ G.size press.device) (λ lost. G.size lost.0 ≡ G.size press.device) }
     ensures emitted { MatchResult result (λ kept. G.emit_faults kept.device ≡ G.emit_faults press.device) (λ lost. G.emit_faults lost.0 ≡ G.emit_faults press.device) }
@@ -75,7 +75,7 @@ pub fn keep_event<G: Ground>(
     ensures unwritten { IfErr result (λ lost. lost.1 ≡ faults.NoMemory → lost.0 ≡ press.device) }
     ensures quiet { MatchResult result (λ kept. Emits (G.told press.device) (G.told kept.device) []) (λ lost. Emits (G.told press.device) (G.told lost.0) []) }
     ensures cause { MatchResult result
-        (λ kept. G.disk_faults press.device ≤ G.disk_faults kept.device)
+        (λ kept. G.disk_faults kept.device ≡ G.disk_faults press.device)
         (λ lost. HasCause (G.disk_faults press.device) (G.disk_faults lost.0) (lost.1 ≡ faults.DiskFault)) }
     ensures same { MatchResult result (λ kept. G.size kept.device ≡ G.size press.device) (λ lost. G.size lost.0 ≡ G.size press.device) }
     ensures emitted { MatchResult result (λ kept. G.emit_faults kept.device ≡ G.emit_faults press.device) (λ lost. G.emit_faults lost.0 ≡ G.emit_faults press.device) }

@@ -52,7 +52,7 @@ pub use parts::{take_octet, take_octets, take_u16, take_u32, take_u64};
 pub use reading::ReadFault;
 pub use reading_state::read_state;
 pub use recording::event_to_record;
-pub use recovering::{RecoverFault, recover};
+pub use recovering::{RecoverFault, follow_records, recover};
 pub use sizes::{need, snapshot_bound};
 pub use work::{Work, work_of, write_work};
 pub use writing::{put_count, put_long, put_octet_count, put_word};

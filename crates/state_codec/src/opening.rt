@@ -75,7 +75,7 @@ pub fn open_journal<G: Ground>(
     ensures same { MatchResult result (λ opened. G.size opened.0.device ≡ G.size device) (λ lost. G.size lost.0 ≡ G.size device) }
     ensures emitted { MatchResult result (λ opened. G.emit_faults opened.0.device ≡ G.emit_faults device) (λ lost. G.emit_faults lost.0 ≡ G.emit_faults device) }
     ensures cause { MatchResult result
-        (λ opened. G.disk_faults device ≤ G.disk_faults opened.0.device)
+        (λ opened. G.disk_faults opened.0.device ≡ G.disk_faults device)
         (λ lost. HasCause (G.disk_faults device) (G.disk_faults lost.0) (lost.1 ≡ refusals.DiskFault)) }
 {
     let size = need(site, text.len() as u64);

@@ -77,15 +77,15 @@ fn follow_record(
     Ok(end)
 }
 
-// The events of the records of a body are taken, one after the other. A fault has the offset of the first record that isn't
-// one, or whose event may not follow.
-fn follow_body(alloc: Global, core: &mut Core, body: &[u8]) -> Result<(), CodecFault>
-    ensures followed { OnOk result (LeadsTo core.old body.now core.new) }
-    ensures damaged { (offset : ℕ) → result ≡ Err (CodecFault.Malformed offset) → IsDamagedIn core.old body.now offset }
+/// The events of some records are taken, one after the other. A fault has the offset of the first record that isn't one, or
+/// whose event may not follow; of the core nothing is said then.
+pub fn follow_records(alloc: Global, core: &mut Core, records: &[u8]) -> Result<(), CodecFault>
+    ensures followed { OnOk result (LeadsTo core.old records.now core.new) }
+    ensures damaged { (offset : ℕ) → result ≡ Err (CodecFault.Malformed offset) → IsDamagedIn core.old records.now offset }
 {
     let mut at = 0;
-    while at < body.len() {
-        at = follow_record(alloc, core, body, at)?;
+    while at < records.len() {
+        at = follow_record(alloc, core, records, at)?;
     }
     Ok(())
 }
@@ -120,7 +120,7 @@ fn follow_bodies(
     let mut rest = octets;
     for body in bodies {
         let (front, behind) = rest.split_at(body.length as usize);
-        if let Err(fault) = follow_body(alloc, core, front) {
+        if let Err(fault) = follow_records(alloc, core, front) {
             return Err(RecoverFault::in_body(body, fault));
         }
         rest = behind;

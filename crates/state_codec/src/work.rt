@@ -59,7 +59,7 @@ pub fn write_work<G: Ground>(press: Press<G>, work: Work) -> Result<Press<G>, G>
         (λ device. Between journal content (content_with work content) (G.told press.device) (G.told device)) }
     ensures quiet { MatchResult result (λ kept. Emits (G.told press.device) (G.told kept.device) []) (λ device. Emits (G.told press.device) (G.told device) []) }
     ensures cause { MatchResult result
-        (λ kept. G.disk_faults press.device ≤ G.disk_faults kept.device)
+        (λ kept. G.disk_faults kept.device ≡ G.disk_faults press.device)
         (λ device. HasCause (G.disk_faults press.device) (G.disk_faults device) ⊤) }
     ensures same { MatchResult result (λ kept. G.size kept.device ≡ G.size press.device) (λ device. G.size device ≡ G.size press.device) }
     ensures emitted { MatchResult result (λ kept. G.emit_faults kept.device ≡ G.emit_faults press.device) (λ device. G.emit_faults device ≡ G.emit_faults press.device) }

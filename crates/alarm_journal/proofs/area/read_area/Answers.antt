@@ -1,8 +1,9 @@
-use Rattle.std.proofs.Common.{◌≡◌, ◌<◌, ◌≤◌, ◌+◌, inl, inr, ⊎_elim, [], length, arith, subst, sym, List, ℕ, refl, Err}
+use Rattle.std.proofs.Common.{◌≡◌, ◌<◌, ◌≤◌, ◌+◌, inl, inr, ⊎_elim, [], length, arith, subst, sym, List, ℕ, refl}
 use Rattle.std.proofs.lemmas.Result.{err_from_is_err_and}
 use Rattle.ground_io.specs.Disk.{octets_at}
 use Rattle.alarm_journal.specs.Areas.{IsDamage, IsLaid, IsRead, IsSoFar, IsWithin}
-use Rattle.alarm_journal.specs.Journal.{Content, content_of}
+use Rattle.alarm_journal.specs.Journal.{Content}
+use Rattle.alarm_journal.specs.Journal.{LeavesAt}
 use Rattle.alarm_journal.specs.Opened.{Shows, content_in}
 use Rattle.alarm_journal.specs.declared.body.Body.{Body}
 use Rattle.alarm_journal.specs.declared.open_fault.OpenFault.{OpenFault}
@@ -19,7 +20,7 @@ returns-then-from-half-clause-damaged g c =
 pub returns-in_err-snapshot-clause-damaged : goal.returns-in_err-snapshot-clause-damaged
 returns-in_err-snapshot-clause-damaged g c =
     let told = g.G.Ground.told c.read_piece.new.device in
-    let P : OpenFault → Type 0 = λ f. IsDamage told (λ at image. content_of c.args.start (octets_at c.args.start c.args.half image) ≡ Err at) f in
+    let P : OpenFault → Type 0 = λ f. IsDamage told (λ at image. LeavesAt c.args.start (octets_at c.args.start c.args.half image) at) f in
     let p = err_from_is_err_and c.from_residual-in_err-snapshot.result c.from_residual-in_err-snapshot.ensures.1 in
     rw p.1 (subst P (sym p.2) (⊎_elim {C = P c.in_err-snapshot.field-0.0} (λ disk. inl disk) (λ memory. inr (inl memory)) c.in_err-snapshot.ensures.faults))
 
@@ -58,7 +59,7 @@ pub returns-in_err-read_batches-clause-damaged : goal.returns-in_err-read_batche
 returns-in_err-read_batches-clause-damaged g c =
     let told = g.G.Ground.told c.read_batches.new.device in
     let p = err_from_is_err_and c.from_residual-in_err-read_batches.result c.from_residual-in_err-read_batches.ensures.1 in
-    rw p.1 (subst (λ (f : OpenFault). IsDamage told (λ at image. content_of c.args.start (octets_at c.args.start c.args.half image) ≡ Err at) f) (sym p.2) c.in_err-read_batches.ensures.damaged)
+    rw p.1 (subst (λ (f : OpenFault). IsDamage told (λ at image. LeavesAt c.args.start (octets_at c.args.start c.args.half image) at) f) (sym p.2) c.in_err-read_batches.ensures.damaged)
 
 pub returns-clause-read : goal.returns-clause-read
 returns-clause-read g c =

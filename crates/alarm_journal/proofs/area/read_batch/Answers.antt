@@ -1,8 +1,8 @@
-use Rattle.std.proofs.Common.{rules, ◌≡◌, ◌≤◌, ◌+◌, ◌-◌, inl, inr, ⊎_elim, [], ◌∷◌, ◌++◌, length, arith, subst, sym, List, ℕ, Option, Err, MatchOption, IfSome}
+use Rattle.std.proofs.Common.{rules, ◌≡◌, ◌≤◌, ◌+◌, ◌-◌, inl, inr, ⊎_elim, [], ◌∷◌, ◌++◌, length, arith, subst, sym, List, ℕ, Option, MatchOption, IfSome}
 use Rattle.std.proofs.lemmas.Result.{err_from_is_err_and}
 use Rattle.ground_io.specs.Disk.{octets_at}
 use Rattle.alarm_journal.specs.Areas.{IsDamage, IsEnd, IsHead, IsSoFar, IsWithin, so_far}
-use Rattle.alarm_journal.specs.Journal.{content_of}
+use Rattle.alarm_journal.specs.Journal.{LeavesAt}
 use Rattle.alarm_journal.specs.Opened.{Shows}
 use Rattle.alarm_journal.specs.declared.body.Body.{Body}
 use Rattle.alarm_journal.specs.declared.open_fault.OpenFault.{OpenFault}
@@ -17,7 +17,7 @@ returns-in_err-length-clause-damaged g c =
     let fault : OpenFault = c.in_err-length.field-0.0 in
     let room : area.start + area.half ≤ g.G.Ground.size c.read_head.new.device = omega (arith, c.in_err-length.ensures.same, c.requires.inside) in
     let p = err_from_is_err_and c.from_residual.result c.from_residual.ensures.1 in
-    rw p.1 (subst (λ (f : OpenFault). IsDamage told (λ at image. content_of area.start (octets_at area.start area.half image) ≡ Err at) f) (sym p.2)
+    rw p.1 (subst (λ (f : OpenFault). IsDamage told (λ at image. LeavesAt area.start (octets_at area.start area.half image) at) f) (sym p.2)
     (damage_so_far area.start area.half area.next (g.G.Ground.size c.read_head.new.device) area.snapshot.items area.batches.items area.bodies.items fault _ _ c.requires.so_far c.in_err-length.ensures.told (g.G.Ground.sized c.read_head.new.device) room c.in_err-length.ensures.damaged))
 
 pub returns-in_default-clause-end : goal.returns-in_default-clause-end
@@ -33,7 +33,7 @@ pub returns-in_err-body-clause-damaged : goal.returns-in_err-body-clause-damaged
 returns-in_err-body-clause-damaged g c =
     let area = c.args.area.now in
     let told = g.G.Ground.told c.read_piece.new.device in
-    let P : OpenFault → Type 0 = λ f. IsDamage told (λ at image. content_of area.start (octets_at area.start area.half image) ≡ Err at) f in
+    let P : OpenFault → Type 0 = λ f. IsDamage told (λ at image. LeavesAt area.start (octets_at area.start area.half image) at) f in
     let p = err_from_is_err_and c.from_residual-in_err-body.result c.from_residual-in_err-body.ensures.1 in
     rw p.1 (subst P (sym p.2) (⊎_elim {C = P c.in_err-body.field-0.0} (λ disk. inl disk) (λ memory. inr (inl memory)) c.in_err-body.ensures.faults))
 

@@ -1,5 +1,5 @@
 use Rattle.std.proofs.Common.{◌≡◌, ◌+◌, drop}
-use Rattle.alarm_journal.specs.Journal.{first_other}
+use Rattle.alarm_journal.specs.JournalSteps.{first_other}
 use Rattle.alarm_journal.proofs.header.other_place.Given as goal
 
 abbrev pub invariant-loop-i : goal.invariant-loop-i

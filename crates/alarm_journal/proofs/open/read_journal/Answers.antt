@@ -3,7 +3,8 @@ use Rattle.std.proofs.lemmas.Result.{err_from_is_err_and}
 use Rattle.ground_io.specs.Trace.{HasSize}
 use Rattle.ground_io.specs.Disk.{octets_at}
 use Rattle.ground_io.proofs.Crashes.{adds_both}
-use Rattle.alarm_journal.specs.Journal.{Site, checked_header, content_of}
+use Rattle.alarm_journal.specs.Journal.{LeavesAt, Site}
+use Rattle.alarm_journal.specs.JournalSteps.{checked_header}
 use Rattle.alarm_journal.specs.Press.{Answers, Settled, start_of}
 use Rattle.alarm_journal.specs.Areas.{IsRead, IsDamage}
 use Rattle.alarm_journal.specs.Opened.{Shows, content_in}
@@ -39,8 +40,8 @@ returns-in_err-opened-clause-answer g c = λ begun.
     } in
     let fault : OpenFault = c.in_err-opened.field-0.0 in
     let told = adds_both (g.G.Ground.told c.args.device.now) (g.G.Ground.told c.read_piece.new.device) (g.G.Ground.told c.read_area.new.device) [] [] c.in_ok-header.ensures.told c.in_err-opened.ensures.told in
-    let damage : IsDamage (g.G.Ground.told c.read_area.new.device) (λ at image. content_of (start_of layout) (octets_at (start_of layout) layout.half image) ≡ Err at) fault =
-    subst (λ (k : ℕ). IsDamage (g.G.Ground.told c.read_area.new.device) (λ at image. content_of k (octets_at k layout.half image) ≡ Err at) fault) c.start-start.ensures.start c.in_err-opened.ensures.damaged in
+    let damage : IsDamage (g.G.Ground.told c.read_area.new.device) (λ at image. LeavesAt (start_of layout) (octets_at (start_of layout) layout.half image) at) fault =
+    subst (λ (k : ℕ). IsDamage (g.G.Ground.told c.read_area.new.device) (λ at image. LeavesAt k (octets_at k layout.half image) at) fault) c.start-start.ensures.start c.in_err-opened.ensures.damaged in
     let p = err_from_is_err_and c.from_residual-in_err-opened.result c.from_residual-in_err-opened.ensures.1 in
     rw p.1 (subst (λ (f : OpenFault). Answers site (g.G.Ground.told c.args.device.now) (g.G.Ground.told c.read_area.new.device) (Err f)) (sym p.2)
     (no_area site c.args.size header c.in_ok-formatted.formatted layout fault _ _ found whole told c.in_ok-header.ensures.octets damage begun))

@@ -6,6 +6,9 @@ use Rattle.alarm_journal.proofs.Emitting.{emits_sent, emits_lost}
 use Rattle.alarm_journal.proofs.press.emit_each.Goals as goal
 use Rattle.alarm_journal.proofs.press.emit_each.Goals.{in-Ok, in-Err}
 
+one_more : (n : ℕ) → n + 1 ≡ 0 → ⊥
+one_more n h = omega (arith, h)
+
 pub loop-send-preserved : goal.loop-send-preserved
 loop-send-preserved g c =
     let i = c.loop-send.send-index in
@@ -36,5 +39,9 @@ loop-send-preserved g c =
           later = omega (arith, c.loop-send.invariant.cause.later, c.emit.ensures.cause.later);
           rose = λ lost. omega (arith, c.loop-send.invariant.cause.later, w.in-Err.ensures.cause.rose refl);
         }
+      ];
+      uncounted = elim c.match-emit.branch [
+        | in-Ok w ↦ λ none. w.in-Ok.ensures.uncounted ∙ c.loop-send.invariant.uncounted (sym w.lost-is ∙ none)
+        | in-Err w ↦ λ none. absurd (one_more c.loop-send.lost (sym w.lost-is ∙ none))
       ];
     }

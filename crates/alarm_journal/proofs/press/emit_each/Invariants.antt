@@ -10,4 +10,5 @@ invariant-loop-send g l = record {
   told : EmitsAll (take l.send-index l.sends) l.sent l.lost (g.G.Ground.told l.fn.device) (g.G.Ground.told l.device);
   all : l.sent + l.lost ≡ l.send-index;
   cause : HasCause (g.G.Ground.emit_faults l.fn.device) (g.G.Ground.emit_faults l.device) (0 < l.lost);
+  uncounted : l.lost ≡ 0 → g.G.Ground.emit_faults l.device ≡ g.G.Ground.emit_faults l.fn.device;
 }

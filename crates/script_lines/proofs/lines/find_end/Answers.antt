@@ -18,5 +18,5 @@ loop-end-preserved g c =
       seen = omega arith;
       source = λ e. let wrong : ⊥ = cc in absurd wrong;
       ended = c.loop-end.invariant.ended;
-      faults = omega arith;
+      faults = c.in_ok-read.ensures.uncounted ∙ c.loop-end.invariant.faults;
     }

@@ -22,7 +22,7 @@ unfolding no_body
 in_body-requires c = record {
   fits = λ offset is.
       let body = get_or c.args.bodies.now c.loop-body.body-index no_body in
-      let damaged : IsDamagedIn c.loop-body.core c.split_at.result.0.now offset = c.follow_body.ensures.damaged offset (c.in-Err.is ∙ ap Err is) in
+      let damaged : IsDamagedIn c.loop-body.core c.split_at.result.0.now offset = c.follow_records.ensures.damaged offset (c.in-Err.is ∙ ap Err is) in
       let ends : EndsOnDevice body = c.requires.places c.loop-body.body-index no_body c.loop-body-test.true in
       omega (arith, ends, damaged_within c.loop-body.core c.split_at.result.0.now offset damaged, c.split_at.ensures.front_len);
 }
@@ -34,7 +34,7 @@ returns-in-Err-clause-damaged c = λ at e.
     let index = c.loop-body.body-index in
     let is : c.in_body.result ≡ Damaged at = cc in
     let placed = c.in_body.ensures.place at is in
-    let damaged : IsDamagedIn c.loop-body.core c.split_at.result.0.now placed.0 = c.follow_body.ensures.damaged placed.0 (c.in-Err.is ∙ ap Err placed.1) in
+    let damaged : IsDamagedIn c.loop-body.core c.split_at.result.0.now placed.0 = c.follow_records.ensures.damaged placed.0 (c.in-Err.is ∙ ap Err placed.1) in
     damaged_in c.args.core.now c.loop-body.core bodies (take index bodies) (drop (index + 1) bodies) (get_or bodies index no_body) c.args.octets.now c.loop-body.rest.now c.split_at.result.0.now placed.0 at
     (around bodies index no_body c.loop-body-test.true) c.loop-body.invariant c.split_at.ensures.front damaged placed.2
 
@@ -43,6 +43,6 @@ unfolding no_body
 loop-body-preserved c =
     let bodies = c.args.bodies.now in
     let index = c.loop-body.body-index in
-    subst (λ (read : List Body). IsBehind c.args.core.now read c.args.octets.now c.split_at.result.1.now c.follow_body.new.core) (sym (take_more bodies index no_body c.loop-body-test.true))
-    (behind_more c.args.core.now c.loop-body.core c.follow_body.new.core (take index bodies) (get_or bodies index no_body) c.args.octets.now c.loop-body.rest.now c.split_at.result.0.now c.split_at.result.1.now
+    subst (λ (read : List Body). IsBehind c.args.core.now read c.args.octets.now c.split_at.result.1.now c.follow_records.new.core) (sym (take_more bodies index no_body c.loop-body-test.true))
+    (behind_more c.args.core.now c.loop-body.core c.follow_records.new.core (take index bodies) (get_or bodies index no_body) c.args.octets.now c.loop-body.rest.now c.split_at.result.0.now c.split_at.result.1.now
     c.loop-body.invariant c.split_at.ensures.front c.split_at.ensures.back c.in_default.ensures.followed)

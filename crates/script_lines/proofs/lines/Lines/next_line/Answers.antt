@@ -21,5 +21,5 @@ loop-line-preserved g c = record {
   source = c.take_line.ensures.source;
   ended = λ e. c.loop-line.invariant.ended (c.take_line.ensures.ended e);
   grows = let counts = rw c.in-Passed.is at c.in_ok-take_line.ensures.counts in omega (arith, c.loop-line.invariant.grows);
-  faults = omega (arith, c.take_line.ensures.cause.later);
+  faults = c.in_ok-take_line.ensures.uncounted ∙ c.loop-line.invariant.faults;
 }

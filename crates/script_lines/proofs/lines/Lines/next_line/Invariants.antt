@@ -5,7 +5,7 @@ use Rattle.script_lines.specs.Reading.{octets_to_come}
 use Rattle.script_lines.specs.Script.{lines_of, next_in, TakesLines}
 use Rattle.script_lines.proofs.lines.Lines.next_line.Given as goal
 
--- what comes next is the same, in the same grammar, whole lines were taken unless the source's end was seen, and faults were counted only upwards
+-- what comes next is the same, in the same grammar, whole lines were taken unless the source's end was seen, and no fault was counted
 abbrev pub invariant-loop-line : goal.invariant-loop-line
 invariant-loop-line g l = record {
   next : WhereTold (octets_to_come l.initial.self (g.S.Source.left l.initial.source)) (octets_to_come l.self (g.S.Source.left l.source))
@@ -16,7 +16,7 @@ invariant-loop-line g l = record {
   source : l.self.ended ≡ true → IsAtEnd (g.S.Source.left l.source);
   ended : l.self.ended ≡ false → l.initial.self.ended ≡ false;
   grows : l.initial.self.number ≤ l.self.number;
-  faults : g.S.Source.faults l.initial.source ≤ g.S.Source.faults l.source;
+  faults : g.S.Source.faults l.source ≡ g.S.Source.faults l.initial.source;
 }
 
 abbrev pub decreases-loop-line : goal.decreases-loop-line
