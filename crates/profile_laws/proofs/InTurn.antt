@@ -53,7 +53,7 @@ use Rattle.profile_laws.proofs.WriteTables.{WriteSays, write_says}
 pub identified : (state : CoreState) (history : List Event) → Represents state history → (object : ObjectIdData) → Identifies state object
 identified state history represents object = subst (λ (s : CoreState). Identifies s object) (sym represents.shows) (identifies state.site history object)
 
-bytes : (parameters : List ℕ) → AreOctets parameters → IsBytes parameters
+pub bytes : (parameters : List ℕ) → AreOctets parameters → IsBytes parameters
 bytes parameters octets = λ i. octets i
 
 -- ---- WriteProperty

@@ -7,6 +7,7 @@ mod ReadTables
 mod AcknowledgementTables
 mod RangeTables
 mod InTurn
+mod ListTables
 mod SoundValues
 mod FlagsBack
 mod PassedTests
@@ -14,6 +15,8 @@ mod RowBack
 mod EnrollmentBack
 mod LogBack
 mod ReadingBack
+mod AddedLists
+mod ListsBack
 mod Listed
 mod AllTables
 mod ManyReads

@@ -82,7 +82,7 @@ read_as state reference octets h moment asker parameters are spelled short =
 
 -- ---- a write that is entered
 
-entered_is : (event other : Event) (reply full acknowledgement : Option Send) (verdict : Result (Unit {0}) StepFault) → entering event reply full verdict ≡ Entered other acknowledgement → event ≡ other
+pub entered_is : (event other : Event) (reply full acknowledgement : Option Send) (verdict : Result (Unit {0}) StepFault) → entering event reply full verdict ≡ Entered other acknowledgement → event ≡ other
 entered_is event other reply full acknowledgement (Ok fits) h = cc
 entered_is event other reply full acknowledgement (Err (TooMany would limit)) h = absurd cc
 entered_is event other reply full acknowledgement (Err NoMemory) h = absurd cc

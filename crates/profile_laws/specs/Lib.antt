@@ -3,6 +3,8 @@ pub mod PropertyTables
 pub mod PropertyErrors
 pub mod RangeErrors
 pub mod AcknowledgementErrors
+pub mod ListErrors
 pub mod Laws
 pub mod ReadBack
+pub mod ListBack
 pub mod ManyLaws

@@ -29,10 +29,10 @@ use Rattle.object_table.specs.declared.faults.WriteFault.{WriteFault}
 use Rattle.object_table.specs.declared.faults.WriteFault.TheVariants as write_faults
 use Rattle.object_table.specs.Verdicts.{checked_fault, checked_set}
 use Rattle.outbox.specs.Outboxes.{has_in_flight, is_idle}
-use Rattle.alarm_core.specs.declared.event.Act.TheVariants.{Write}
+use Rattle.alarm_core.specs.declared.event.Act.TheVariants.{Edit, Write}
 use Rattle.alarm_core.specs.declared.event.Event.{Event}
 use Rattle.alarm_core.specs.declared.site.Site.{Site}
-use Rattle.alarm_core.specs.Allowed.{IsAllowed, IsAnswer}
+use Rattle.alarm_core.specs.Allowed.{IsAllowed, IsAnswer, IsHistory}
 use Rattle.alarm_core.specs.Found.{found_in}
 use Rattle.alarm_core.specs.History.{StateTransition, raised, tick_at}
 use Rattle.alarm_core.specs.CoreSteps.{next_transitions}
@@ -42,7 +42,7 @@ use Rattle.alarm_core.specs.State.{state_of, CoreState}
 use Rattle.service_desk.specs.declared.decision.Decision.{Decision}
 use Rattle.service_desk.specs.declared.decision.Decision.TheVariants.{Ignore, Idle, Reply, Enter}
 use Rattle.service_desk.specs.declared.service.Service.{Service}
-use Rattle.service_desk.specs.declared.service.Service.TheVariants.{AcknowledgeAlarm, GetAlarmSummary, GetEnrollmentSummary, ReadProperty, ReadPropertyMultiple, WriteProperty, ReadRange, GetEventInformation}
+use Rattle.service_desk.specs.declared.service.Service.TheVariants.{AcknowledgeAlarm, GetAlarmSummary, GetEnrollmentSummary, AddListElement, RemoveListElement, ReadProperty, ReadPropertyMultiple, WriteProperty, ReadRange, GetEventInformation}
 use Rattle.service_desk.specs.Requesters.{RequesterData, requester_of}
 use Rattle.service_desk.specs.AcknowledgeAlarm.{acknowledge_with}
 use Rattle.service_desk.specs.ReadProperty.{read_with}
@@ -52,11 +52,19 @@ use Rattle.service_desk.specs.Information.{information_with}
 use Rattle.service_desk.specs.WhoIs.{names_device, i_am, who_is_decision}
 use Rattle.service_desk.specs.NotificationAnswers.{answer_at}
 use Rattle.service_desk.specs.Decisions.{EntersAllowed, apdu_decision, by_kind, decision_on, field_decision, has_no_value, incoming_decision, pump_at, service_decision, tick_with, unconfirmed_decision}
+use Rattle.bac_values.specs.Reasons.{other_reason}
+use Rattle.notify_class.specs.Recipients.{DestinationData}
+use Rattle.list_binding.specs.Edits.{EditAnswer, are_same}
+use Rattle.list_binding.specs.Requests.{ListAsked}
+use Rattle.list_binding.specs.RequestSteps.{list_request_of}
+use Rattle.service_desk.specs.ListDecisions.{edit_at, edited_decision, list_answer, list_in, list_with}
+use Rattle.service_desk.specs.Replies.{abort, simple_ack}
 use Rattle.summaries.specs.ManyRequests.{ObjectAsked}
 use Rattle.summaries.specs.ManySteps.{groups_of}
 use Rattle.summaries.specs.RequestSteps.{enrollment_request_of}
 use Rattle.summaries.specs.declared.filter.Filter.{Filter}
 use Rattle.service_desk.specs.SummaryDecisions.{alarm_summary_decision, enrollment_summary_with, many_with}
+use Rattle.service_desk.proofs.AllowedEdits.{AllowsEdits, edits_allowed}
 use Rattle.service_desk.proofs.AllowedWrites.{fault_allowed, set_allowed, write_allowed}
 use Rattle.service_desk.proofs.Entering.{verdict_enters}
 
@@ -141,51 +149,67 @@ module _ (state : CoreState) (moment : ℕ) where
       change_enters requester (write_of state request.object request.property.0 request.index request.value)
       (λ change e. writes request.object request.property.0 request.index request.value change e)
 
-  service_enters : AllowsWrites → (requester : RequesterData) (parameters : List ℕ) (service : Option Service) → Enters (service_decision state moment requester parameters service)
-  service_enters writes requester parameters (Some AcknowledgeAlarm) = acknowledge_enters requester (acknowledge_request_of parameters)
-  service_enters writes requester parameters (Some GetAlarmSummary) = alarm_summary_enters requester parameters
-  service_enters writes requester parameters (Some GetEnrollmentSummary) = enrollment_summary_enters requester (enrollment_request_of parameters)
-  service_enters writes requester parameters (Some ReadProperty) = read_enters requester (read_property_of parameters)
-  service_enters writes requester parameters (Some ReadPropertyMultiple) = many_enters requester (groups_of parameters)
-  service_enters writes requester parameters (Some WriteProperty) = write_enters writes requester (write_property_of parameters)
-  service_enters writes requester parameters (Some ReadRange) = tt
-  service_enters writes requester parameters (Some GetEventInformation) = information_enters requester (information_request_of parameters)
-  service_enters writes requester parameters None = tt
+  left_enters : (requester : RequesterData) (number : ℕ) (left : List DestinationData) (same : Bool) → (same ≡ false → IsAllowed state (Edit number left)) →
+      Enters (if same then Reply (simple_ack requester) else Enter (edit_at moment number left) (Some (simple_ack requester)) (Some (abort requester other_reason)))
+  left_enters requester number left true allowed = tt
+  left_enters requester number left false allowed = (refl, allowed refl)
+
+  edit_enters : (requester : RequesterData) (number : ℕ) (list : List DestinationData) (answer : EditAnswer) →
+      ((left : List DestinationData) → answer ≡ Ok left → are_same left list ≡ false → IsAllowed state (Edit number left)) → Enters (edited_decision moment requester number list answer)
+  edit_enters requester number list (Err refused) allowed = tt
+  edit_enters requester number list (Ok left) allowed = left_enters requester number left (are_same left list) (λ other. allowed left refl other)
+
+  list_enters : AllowsEdits state → (requester : RequesterData) (adding : Bool) (request : Result ListAsked Malformed) → Enters (list_with state moment requester adding request)
+  list_enters edits requester adding (Err refusal) = tt
+  list_enters edits requester adding (Ok asked) = edit_enters requester asked.object.instance (list_in state asked.object.instance) (list_answer state adding asked) (λ left e other. edits adding asked left e other)
+
+  service_enters : AllowsWrites → AllowsEdits state → (requester : RequesterData) (parameters : List ℕ) (service : Option Service) → Enters (service_decision state moment requester parameters service)
+  service_enters writes edits requester parameters (Some AcknowledgeAlarm) = acknowledge_enters requester (acknowledge_request_of parameters)
+  service_enters writes edits requester parameters (Some GetAlarmSummary) = alarm_summary_enters requester parameters
+  service_enters writes edits requester parameters (Some GetEnrollmentSummary) = enrollment_summary_enters requester (enrollment_request_of parameters)
+  service_enters writes edits requester parameters (Some AddListElement) = list_enters edits requester true (list_request_of parameters)
+  service_enters writes edits requester parameters (Some RemoveListElement) = list_enters edits requester false (list_request_of parameters)
+  service_enters writes edits requester parameters (Some ReadProperty) = read_enters requester (read_property_of parameters)
+  service_enters writes edits requester parameters (Some ReadPropertyMultiple) = many_enters requester (groups_of parameters)
+  service_enters writes edits requester parameters (Some WriteProperty) = write_enters writes requester (write_property_of parameters)
+  service_enters writes edits requester parameters (Some ReadRange) = tt
+  service_enters writes edits requester parameters (Some GetEventInformation) = information_enters requester (information_request_of parameters)
+  service_enters writes edits requester parameters None = tt
 
   named_enters : (peer : PeerData) (invoke service kind : ℕ) → IsAnswer kind →
       Enters (if service == confirmed_event_notification_service then (if has_in_flight peer invoke state.outbox then Enter (answer_at moment peer invoke kind) None None else Ignore) else Ignore)
   named_enters peer invoke service kind is =
       of_two Enters (service == confirmed_event_notification_service) _ Ignore (answer_enters peer invoke kind is (has_in_flight peer invoke state.outbox) refl) tt
 
-  apdu_enters : AllowsWrites → (peer : PeerData) (octets : List ℕ) (header : Apdu) → Enters (apdu_decision state moment peer octets header)
-  apdu_enters writes peer octets (Request max_apdu invoke service start) = service_enters writes (requester_of peer max_apdu invoke service) (drop start octets) (service_of service)
-  apdu_enters writes peer octets (Segmented invoke) = tt
-  apdu_enters writes peer octets (Unconfirmed service start) = unconfirmed_enters peer service (drop start octets)
-  apdu_enters writes peer octets (SimpleAck invoke service) = named_enters peer invoke service simple_ack_pdu refl
-  apdu_enters writes peer octets (ErrorAnswer invoke service) = named_enters peer invoke service error_pdu refl
-  apdu_enters writes peer octets (RejectAnswer invoke) = answer_enters peer invoke reject_pdu refl (has_in_flight peer invoke state.outbox) refl
-  apdu_enters writes peer octets (AbortAnswer invoke) = answer_enters peer invoke abort_pdu refl (has_in_flight peer invoke state.outbox) refl
-  apdu_enters writes peer octets Other = tt
+  apdu_enters : AllowsWrites → AllowsEdits state → (peer : PeerData) (octets : List ℕ) (header : Apdu) → Enters (apdu_decision state moment peer octets header)
+  apdu_enters writes edits peer octets (Request max_apdu invoke service start) = service_enters writes edits (requester_of peer max_apdu invoke service) (drop start octets) (service_of service)
+  apdu_enters writes edits peer octets (Segmented invoke) = tt
+  apdu_enters writes edits peer octets (Unconfirmed service start) = unconfirmed_enters peer service (drop start octets)
+  apdu_enters writes edits peer octets (SimpleAck invoke service) = named_enters peer invoke service simple_ack_pdu refl
+  apdu_enters writes edits peer octets (ErrorAnswer invoke service) = named_enters peer invoke service error_pdu refl
+  apdu_enters writes edits peer octets (RejectAnswer invoke) = answer_enters peer invoke reject_pdu refl (has_in_flight peer invoke state.outbox) refl
+  apdu_enters writes edits peer octets (AbortAnswer invoke) = answer_enters peer invoke abort_pdu refl (has_in_flight peer invoke state.outbox) refl
+  apdu_enters writes edits peer octets Other = tt
 
-  incoming_enters : AllowsWrites → (octets : List ℕ) (incoming : Option Incoming) → Enters (incoming_decision state moment octets incoming)
-  incoming_enters writes octets None = tt
-  incoming_enters writes octets (Some incoming) = apdu_enters writes incoming.peer (drop incoming.start octets) (apdu_of (drop incoming.start octets))
+  incoming_enters : AllowsWrites → AllowsEdits state → (octets : List ℕ) (incoming : Option Incoming) → Enters (incoming_decision state moment octets incoming)
+  incoming_enters writes edits octets None = tt
+  incoming_enters writes edits octets (Some incoming) = apdu_enters writes edits incoming.peer (drop incoming.start octets) (apdu_of (drop incoming.start octets))
 
 -- an event that is entered after a history is allowed there
-pub decision_enters : (site : Site) → IsSite site → (history : List Event) (input : Input) (moment : ℕ) → EntersAllowed (state_of site history) moment (decision_on (state_of site history) input moment)
-decision_enters site is history Tick moment =
+pub decision_enters : (site : Site) → IsSite site → (history : List Event) → IsHistory site history → (input : Input) (moment : ℕ) → EntersAllowed (state_of site history) moment (decision_on (state_of site history) input moment)
+decision_enters site is history h Tick moment =
     let state = state_of site history in
     tick_enters state (next_transitions (raised state.last_moment (tick_at moment)) state) moment
-decision_enters site is history Pump moment =
+decision_enters site is history h Pump moment =
     let state = state_of site history in
     of_two (EntersAllowed state moment) (is_idle (max moment state.last_moment) state.outbox) Idle (Enter (pump_at moment) None None) tt (refl, tt)
-decision_enters site is history (Set object value) moment =
+decision_enters site is history h (Set object value) moment =
     let state = state_of site history in
     let checked = checked_set state.values.rows object value in
     field_enters state moment (by_kind state object checked) (λ change e. set_allowed state object value change (of_kind (has_no_value state object) checked change e))
-decision_enters site is history (Fault object reliability) moment =
+decision_enters site is history h (Fault object reliability) moment =
     let state = state_of site history in
     let checked = checked_fault state.values.rows object reliability in
     field_enters state moment (by_kind state object checked) (λ change e. fault_allowed state object reliability change (of_kind (has_no_value state object) checked change e))
-decision_enters site is history (Datagram peer octets) moment =
-    incoming_enters (state_of site history) moment (write_allowed site is history) octets (incoming_at peer octets)
+decision_enters site is history h (Datagram peer octets) moment =
+    incoming_enters (state_of site history) moment (write_allowed site is history) (edits_allowed site is history h) octets (incoming_at peer octets)

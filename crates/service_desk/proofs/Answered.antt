@@ -1,5 +1,5 @@
 -- Each confirmed request gets one reply.
-use Rattle.std.proofs.Common.{ℕ, Option, Some, None, Result, Ok, Err, List, [], ◌∷◌, drop, refl}
+use Rattle.std.proofs.Common.{ℕ, Bool, true, false, if◌then◌else◌, Option, Some, None, Result, Ok, Err, List, [], ◌∷◌, drop, refl}
 use Rattle.bac_values.specs.Identifier.{ObjectIdData}
 use Rattle.apdu_frame.specs.declared.apdu.Apdu.TheVariants.{Request, Segmented}
 use Rattle.bac_tags.specs.declared.malformed.Malformed.{Malformed}
@@ -19,7 +19,7 @@ use Rattle.alarm_core.specs.Found.{found_in}
 use Rattle.alarm_core.specs.Reading.{write_of}
 use Rattle.alarm_core.specs.State.{CoreState}
 use Rattle.service_desk.specs.declared.service.Service.{Service}
-use Rattle.service_desk.specs.declared.service.Service.TheVariants.{AcknowledgeAlarm, GetAlarmSummary, GetEnrollmentSummary, ReadProperty, ReadPropertyMultiple, WriteProperty, ReadRange, GetEventInformation}
+use Rattle.service_desk.specs.declared.service.Service.TheVariants.{AcknowledgeAlarm, GetAlarmSummary, GetEnrollmentSummary, AddListElement, RemoveListElement, ReadProperty, ReadPropertyMultiple, WriteProperty, ReadRange, GetEventInformation}
 use Rattle.service_desk.specs.Requesters.{RequesterData, requester_of}
 use Rattle.service_desk.specs.AcknowledgeAlarm.{acknowledge_with, verdict_decision}
 use Rattle.service_desk.specs.ReadProperty.{read_with}
@@ -31,6 +31,14 @@ use Rattle.summaries.specs.ManyRequests.{ObjectAsked}
 use Rattle.summaries.specs.ManySteps.{groups_of}
 use Rattle.summaries.specs.RequestSteps.{enrollment_request_of}
 use Rattle.summaries.specs.declared.filter.Filter.{Filter}
+use Rattle.bac_values.specs.Reasons.{other_reason}
+use Rattle.notify_class.specs.Recipients.{DestinationData}
+use Rattle.list_binding.specs.Edits.{EditAnswer, are_same}
+use Rattle.list_binding.specs.Requests.{ListAsked}
+use Rattle.list_binding.specs.RequestSteps.{list_request_of}
+use Rattle.service_desk.specs.declared.decision.Decision.TheVariants.{Enter, Reply}
+use Rattle.service_desk.specs.ListDecisions.{edit_at, edited_decision, list_answer, list_in, list_with}
+use Rattle.service_desk.specs.Replies.{abort, simple_ack}
 use Rattle.service_desk.specs.SummaryDecisions.{alarm_summary_decision, enrollment_summary_with, many_with}
 use Rattle.service_desk.specs.Laws.{EachRequestIsAnswered, HasOneReply}
 
@@ -72,10 +80,25 @@ of_many : (state : CoreState) (requester : RequesterData) (read : Result (List O
 of_many state requester (Err refusal) = tt
 of_many state requester (Ok groups) = tt
 
+of_left : (moment : ℕ) (requester : RequesterData) (number : ℕ) (left : List DestinationData) (same : Bool) →
+    HasOneReply (if same then Reply (simple_ack requester) else Enter (edit_at moment number left) (Some (simple_ack requester)) (Some (abort requester other_reason)))
+of_left moment requester number left true = tt
+of_left moment requester number left false = (refl, refl)
+
+of_edit : (moment : ℕ) (requester : RequesterData) (number : ℕ) (list : List DestinationData) (answer : EditAnswer) → HasOneReply (edited_decision moment requester number list answer)
+of_edit moment requester number list (Err refused) = tt
+of_edit moment requester number list (Ok left) = of_left moment requester number left (are_same left list)
+
+of_list : (state : CoreState) (moment : ℕ) (requester : RequesterData) (adding : Bool) (read : Result ListAsked Malformed) → HasOneReply (list_with state moment requester adding read)
+of_list state moment requester adding (Err refusal) = tt
+of_list state moment requester adding (Ok asked) = of_edit moment requester asked.object.instance (list_in state asked.object.instance) (list_answer state adding asked)
+
 of_service : (state : CoreState) (moment : ℕ) (requester : RequesterData) (parameters : List ℕ) (service : Option Service) → HasOneReply (service_decision state moment requester parameters service)
 of_service state moment requester parameters (Some AcknowledgeAlarm) = of_acknowledgement state moment requester (acknowledge_request_of parameters)
 of_service state moment requester parameters (Some GetAlarmSummary) = of_alarm_summary state requester parameters
 of_service state moment requester parameters (Some GetEnrollmentSummary) = of_enrollment_summary state requester (enrollment_request_of parameters)
+of_service state moment requester parameters (Some AddListElement) = of_list state moment requester true (list_request_of parameters)
+of_service state moment requester parameters (Some RemoveListElement) = of_list state moment requester false (list_request_of parameters)
 of_service state moment requester parameters (Some ReadProperty) = of_read state requester (read_property_of parameters)
 of_service state moment requester parameters (Some ReadPropertyMultiple) = of_many state requester (groups_of parameters)
 of_service state moment requester parameters (Some WriteProperty) = of_write state moment requester (write_property_of parameters)

@@ -23,7 +23,7 @@ use Rattle.alarm_core.specs.Logs.{log_in}
 use Rattle.alarm_core.specs.Reading.{read_of, write_of}
 use Rattle.alarm_core.specs.State.{CoreState}
 use Rattle.service_desk.specs.declared.service.Service.{Service}
-use Rattle.service_desk.specs.declared.service.Service.TheVariants.{AcknowledgeAlarm, GetAlarmSummary, GetEnrollmentSummary, ReadProperty, ReadPropertyMultiple, WriteProperty, ReadRange, GetEventInformation}
+use Rattle.service_desk.specs.declared.service.Service.TheVariants.{AcknowledgeAlarm, GetAlarmSummary, GetEnrollmentSummary, AddListElement, RemoveListElement, ReadProperty, ReadPropertyMultiple, WriteProperty, ReadRange, GetEventInformation}
 use Rattle.service_desk.specs.Requesters.{RequesterData}
 use Rattle.service_desk.specs.Services.{service_of}
 use Rattle.service_desk.specs.Decisions.{service_decision}
@@ -31,14 +31,22 @@ use Rattle.service_desk.specs.AcknowledgeAlarm.{acknowledge_with, verdict_decisi
 use Rattle.service_desk.specs.ReadProperty.{read_reply, read_with}
 use Rattle.service_desk.specs.WriteProperty.{change_decision, write_with}
 use Rattle.service_desk.specs.Information.{information_with, information_room}
-use Rattle.bac_values.specs.Reasons.{too_many_arguments_reason, unrecognized_service_reason}
+use Rattle.bac_values.specs.Reasons.{other_reason, too_many_arguments_reason, unrecognized_service_reason}
 use Rattle.summaries.specs.ManyRequests.{ObjectAsked}
 use Rattle.summaries.specs.ManySteps.{groups_of}
 use Rattle.summaries.specs.RequestSteps.{enrollment_request_of}
 use Rattle.summaries.specs.declared.filter.Filter.{Filter}
+use Rattle.notify_class.specs.Recipients.{DestinationData}
+use Rattle.list_binding.specs.Edits.{EditAnswer, are_same}
+use Rattle.list_binding.specs.Requests.{ListAsked}
+use Rattle.list_binding.specs.RequestSteps.{list_request_of}
+use Rattle.service_desk.specs.declared.decision.Decision.TheVariants.{Enter, Reply}
+use Rattle.service_desk.specs.ListDecisions.{edit_at, edited_decision, list_answer, list_in, list_with}
+use Rattle.service_desk.specs.Replies.{abort, simple_ack}
 use Rattle.service_desk.specs.SummaryDecisions.{alarm_summary_decision, enrollment_summary_with, many_with}
 use Rattle.service_desk.specs.Laws.{EachReplyFits, FitsRequester, RepliesFit}
 use Rattle.service_desk.specs.Ranges.{rule_zone_of}
+use Rattle.service_desk.proofs.ListErrors.{list_error_fits}
 use Rattle.service_desk.proofs.Sends.{abort_fits, simple_ack_fits, within_max_apdu_fits, information_reply_fits, range_decided_fits, error_fits, reject_fits}
 
 either : (test : Bool) (m n least : ℕ) → least ≤ m → least ≤ n → least ≤ (if test then m else n)
@@ -98,10 +106,25 @@ many_fits : (state : CoreState) (requester : RequesterData) (read : Result (List
 many_fits state requester (Err refusal) least = reject_fits requester refusal.reject least
 many_fits state requester (Ok groups) least = within_max_apdu_fits requester _ least
 
+left_fits : (moment : ℕ) (requester : RequesterData) (number : ℕ) (left : List DestinationData) (same : Bool) → 50 ≤ requester.max_apdu →
+    RepliesFit requester (if same then Reply (simple_ack requester) else Enter (edit_at moment number left) (Some (simple_ack requester)) (Some (abort requester other_reason)))
+left_fits moment requester number left true least = simple_ack_fits requester least
+left_fits moment requester number left false least = (simple_ack_fits requester least, abort_fits requester 0 least)
+
+edit_fits : (moment : ℕ) (requester : RequesterData) (number : ℕ) (list : List DestinationData) (answer : EditAnswer) → 50 ≤ requester.max_apdu → RepliesFit requester (edited_decision moment requester number list answer)
+edit_fits moment requester number list (Err refused) least = list_error_fits requester refused.error refused.element least
+edit_fits moment requester number list (Ok left) least = left_fits moment requester number left (are_same left list) least
+
+list_fits : (state : CoreState) (moment : ℕ) (requester : RequesterData) (adding : Bool) (read : Result ListAsked Malformed) → 50 ≤ requester.max_apdu → RepliesFit requester (list_with state moment requester adding read)
+list_fits state moment requester adding (Err refusal) least = reject_fits requester refusal.reject least
+list_fits state moment requester adding (Ok asked) least = edit_fits moment requester asked.object.instance (list_in state asked.object.instance) (list_answer state adding asked) least
+
 service_fits : (state : CoreState) (moment : ℕ) (requester : RequesterData) (parameters : List ℕ) (service : Option Service) → 50 ≤ requester.max_apdu → RepliesFit requester (service_decision state moment requester parameters service)
 service_fits state moment requester parameters (Some AcknowledgeAlarm) least = acknowledge_fits state moment requester (acknowledge_request_of parameters) least
 service_fits state moment requester parameters (Some GetAlarmSummary) least = alarm_summary_fits state requester parameters least
 service_fits state moment requester parameters (Some GetEnrollmentSummary) least = enrollment_summary_fits state requester (enrollment_request_of parameters) least
+service_fits state moment requester parameters (Some AddListElement) least = list_fits state moment requester true (list_request_of parameters) least
+service_fits state moment requester parameters (Some RemoveListElement) least = list_fits state moment requester false (list_request_of parameters) least
 service_fits state moment requester parameters (Some ReadProperty) least = read_fits state requester (read_property_of parameters) least
 service_fits state moment requester parameters (Some ReadPropertyMultiple) least = many_fits state requester (groups_of parameters) least
 service_fits state moment requester parameters (Some WriteProperty) least = write_fits state moment requester (write_property_of parameters) least

@@ -1,5 +1,6 @@
 pub mod Entering
 pub mod AllowedWrites
+pub mod AllowedEdits
 pub mod AllowedEvents
 pub mod Lengths
 pub mod Greatest
@@ -7,6 +8,7 @@ pub mod Room
 pub mod RequestedRange
 pub mod Fitted
 pub mod Sends
+pub mod ListErrors
 pub mod Fitting
 pub mod Answered
 pub mod NoRoom

@@ -1,5 +1,5 @@
 -- What becomes of an input, by the state of the core alone (ANSI/ASHRAE 135-2020, 5.4.5). What becomes of a request is said service by service, in a file for each.
-use Rattle.std.specs.Prelude.{◌≡◌, ℕ, max, ◌==◌, ◌&&◌, Bool, if◌then◌else◌, Option, Some, None, is_none, Result, Ok, Err, List, [], ◌∷◌, drop}
+use Rattle.std.specs.Prelude.{◌≡◌, ℕ, max, ◌==◌, ◌&&◌, Bool, true, false, if◌then◌else◌, Option, Some, None, is_none, Result, Ok, Err, List, [], ◌∷◌, drop}
 use Rattle.bac_values.specs.Address.{PeerData}
 use Rattle.bac_values.specs.Identifier.{ObjectIdData}
 use Rattle.bac_values.specs.Pdus.{abort_pdu, error_pdu, reject_pdu, simple_ack_pdu}
@@ -28,12 +28,13 @@ use Rattle.alarm_core.specs.CoreSteps.{next_transitions}
 use Rattle.alarm_core.specs.State.{CoreState}
 use Rattle.service_desk.specs.declared.decision.Decision.{Decision}
 use Rattle.service_desk.specs.declared.decision.Decision.TheVariants.{Ignore, Idle, Refuse, Reply, Enter}
-use Rattle.service_desk.specs.declared.service.Service.TheVariants.{AcknowledgeAlarm, GetAlarmSummary, GetEnrollmentSummary, ReadProperty, ReadPropertyMultiple, WriteProperty, ReadRange, GetEventInformation}
+use Rattle.service_desk.specs.declared.service.Service.TheVariants.{AcknowledgeAlarm, GetAlarmSummary, GetEnrollmentSummary, AddListElement, RemoveListElement, ReadProperty, ReadPropertyMultiple, WriteProperty, ReadRange, GetEventInformation}
 use Rattle.service_desk.specs.declared.service.Service.{Service}
 use Rattle.service_desk.specs.Requesters.{requester_of, RequesterData}
 use Rattle.service_desk.specs.Services.{service_of}
 use Rattle.service_desk.specs.Replies.{abort_to, reject}
 use Rattle.service_desk.specs.AcknowledgeAlarm.{acknowledge_decision}
+use Rattle.service_desk.specs.ListDecisions.{list_decision}
 use Rattle.service_desk.specs.SummaryDecisions.{alarm_summary_decision, enrollment_summary_decision, many_decision}
 use Rattle.service_desk.specs.ReadProperty.{read_decision}
 use Rattle.service_desk.specs.WriteProperty.{write_at, write_decision}
@@ -84,6 +85,8 @@ abbrev pub service_decision : CoreState → ℕ → RequesterData → List ℕ �
 service_decision state moment requester parameters (Some AcknowledgeAlarm) = acknowledge_decision state moment requester parameters
 service_decision state moment requester parameters (Some GetAlarmSummary) = alarm_summary_decision state requester parameters
 service_decision state moment requester parameters (Some GetEnrollmentSummary) = enrollment_summary_decision state requester parameters
+service_decision state moment requester parameters (Some AddListElement) = list_decision state moment requester true parameters
+service_decision state moment requester parameters (Some RemoveListElement) = list_decision state moment requester false parameters
 service_decision state moment requester parameters (Some ReadProperty) = read_decision state requester parameters
 service_decision state moment requester parameters (Some ReadPropertyMultiple) = many_decision state requester parameters
 service_decision state moment requester parameters (Some WriteProperty) = write_decision state moment requester parameters

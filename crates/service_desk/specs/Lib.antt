@@ -3,6 +3,7 @@ pub mod Services
 pub mod Replies
 pub mod AcknowledgeAlarm
 pub mod SummaryDecisions
+pub mod ListDecisions
 pub mod ReadProperty
 pub mod WriteProperty
 pub mod Ranges

@@ -4,7 +4,7 @@ use Rattle.bac_values.specs.Address.{PeerData}
 use Rattle.bac_values.specs.Reasons.{segmentation_not_supported_reason}
 use Rattle.bac_values.specs.declared.note.Send.{Send}
 use Rattle.bac_values.specs.declared.service_error.ServiceError.{ServiceError}
-use Rattle.apdu_frame.specs.Writing.{written_abort, written_complex_ack, written_error, written_reject, written_simple_ack}
+use Rattle.apdu_frame.specs.Writing.{written_abort, written_complex_ack, written_error, written_list_error, written_reject, written_simple_ack}
 use Rattle.bvlc_npdu.specs.Writing.{written_frame}
 use Rattle.service_desk.specs.Requesters.{RequesterData}
 
@@ -24,6 +24,10 @@ error_numbered requester class code = reply_to requester.peer (written_error req
 -- an error of the standard
 abbrev pub error : RequesterData → ServiceError → Send
 error requester named = error_numbered requester named.class named.code
+
+-- an error of a service that edits a list, at the element with a number, from 1; 0 where it is that of none
+abbrev pub list_error : RequesterData → ServiceError → ℕ → Send
+list_error requester named element = reply_to requester.peer (written_list_error requester.invoke requester.service named.class named.code element)
 
 abbrev pub reject : RequesterData → ℕ → Send
 reject requester reason = reply_to requester.peer (written_reject requester.invoke reason)

@@ -1,4 +1,4 @@
-ghost use Rattle.std.specs.Prelude.{◌≡◌, ℕ, IfOk, drop, length};
+ghost use Rattle.std.specs.Prelude.{◌≡◌, ◌<◌, ◌^◌, ℕ, IfOk, drop, length};
 ghost use Rattle.apdu_frame.specs.ReadingSteps.{apdu_of};
 ghost use Rattle.service_desk.specs.Decisions.{EntersAllowed, apdu_decision, incoming_decision, request_decision, unconfirmed_decision};
 ghost use Rattle.bvlc_npdu.specs.ReadingSteps.{incoming_at};
@@ -8,6 +8,7 @@ use crate::acknowledge_alarm::acknowledge;
 use crate::get_alarm_summary::get_alarm_summary;
 use crate::get_enrollment_summary::get_enrollment_summary;
 use crate::get_event_information::event_information;
+use crate::list_elements::edit_list;
 use crate::notification_answers::{answer_decision, named_answer_decision};
 use crate::read_property::read_property;
 use crate::read_property_multiple::read_property_multiple;
@@ -30,6 +31,7 @@ fn request_decision(
     requester: &Requester,
     parameters: &[u8],
 ) -> Result<Decision, NoMemory>
+    requires short { length parameters.now < 2 ^ 16 }
     ensures decision { IfOk result (λ decision. decision ≡ request_decision core.now moment requester.now parameters.now) }
     ensures allowed { IfOk result (EntersAllowed core.now moment) }
 {
@@ -38,6 +40,12 @@ fn request_decision(
         Some(Service::GetAlarmSummary) => get_alarm_summary(alloc, core, requester, parameters),
         Some(Service::GetEnrollmentSummary) => {
             get_enrollment_summary(alloc, core, requester, parameters)
+        }
+        Some(Service::AddListElement) => {
+            edit_list(alloc, core, moment, requester, true, parameters)
+        }
+        Some(Service::RemoveListElement) => {
+            edit_list(alloc, core, moment, requester, false, parameters)
         }
         Some(Service::ReadProperty) => read_property(alloc, core, requester, parameters),
         Some(Service::ReadPropertyMultiple) => {
@@ -77,6 +85,7 @@ fn apdu_decision(
     peer: Peer,
     octets: &[u8],
 ) -> Result<Decision, NoMemory>
+    requires short { length octets.now < 2 ^ 16 }
     ensures decision { IfOk result (λ decision. decision ≡ apdu_decision core.now moment peer octets.now (apdu_of octets.now)) }
     ensures allowed { IfOk result (EntersAllowed core.now moment) }
 {

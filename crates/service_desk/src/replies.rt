@@ -1,9 +1,9 @@
 ghost use Rattle.std.specs.Prelude.{◌≡◌, ◌≤◌, IfOk, length};
 ghost use Rattle.bac_values.specs.Services.{longest_apdu};
 ghost use Rattle.service_desk.specs.Requesters.{requester_of};
-ghost use Rattle.service_desk.specs.Replies.{abort_to, abort, simple_ack, complex_ack, within_max_apdu, error_numbered, error, reject, reply_to};
+ghost use Rattle.service_desk.specs.Replies.{abort_to, abort, simple_ack, complex_ack, within_max_apdu, error_numbered, error, list_error, reject, reply_to};
 
-use apdu_frame::{abort, complex_ack, error, reject, simple_ack};
+use apdu_frame::{abort, change_list_error, complex_ack, error, reject, simple_ack};
 use bac_values::{AbortReason, Items, NoMemory, Peer, Send, ServiceError};
 use bvlc_npdu::wrap;
 use std::alloc::Global;
@@ -109,6 +109,27 @@ impl Requester {
         ensures reply { IfOk result (λ send. send ≡ error self.now named) }
     {
         self.error_numbered(alloc, named.class, named.code)
+    }
+
+    /// The list isn't edited, for the reason that an error gives, at the element with a number, from 1; 0 where it is none of
+    /// them.
+    pub(crate) fn list_error(
+        &self,
+        alloc: Global,
+        named: ServiceError,
+        element: u32,
+    ) -> Result<Send, NoMemory>
+        ensures reply { IfOk result (λ send. send ≡ list_error self.now named element) }
+    {
+        let apdu = change_list_error(
+            alloc,
+            self.invoke,
+            self.service,
+            named.class,
+            named.code,
+            element,
+        )?;
+        reply_to(alloc, self.peer, apdu.as_slice())
     }
 
     /// The request isn't understood.

@@ -12,6 +12,10 @@ pub(crate) enum Service {
     GetAlarmSummary,
     /// 13.11
     GetEnrollmentSummary,
+    /// 15.1
+    AddListElement,
+    /// 15.2
+    RemoveListElement,
     /// 15.5
     ReadProperty,
     /// 15.7
@@ -33,6 +37,8 @@ impl Service {
             ConfirmedService::ACKNOWLEDGE_ALARM => Service::AcknowledgeAlarm,
             ConfirmedService::GET_ALARM_SUMMARY => Service::GetAlarmSummary,
             ConfirmedService::GET_ENROLLMENT_SUMMARY => Service::GetEnrollmentSummary,
+            ConfirmedService::ADD_LIST_ELEMENT => Service::AddListElement,
+            ConfirmedService::REMOVE_LIST_ELEMENT => Service::RemoveListElement,
             ConfirmedService::READ_PROPERTY => Service::ReadProperty,
             ConfirmedService::READ_PROPERTY_MULTIPLE => Service::ReadPropertyMultiple,
             ConfirmedService::WRITE_PROPERTY => Service::WriteProperty,

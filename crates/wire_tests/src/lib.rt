@@ -16,6 +16,8 @@ mod event_services_tests;
 #[cfg(test)]
 mod event_values_tests;
 #[cfg(test)]
+mod list_binding_tests;
+#[cfg(test)]
 mod long_elements_tests;
 #[cfg(test)]
 mod parameters_tests;
