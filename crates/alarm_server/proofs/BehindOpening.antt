@@ -1,5 +1,5 @@
 -- A session behind the opening of its journal, at which nothing goes out.
-use Rattle.std.proofs.Common.{◌≡◌, ℕ, Option, Some, None, List, [], ◌++◌, IfSome, refl, sym, subst}
+use Rattle.std.proofs.Common.{◌≡◌, ℕ, Option, Some, None, Ok, List, [], ◌++◌, IfSome, refl, sym, subst, inl, inr}
 use Rattle.ground_io.specs.declared.entry.Entry.{Entry}
 use Rattle.ground_io.specs.Trace.{Told, WhereTold}
 use Rattle.script_lines.specs.declared.line.Grammar.TheVariants.{Session}
@@ -20,12 +20,12 @@ use Rattle.state_codec.specs.Emission.{Emits}
 use Rattle.alarm_server.specs.Emission.{Ends, lost, sent}
 use Rattle.state_codec.specs.Keeping.{HoldsHistory, StoodFor}
 use Rattle.state_codec.specs.Openings.{OpenedTo}
-use Rattle.alarm_server.specs.Openings.{IsPlayed}
+use Rattle.alarm_server.specs.Openings.{IsUnplayed, OpensOnSite}
 use Rattle.alarm_server.specs.Keeping.{KeepsOpened, KeepsReport}
 use Rattle.alarm_server.specs.Pieces.{piece_text}
 use Rattle.alarm_server.specs.Report.{front_pieces, report_of}
 use Rattle.alarm_server.specs.Script.{spelled_in}
-use Rattle.alarm_server.specs.SessionSteps.{session_over, state_front}
+use Rattle.alarm_server.specs.Sessions.{session_over, state_front}
 use Rattle.alarm_server.specs.Status.{of_open_fault}
 use Rattle.alarm_server.specs.Stopping.{StopsReading}
 use Rattle.alarm_server.proofs.ByHistory.{reports, stops_by_history}
@@ -45,13 +45,13 @@ opened_before site octets state (Some old) mid None entries goes opened = tt
 opened_before site octets state (Some old) None (Some new) entries (more, adds, are) opened = absurd adds
 opened_before site octets state (Some old) (Some mid) (Some new) entries goes opened = opened
 
--- a fault of an opening comes before the script is played
-pub not_played : (fault : OpenFault) → IsPlayed (of_open_fault fault) → ⊥
-not_played open_fault.DiskFault played = played
-not_played (open_fault.SmallDevice size need) played = played
-not_played (open_fault.Foreign at) played = played
-not_played (open_fault.Damaged at) played = played
-not_played open_fault.NoMemory played = played
+-- a journal that isn't opened ends a session before its script is played
+unplayed : (fault : OpenFault) → IsUnplayed (of_open_fault fault)
+unplayed open_fault.DiskFault = tt
+unplayed (open_fault.SmallDevice size need) = tt
+unplayed (open_fault.Foreign at) = tt
+unplayed (open_fault.Damaged at) = tt
+unplayed open_fault.NoMemory = tt
 
 module _ {X : Type 0} (text : X → List ℕ) where
   pub tells_ended : (journal : Journal) (site : Site) (history : List Event) (ended : Status) (pieces : List X) (old mid new : Option Told) → Ends Emits text ended pieces mid new → StoodFor journal site history old new → StoodFor journal site history old mid
@@ -102,10 +102,18 @@ module _ {X : Type 0} (text : X → List ℕ) where
 
 -- ---- a session behind it
 
-pub opens_session : (site : Site) (octets : List ℕ) (core : CoreState) (ended : Status) (old mid new : Option Told) (text : Option (List ℕ)) → OpenedTo site octets old mid core → IfSome text (λ t. Ends Emits piece_text ended (session_over core (lines_of t)) mid new)
-    → IfSome text (λ t. (state : CoreState) × OpenedTo site octets old new state)
-opens_session site octets core ended old mid new None opened ends = tt
-opens_session site octets core ended old mid new (Some t) opened ends = (core, opened_ended piece_text site octets core ended (session_over core (lines_of t)) old mid new ends opened)
+-- its report goes on from the state to which the octets lead
+pub opens_session : (site : Site) (octets : List ℕ) (core : CoreState) (ended : Status) (old mid new : Option Told) (text : Option (List ℕ)) → Emits old mid [] → OpenedTo site octets old mid core → IfSome text (λ t. Ends Emits piece_text ended (session_over core (lines_of t)) mid new)
+    → IfSome text (λ t. OpensOnSite octets (Ok site) ended t old new)
+opens_session site octets core ended old mid new None quiet opened ends = tt
+opens_session site octets core ended old mid new (Some t) quiet opened ends =
+    let pieces = session_over core (lines_of t) in
+    inr (core, opened_ended piece_text site octets core ended pieces old mid new ends opened, ends_behind piece_text ended pieces old mid new quiet ends)
+
+-- the journal wasn't opened
+pub opens_refused : (site : Site) (octets : List ℕ) (fault : OpenFault) (old new : Option Told) (text : Option (List ℕ)) → Emits old new [] → IfSome text (λ t. OpensOnSite octets (Ok site) (of_open_fault fault) t old new)
+opens_refused site octets fault old new None quiet = tt
+opens_refused site octets fault old new (Some t) quiet = inl (unplayed fault, quiet)
 
 module _ (journal : Journal) (site : Site) (is : IsSite site) (core : CoreState) (own : core.site ≡ site) (layout : Layout) (history : List Event) (ended : Status) (old mid new : Option Told) (stood : StoodFor journal site history old new) (quiet : Emits old mid []) (represents : StoodFor journal site history old mid → Represents core history) where
   -- its report goes on from the history

@@ -10,7 +10,7 @@ use Rattle.alarm_core.specs.Sites.{IsSite}
 use Rattle.alarm_core.specs.State.{state_of, CoreState}
 use Rattle.alarm_server.specs.Emission.{Going, sent}
 use Rattle.alarm_server.specs.Report.{front_pieces, report_of}
-use Rattle.alarm_server.specs.SessionSteps.{session_over, state_front}
+use Rattle.alarm_server.specs.Sessions.{session_over, state_front}
 use Rattle.alarm_server.specs.Pieces.{piece_text}
 use Rattle.alarm_server.specs.Stopping.{StopsReading}
 use Rattle.alarm_server.proofs.Played.{front_is, report_is}

@@ -111,4 +111,4 @@ decision_goes site is history is_history moment range (Enter event reply full) (
 -- the event of a line
 pub line_goes : (site : Site) → IsSite site → (history : List Event) → IsHistory site history → (line : Line) → IsMoment line.moment → Goes site history (event_of (answer_for (state_of site history) line))
 line_goes site is history is_history line range =
-    decision_goes site is history is_history line.moment range (decision_on (state_of site history) line.input line.moment) (decision_enters site is history line.input line.moment)
+    decision_goes site is history is_history line.moment range (decision_on (state_of site history) line.input line.moment) (decision_enters site is history is_history line.input line.moment)

@@ -172,7 +172,7 @@ module _ (journal : Journal) (site : Site) where
 
   -- as many lines at least as have had their piece sent
   pub report_of_lines : (history : List Event) (lines : List Line) (before : ℕ) (sent : List Entry) (image : List ℕ) → LeavesLines journal site history lines before sent image → LeavesReport journal site history lines before sent image
-  report_of_lines history lines before sent image (count, most, few, ahead, stands) = (count, most, omega (arith, few), ahead, stands)
+  report_of_lines history lines before sent image (count, most, few, ahead, stands) = (count, most, λ line short later. omega (arith, few, later), ahead, stands)
 
   -- a front of the lines was played, and nothing else was done
   pub front_kept : (history : List Event) (first second : List Line) (before : ℕ) (old new : Option Told) → KeepsLines journal site history first before old new → KeepsReport journal site history (first ++ second) before old new
@@ -195,7 +195,7 @@ module _ (journal : Journal) (site : Site) where
       let every : take (length lines) lines ≡ lines = take_all (length lines) lines (omega arith) in
       let count : length sent ≡ before + length lines = ap (λ (l : List Entry). length l) (ap emissions (same_entries old mid entries more adds goes) ∙ are) ∙ out in
       let to : (s : List Entry) (image : List ℕ) → length sent ≤ length s → OpensTo journal image content → Q s image =
-      λ s image least opens. (length lines, omega arith, omega arith, omega (arith, least, count), record { content = content; opens = opens; stands = subst (λ (ls : List Line). StandsForHistory site content (history_over site history ls)) (sym every) stands }) in
+      λ s image least opens. (length lines, omega arith, λ line short later. short, omega (arith, least, count), record { content = content; opens = opens; stands = subst (λ (ls : List Line). StandsForHistory site content (history_over site history ls)) (sym every) stands }) in
       let one : Along Q [] (disk_of old) entries = along_under (LeavesLines journal site history lines before) Q [] (λ s image. report_of_lines history lines before s image) [] (disk_of old) entries along in
       let two : Along Q sent (disk_of mid) others = along_least Q (λ image. OpensTo journal image content) (length sent) to sent (disk_of mid) others (omega arith) always in
       let there : Along Q sent (disk_after entries (disk_of old)) others = subst (λ (d : Disk). Along Q sent d others) (disk_adds old mid entries adds) two in

@@ -1,5 +1,5 @@
 -- What a crash leaves of an opening, and of a session behind it.
-use Rattle.std.proofs.Common.{◌≡◌, ℕ, ◌≤◌, Option, Some, None, List, [], ◌∷◌, ◌++◌, length, ap, ◌∙◌, sym, subst, inl, inr, arith}
+use Rattle.std.proofs.Common.{◌≡◌, ℕ, ◌≤◌, Option, Some, None, List, [], ◌∷◌, ◌++◌, length, ap, sym, subst, inl, inr, arith}
 use Rattle.ground_io.specs.Disk.{Disk, disk_after}
 use Rattle.ground_io.specs.Sent.{Along, sent_after}
 use Rattle.ground_io.specs.Trace.{Told, disk_of}
@@ -7,7 +7,7 @@ use Rattle.ground_io.specs.declared.entry.Entry.{Entry}
 use Rattle.ground_io.specs.declared.entry.Entry.TheVariants.{Synced}
 use Rattle.ground_io.proofs.Crashes.{adds_both, adds_none, disk_adds}
 use Rattle.ground_io.proofs.Sendings.{along-append, quiet_sends_nothing}
-use Rattle.alarm_journal.specs.Journal.{opened_from}
+use Rattle.alarm_journal.specs.Journal.{OpenAlike}
 use Rattle.alarm_journal.specs.Journal.{Site as Journal}
 use Rattle.alarm_journal.specs.Press.{OpensSame, Reopens}
 use Rattle.script_lines.specs.declared.line.Line.{Line}
@@ -20,20 +20,20 @@ use Rattle.alarm_server.proofs.KeptLines.{along_few, history-none}
 
 module _ (journal : Journal) (site : Site) where
   -- what opens as octets that stand for a history does so too
-  reopened : (history : List Event) (lines : List Line) (before : ℕ) (octets image : List ℕ) (sent : List Entry) → length sent ≤ 0 → ImageStands journal site octets history → opened_from journal image ≡ opened_from journal octets → LeavesReport journal site history lines before sent image
+  reopened : (history : List Event) (lines : List Line) (before : ℕ) (octets image : List ℕ) (sent : List Entry) → length sent ≤ 0 → ImageStands journal site octets history → OpenAlike journal image octets → LeavesReport journal site history lines before sent image
   reopened history lines before octets image sent few stood same = (
     0,
     omega arith,
-    omega (arith, few),
+    λ line short later. omega (arith, few, later),
     omega arith,
-    record { content = stood.content; opens = same ∙ stood.opens; stands = subst (λ (h : List Event). StandsForHistory site stood.content h) (sym (history-none site history)) stood.stands },
+    record { content = stood.content; opens = (same.opens stood.content).1 stood.opens; stands = subst (λ (h : List Event). StandsForHistory site stood.content h) (sym (history-none site history)) stood.stands },
   )
 
   -- along an opening nothing is sent, and each image opens as before
   along_opening : (history : List Event) (lines : List Line) (before : ℕ) (old new : Told) → ImageStands journal site (disk_of old).contents history → (opens : OpensSame journal old new)
       → Along (LeavesReport journal site history lines before) [] (record { contents = (disk_of old).contents; loose = [] }) opens.entries
   along_opening history lines before old new stood opens =
-      along_few (LeavesReport journal site history lines before) (λ image. opened_from journal image ≡ opened_from journal (disk_of old).contents) 0
+      along_few (LeavesReport journal site history lines before) (λ image. OpenAlike journal image (disk_of old).contents) 0
       (λ s image few same. reopened history lines before (disk_of old).contents image s few stood same) [] (record { contents = (disk_of old).contents; loose = [] }) opens.entries
       (omega (arith, ap (λ (l : List Entry). length l) (quiet_sends_nothing [] opens.entries opens.quiet))) opens.always
 

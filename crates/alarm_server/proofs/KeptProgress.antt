@@ -26,7 +26,7 @@ use Rattle.alarm_server.specs.Keeping.{KeepsLines, KeepsReport}
 use Rattle.alarm_server.specs.Pieces.{open_piece, piece_of, piece_text}
 use Rattle.alarm_server.specs.Report.{history_over, history_with}
 use Rattle.alarm_server.specs.Script.{spelled_in}
-use Rattle.alarm_server.specs.SessionSteps.{pieces_over, state_with}
+use Rattle.alarm_server.specs.Sessions.{pieces_over, state_with}
 use Rattle.alarm_server.specs.Tallies.{no_tally, tally_with}
 use Rattle.alarm_server.proofs.AtRest.{throughout_now}
 use Rattle.alarm_server.proofs.Emitting.{emits, emits_up_to}

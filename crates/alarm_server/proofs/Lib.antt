@@ -22,6 +22,7 @@ pub mod PieceLines
 pub mod Played
 pub mod Progress
 pub mod Sending
+pub mod ServedFaults
 pub mod ServedKept
 pub mod SessionProgress
 pub mod Spelled

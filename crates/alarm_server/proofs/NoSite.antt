@@ -1,8 +1,7 @@
 -- A server whose site's text wasn't found, or is none.
-use Rattle.std.proofs.Common.{◌≡◌, ℕ, List, Option, Some, None, Err, refl, sym, subst, inl, inr}
+use Rattle.std.proofs.Common.{◌≡◌, ℕ, List, Option, Some, None, refl, inl, inr}
 use Rattle.std.specs.Prelude.{◌⊎◌, IfSome}
 use Rattle.site_config.specs.declared.fault.SiteFault.{SiteFault}
-use Rattle.site_config.specs.Sites.{site_of}
 use Rattle.alarm_server.specs.declared.serve.Served.{Served}
 use Rattle.alarm_server.specs.declared.status.Status.{Status}
 use Rattle.alarm_server.specs.declared.status.Status.TheVariants.{Done, Usage, SiteRefused, ScriptRefused, ReadFault, EmitFault, DiskFault, JournalRefused, NoMemory, LinkFault}
@@ -15,13 +14,9 @@ pub each_some : {A : Type 0} (o : Option A) (P : A → Type 0) → ((x : A) → 
 each_some None P all = tt
 each_some (Some x) P all = all x
 
-refused_file : (file : Option (List ℕ)) (fault : SiteFault) (served : Served) → IsUnserved served (SiteRefused fault) → RefusesFile file fault → IfSome file (λ octets. IsNoSite octets (site_of octets) served)
-refused_file None fault served unserved refused = tt
-refused_file (Some octets) fault served unserved refused = subst (λ z. IsNoSite octets z served) (sym refused.1) (refused.0, unserved)
-
 pub no_site : (file : Option (List ℕ)) (status : Status) (served : Served) → IsUnserved served status → IsSiteFault status → ((fault : SiteFault) → status ≡ SiteRefused fault → RefusesFile file fault)
-    → IfSome file (λ octets. IsNoSite octets (site_of octets) served) ⊎ (IsUnserved served ReadFault ⊎ IsUnserved served NoMemory)
-no_site file (SiteRefused fault) served unserved is refused = inl (refused_file file fault served unserved (refused fault refl))
+    → IsNoSite file served ⊎ (IsUnserved served ReadFault ⊎ IsUnserved served NoMemory)
+no_site file (SiteRefused fault) served unserved is refused = inl (fault, unserved, refused fault refl)
 no_site file ReadFault served unserved is refused = inr (inl unserved)
 no_site file NoMemory served unserved is refused = inr (inr unserved)
 no_site file Done served unserved is refused = absurd is

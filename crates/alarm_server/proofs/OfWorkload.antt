@@ -17,7 +17,7 @@ use Rattle.alarm_server.specs.declared.tally.Tally.{Tally}
 use Rattle.alarm_server.specs.GeneratedSite.{generated_site}
 use Rattle.alarm_server.specs.Report.{report_of}
 use Rattle.alarm_server.specs.Script.{refused_line}
-use Rattle.alarm_server.specs.SessionSteps.{session_over}
+use Rattle.alarm_server.specs.Sessions.{session_over}
 use Rattle.alarm_server.specs.Tallies.{tally_of}
 use Rattle.alarm_server.specs.Workloads.{summary_by, summary_line, summary_of}
 use Rattle.alarm_server.proofs.ByHistory.{reports}

@@ -14,11 +14,13 @@ use Rattle.alarm_server.specs.declared.status.Status.TheVariants.{Done, Usage, S
 use Rattle.alarm_server.specs.Emission.{Going, Ends}
 use Rattle.state_codec.specs.Keeping.{journal_of}
 use Rattle.alarm_server.specs.OnFile.{EndsOnFile, EndsOnSite, KeepsOnFile, KeepsOnSite, RefusesFile}
+use Rattle.alarm_server.specs.Openings.{IsUnplayed, OpensOnFile, OpensOnSite}
 use Rattle.alarm_server.specs.Script.{spelled_in}
 use Rattle.alarm_server.specs.Report.{report_of}
 use Rattle.alarm_server.specs.Pieces.{piece_text}
 use Rattle.alarm_server.specs.Status.{IsSiteFault, of_site_fault}
 use Rattle.alarm_server.specs.Text.{octets_read}
+use Rattle.alarm_server.proofs.Emitting.{emits}
 use Rattle.alarm_server.proofs.KeptOpenings.{untouched_at_once}
 use Rattle.alarm_server.proofs.Sending.{Composes}
 use Rattle.alarm_server.proofs.Texts.{front_says, whole_site}
@@ -68,6 +70,28 @@ pub keeps_unopened : (site script : Option (List ℕ)) (told : Option Told) → 
 keeps_unopened None script told = tt
 keeps_unopened (Some octets) None told = tt
 keeps_unopened (Some octets) (Some text) told = keeps_by octets text told (site_of octets)
+
+-- a site was there, but it wasn't read
+unplayed_by : (octets : List ℕ) (site : Site) (ended : Status) → site_of octets ≡ Ok site → IsSiteFault ended → ((f : SiteFault) → ended ≡ SiteRefused f → RefusesFile (Some octets) f) → IsUnplayed ended
+unplayed_by octets site Done says fault refused = absurd fault
+unplayed_by octets site Usage says fault refused = absurd fault
+unplayed_by octets site (SiteRefused f) says fault refused = let own : site_of octets ≡ Err f = (refused f refl).1 in absurd cc
+unplayed_by octets site (ScriptRefused line) says fault refused = absurd fault
+unplayed_by octets site ReadFault says fault refused = tt
+unplayed_by octets site EmitFault says fault refused = absurd fault
+unplayed_by octets site DiskFault says fault refused = absurd fault
+unplayed_by octets site (JournalRefused why) says fault refused = absurd fault
+unplayed_by octets site LinkFault says fault refused = absurd fault
+unplayed_by octets site NoMemory says fault refused = tt
+
+opens_by : (octets script : List ℕ) (ended : Status) (told : Option Told) (says : Result Site SiteFault) → site_of octets ≡ says → IsSiteFault ended → ((f : SiteFault) → ended ≡ SiteRefused f → RefusesFile (Some octets) f) → OpensOnSite octets says ended script told told
+opens_by octets script ended told (Ok site) says fault refused = inl (unplayed_by octets site ended says fault refused, emits.nothing told)
+opens_by octets script ended told (Err f) says fault refused = emits.nothing told
+
+pub opens_unopened : (site script : Option (List ℕ)) (ended : Status) (told : Option Told) → IsSiteFault ended → ((f : SiteFault) → ended ≡ SiteRefused f → RefusesFile site f) → OpensOnFile site ended script told told
+opens_unopened None script ended told fault refused = tt
+opens_unopened (Some octets) None ended told fault refused = tt
+opens_unopened (Some octets) (Some text) ended told fault refused = opens_by octets text ended told (site_of octets) refl fault refused
 
 -- ---- a site's text
 

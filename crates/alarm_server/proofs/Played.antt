@@ -11,7 +11,7 @@ use Rattle.alarm_core.specs.State.{state_of, CoreState}
 use Rattle.alarm_core.proofs.Standing.{stands}
 use Rattle.service_desk.specs.Answers.{Answer, Entered, Full, Refused, Replied, Unchanged, Ignored, event_of, state_behind}
 use Rattle.alarm_server.specs.Script.{spelled_in, refused_in}
-use Rattle.alarm_server.specs.SessionSteps.{pieces_over, session_over, state_over, state_with}
+use Rattle.alarm_server.specs.Sessions.{pieces_over, session_over, state_over, state_with}
 use Rattle.alarm_server.specs.Pieces.{answer_for, open_piece, piece_of, session_end}
 use Rattle.alarm_server.specs.Report.{front_pieces, history_by, history_over, history_with, pieces_of, report_of}
 use Rattle.alarm_server.proofs.Comings.{InRange, line_goes, spelled_in_range}

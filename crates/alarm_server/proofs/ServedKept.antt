@@ -13,7 +13,7 @@ use Rattle.alarm_core.specs.Allowed.{Represents}
 use Rattle.alarm_core.specs.State.{CoreState}
 use Rattle.alarm_core.specs.declared.event.Event.{Event}
 use Rattle.alarm_core.specs.declared.site.Site.{Site}
-use Rattle.alarm_journal.specs.Journal.{opened_from}
+use Rattle.alarm_journal.specs.Journal.{OpenAlike}
 use Rattle.alarm_journal.specs.Journal.{Site as Journal}
 use Rattle.alarm_journal.specs.Press.{OpensSame, PressState, ReopensSynced}
 use Rattle.state_codec.specs.Contents.{ImageStands}
@@ -26,7 +26,7 @@ use Rattle.floor_desk.specs.Standing.{ShowsAccount, Stands}
 use Rattle.floor_desk.specs.States.{FloorState}
 use Rattle.floor_desk.specs.declared.floor.Spot.{Spot}
 use Rattle.floor_desk.specs.declared.floor.Spot.TheVariants.{Home, Out, Broken}
-use Rattle.floor_desk.specs.Serving.{Serves}
+use Rattle.floor_desk.specs.Serving.{LeavesDisk, Serves}
 use Rattle.floor_desk.specs.declared.serve.Closed.{Closed}
 use Rattle.floor_desk.specs.declared.serve.End.TheVariants.{Done}
 use Rattle.alarm_server.specs.declared.serve.Served.{Served}
@@ -35,20 +35,20 @@ use Rattle.alarm_server.proofs.KeptLines.{along_few}
 
 module _ (journal : Journal) (site : Site) where
   -- what opens as octets that stand for a history leaves it, where nothing was sent
-  reopened : (history order : List Event) (dues : List Due) (octets image : List ℕ) (sent : List Entry) → length sent ≤ 0 → ImageStands journal site octets history → opened_from journal image ≡ opened_from journal octets → LeavesPrefix journal site history order dues sent image
+  reopened : (history order : List Event) (dues : List Due) (octets image : List ℕ) (sent : List Entry) → length sent ≤ 0 → ImageStands journal site octets history → OpenAlike journal image octets → LeavesPrefix journal site history order dues sent image
   reopened history order dues octets image sent few stood same =
       let none : length sent ≡ 0 = let f = few in omega arith in record {
         count = 0;
         within = omega arith;
         owed = let n = none in omega arith;
         covers = subst (λ k. RestsOn (length history + 0) (take k dues)) (sym none) (All-nil (λ (due : Due). due.after ≤ length history + 0));
-        stands = record { content = stood.content; opens = same ∙ stood.opens; stands = stood.stands };
+        stands = record { content = stood.content; opens = (same.opens stood.content).1 stood.opens; stands = stood.stands };
       }
 
   along_opening : (history order : List Event) (dues : List Due) (old new : Told) → ImageStands journal site (disk_of old).contents history → (opens : OpensSame journal old new)
       → Along (LeavesPrefix journal site history order dues) [] (record { contents = (disk_of old).contents; loose = [] }) opens.entries
   along_opening history order dues old new stood opens =
-      along_few (LeavesPrefix journal site history order dues) (λ image. opened_from journal image ≡ opened_from journal (disk_of old).contents) 0
+      along_few (LeavesPrefix journal site history order dues) (λ image. OpenAlike journal image (disk_of old).contents) 0
       (λ s image few same. reopened history order dues (disk_of old).contents image s few stood same) [] (record { contents = (disk_of old).contents; loose = [] }) opens.entries
       (omega (arith, ap (λ (l : List Entry). length l) (quiet_sends_nothing [] opens.entries opens.quiet))) opens.always
 
@@ -137,12 +137,12 @@ module _ {G : Type 0} (told : G → Option Told) (disk_faults : G → ℕ) where
 
   -- a desk that was opened on a site has served it
   pub site_served : (shows : ℕ → Type 0) (site : Site) (text : List ℕ) (count : ℕ) (old new : Option (List Send)) (before after : G) (origin : CoreState × PressState G) (closed : Closed) (served : Served)
-      → origin.0.site ≡ site → served ≡ served_of closed → closed.received ≤ count → (closed.end ≡ Done → closed.received ≡ count) → Serves told disk_faults shows old new origin after closed
+      → origin.0.site ≡ site → served ≡ served_of closed → closed.received ≤ count → (closed.end ≡ Done → closed.received ≡ count) → Serves told disk_faults shows old new origin after closed → LeavesDisk (disk_faults before) (disk_faults after) closed.end
       → OpenedTo site text (told before) (told origin.1.device) origin.0
       → ((history : List Event) → StoodFor (journal_of site text) site history (told before) (told origin.1.device) → Represents origin.0 history)
       → ((history : List Event) → StoodFor (journal_of site text) site history (told before) (told origin.1.device) → HoldsHistory (journal_of site text) site history origin.1.layout (told origin.1.device))
       → ReopensSynced (journal_of site text) (told before) (told origin.1.device) → HasServedSite told disk_faults shows site text count old new before after served
-  site_served shows site text count old new before after origin closed served of_site is most all s opens represents holds reopens =
+  site_served shows site text count old new before after origin closed served of_site is most all s disk opens represents holds reopens =
       let journal = journal_of site text in
       let f = s.floor in
       let a : Account G = account f.origin s.history in
@@ -156,6 +156,7 @@ module _ {G : Type 0} (told : G → Option Told) (disk_faults : G → ℕ) where
         most = most;
         all = all;
         serves = s;
+        disk = disk;
         opens = opened_still f.lost (told origin.1.device) (told after) lost site text origin.0 (told before) opens;
         begins = λ history stood. represents history (early history stood);
         keeps = λ history stood.

@@ -20,7 +20,7 @@ use Rattle.alarm_server.specs.Stopping.{StopsReading}
 use Rattle.alarm_server.specs.declared.tally.Tally.{Tally}
 use Rattle.alarm_server.specs.Tallies.{no_tally, tally_of, tally_with}
 use Rattle.alarm_server.specs.Script.{spelled_in, refused_in, refused_line}
-use Rattle.alarm_server.specs.SessionSteps.{pieces_over, session_over, state_front, state_over, state_with}
+use Rattle.alarm_server.specs.Sessions.{pieces_over, session_over, state_front, state_over, state_with}
 use Rattle.alarm_server.specs.Pieces.{end_piece, open_piece, piece_of, piece_text, session_end}
 use Rattle.alarm_server.proofs.Sending.{Composes, sent_then, front_then, front_more}
 use Rattle.alarm_server.proofs.Spelled.{spelled_gives, spells_none, spells_refused, spells_same}

@@ -1,5 +1,5 @@
 -- What a crash leaves of a session that keeps a journal: at each moment, the history that it began with and the events of some of its lines.
-use Rattle.std.specs.Prelude.{◌⊎◌, ◌≤◌, ℕ, ◌+◌, ◌-◌, min, ⊤, Option, Some, None, List, [], ◌∷◌, length, take}
+use Rattle.std.specs.Prelude.{◌⊎◌, ◌≤◌, ◌<◌, ℕ, ◌+◌, ◌-◌, ⊤, Option, Some, None, List, [], ◌∷◌, length, take}
 use Rattle.ground_io.specs.Sent.{Along}
 use Rattle.ground_io.specs.Trace.{Told, Adds, disk_of}
 use Rattle.ground_io.specs.declared.entry.Entry.{Entry}
@@ -16,10 +16,10 @@ abbrev pub LeavesLines : Journal → Site → List Event → List Line → ℕ �
 LeavesLines journal site history lines before sent image =
     (count : ℕ) × (count ≤ length lines) × (length sent ≤ before + count) × (count ≤ (length sent - before) + 1) × ImageStands journal site image (history_over site history (take count lines))
 
--- The same where pieces of the report may come behind those of the lines.
+-- The image stands for the history and the events of the first lines: each line whose piece was sent is among them, and at most one more. So many pieces of the report come before those of the lines, and some may come behind them.
 abbrev pub LeavesReport : Journal → Site → List Event → List Line → ℕ → List Entry → List ℕ → Type 0
 LeavesReport journal site history lines before sent image =
-    (count : ℕ) × (count ≤ length lines) × (min (length sent - before) (length lines) ≤ count) × (count ≤ (length sent - before) + 1) × ImageStands journal site image (history_over site history (take count lines))
+    (count : ℕ) × (count ≤ length lines) × ((line : ℕ) → line < length lines → before + line < length sent → line < count) × (count ≤ (length sent - before) + 1) × ImageStands journal site image (history_over site history (take count lines))
 
 -- from one to the other, at each moment, each image that a crash may leave does so, where it tells
 abbrev pub KeepsLines : Journal → Site → List Event → List Line → ℕ → Option Told → Option Told → Type 0

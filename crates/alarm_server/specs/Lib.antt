@@ -16,7 +16,7 @@ pub mod Script
 pub mod ServeWords
 pub mod ServedSites
 pub mod Serving
-pub mod SessionSteps
+pub mod Sessions
 pub mod Settings
 pub mod Status
 pub mod Stopping

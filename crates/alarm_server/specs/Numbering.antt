@@ -3,11 +3,9 @@ use Rattle.std.specs.Prelude.{◌≡◌, ◌<◌, ◌+◌, ◌⊎◌, ℕ, ⊤, 
 use Rattle.ground_io.specs.Trace.{Told}
 use Rattle.bac_values.specs.declared.report.ReportLine.{ReportLine}
 use Rattle.bac_values.specs.declared.report.ReportLine.TheVariants as say
-use Rattle.alarm_core.specs.declared.event.Event.{Event}
 use Rattle.alarm_core.specs.declared.site.Site.{Site}
 use Rattle.site_config.specs.declared.fault.SiteFault.{SiteFault}
 use Rattle.site_config.specs.Sites.{site_of}
-use Rattle.state_codec.specs.Keeping.{StoodFor, journal_of}
 use Rattle.alarm_server.specs.Emission.{Going, sent, lost}
 use Rattle.alarm_server.specs.Pieces.{piece_text}
 
@@ -44,10 +42,10 @@ WentOut Goes pieces old new =
 abbrev pub GoesNumbered : Going → Option Told → Option Told → Type 0
 GoesNumbered Goes old new = (pieces : List (List ReportLine)) × AreNumbered (lines_in pieces) × WentOut Goes pieces old new
 
--- the same of a session on a site's file, whose journal holds a history; where the text is no site nothing went out
-abbrev pub NumbersOnSite : Going → List ℕ → Result Site SiteFault → Option Told → Option Told → Type 0
-NumbersOnSite Goes text (Ok site) old new = (history : List Event) → StoodFor (journal_of site text) site history old new → GoesNumbered Goes old new
-NumbersOnSite Goes text (Err fault) old new = Goes old new []
+-- the same of a session on a site's file; where the text is no site nothing went out
+abbrev pub NumbersOnSite : Going → Result Site SiteFault → Option Told → Option Told → Type 0
+NumbersOnSite Goes (Ok site) old new = GoesNumbered Goes old new
+NumbersOnSite Goes (Err fault) old new = Goes old new []
 
 abbrev pub NumbersOnFile : Going → Option (List ℕ) → Option (List ℕ) → Option Told → Option Told → Type 0
-NumbersOnFile Goes site script old new = IfSome site (λ octets. IfSome script (λ text. NumbersOnSite Goes octets (site_of octets) old new))
+NumbersOnFile Goes site script old new = IfSome site (λ octets. IfSome script (λ text. NumbersOnSite Goes (site_of octets) old new))

@@ -16,7 +16,7 @@ use Rattle.floor_desk.specs.Accounts.{Due, account}
 use Rattle.state_codec.specs.Keeping.{StoodFor, journal_of}
 use Rattle.state_codec.specs.Openings.{OpenedTo}
 use Rattle.floor_desk.specs.Prefixes.{LeavesPrefix, Settle}
-use Rattle.floor_desk.specs.Serving.{Serves}
+use Rattle.floor_desk.specs.Serving.{LeavesDisk, Serves}
 use Rattle.floor_desk.specs.declared.serve.Closed.{Closed}
 use Rattle.floor_desk.specs.declared.serve.End.{End}
 use Rattle.floor_desk.specs.declared.serve.End.TheVariants as end
@@ -64,6 +64,7 @@ module _ {G : Type 0} (told : G → Option Told) (disk_faults : G → ℕ) where
     pub all : closed.end ≡ end.Done → closed.received ≡ count
     pub serves : Serves told disk_faults shows old new origin after closed
     pub opens : OpenedTo site text (told before) (told after) origin.0
+    pub disk : LeavesDisk (disk_faults before) (disk_faults after) closed.end
     pub begins : (history : List Event) → StoodFor (journal_of site text) site history (told before) (told after) → Represents origin.0 history
     pub keeps : (history : List Event) → StoodFor (journal_of site text) site history (told before) (told after)
         → KeepsServed (journal_of site text) site history (account origin serves.history).order (account origin serves.history).dues (account origin serves.history).back.dues (told before) (told after)

@@ -1,5 +1,5 @@
 -- How a server on a site's file ends: no desk was opened, for what the text or the journal's octets are, or one was.
-use Rattle.std.specs.Prelude.{◌≡◌, ◌≢◌, ◌⊎◌, ℕ, List, [], ◌∷◌, Option, Result, Ok, Err, IfSome}
+use Rattle.std.specs.Prelude.{◌≡◌, ◌⊎◌, ℕ, List, [], ◌∷◌, Option, Ok, IfSome}
 use Rattle.ground_io.specs.Counts.{HasCause}
 use Rattle.ground_io.specs.Trace.{Adds, Told}
 use Rattle.ground_io.specs.declared.entry.Entry.TheVariants.{Synced}
@@ -13,17 +13,16 @@ use Rattle.state_codec.specs.Emission.{Emits}
 use Rattle.state_codec.specs.Keeping.{StoodFor, journal_of}
 use Rattle.state_codec.specs.Openings.{IsRefusedFor}
 use Rattle.site_config.specs.declared.fault.SiteFault.{SiteFault}
-use Rattle.site_config.specs.declared.fault.SiteFault.TheVariants as site_fault
 use Rattle.site_config.specs.Sites.{site_of}
 use Rattle.alarm_server.specs.declared.serve.Served.{Served}
 use Rattle.alarm_server.specs.declared.status.Status.TheVariants.{NoMemory, ReadFault, SiteRefused}
+use Rattle.alarm_server.specs.OnFile.{RefusesFile}
 use Rattle.alarm_server.specs.ServedSites.{HasServedSite, IsUnserved}
 use Rattle.alarm_server.specs.Status.{of_open_fault}
 
--- the text is no site, and this is its fault, which isn't want of memory
-abbrev pub IsNoSite : List ℕ → Result Site SiteFault → Served → Type 0
-IsNoSite text (Ok site) served = ⊥
-IsNoSite text (Err fault) served = (fault ≢ site_fault.NoMemory) × IsUnserved served (SiteRefused fault)
+-- the text is no site, and this is its fault, which isn't want of memory; no desk was opened
+abbrev pub IsNoSite : Option (List ℕ) → Served → Type 0
+IsNoSite file served = (fault : SiteFault) × IsUnserved served (SiteRefused fault) × RefusesFile file fault
 
 module _ {G : Type 0} (told : G → Option Told) (disk_faults : G → ℕ) where
   -- The journal wasn't opened, and nothing was sent. A device that was refused was synced, and nothing else.
@@ -45,5 +44,5 @@ module _ {G : Type 0} (told : G → Option Told) (disk_faults : G → ℕ) where
   -- the site's text wasn't found, or is none: nothing was done. Or a site was found, and it is the text's.
   abbrev pub ServesFile : {L : Type 0} → (ℕ → Type 0) → Option (List ℕ) → ℕ → L → L → Option (List Send) → Option (List Send) → G → G → Served → Type 0
   ServesFile shows file count link rest old new before after served =
-      ((after ≡ before) × (rest ≡ link) × (IfSome file (λ octets. IsNoSite octets (site_of octets) served) ⊎ (IsUnserved served ReadFault ⊎ IsUnserved served NoMemory)))
+      ((after ≡ before) × (rest ≡ link) × (IsNoSite file served ⊎ (IsUnserved served ReadFault ⊎ IsUnserved served NoMemory)))
       ⊎ ((site : Site) × (text : List ℕ) × IfSome file (λ octets. (octets ≡ text) × (site_of octets ≡ Ok site)) × ServesSite shows site text count link rest old new before after served)

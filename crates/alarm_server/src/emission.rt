@@ -1,4 +1,4 @@
-ghost use Rattle.std.specs.Prelude.{◌≡◌, ◌∷◌, [], IsErrOf};
+ghost use Rattle.std.specs.Prelude.{◌≡◌, ◌∷◌, [], IsErrOf, OnOk};
 ghost use Rattle.script_lines.specs.Report.{report_text};
 ghost use Rattle.ground_io.specs.Counts.{HasCause};
 ghost use Rattle.ground_io.specs.Trace.{Adds};
@@ -41,6 +41,7 @@ pub fn emit<G: Ground>(alloc: Global, device: &mut G, line: &ReportLine) -> Resu
     ensures size { G.size device.new ≡ G.size device.old }
     ensures disk { G.disk_faults device.new ≡ G.disk_faults device.old }
     ensures cause { HasCause (G.emit_faults device.old) (G.emit_faults device.new) (IsErrOf result Unsent.Lost) }
+    ensures uncounted { OnOk result (G.emit_faults device.new ≡ G.emit_faults device.old) }
 {
     let text = write_report(alloc, line)?;
     device.emit(Peer::console(), text.as_slice())?;

@@ -1,4 +1,4 @@
-ghost use Rattle.std.specs.Prelude.{◌≡◌, ◌≢◌, ◌≤◌, ⊤, ℕ, List, length, [], ◌∷◌, None, Some, Err, OnOk, OnErr, IfErr, IfOk, IfSome, IsErrOf};
+ghost use Rattle.std.specs.Prelude.{◌≡◌, ◌≢◌, ◌≤◌, ⊤, ℕ, List, length, [], ◌∷◌, None, Ok, Err, OnOk, OnErr, IfErr, IfOk, IfSome, IsErrOf};
 ghost use Rattle.std.specs.Io.KnownBytes.{IsAtEnd};
 ghost use Rattle.ground_io.specs.Counts.{HasCause, Rose};
 ghost use Rattle.ground_io.specs.Trace.{Adds, WhereTold};
@@ -11,10 +11,8 @@ ghost use Rattle.script_lines.specs.Script.{lines_of};
 ghost use Rattle.state_codec.specs.Sizes.{most_text};
 ghost use Rattle.state_codec.specs.Keeping.{StoodFor, journal_of};
 ghost use Rattle.alarm_server.specs.Keeping.{KeepsOpened};
-ghost use Rattle.alarm_core.specs.State.{CoreState};
-ghost use Rattle.state_codec.specs.Openings.{IsRefusedFor, OpenedTo};
-ghost use Rattle.alarm_server.specs.declared.command.Command.TheVariants as commands;
-ghost use Rattle.alarm_server.specs.Openings.{IsPlayed, OpensAs, RefusesJournal};
+ghost use Rattle.state_codec.specs.Openings.{IsRefusedFor};
+ghost use Rattle.alarm_server.specs.Openings.{OpensOnFile, OpensOnSite, RefusesJournal};
 ghost use Rattle.site_config.specs.declared.fault.SiteFault.{SiteFault};
 ghost use Rattle.site_config.specs.Sites.{site_of};
 ghost use Rattle.alarm_server.specs.Causes.{HasCauseInEither};
@@ -44,6 +42,7 @@ pub(crate) fn open_site<S: Source>(alloc: Global, source: &mut S) -> Result<(Sit
     ensures refused { (fault : SiteFault) → result ≡ Err (Status.SiteRefused fault) → RefusesFile (S.left source.old) fault }
     ensures fault { IfErr result IsSiteFault }
     ensures cause { HasCause (S.faults source.old) (S.faults source.new) (IsErrOf result Status.ReadFault) }
+    ensures uncounted { OnOk result (S.faults source.new ≡ S.faults source.old) }
 {
     let text = read_text(alloc, source)?;
     let site = read_site(alloc, text.as_slice())?;
@@ -72,8 +71,8 @@ fn play_site<T: Source, G: Ground>(
         (λ text rest. StopsReading Emits piece_text (front_pieces site.now history) Session text rest (G.told device) (G.told result.0)) }
     ensures script_told { result.1 ≡ Err Status.ReadFault → WhereTold (T.left script.old) (T.left script.new) (λ text rest. ⊤) }
 
-    // Where the script is played, the journal's octets opened, and lead to a state.
-    ensures opened { IsPlayed (status_of result.1) → IfSome (T.left script.old) (λ _. (state : CoreState) × OpenedTo site.now text.now (G.told device) (G.told result.0) state) }
+    // The journal's octets opened and lead to a state, from which the report goes on; or nothing went out.
+    ensures opened { IfSome (T.left script.old) (λ script. OpensOnSite text.now (Ok site.now) (status_of result.1) script (G.told device) (G.told result.0)) }
 
     // The journal is refused for what its octets are, and never where they stood for a history; then it was synced, nothing
     // else was done, and the script isn't read.
@@ -89,6 +88,7 @@ fn play_site<T: Source, G: Ground>(
     ensures read_cause { HasCause (T.faults script.old) (T.faults script.new) (IsErrOf result.1 Status.ReadFault) }
     ensures disk_cause { HasCause (G.disk_faults device) (G.disk_faults result.0) (IsErrOf result.1 Status.DiskFault) }
     ensures emit_cause { HasCause (G.emit_faults device) (G.emit_faults result.0) (IsErrOf result.1 Status.EmitFault) }
+    ensures no_fault { OnOk result.1 ((T.faults script.new ≡ T.faults script.old) × ((G.disk_faults result.0 ≡ G.disk_faults device) × (G.emit_faults result.0 ≡ G.emit_faults device))) }
 {
     let (press, mut core, _opened) = match open_journal(alloc, site, text, device) {
         Ok(opened) => opened,
@@ -116,8 +116,8 @@ pub fn session<S: Source, T: Source, G: Ground>(
     // A crash at any moment leaves the history and the events of some lines: of each at least whose piece went out.
     ensures keeps { KeepsOnFile (S.left site.old) (T.left script.old) (G.told device) (G.told result.0) }
 
-    // Where the script is played, the journal's octets opened, and lead to a state.
-    ensures opened { IsPlayed (status_of result.1) → OpensAs (Some commands.Session) (S.left site.old) (T.left script.old) (G.told device) (G.told result.0) }
+    // The journal's octets opened and lead to a state, from which the report goes on; or nothing went out.
+    ensures opened { OpensOnFile (S.left site.old) (status_of result.1) (T.left script.old) (G.told device) (G.told result.0) }
 
     // A session that is played to its end has a site, and no line that is refused.
     ensures to_end { OnOk result.1 (IsAtEnd (T.left script.new)) }
@@ -142,6 +142,8 @@ pub fn session<S: Source, T: Source, G: Ground>(
     ensures read_cause { HasCauseInEither (S.faults site.old) (S.faults site.new) (T.faults script.old) (T.faults script.new) (IsErrOf result.1 Status.ReadFault) }
     ensures disk_cause { HasCause (G.disk_faults device) (G.disk_faults result.0) (IsErrOf result.1 Status.DiskFault) }
     ensures emit_cause { HasCause (G.emit_faults device) (G.emit_faults result.0) (IsErrOf result.1 Status.EmitFault) }
+    ensures no_fault { OnOk result.1 ((T.faults script.new ≡ T.faults script.old) × ((G.disk_faults result.0 ≡ G.disk_faults device) × (G.emit_faults result.0 ≡ G.emit_faults device))) }
+    ensures site_read { OnOk result.1 (S.faults site.new ≡ S.faults site.old) }
 {
     let (opened, text) = match open_site(alloc, site) {
         Ok(read) => read,

@@ -1,4 +1,4 @@
-ghost use Rattle.std.specs.Prelude.{◌≡◌, ◌∷◌, [], IfOk, IsErrOf};
+ghost use Rattle.std.specs.Prelude.{◌≡◌, ◌∷◌, [], IfOk, IsErrOf, OnOk};
 ghost use Rattle.ground_io.specs.Counts.{HasCause};
 ghost use Rattle.ground_io.specs.Trace.{Adds};
 ghost use Rattle.alarm_journal.specs.Journal.{Content};
@@ -38,6 +38,7 @@ pub fn emit_piece<G: Ground>(
     ensures size { G.size press.new.device ≡ G.size press.old.device }
     ensures disk { G.disk_faults press.new.device ≡ G.disk_faults press.old.device }
     ensures cause { HasCause (G.emit_faults press.old.device) (G.emit_faults press.new.device) (IsErrOf result Unsent.Lost) }
+    ensures uncounted { OnOk result (G.emit_faults press.new.device ≡ G.emit_faults press.old.device) }
 {
     let bytes = Items::of(write_piece(alloc, piece)?);
     let send = Send {

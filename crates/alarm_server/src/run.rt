@@ -2,7 +2,7 @@ ghost use Rattle.std.specs.Prelude.{◌≡◌, ◌≢◌, ◌↔◌, ℕ, map, N
 ghost use Rattle.ground_io.specs.Counts.{HasCause, Rose};
 ghost use Rattle.alarm_journal.specs.declared.open_fault.OpenFault.{OpenFault as Refusal};
 ghost use Rattle.site_config.specs.declared.fault.SiteFault.{SiteFault};
-ghost use Rattle.alarm_server.specs.Openings.{IsPlayed, OpensAs, RefusesJournalAs};
+ghost use Rattle.alarm_server.specs.Openings.{OpensAs, RefusesJournalAs};
 ghost use Rattle.alarm_server.specs.Causes.{HasCauseInEither};
 ghost use Rattle.alarm_server.specs.Commands.{command_of};
 ghost use Rattle.alarm_server.specs.Outcomes.{AcceptsAs, EndsAs, KeepsAs, LeavesDiskAs, LeavesScript, LeavesSite, NumbersAs, ReadsToEnd, RefusesAs, RefusesSiteAs, StopsAs};
@@ -36,7 +36,7 @@ fn carry_out<S: Source, T: Source, G: Ground>(
     ensures site { LeavesSite (Some command.now) (site.new ≡ site.old) }
     ensures unread { LeavesScript (Some command.now) (S.left site.old) (script.new ≡ script.old) }
     ensures keeps { KeepsAs (Some command.now) (S.left site.old) (T.left script.old) (G.told device) (G.told result.0) }
-    ensures opened { IsPlayed (status_of result.1) → OpensAs (Some command.now) (S.left site.old) (T.left script.old) (G.told device) (G.told result.0) }
+    ensures opened { OpensAs (Some command.now) (status_of result.1) (S.left site.old) (T.left script.old) (G.told device) (G.told result.0) }
     ensures unplayed { (fault : Refusal) → result.1 ≡ Err (Status.JournalRefused fault) → script.new ≡ script.old }
     ensures refuses_journal { (fault : Refusal) → result.1 ≡ Err (Status.JournalRefused fault) → RefusesJournalAs (Some command.now) (S.left site.old) (G.told device) (G.told result.0) fault }
     ensures fault { IfErr result.1 IsFault }
@@ -45,6 +45,8 @@ fn carry_out<S: Source, T: Source, G: Ground>(
     ensures disk_cause { HasCause (G.disk_faults device) (G.disk_faults result.0) (IsErrOf result.1 Status.DiskFault) }
     ensures read_cause { HasCauseInEither (S.faults site.old) (S.faults site.new) (T.faults script.old) (T.faults script.new) (IsErrOf result.1 Status.ReadFault) }
     ensures emit_cause { HasCause (G.emit_faults device) (G.emit_faults result.0) (IsErrOf result.1 Status.EmitFault) }
+    ensures no_fault { OnOk result.1 ((T.faults script.new ≡ T.faults script.old) × ((G.disk_faults result.0 ≡ G.disk_faults device) × (G.emit_faults result.0 ≡ G.emit_faults device))) }
+    ensures site_read { OnOk result.1 (S.faults site.new ≡ S.faults site.old) }
 {
     match command {
         Command::Trial { settings } => {
@@ -110,13 +112,18 @@ pub fn run<S: Source, T: Source, G: Ground>(
 
     ensures disk_cause { HasCause (G.disk_faults device) (G.disk_faults result.0) (result.1 ≡ Status.DiskFault) }
 
+    // With Done no call has failed: none was made again and passed over.
+    ensures no_fault { result.1 ≡ Status.Done → (T.faults script.new ≡ T.faults script.old) × ((G.disk_faults result.0 ≡ G.disk_faults device) × (G.emit_faults result.0 ≡ G.emit_faults device)) }
+    ensures site_read { result.1 ≡ Status.Done → S.faults site.new ≡ S.faults site.old }
+
     // A crash at any moment from the opening's first sync on leaves, of each history that the device's octets stood for when
     // the session began, a history that begins with it and goes on with the events of the script's first lines: at least
     // those whose piece was emitted by then.
     ensures keeps { KeepsAs (command_of (map string_bytes words.now)) (S.left site.old) (T.left script.old) (G.told device) (G.told result.0) }
 
-    // Where a session's script is played, its journal's octets opened, and lead to a state.
-    ensures opened { IsPlayed result.1 → OpensAs (command_of (map string_bytes words.now)) (S.left site.old) (T.left script.old) (G.told device) (G.told result.0) }
+    // A session's journal opened, its octets lead to a state, and the report goes on from that, whether a history leads to it
+    // or not; or nothing went out.
+    ensures opened { OpensAs (command_of (map string_bytes words.now)) result.1 (S.left site.old) (T.left script.old) (G.told device) (G.told result.0) }
 
     // The journal is refused for what its octets are: it was synced, and nothing else was done, and the script isn't read.
     ensures unplayed { (fault : Refusal) → result.1 ≡ Status.JournalRefused fault → script.new ≡ script.old }

@@ -1,5 +1,5 @@
 ghost use Rattle.std.specs.Prelude.{◌≡◌, ◌↔◌, ◌≤◌, None, IfSome, length, map, string_bytes};
-ghost use Rattle.ground_io.specs.Counts.{HasCause};
+ghost use Rattle.ground_io.specs.Counts.{HasCause, Rose};
 ghost use Rattle.alarm_core.specs.Sites.{IsSite};
 ghost use Rattle.state_codec.specs.Sizes.{most_text};
 ghost use Rattle.alarm_server.specs.ServedSites.{IsUnserved, LeavesLink, of_end, served_of};
@@ -95,6 +95,8 @@ fn serve_site<
     requires short { length text.now ≤ most_text }
     ensures serves { ServesSite G.told G.disk_faults (K.shows clock.now) site.now text.now count link result.1 (L.left link) (L.left result.1) device result.0 result.2 }
     ensures link { LeavesLink (L.faults link) (L.faults result.1) result.2.status }
+    ensures disk_cause { result.2.status ≡ Status.DiskFault → Rose (G.disk_faults device) (G.disk_faults result.0) }
+    ensures no_disk_fault { result.2.status ≡ Status.Done → G.disk_faults result.0 ≡ G.disk_faults device }
 {
     let (desk, pass) = match Desk::open(alloc, site, text, device) {
         Ok((desk, pass, _)) => (desk, pass),
@@ -136,6 +138,8 @@ pub fn serve<
     // A fault comes only where its count rose.
     ensures read_cause { HasCause (S.faults site.old) (S.faults site.new) (result.2.status ≡ Status.ReadFault) }
     ensures link { LeavesLink (L.faults link) (L.faults result.1) result.2.status }
+    ensures disk_cause { result.2.status ≡ Status.DiskFault → Rose (G.disk_faults device) (G.disk_faults result.0) }
+    ensures no_disk_fault { result.2.status ≡ Status.Done → G.disk_faults result.0 ≡ G.disk_faults device }
 {
     let Some(count) = count_of(words) else {
         return (device, link, Served::none(Status::Usage));

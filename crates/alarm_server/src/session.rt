@@ -18,7 +18,7 @@ ghost use Rattle.alarm_server.specs.Report.{history_by, history_with};
 ghost use Rattle.state_codec.specs.Emission.{Emits};
 ghost use Rattle.alarm_server.specs.Emission.{Ends, Sends, sent};
 ghost use Rattle.alarm_server.specs.Script.{refused_line, spelled_in};
-ghost use Rattle.alarm_server.specs.SessionSteps.{session_over, state_front, state_over, state_with};
+ghost use Rattle.alarm_server.specs.Sessions.{session_over, state_front, state_over, state_with};
 ghost use Rattle.alarm_server.specs.Pieces.{answer_for, end_piece, open_piece, piece_of, piece_text};
 ghost use Rattle.alarm_server.specs.Status.{IsKeepFault, IsLineFault, IsPlayFault, status_of};
 ghost use Rattle.alarm_server.specs.Stopping.{StopsReading};
@@ -54,7 +54,7 @@ fn keep<G: Ground>(
     ensures quiet { MatchResult result (λ kept. Emits (G.told press.device) (G.told kept.device) []) (λ lost. Emits (G.told press.device) (G.told lost.0) []) }
     ensures fault { IfErr result (λ lost. IsKeepFault lost.1) }
     ensures cause { MatchResult result
-        (λ kept. G.disk_faults press.device ≤ G.disk_faults kept.device)
+        (λ kept. G.disk_faults kept.device ≡ G.disk_faults press.device)
         (λ lost. HasCause (G.disk_faults press.device) (G.disk_faults lost.0) (lost.1 ≡ Status.DiskFault)) }
     ensures same { MatchResult result (λ kept. G.size kept.device ≡ G.size press.device) (λ lost. G.size lost.0 ≡ G.size press.device) }
     ensures emitted { MatchResult result (λ kept. G.emit_faults kept.device ≡ G.emit_faults press.device) (λ lost. G.emit_faults lost.0 ≡ G.emit_faults press.device) }
@@ -97,10 +97,10 @@ fn play_line<G: Ground>(
     ensures fault { IfErr result (λ lost. IsLineFault lost.1) }
     ensures size { MatchResult result (λ kept. G.size kept.device ≡ G.size press.device) (λ lost. G.size lost.0 ≡ G.size press.device) }
     ensures disk_cause { MatchResult result
-        (λ kept. G.disk_faults press.device ≤ G.disk_faults kept.device)
+        (λ kept. G.disk_faults kept.device ≡ G.disk_faults press.device)
         (λ lost. HasCause (G.disk_faults press.device) (G.disk_faults lost.0) (lost.1 ≡ Status.DiskFault)) }
     ensures emit_cause { MatchResult result
-        (λ kept. G.emit_faults press.device ≤ G.emit_faults kept.device)
+        (λ kept. G.emit_faults kept.device ≡ G.emit_faults press.device)
         (λ lost. HasCause (G.emit_faults press.device) (G.emit_faults lost.0) (lost.1 ≡ Status.EmitFault)) }
 {
     let taken = match count_line(alloc, core, tally, line) {
@@ -143,6 +143,7 @@ fn begin<G: Ground>(alloc: Global, core: &Core, press: &mut Press<G>) -> Result<
     ensures size { G.size press.new.device ≡ G.size press.old.device }
     ensures disk { G.disk_faults press.new.device ≡ G.disk_faults press.old.device }
     ensures cause { HasCause (G.emit_faults press.old.device) (G.emit_faults press.new.device) (IsErrOf result Unsent.Lost) }
+    ensures uncounted { OnOk result (G.emit_faults press.new.device ≡ G.emit_faults press.old.device) }
 {
     let events = core.events();
     let piece = single(alloc, ReportLine::Open { events })?;
@@ -162,6 +163,7 @@ fn end<G: Ground>(
     ensures size { G.size press.new.device ≡ G.size press.old.device }
     ensures disk { G.disk_faults press.new.device ≡ G.disk_faults press.old.device }
     ensures cause { HasCause (G.emit_faults press.old.device) (G.emit_faults press.new.device) (IsErrOf result Unsent.Lost) }
+    ensures uncounted { OnOk result (G.emit_faults press.new.device ≡ G.emit_faults press.old.device) }
 {
     let events = core.events();
     let piece = single(alloc, ReportLine::End { lines, events })?;
@@ -196,6 +198,9 @@ pub fn play_session<T: Source, G: Ground>(
     ensures read_cause { HasCause (T.faults script.old) (T.faults script.new) (IsErrOf result.1 Status.ReadFault) }
     ensures disk_cause { HasCause (G.disk_faults press.device) (G.disk_faults result.0) (IsErrOf result.1 Status.DiskFault) }
     ensures emit_cause { HasCause (G.emit_faults press.device) (G.emit_faults result.0) (IsErrOf result.1 Status.EmitFault) }
+
+    // No call has failed of one that was played to its end: none was made again and passed over.
+    ensures no_fault { OnOk result.1 ((T.faults script.new ≡ T.faults script.old) × ((G.disk_faults result.0 ≡ G.disk_faults press.device) × (G.emit_faults result.0 ≡ G.emit_faults press.device))) }
 {
     let mut lines = match Lines::new(alloc) {
         Ok(lines) => lines,

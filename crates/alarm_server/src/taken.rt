@@ -5,7 +5,7 @@ ghost use Rattle.alarm_core.specs.declared.event.Event.{Event as Happening};
 ghost use Rattle.alarm_core.specs.Allowed.{IsAllowed, Represents};
 ghost use Rattle.service_desk.specs.Answers.{answer_of, event_of, if_owed, state_behind};
 ghost use Rattle.alarm_server.specs.Report.{history_by, history_with};
-ghost use Rattle.alarm_server.specs.SessionSteps.{state_with};
+ghost use Rattle.alarm_server.specs.Sessions.{state_with};
 ghost use Rattle.alarm_server.specs.Pieces.{answer_for, piece_by, piece_of, send_line};
 
 use alarm_core::{Core, Event, Outcome, StepFault};

@@ -25,6 +25,7 @@ fn read_more<S: Source>(source: &mut S, text: &mut Vec<u8>, most: usize) -> Resu
     ensures most { length text.new.items ≤ length text.old.items + most }
     ensures fault { IfErr result IsTextFault }
     ensures cause { HasCause (S.faults source.old) (S.faults source.new) (IsErrOf result Status.ReadFault) }
+    ensures uncounted { OnOk result (S.faults source.new ≡ S.faults source.old) }
 {
     let mut piece = [0; PIECE];
     let room = most.min(PIECE);
@@ -38,6 +39,7 @@ pub fn read_text<S: Source>(alloc: Global, source: &mut S) -> Result<Vec<u8>, St
     ensures text { IfOk result (λ text. IfSome (S.left source.old) (λ octets. text.items ≡ take octets_read octets)) }
     ensures fault { IfErr result IsTextFault }
     ensures cause { HasCause (S.faults source.old) (S.faults source.new) (IsErrOf result Status.ReadFault) }
+    ensures uncounted { OnOk result (S.faults source.new ≡ S.faults source.old) }
 {
     let mut text = Vec::new(alloc);
     while text.len() < OCTETS_READ {

@@ -41,6 +41,7 @@ fn emit_move<G: Ground>(
     ensures size { G.size device.new ≡ G.size device.old }
     ensures disk { G.disk_faults device.new ≡ G.disk_faults device.old }
     ensures cause { HasCause (G.emit_faults device.old) (G.emit_faults device.new) (IsErrOf result Unsent.Lost) }
+    ensures uncounted { OnOk result (G.emit_faults device.new ≡ G.emit_faults device.old) }
 {
     let Some(moved) = moved else {
         return Ok(());
@@ -64,6 +65,7 @@ fn emit_moves<G: Ground>(
     ensures size { G.size device.new ≡ G.size device.old }
     ensures disk { G.disk_faults device.new ≡ G.disk_faults device.old }
     ensures cause { HasCause (G.emit_faults device.old) (G.emit_faults device.new) (IsErrOf result Unsent.Lost) }
+    ensures uncounted { OnOk result (G.emit_faults device.new ≡ G.emit_faults device.old) }
 {
     emit_move(alloc, device, moment, changed.first)?;
     emit_move(alloc, device, moment, changed.second)
@@ -88,6 +90,7 @@ fn look_at<G: Ground>(
     ensures size { G.size device.new ≡ G.size device.old }
     ensures disk { G.disk_faults device.new ≡ G.disk_faults device.old }
     ensures cause { HasCause (G.emit_faults device.old) (G.emit_faults device.new) (IsErrOf result Unsent.Lost) }
+    ensures uncounted { OnOk result (G.emit_faults device.new ≡ G.emit_faults device.old) }
 {
     let changed = watch.look(moment, value);
     emit_moves(alloc, device, moment, changed)
@@ -108,6 +111,7 @@ fn take<G: Ground>(
     ensures size { G.size device.new ≡ G.size device.old }
     ensures disk { G.disk_faults device.new ≡ G.disk_faults device.old }
     ensures cause { HasCause (G.emit_faults device.old) (G.emit_faults device.new) (IsErrOf result Unsent.Lost) }
+    ensures uncounted { OnOk result (G.emit_faults device.new ≡ G.emit_faults device.old) }
 {
     let moment = line.moment.max(watch.moment());
     let last = watch.value();
@@ -141,6 +145,7 @@ pub fn play<T: Source, G: Ground>(
     ensures disk { G.disk_faults device.new ≡ G.disk_faults device.old }
     ensures read_cause { HasCause (T.faults script.old) (T.faults script.new) (IsErrOf result Status.ReadFault) }
     ensures emit_cause { HasCause (G.emit_faults device.old) (G.emit_faults device.new) (IsErrOf result Status.EmitFault) }
+    ensures no_fault { OnOk result ((T.faults script.new ≡ T.faults script.old) × (G.emit_faults device.new ≡ G.emit_faults device.old)) }
 {
     let mut lines = Lines::trial(alloc)?;
     let mut watch = Watch::start(settings);

@@ -151,6 +151,7 @@ pub fn workload<G: Ground>(
     ensures size { G.size device.new ≡ G.size device.old }
     ensures disk { G.disk_faults device.new ≡ G.disk_faults device.old }
     ensures emit_cause { HasCause (G.emit_faults device.old) (G.emit_faults device.new) (IsErrOf result Status.EmitFault) }
+    ensures no_fault { OnOk result (G.emit_faults device.new ≡ G.emit_faults device.old) }
 {
     let tally = tally_of(alloc, seed, count)?;
     let summary = ReportLine::Summary {

@@ -1,7 +1,10 @@
 -- What a load leaves when it was carried out.
-use Rattle.std.proofs.Common.{◌≡◌, ℕ, ◌+◌, ◌-◌, ◌^◌, ◌≤◌, Option, List, ◌++◌, All, length, take, reverse, refl, ap, ◌∙◌, sym, subst, arith}
+use Rattle.std.proofs.Common.{◌≡◌, ℕ, ◌+◌, ◌-◌, ◌^◌, ◌≤◌, Option, Some, None, List, ◌++◌, All, length, map, take, drop, reverse, refl, ap, ◌∙◌, sym, subst, arith}
+use Rattle.std.proofs.lemmas.List.{take_all}
 use Rattle.std.proofs.lemmas.List.Elements.{All-append, All-drop}
-use Rattle.ground_io.specs.Trace.{Told}
+use Rattle.ground_io.specs.Trace.{Told, disk_of}
+use Rattle.ground_io.proofs.Crashes.{always_weaker}
+use Rattle.bac_values.specs.declared.note.Send.{Send}
 use Rattle.ground_io.specs.Counts.{Rose}
 use Rattle.alarm_core.specs.Allowed.{IsHistory, Represents}
 use Rattle.alarm_core.specs.Fits.{FitsEvent}
@@ -9,24 +12,31 @@ use Rattle.alarm_core.specs.State.{CoreState}
 use Rattle.alarm_core.specs.declared.event.Event.{Event}
 use Rattle.alarm_core.specs.declared.site.Site.{Site}
 use Rattle.alarm_journal.specs.Emissions.{EmitsAll}
-use Rattle.alarm_journal.specs.Journal.{Content, only_snapshot, with_batch}
+use Rattle.alarm_journal.specs.Journal.{Content, OpensTo, only_snapshot, with_batch}
 use Rattle.alarm_journal.specs.Journal.{Site as Journal}
 use Rattle.alarm_journal.specs.Press.{Between, Lasts, PressState, Settled, Throughout}
-use Rattle.state_codec.specs.Contents.{StandsForHistory}
+use Rattle.state_codec.specs.Contents.{ImageStands, StandsForHistory}
 use Rattle.state_codec.specs.Records.{HasRecord}
 use Rattle.state_codec.proofs.Works.{All-reverse, batch_of_events, content_committed, no_events}
-use Rattle.floor_desk.specs.Accounts.{Account, Front, front_of}
+use Rattle.floor_desk.specs.Accounts.{Account, Due, Front, front_of}
 use Rattle.state_codec.specs.Work.{content_with}
-use Rattle.floor_desk.specs.Carrying.{IsCarriedOut, IsWorkFor, Lends}
+use Rattle.floor_desk.specs.Carrying.{IsCarriedOut, IsWorkFor, KeepsLoan, Lends, Stays}
 use Rattle.floor_desk.specs.Courses.{KeepsCourse}
 use Rattle.state_codec.specs.Keeping.{Commits, HoldsHistory, Rests}
 use Rattle.floor_desk.specs.Prefixes.{HasLost, KeepsOrder, RestsOn, with_first}
-use Rattle.floor_desk.specs.Standing.{HoldsOrder, pending_events}
+use Rattle.floor_desk.specs.Holding.{HoldsOrder, pending_events}
 use Rattle.floor_desk.specs.declared.load.Carried.TheVariants.{Home as HomeAgain, Broken as Gone}
 use Rattle.floor_desk.specs.declared.load.Load.{Load}
 use Rattle.state_codec.specs.declared.work.Work.{Work}
 use Rattle.state_codec.specs.declared.work.Work.TheVariants.{Nothing, Batch, Snapshot}
 use Rattle.floor_desk.proofs.Prefixes.{first_and_rest, keeps_commit, keeps_emitting, lost_both, lost_emitting}
+
+-- what opens to a content that stands for a history stands for that history
+stays_of : (journal : Journal) (site : Site) (history : List Event) (content : Content) (old new : Option Told) → StandsForHistory site content history → Throughout journal content old new → Stays journal site history old new
+stays_of journal site history content old None stands through = tt
+stays_of journal site history content None (Some new) stands through = absurd through
+stays_of journal site history content (Some old) (Some new) stands (entries, adds, always) =
+    (entries, adds, always_weaker (λ image. OpensTo journal image content) (λ image. ImageStands journal site image history) (λ image opens. record { content = content; opens = opens; stands = stands }) (disk_of old) entries always)
 
 module _ {G : Type 0} (told : G → Option Told) where
   -- the journal with the work stands for the history with the whole order
@@ -61,6 +71,65 @@ module _ {G : Type 0} (told : G → Option Told) where
 
     events_are : (history : List Event) → Represents origin.0 history → origin.0.events ≡ length history
     events_are history stands = ap (λ (s : CoreState). s.events) stands.shows
+
+    -- what was durable, and what is written, count from the first event on
+    durable_count : a.durable - origin.0.events ≡ a.taken.events
+    durable_count = omega (arith, home.1)
+
+    upto_count : load.upto - origin.0.events ≡ length a.order
+    upto_count = omega (arith, lent.upto, lent.course.events)
+
+    -- its datagrams are those that the press hadn't taken
+    sends_are : load.sends ≡ map (λ (due : Due). due.send) (drop a.back.dues (take (length a.dues) a.dues))
+    sends_are =
+        lent.sends
+        ∙ (ap (λ (t : Front). map (λ (due : Due). due.send) (drop t.dues a.dues)) (sym home.0)
+        ∙ ap (λ (l : List Due). map (λ (due : Due). due.send) (drop a.back.dues l)) (sym (take_all (length a.dues) a.dues (omega arith))))
+
+    -- on the way each image stands for what was durable, or for that and what is written
+    loan_commits : (journal : Journal) (history : List Event) (new : Option Told) → Represents origin.0 history → HoldsHistory journal origin.0.site history origin.1.layout (told origin.1.device)
+        → ((content : Content) → Rests journal load.press.layout (told load.press.device) content → Between journal content (content_with load.work content) (told load.press.device) new)
+        → Commits journal origin.0.site (with_first history (a.durable - origin.0.events) a.order) (with_first history (load.upto - origin.0.events) a.order) (told a.press.device) new
+    loan_commits journal history new stands first between =
+        let site = origin.0.site in
+        let both = held_before journal history stands first in
+        let count : (origin.0.events + a.taken.events) - origin.0.events ≡ a.taken.events = omega arith in
+        let held : HoldsHistory journal site (with_first history a.taken.events a.order) load.press.layout (told load.press.device) = subst (λ (n : ℕ). HoldsHistory journal site (with_first history n a.order) load.press.layout (told load.press.device)) count both.0 in
+        let (content, rests, stood) = held in
+        let after = with_first history (load.upto - origin.0.events) a.order in
+        let commits : Commits journal site (with_first history a.taken.events a.order) (with_first history (length a.order) a.order) (told load.press.device) new =
+        content_committed journal site (with_first history a.taken.events a.order) (with_first history (length a.order) a.order) content (content_with load.work content) (told load.press.device) new stood
+        (work_stands origin a _ load.work history content lent.course stands lent.work stood) (between content rests) in
+        subst (λ (p : PressState G). Commits journal site (with_first history (a.durable - origin.0.events) a.order) after (told p.device) new) lent.press
+        (subst (λ (n : ℕ). Commits journal site (with_first history n a.order) after (told load.press.device) new) (sym durable_count)
+        (subst (λ (n : ℕ). Commits journal site (with_first history a.taken.events a.order) (with_first history n a.order) (told load.press.device) new) (sym upto_count) commits))
+
+    -- first it is written, and behind that the datagrams are sent
+    keeps_loan : (mid press : PressState G) (gone lost : ℕ) → gone + lost ≡ length load.sends
+        → ((journal : Journal) (content : Content) → Rests journal load.press.layout (told load.press.device) content → Rests journal mid.layout (told mid.device) (content_with load.work content))
+        → ((journal : Journal) (content : Content) → Rests journal load.press.layout (told load.press.device) content → Between journal content (content_with load.work content) (told load.press.device) (told mid.device))
+        → EmitsAll load.sends gone lost (told mid.device) (told press.device)
+        → ((journal : Journal) (content : Content) → Settled journal mid.layout (told mid.device) content → Throughout journal content (told mid.device) (told press.device))
+        → KeepsLoan told origin a load.upto (front_of a) lost press
+    keeps_loan mid press gone lost all rest between emits through journal history stands first =
+        let site = origin.0.site in
+        let both = held_before journal history stands first in
+        let count : (origin.0.events + a.taken.events) - origin.0.events ≡ a.taken.events = omega arith in
+        let held : HoldsHistory journal site (with_first history a.taken.events a.order) load.press.layout (told load.press.device) = subst (λ (n : ℕ). HoldsHistory journal site (with_first history n a.order) load.press.layout (told load.press.device)) count both.0 in
+        let (content, rests, stood) = held in
+        let after = content_with load.work content in
+        let stood_after : StandsForHistory site after (with_first history (length a.order) a.order) = work_stands origin a _ load.work history content lent.course stands lent.work stood in
+        let rests_mid : Rests journal mid.layout (told mid.device) after = rest journal content rests in
+        record {
+          written = told mid.device;
+          commits = loan_commits journal history (told mid.device) stands first (between journal);
+          stays =
+              subst (λ (n : ℕ). Stays journal site (with_first history n a.order) (told mid.device) (told press.device)) (sym upto_count)
+              (stays_of journal site (with_first history (length a.order) a.order) after (told mid.device) (told press.device) stood_after (through journal after rests_mid.0));
+          emits =
+              subst (λ (l : List Send). EmitsAll l (length l - lost) lost (told mid.device) (told press.device)) sends_are
+              (subst (λ (n : ℕ). EmitsAll load.sends n lost (told mid.device) (told press.device)) (omega (arith, all)) emits);
+        }
 
     -- what it leaves where it writes, or is lost
     pub keeps_written : (journal : Journal) (history : List Event) (new : Option Told) → Represents origin.0 history → HoldsHistory journal origin.0.site history origin.1.layout (told origin.1.device)
@@ -102,22 +171,23 @@ module _ {G : Type 0} (told : G → Option Told) where
         )
 
     -- what comes back home
-    pub back_home : (disk_faults : G → ℕ) (mid press : PressState G) (gone lost : ℕ) → lost ≤ 2 ^ 64 - 1
+    pub back_home : (disk_faults : G → ℕ) (mid press : PressState G) (gone lost : ℕ) → lost ≤ 2 ^ 64 - 1 → gone + lost ≡ length load.sends
         → ((journal : Journal) (content : Content) → Rests journal load.press.layout (told load.press.device) content → Rests journal mid.layout (told mid.device) (content_with load.work content))
         → ((journal : Journal) (content : Content) → Rests journal load.press.layout (told load.press.device) content → Between journal content (content_with load.work content) (told load.press.device) (told mid.device))
-        → HasLost 0 (told load.press.device) (told mid.device) → disk_faults load.press.device ≤ disk_faults mid.device
+        → HasLost 0 (told load.press.device) (told mid.device) → disk_faults mid.device ≡ disk_faults load.press.device
         → EmitsAll load.sends gone lost (told mid.device) (told press.device)
         → ((journal : Journal) (content : Content) → Settled journal mid.layout (told mid.device) content → Settled journal press.layout (told press.device) content)
         → ((journal : Journal) (content : Content) → Settled journal mid.layout (told mid.device) content → Lasts journal (told press.device) content)
         → ((journal : Journal) (content : Content) → Settled journal mid.layout (told mid.device) content → Throughout journal content (told mid.device) (told press.device))
         → disk_faults press.device ≡ disk_faults mid.device → IsCarriedOut told disk_faults origin a load.upto (front_of a) (HomeAgain press load.upto lost)
-    back_home disk_faults mid press gone lost few rest between quiet later emits settled lasts through same = (
+    back_home disk_faults mid press gone lost few all rest between quiet later emits settled lasts through same = (
       refl,
-      omega (arith, later, same, ap (λ (p : PressState G). disk_faults p.device) lent.press),
+      same ∙ (later ∙ ap (λ (p : PressState G). disk_faults p.device) lent.press),
       holds_carried mid press gone lost rest between emits settled lasts through,
       subst (λ (p : PressState G). HasLost lost (told p.device) (told press.device)) lent.press
           (subst (λ (n : ℕ). HasLost n (told load.press.device) (told press.device)) (omega (arith, few))
           (lost_both 0 lost (told load.press.device) (told mid.device) (told press.device) quiet (lost_emitting load.sends gone lost (told mid.device) (told press.device) few emits))),
+      keeps_loan mid press gone lost all rest between emits through,
     )
 
     -- what is left where the disk failed
@@ -130,4 +200,5 @@ module _ {G : Type 0} (told : G → Option Told) where
       λ journal history stands first.
           subst (λ (t : Front). KeepsOrder journal origin.0.site history a.order a.dues t.dues (told origin.1.device) (told device)) (sym home.0) (keeps_written journal history (told device) stands first (between journal)),
       subst (λ (p : PressState G). HasLost 0 (told p.device) (told device)) lent.press quiet,
+      λ journal history stands first. loan_commits journal history (told device) stands first (between journal),
     )

@@ -143,7 +143,7 @@ module _ {G : Type 0} where
   pub settles : (shows : ℕ → Type 0) (old new : Option (List Send)) (h es : List (ℕ × Entry G)) (w : Workings G) (attempts : List Attempt) (tick pump : Result Ticket EnterFault) (a : Account G) (answer : Result ℕ CommitFault) → AreOfCommit a w.server es answer
       → Stays shows old new h w attempts tick pump → HasGrown shows old new (h ++ es) attempts tick pump
   settles shows old new h es w attempts tick pump a (Ok upto) are s = subst (λ z. HasGrown shows old new (h ++ z) attempts tick pump) (sym are.2) (grow_two shows old new h w attempts tick pump (Taken upto) (Returned upto are.1) refl refl s)
-  settles shows old new h es w attempts tick pump a (Err commits.DiskFault) are s = subst (λ z. HasGrown shows old new (h ++ z) attempts tick pump) (sym are.2) (grow_two shows old new h w attempts tick pump (Taken are.0) (Failed are.0) refl refl s)
+  settles shows old new h es w attempts tick pump a (Err commits.DiskFault) are s = subst (λ z. HasGrown shows old new (h ++ z) attempts tick pump) (sym are.3) (grow_two shows old new h w attempts tick pump (Taken are.0) (Failed are.0 are.2) refl refl s)
   settles shows old new h es w attempts tick pump a (Err (commits.Stopped at)) are s = refused shows old new h es w attempts tick pump (commits.Stopped at) are s
   settles shows old new h es w attempts tick pump a (Err (commits.Busy at upto)) are s = absurd are
   settles shows old new h es w attempts tick pump a (Err (commits.Nothing upto)) are s = refused shows old new h es w attempts tick pump (commits.Nothing upto) are s

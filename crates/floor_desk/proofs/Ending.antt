@@ -95,12 +95,13 @@ module _ {G : Type 0} (told : G → Option Told) (disk_faults : G → ℕ) where
 
     pub settled_lost : (device : G) (upto : ℕ) → carried ≡ Gone device upto → IsLastCommit told disk_faults old new h n (Err commits.DiskFault)
     settled_lost device upto gone =
-        let entry : Entry G = Failed upto in
-        let tells : TellsCarried carried entry = subst (λ (c : Carried G). TellsCarried c entry) (sym gone) refl in
+        let memo : Memo G = record { marker = record {}; value = device } in
+        let entry : Entry G = Failed upto memo in
+        let tells : TellsCarried carried entry = subst (λ (c : Carried G). TellsCarried c entry) (sym gone) (memo, refl, refl) in
         let event : upto ≡ load.upto = (subst (λ (c : Carried G). IsCarriedOut told disk_faults old.origin a load.upto (front_of a) c) gone (does old.origin a lends.0)).0 in
         record {
           entries = (n, Taken load.upto) ∷ (n, entry) ∷ [];
-          are = (upto, event ∙ lends.0.upto, ap (λ (u : ℕ). (n, Taken u) ∷ (n, entry) ∷ []) (sym event));
+          are = (upto, event ∙ lends.0.upto, memo, ap (λ (u : ℕ). (n, Taken u) ∷ (n, entry) ∷ []) (sym event));
           stands = stood entry tells;
           next = next_after entry;
         }

@@ -26,13 +26,15 @@ use Rattle.floor_desk.specs.declared.load.Carried.TheVariants.{Home as HomeAgain
 use Rattle.floor_desk.specs.declared.load.Load.{Load}
 use Rattle.floor_desk.specs.declared.floor.Spot.{Spot}
 use Rattle.floor_desk.specs.declared.floor.Spot.TheVariants.{Home, Out, Broken}
-use Rattle.floor_desk.specs.Accounts.{Account, Due, IsBehind, IsDenied, IsLegalFrom, IsOpen, IsTicketOf, Loan, MayComeNext, accepted, account, entry_for, looked, start, step, ticket_for, most_pending_octets}
+use Rattle.floor_desk.specs.Accounts.{Account, Due, IsBehind, IsDenied, IsOpen, IsTicketOf, Loan, accepted, account, entry_for, looked, start, step, ticket_for, most_pending_octets}
 use Rattle.state_codec.specs.Work.{IsWorkOf}
 use Rattle.floor_desk.specs.Carrying.{IsCarriedOut, Lends}
 use Rattle.floor_desk.specs.Moves.{Accepts, CameOf, Hinders, NeedsCommit, IsLentBy, IsNotBroken, IsReady, MayEnter, Refuses, lent, with_answer}
 use Rattle.state_codec.specs.Keeping.{HoldsHistory}
 use Rattle.floor_desk.specs.Prefixes.{HasLost, RestsOn, with_first, capped}
-use Rattle.floor_desk.specs.Standing.{FloorStands, HoldsOrder, ShowsAccount, Stands, pending_events}
+use Rattle.floor_desk.specs.Holding.{HoldsOrder, pending_events}
+use Rattle.floor_desk.specs.Legal.{IsLegalFrom, MayComeNext}
+use Rattle.floor_desk.specs.Standing.{FloorStands, ShowsAccount, Stands}
 use Rattle.floor_desk.specs.States.{FloorState}
 use Rattle.floor_desk.proofs.Growing.{course_same, shows_accepted, shows_looked}
 use Rattle.floor_desk.proofs.Histories.{account_snoc, legal_snoc, long_is}
@@ -47,10 +49,10 @@ some_is x y same = cc
 module _ {G : Type 0} (told : G → Option Told) (disk_faults : G → ℕ) where
   -- an entry may follow, and the floor is what the account comes to with it
   pub follows : (old new : FloorState G) (h : List (ℕ × Entry G)) (n : ℕ) (e : Entry G) → new.origin ≡ old.origin → FloorStands told disk_faults old h
-      → MayComeNext disk_faults (account old.origin h) n e → ShowsAccount told disk_faults new (step (account old.origin h) n e) → FloorStands told disk_faults new (h ++ (n, e) ∷ [])
+      → MayComeNext told disk_faults old.origin (account old.origin h) n e → ShowsAccount told disk_faults new (step (account old.origin h) n e) → FloorStands told disk_faults new (h ++ (n, e) ∷ [])
   follows old new h n e same f may shows =
       let is : step (account old.origin h) n e ≡ account new.origin (h ++ (n, e) ∷ []) = sym (account_snoc (start old.origin) h (n, e)) ∙ ap (λ o. account o (h ++ (n, e) ∷ [])) (sym same) in record {
-        legal = subst (λ (o : CoreState × PressState G). IsLegalFrom disk_faults (start o) (h ++ (n, e) ∷ [])) (sym same) (legal_snoc disk_faults (start old.origin) h (n, e) f.legal may);
+        legal = subst (λ (o : CoreState × PressState G). IsLegalFrom told disk_faults o (start o) (h ++ (n, e) ∷ [])) (sym same) (legal_snoc told disk_faults old.origin (start old.origin) h (n, e) f.legal may);
         shows = subst (λ (a : Account G). ShowsAccount told disk_faults new a) is shows;
       }
 
@@ -81,27 +83,27 @@ module _ {G : Type 0} (told : G → Option Told) (disk_faults : G → ℕ) where
       subst (λ (f : FloorState G). ShowsAccount told disk_faults f (accepted a answer)) (sym is) (shows_accepted told disk_faults old a answer may s)
 
   -- the entry of an input that was taken
-  ticket_follows : (a : Account G) (n moment : ℕ) (input : Memo Input) (answer : Answer) → answer ≡ answer_to a.state input.value moment → IsOpen a → (ticket : Ticket) → IsTicketOf a.state.events answer ticket
-      → MayComeNext disk_faults a n (entry_for input moment (Ok ticket)) × (step a n (entry_for input moment (Ok ticket)) ≡ accepted a answer)
-  ticket_follows a n moment input (Entered event reply) is opened ticket of =
-      subst (λ (t : Ticket). MayComeNext disk_faults a n (entry_for input moment (Ok t)) × (step a n (entry_for input moment (Ok t)) ≡ accepted a (Entered event reply))) (sym of)
+  ticket_follows : (origin : CoreState × PressState G) (a : Account G) (n moment : ℕ) (input : Memo Input) (answer : Answer) → answer ≡ answer_to a.state input.value moment → IsOpen a → (ticket : Ticket) → IsTicketOf a.state.events answer ticket
+      → MayComeNext told disk_faults origin a n (entry_for input moment (Ok ticket)) × (step a n (entry_for input moment (Ok ticket)) ≡ accepted a answer)
+  ticket_follows origin a n moment input (Entered event reply) is opened ticket of =
+      subst (λ (t : Ticket). MayComeNext told disk_faults origin a n (entry_for input moment (Ok t)) × (step a n (entry_for input moment (Ok t)) ≡ accepted a (Entered event reply))) (sym of)
       (record { looked_at = opened; event = event; reply = reply; answer_is = sym is; ticket_is = refl }, ap (λ (x : Answer). accepted a x) (sym is))
-  ticket_follows a n moment input (Full would limit reply) is opened ticket of = absurd cc
-  ticket_follows a n moment input (Refused why) is opened ticket of =
+  ticket_follows origin a n moment input (Full would limit reply) is opened ticket of = absurd cc
+  ticket_follows origin a n moment input (Refused why) is opened ticket of =
       let t : Ticket = record { number = a.state.events; kind = kinds.Refused why } in
-      subst (λ (t : Ticket). MayComeNext disk_faults a n (entry_for input moment (Ok t)) × (step a n (entry_for input moment (Ok t)) ≡ accepted a (Refused why))) (some_is t ticket of)
+      subst (λ (t : Ticket). MayComeNext told disk_faults origin a n (entry_for input moment (Ok t)) × (step a n (entry_for input moment (Ok t)) ≡ accepted a (Refused why))) (some_is t ticket of)
       ((opened, ap (λ (x : Answer). ticket_for a.state.events x) (sym is)), ap (λ (x : Answer). accepted a x) (sym is))
-  ticket_follows a n moment input (Replied send) is opened ticket of =
+  ticket_follows origin a n moment input (Replied send) is opened ticket of =
       let t : Ticket = record { number = a.state.events; kind = kinds.Replied } in
-      subst (λ (t : Ticket). MayComeNext disk_faults a n (entry_for input moment (Ok t)) × (step a n (entry_for input moment (Ok t)) ≡ accepted a (Replied send))) (some_is t ticket of)
+      subst (λ (t : Ticket). MayComeNext told disk_faults origin a n (entry_for input moment (Ok t)) × (step a n (entry_for input moment (Ok t)) ≡ accepted a (Replied send))) (some_is t ticket of)
       ((opened, ap (λ (x : Answer). ticket_for a.state.events x) (sym is)), ap (λ (x : Answer). accepted a x) (sym is))
-  ticket_follows a n moment input Unchanged is opened ticket of =
+  ticket_follows origin a n moment input Unchanged is opened ticket of =
       let t : Ticket = record { number = a.state.events; kind = kinds.Idle } in
-      subst (λ (t : Ticket). MayComeNext disk_faults a n (entry_for input moment (Ok t)) × (step a n (entry_for input moment (Ok t)) ≡ accepted a Unchanged)) (some_is t ticket of)
+      subst (λ (t : Ticket). MayComeNext told disk_faults origin a n (entry_for input moment (Ok t)) × (step a n (entry_for input moment (Ok t)) ≡ accepted a Unchanged)) (some_is t ticket of)
       ((opened, ap (λ (x : Answer). ticket_for a.state.events x) (sym is)), ap (λ (x : Answer). accepted a x) (sym is))
-  ticket_follows a n moment input Ignored is opened ticket of =
+  ticket_follows origin a n moment input Ignored is opened ticket of =
       let t : Ticket = record { number = a.state.events; kind = kinds.Ignored } in
-      subst (λ (t : Ticket). MayComeNext disk_faults a n (entry_for input moment (Ok t)) × (step a n (entry_for input moment (Ok t)) ≡ accepted a Ignored)) (some_is t ticket of)
+      subst (λ (t : Ticket). MayComeNext told disk_faults origin a n (entry_for input moment (Ok t)) × (step a n (entry_for input moment (Ok t)) ≡ accepted a Ignored)) (some_is t ticket of)
       ((opened, ap (λ (x : Answer). ticket_for a.state.events x) (sym is)), ap (λ (x : Answer). accepted a x) (sym is))
 
   -- what came of an input that was looked at
@@ -112,7 +114,7 @@ module _ {G : Type 0} (told : G → Option Told) (disk_faults : G → ℕ) where
       let answer : Answer = answer_to old.core input.value moment in
       let is : answer ≡ answer_to a.state input.value moment = ap (λ (c : CoreState). answer_to c input.value moment) f.shows.core in
       let of : IsTicketOf a.state.events answer ticket = subst (λ (c : CoreState). IsTicketOf c.events answer ticket) f.shows.core came.1 in
-      let may = ticket_follows a n moment input answer is (is_open old a f.shows ready) ticket of in
+      let may = ticket_follows old.origin a n moment input answer is (is_open old a f.shows ready) ticket of in
       follows old new h n (entry_for input moment (Ok ticket)) same f may.0 (subst (λ (b : Account G). ShowsAccount told disk_faults new b) (sym may.1) (taken_in old new a answer f.shows came.0))
   comes old new h n moment input (Err (enters.Full would limit)) same f ready came =
       let a : Account G = account old.origin h in
@@ -287,8 +289,12 @@ module _ {G : Type 0} (told : G → Option Told) (disk_faults : G → ℕ) where
       let b : Account G = step a loan.number (Returned event memo) in
       let same : press ≡ memo.value = sym shows in
       let upto : event ≡ old.origin.0.events + a.taken.events = carried.0 ∙ s.fronts.lent loan out in
-      follows old new h loan.number (Returned event memo) (ap (λ (x : FloorState G). x.origin) is) f
-      ((loan, out, refl, sym carried.0), subst (λ (p : PressState G). disk_faults a.press.device ≤ disk_faults p.device) same carried.1)
+      follows old new h loan.number (Returned event memo) (ap (λ (x : FloorState G). x.origin) is) f (
+        (loan, out, refl, sym carried.0),
+        more,
+        subst (λ (p : PressState G). IsCarriedOut told disk_faults old.origin a event a.taken (HomeAgain p event more)) same
+            (subst (λ (u : ℕ). IsCarriedOut told disk_faults old.origin a u a.taken (HomeAgain press event more)) (sym carried.0) carried),
+      )
       (subst (λ (x : FloorState G). ShowsAccount told disk_faults x b) (sym is) (record {
         core = s.core;
         records = s.records;
@@ -313,17 +319,21 @@ module _ {G : Type 0} (told : G → Option Told) (disk_faults : G → ℕ) where
       }))
 
   -- lost, with nothing sent
-  pub breaks : (old new : FloorState G) (h : List (ℕ × Entry G)) (loan : Loan) (device : G) (at to place event durable : ℕ) → old.spot ≡ Out at to → durable ≡ old.durable → new ≡ record old { spot = Broken device place; durable = durable; lost = capped (old.lost + 0) } → place ≡ length h + 1
+  pub breaks : (old new : FloorState G) (h : List (ℕ × Entry G)) (loan : Loan) (device : G) (memo : Memo G) (at to place event durable : ℕ) → memo.value ≡ device → old.spot ≡ Out at to → durable ≡ old.durable → new ≡ record old { spot = Broken device place; durable = durable; lost = capped (old.lost + 0) } → place ≡ length h + 1
       → FloorStands told disk_faults old h → (account old.origin h).loan ≡ Some loan
-      → IsCarriedOut told disk_faults old.origin (account old.origin h) loan.upto (account old.origin h).taken (Gone device event) → FloorStands told disk_faults new (h ++ (loan.number, Failed event) ∷ [])
-  breaks old new h loan device at to place event durable away written is here_at f out carried =
+      → IsCarriedOut told disk_faults old.origin (account old.origin h) loan.upto (account old.origin h).taken (Gone device event) → FloorStands told disk_faults new (h ++ (loan.number, Failed event memo) ∷ [])
+  breaks old new h loan device memo at to place event durable left away written is here_at f out carried =
       let a : Account G = account old.origin h in
       let s = f.shows in
-      let b : Account G = step a loan.number (Failed event) in
+      let b : Account G = step a loan.number (Failed event memo) in
       let long = long_is (start old.origin) h in
       let place_is : a.long + 1 ≡ place = omega (arith, long, here_at) in
       let before : HasLost (capped (old.lost + 0)) (told old.origin.1.device) (told a.press.device) = lost_both old.lost 0 (told old.origin.1.device) (told a.press.device) (told a.press.device) s.lost (lost_none (told a.press.device)) in
-      follows old new h loan.number (Failed event) (ap (λ (x : FloorState G). x.origin) is) f (loan, out, refl, sym carried.0)
+      follows old new h loan.number (Failed event memo) (ap (λ (x : FloorState G). x.origin) is) f (
+        (loan, out, refl, sym carried.0),
+        subst (λ (d : G). IsCarriedOut told disk_faults old.origin a event a.taken (Gone d event)) (sym left)
+            (subst (λ (u : ℕ). IsCarriedOut told disk_faults old.origin a u a.taken (Gone device event)) (sym carried.0) carried),
+      )
       (subst (λ (x : FloorState G). ShowsAccount told disk_faults x b) (sym is) (record {
         core = s.core;
         records = s.records;

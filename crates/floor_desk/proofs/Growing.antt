@@ -15,12 +15,13 @@ use Rattle.service_desk.specs.Answers.{Answer, Entered, Full, Refused, Replied, 
 use Rattle.state_codec.specs.Contents.{records_of}
 use Rattle.state_codec.specs.Records.{HasRecord, written_event}
 use Rattle.floor_desk.specs.Accounts.{Account, Due, Front, accepted, due_after, front_of, if_event, looked, step}
-use Rattle.floor_desk.specs.Carrying.{IsCarriedOut}
+use Rattle.floor_desk.specs.Carrying.{BreaksLoan, IsCarriedOut, KeepsLoan, WritesThenSends}
 use Rattle.floor_desk.specs.Courses.{KeepsCourse, KeepsFronts}
-use Rattle.state_codec.specs.Keeping.{HoldsHistory}
+use Rattle.state_codec.specs.Keeping.{Commits, HoldsHistory}
 use Rattle.floor_desk.specs.Moves.{MayEnter, with_answer}
 use Rattle.floor_desk.specs.Prefixes.{HasLost, KeepsOrder, RestsOn, with_first}
-use Rattle.floor_desk.specs.Standing.{KeptOrder, HoldsOrder, ShowsAccount, Stands, pending_sends}
+use Rattle.floor_desk.specs.Holding.{KeptOrder, HoldsOrder, pending_sends}
+use Rattle.floor_desk.specs.Standing.{ShowsAccount, Stands}
 use Rattle.floor_desk.specs.States.{FloorState}
 use Rattle.floor_desk.specs.declared.entry.Entry.TheVariants.{Taken}
 use Rattle.floor_desk.specs.declared.load.Carried.{Carried}
@@ -32,7 +33,7 @@ use Rattle.floor_desk.proofs.Prefixes.{first_of_more, first_more, keeps_more}
 
 -- ---- what an answer makes of a state, and the dues that it gives
 
-events_behind : (state : CoreState) (answer : Answer) → (state_behind state answer).events ≡ state.events + length (if_event (event_of answer))
+pub events_behind : (state : CoreState) (answer : Answer) → (state_behind state answer).events ≡ state.events + length (if_event (event_of answer))
 events_behind state (Entered event reply) = refl
 events_behind state (Full would limit reply) = omega arith
 events_behind state (Refused why) = omega arith
@@ -114,18 +115,58 @@ module _ {G : Type 0} (origin : CoreState × PressState G) where
 
     -- ---- what comes back
 
+    -- the first events of the order, and the datagrams that a loan took, are the same
+    firsts_still : (a b : Account G) (history : List Event) (count : ℕ) → IsStill a b → count ≤ length a.order → with_first history count b.order ≡ with_first history count a.order
+    firsts_still a b history count s few = ap (λ (l : List Event). with_first history count l) s.order ∙ first_of_more history a.order s.more count few
+
+    durable_still : (a b : Account G) (history : List Event) → IsStill a b → KeepsFronts origin a → with_first history (b.durable - origin.0.events) b.order ≡ with_first history (a.durable - origin.0.events) a.order
+    durable_still a b history s f = ap (λ (d : ℕ). with_first history (d - origin.0.events) b.order) s.durable ∙ firsts_still a b history (a.durable - origin.0.events) s (omega (arith, f.durable, f.events))
+
+    sends_still : (a b : Account G) → IsStill a b → KeepsFronts origin a → map (λ (due : Due). due.send) (drop b.back.dues (take b.taken.dues b.dues)) ≡ map (λ (due : Due). due.send) (drop a.back.dues (take a.taken.dues a.dues))
+    sends_still a b s f =
+        ap (λ (l : List Due). map (λ (due : Due). due.send) l)
+        (ap (λ (t : Front). drop t.dues (take b.taken.dues b.dues)) s.back
+        ∙ (ap (λ (t : Front). drop a.back.dues (take t.dues b.dues)) s.taken
+        ∙ ap (λ (l : List Due). drop a.back.dues l) (ap (λ (l : List Due). take a.taken.dues l) s.dues ∙ take-append-le a.taken.dues a.dues s.owed f.dues)))
+
+    loan_still : (a b : Account G) (upto lost : ℕ) (press : PressState G) → IsStill a b → KeepsFronts origin a → upto ≡ origin.0.events + a.taken.events → KeepsLoan told origin a upto a.taken lost press → KeepsLoan told origin b upto b.taken lost press
+    loan_still a b upto lost press s f is kept journal history stands first =
+        let site = origin.0.site in
+        let before = with_first history (a.durable - origin.0.events) a.order in
+        let after = with_first history (upto - origin.0.events) a.order in
+        let sends : List Send = map (λ (due : Due). due.send) (drop b.back.dues (take b.taken.dues b.dues)) in
+        let after' = with_first history (upto - origin.0.events) b.order in
+        let same : after' ≡ after = firsts_still a b history (upto - origin.0.events) s (omega (arith, is, f.events)) in
+        subst (λ (h : List Event). WritesThenSends journal site h after' sends lost (told b.press.device) (told press.device)) (sym (durable_still a b history s f))
+        (subst (λ (h : List Event). WritesThenSends journal site before h sends lost (told b.press.device) (told press.device)) (sym same)
+        (subst (λ (l : List Send). WritesThenSends journal site before after l lost (told b.press.device) (told press.device)) (sym (sends_still a b s f))
+        (subst (λ (p : PressState G). WritesThenSends journal site before after (map (λ (due : Due). due.send) (drop a.back.dues (take a.taken.dues a.dues))) lost (told p.device) (told press.device)) (sym s.press) (kept journal history stands first))))
+
+    break_still : (a b : Account G) (upto : ℕ) (device : G) → IsStill a b → KeepsFronts origin a → upto ≡ origin.0.events + a.taken.events → BreaksLoan told origin a upto device → BreaksLoan told origin b upto device
+    break_still a b upto device s f is kept journal history stands first =
+        let site = origin.0.site in
+        let before = with_first history (a.durable - origin.0.events) a.order in
+        let after = with_first history (upto - origin.0.events) a.order in
+        let after' = with_first history (upto - origin.0.events) b.order in
+        let same : after' ≡ after = firsts_still a b history (upto - origin.0.events) s (omega (arith, is, f.events)) in
+        subst (λ (h : List Event). Commits journal site h after' (told b.press.device) (told device)) (sym (durable_still a b history s f))
+        (subst (λ (h : List Event). Commits journal site before h (told b.press.device) (told device)) (sym same)
+        (subst (λ (p : PressState G). Commits journal site before after (told p.device) (told device)) (sym s.press) (kept journal history stands first)))
+
     pub carried_still : (disk_faults : G → ℕ) (a b : Account G) (upto : ℕ) (carried : Carried G) → IsStill a b → KeepsFronts origin a → upto ≡ origin.0.events + a.taken.events → IsCarriedOut told disk_faults origin a upto a.taken carried → IsCarriedOut told disk_faults origin b upto b.taken carried
     carried_still disk_faults a b upto (HomeAgain press event more) s f is c = (
       c.0,
-      subst (λ (p : PressState G). disk_faults p.device ≤ disk_faults press.device) (sym s.press) c.1,
+      subst (λ (p : PressState G). disk_faults press.device ≡ disk_faults p.device) (sym s.press) c.1,
       subst (λ (t : Front). HoldsOrder told origin b upto t press) (sym s.taken) (holds_more a b upto a.taken press s (omega (arith, is, f.events)) f.dues c.2),
       subst (λ (p : PressState G). HasLost more (told p.device) (told press.device)) (sym s.press) c.3,
+      loan_still a b upto more press s f is c.4,
     )
     carried_still disk_faults a b upto (Gone device event) s f is c = (
       c.0,
       subst (λ (p : PressState G). Rose (disk_faults p.device) (disk_faults device)) (sym s.press) c.1,
       subst (λ (t : Front). KeptOrder told origin b t device) (sym s.back) (held_more a b a.back device s (omega (arith, f.back, f.dues)) c.2),
       subst (λ (p : PressState G). HasLost 0 (told p.device) (told device)) (sym s.press) c.3,
+      break_still a b upto device s f is c.4,
     )
 
     -- behind the entry with which the press left

@@ -1,8 +1,11 @@
 -- Accounts of longer histories, and a loan that stays open.
 use Rattle.std.proofs.Common.{◌≡◌, ℕ, ◌+◌, ◌≤◌, true, false, List, [], ◌∷◌, ◌++◌, length, refl, sym, ap, ◌∙◌, arith, inr, eq-eqb, append_assoc}
 use Rattle.std.proofs.lemmas.List.{append-nil}
-use Rattle.std.specs.Prelude.{Some, Ok, Err, Result, ◌==◌, if◌then◌else◌}
+use Rattle.std.specs.Prelude.{Option, Some, Ok, Err, Result, ◌==◌, if◌then◌else◌}
+use Rattle.ground_io.specs.Trace.{Told}
 use Rattle.turnstile.specs.Histories.{entries_under}
+use Rattle.alarm_core.specs.State.{CoreState}
+use Rattle.alarm_journal.specs.Press.{PressState}
 use Rattle.alarm_core.specs.declared.event.Event.{Event}
 use Rattle.service_desk.specs.Answers.{Answer, answer_to, event_of}
 use Rattle.floor_desk.specs.declared.entry.Entry.{Entry}
@@ -11,7 +14,8 @@ use Rattle.floor_desk.specs.declared.entry.Look.TheVariants.{Tried, Refused as D
 use Rattle.floor_desk.specs.declared.entry.Ticket.{Ticket}
 use Rattle.floor_desk.specs.declared.faults.EnterFault.{EnterFault}
 use Rattle.floor_desk.specs.declared.faults.EnterFault.TheVariants as enters
-use Rattle.floor_desk.specs.Accounts.{Account, Due, Loan, Licenses, MayComeNext, IsLegalFrom, accepted, account_from, if_event, looked, step, tried}
+use Rattle.floor_desk.specs.Legal.{MayComeNext, IsLegalFrom}
+use Rattle.floor_desk.specs.Accounts.{Account, Due, Loan, Licenses, accepted, account_from, if_event, looked, step, tried}
 
 module _ {G : Type 0} where
   -- one entry more
@@ -38,7 +42,7 @@ module _ {G : Type 0} where
   long_step a n (Looked Closing) = refl
   long_step a n (Taken upto) = refl
   long_step a n (Returned upto press) = refl
-  long_step a n (Failed upto) = refl
+  long_step a n (Failed upto device) = refl
 
   pub long_is : (a : Account G) (h : List (ℕ × Entry G)) → (account_from a h).long ≡ a.long + length h
   long_is a [] = omega arith
@@ -95,14 +99,19 @@ module _ {G : Type 0} where
   still_tried a answer (Err (enters.Full would limit)) = still_accepted a answer
   still_tried a answer (Err enters.NoMemory) = still_looked a
 
-module _ {G : Type 0} (disk_faults : G → ℕ) where
-  pub legal_snoc : (a : Account G) (h : List (ℕ × Entry G)) (c : ℕ × Entry G) → IsLegalFrom disk_faults a h → MayComeNext disk_faults (account_from a h) c.0 c.1 → IsLegalFrom disk_faults a (h ++ c ∷ [])
+module _ {G : Type 0} (told : G → Option Told) (disk_faults : G → ℕ) (origin : CoreState × PressState G) where
+  pub legal_snoc : (a : Account G) (h : List (ℕ × Entry G)) (c : ℕ × Entry G) → IsLegalFrom told disk_faults origin a h → MayComeNext told disk_faults origin (account_from a h) c.0 c.1 → IsLegalFrom told disk_faults origin a (h ++ c ∷ [])
   legal_snoc a [] c l m = (m, tt)
   legal_snoc a (e ∷ es) c l m = (l.0, legal_snoc (step a e.0 e.1) es c l.1 m)
 
-  pub legal_after : (a : Account G) (h k : List (ℕ × Entry G)) → IsLegalFrom disk_faults a (h ++ k) → IsLegalFrom disk_faults (account_from a h) k
+  pub legal_after : (a : Account G) (h k : List (ℕ × Entry G)) → IsLegalFrom told disk_faults origin a (h ++ k) → IsLegalFrom told disk_faults origin (account_from a h) k
   legal_after a [] k l = l
   legal_after a (e ∷ es) k l = legal_after (step a e.0 e.1) es k l.1
+
+  -- the front of a legal history is legal
+  pub legal_front : (a : Account G) (h k : List (ℕ × Entry G)) → IsLegalFrom told disk_faults origin a (h ++ k) → IsLegalFrom told disk_faults origin a h
+  legal_front a [] k l = tt
+  legal_front a (e ∷ es) k l = (l.0, legal_front (step a e.0 e.1) es k l.1)
 
   other : (a : Account G) (l k : Loan) → a.loan ≡ Some l → a.loan ≡ Some k → k ≡ l
   other a l k x y = cc
@@ -113,17 +122,17 @@ module _ {G : Type 0} (disk_faults : G → ℕ) where
       let yes : (n == l.number) ≡ true = eq-eqb n l.number same in cc
 
   -- an entry of another pass
-  kept : (a : Account G) (l : Loan) (n : ℕ) (e : Entry G) → a.loan ≡ Some l → MayComeNext disk_faults a n e → (n == l.number) ≡ false → IsStill a (step a n e)
+  kept : (a : Account G) (l : Loan) (n : ℕ) (e : Entry G) → a.loan ≡ Some l → MayComeNext told disk_faults origin a n e → (n == l.number) ≡ false → IsStill a (step a n e)
   kept a l n (Happened input moment ticket) x m differs = still_accepted a (answer_to a.state input.value moment)
   kept a l n (Looked (Tried input moment answer)) x m differs = still_tried a (answer_to a.state input.value moment) answer
   kept a l n (Looked (Denied fault)) x m differs = still_looked a
   kept a l n (Looked Closing) x m differs = still_looked a
   kept a l n (Taken upto) x m differs = (let y = m.1 in cc)
   kept a l n (Returned upto press) x m differs = absurd (own a l m.0.0 n x m.0.1 m.0.2 differs)
-  kept a l n (Failed upto) x m differs = absurd (own a l m.0 n x m.1 m.2 differs)
+  kept a l n (Failed upto device) x m differs = absurd (own a l m.0.0 n x m.0.1 m.0.2 differs)
 
   -- while a loan is open, only its own pass may end it
-  pub still_out : (a : Account G) (l : Loan) (h : List (ℕ × Entry G)) → a.loan ≡ Some l → IsLegalFrom disk_faults a h → entries_under l.number h ≡ [] → IsStill a (account_from a h)
+  pub still_out : (a : Account G) (l : Loan) (h : List (ℕ × Entry G)) → a.loan ≡ Some l → IsLegalFrom told disk_faults origin a h → entries_under l.number h ≡ [] → IsStill a (account_from a h)
   still_out a l [] x legal none_own = still_here a
   still_out a l (e ∷ es) x legal none_own =
       elim (e.0 == l.number) as (λ b. (e.0 == l.number) ≡ b → (if b then (e.1 ∷ entries_under l.number es) else entries_under l.number es) ≡ [] → IsStill a (account_from (step a e.0 e.1) es)) [

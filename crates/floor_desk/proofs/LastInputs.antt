@@ -1,10 +1,11 @@
 -- A last commit, Tick and Pump.
-use Rattle.std.proofs.Common.{◌≡◌, ℕ, [], ◌++◌, refl, sym, ap, ◌∙◌, subst}
+use Rattle.std.proofs.Common.{Option, ◌≡◌, ℕ, [], ◌++◌, refl, sym, ap, ◌∙◌, subst}
 use Rattle.std.proofs.lemmas.List.{append-nil}
 use Rattle.std.proofs.lemmas.List.Elements.{All-append}
 use Rattle.std.specs.Prelude.{Result}
 use Rattle.std.specs.List.{All}
 use Rattle.bac_values.specs.declared.input.Input.TheVariants.{Tick, Pump}
+use Rattle.ground_io.specs.Trace.{Told}
 use Rattle.turnstile.specs.Passes.{Known}
 use Rattle.alarm_core.specs.State.{CoreState}
 use Rattle.alarm_journal.specs.Press.{PressState}
@@ -17,8 +18,8 @@ use Rattle.floor_desk.specs.Workers.{HasTried}
 use Rattle.floor_desk.proofs.Working.{MadeCommit, no_tries, tries_append, worked_then}
 
 module _ {G : Type 0} where
-  pub ended : (disk_faults : G → ℕ) (origin : CoreState × PressState G) (shows : ℕ → Type 0) (p q r s : Known (Entry G) (CoreState × PressState G)) (tick pump : Result Ticket EnterFault) → MadeCommit disk_faults origin p q → HasTried shows q r Tick tick → HasTried shows r s Pump pump → HasEnded shows p s tick pump
-  ended disk_faults origin shows p q r s tick pump c t u =
+  pub ended : (told : G → Option Told) (disk_faults : G → ℕ) (origin : CoreState × PressState G) (shows : ℕ → Type 0) (p q r s : Known (Entry G) (CoreState × PressState G)) (tick pump : Result Ticket EnterFault) → MadeCommit told disk_faults origin p q → HasTried shows q r Tick tick → HasTried shows r s Pump pump → HasEnded shows p s tick pump
+  ended told disk_faults origin shows p q r s tick pump c t u =
       let S : Try → Type 0 = λ (one : Try). shows one.moment in
       let both = t.entries ++ u.entries in
       let same : tries_in (c.entries ++ both) ≡ tries_in t.entries ++ tries_in u.entries = tries_append c.entries both ∙ (ap (λ z. z ++ tries_in both) (no_tries c.entries c.parts) ∙ tries_append t.entries u.entries) in record {

@@ -1,6 +1,7 @@
 pub mod Carrying
 pub mod ClosedHistories
 pub mod Desks
+pub mod DiskFaults
 pub mod Ending
 pub mod Floors
 pub mod Growing
@@ -9,6 +10,7 @@ pub mod Inputs
 pub mod JoinedPasses
 pub mod LastCommits
 pub mod LastInputs
+pub mod Marks
 pub mod Prefixes
 pub mod Quiet
 pub mod Receiving

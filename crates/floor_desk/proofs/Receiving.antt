@@ -21,10 +21,11 @@ use Rattle.alarm_journal.specs.Press.{PressState}
 use Rattle.floor_desk.specs.declared.entry.Entry.{Entry}
 use Rattle.floor_desk.specs.declared.entry.Ticket.{Ticket}
 use Rattle.floor_desk.specs.declared.faults.EnterFault.{EnterFault}
+use Rattle.floor_desk.specs.declared.faults.EnterFault.TheVariants as enters
 use Rattle.ground_io.specs.declared.link.Received.{Received}
 use Rattle.floor_desk.specs.declared.receiver.Came.{Came}
 use Rattle.floor_desk.specs.declared.receiver.Ends.{Ends}
-use Rattle.floor_desk.specs.Tries.{AreTried, Attempt, IsBehind, IsOfCommit, IsOfInput, IsTried, Try, tries_in}
+use Rattle.floor_desk.specs.Tries.{AreTried, Attempt, GaveUp, IsBehind, IsOfCommit, IsOfInput, IsTried, Try, tries_in}
 use Rattle.floor_desk.specs.Workers.{AreTaken, HasCome, HasReceived, HasTried, IsDatagram, IsNext, StaysLeft, if_lost, input_of, lost_of}
 use Rattle.floor_desk.proofs.Working.{tries_append, worked_none, worked_then}
 
@@ -105,6 +106,14 @@ taken_none : (old : Option (List Send)) → AreTaken old old []
 taken_none None = tt
 taken_none (Some o) = (refl, refl)
 
+-- an answer is that a commit has to come first, or it isn't
+behind_or : (last : Result Ticket EnterFault) → IsBehind last ⊎ (IsBehind last → ⊥)
+behind_or (Ok ticket) = inr (λ behind. behind)
+behind_or (Err (enters.Stopped at)) = inr (λ behind. behind)
+behind_or (Err (enters.Behind pending octets)) = inl tt
+behind_or (Err (enters.Full would limit)) = inr (λ behind. behind)
+behind_or (Err enters.NoMemory) = inr (λ behind. behind)
+
 module _ {G : Type 0} (shows : ℕ → Type 0) where
   abbrev IsPart : Entry G → Type 0
   IsPart entry = IsOfInput entry ⊎ IsOfCommit entry
@@ -114,7 +123,7 @@ module _ {G : Type 0} (shows : ℕ → Type 0) where
     entries = [];
     attempts = [];
     worked = worked_none p;
-    received = record { tried = refl; datagrams = All-nil (λ (one : Attempt). IsDatagram one.input); taken = taken_none old; parts = All-nil IsPart; shown = All-nil (λ (one : Try). shows one.moment) };
+    received = record { tried = refl; datagrams = All-nil (λ (one : Attempt). IsDatagram one.input); taken = taken_none old; parts = All-nil IsPart; shown = All-nil (λ (one : Try). shows one.moment); gave_up = inl (All-nil (λ (one : Attempt). IsBehind one.last → ⊥)) };
     count = ap (λ (e : Ends). e.received) none;
     lost = ap (λ (e : Ends). e.lost) none;
     tried = inr (All-nil (λ (one : Attempt). IsBehind one.last → ⊥));
@@ -127,16 +136,19 @@ module _ {G : Type 0} (shows : ℕ → Type 0) where
     entries = h.entries;
     attempts = h.attempts;
     worked = h.worked;
-    received = record { tried = h.received.tried; datagrams = h.received.datagrams; taken = taken_still old mid new h.attempts h.received.taken stays; parts = h.received.parts; shown = h.received.shown };
+    received = record { tried = h.received.tried; datagrams = h.received.datagrams; taken = taken_still old mid new h.attempts h.received.taken stays; parts = h.received.parts; shown = h.received.shown; gave_up = h.received.gave_up };
     count = count ∙ h.count;
     lost = lost ∙ h.lost;
     tried = ⊎_elim inl (λ same. ⊎_elim (λ is. inl (subst IsTrue (sym same) is)) inr h.tried) memory;
   }
 
+  gave_up_more : (entries more : List (Entry G)) → GaveUp more → GaveUp (entries ++ more)
+  gave_up_more entries more (front, last, is, finds) = (entries ++ front, last, ap (λ z. entries ++ z) is ∙ sym (append_assoc entries front (last ∷ [])), finds)
+
   -- a datagram more
-  pub received_more : (old mid new : Option (List Send)) (p q r : Known (Entry G) (CoreState × PressState G)) (ends after : Ends) (input : Input) (last : Result Ticket EnterFault) → HasReceived shows old mid p q ends → IsNext mid new input → IsDatagram input → HasTried shows q r input last
+  pub received_more : (old mid new : Option (List Send)) (p q r : Known (Entry G) (CoreState × PressState G)) (ends after : Ends) (input : Input) (last : Result Ticket EnterFault) → HasReceived shows old mid p q ends → ends.no_memory ≡ false → IsNext mid new input → IsDatagram input → HasTried shows q r input last
       → after.received ≡ ends.received + 1 → after.lost ≡ ends.lost + if_lost last → (IsTrue after.no_memory ⊎ ((ends.no_memory ≡ false) × (IsBehind last → ⊥))) → HasReceived shows old new p r after
-  received_more old mid new p q r ends after input last h next is t count lost memory =
+  received_more old mid new p q r ends after input last h unrefused next is t count lost memory =
       let one = attempt input last in
       let D : Attempt → Type 0 = λ (a : Attempt). IsDatagram a.input in
       let N : Attempt → Type 0 = λ (a : Attempt). IsBehind a.last → ⊥ in
@@ -151,6 +163,9 @@ module _ {G : Type 0} (shows : ℕ → Type 0) where
           taken = taken_more old mid new h.attempts one h.received.taken next;
           parts = All-append IsPart h.entries t.entries h.received.parts t.parts;
           shown = subst (λ z. All S z) (sym tries) (All-append S (tries_in h.entries) (tries_in t.entries) h.received.shown t.shown);
+          gave_up =
+              let before : All N h.attempts = ⊎_elim (λ was. absurd (true≢false (sym was ∙ unrefused))) (λ all. all) h.tried in
+              ⊎_elim (λ behind. inr (gave_up_more h.entries t.entries (t.gave_up behind))) (λ not. inl (All-append N h.attempts (one ∷ []) before (All-cons N one [] not (All-nil N)))) (behind_or last);
         };
         count = count ∙ (ap (λ z. z + 1) h.count ∙ sym (length_more h.attempts one));
         lost = lost ∙ (ap (λ z. z + if_lost last) h.lost ∙ sym (lost_more h.attempts one));

@@ -1,22 +1,26 @@
 -- One input that is tried until no commit has to come first.
-use Rattle.std.proofs.Common.{◌≡◌, ℕ, List, [], ◌∷◌, ◌++◌, refl, sym, ap, ◌∙◌, subst, inl, inr}
+use Rattle.std.proofs.Common.{Option, ◌≡◌, ℕ, List, [], ◌∷◌, ◌++◌, refl, sym, ap, ◌∙◌, subst, inl, inr}
 use Rattle.std.proofs.lemmas.List.{append-nil}
 use Rattle.std.proofs.lemmas.List.Elements.{All-append, All-cons, All-head, All-nil, All-tail}
-use Rattle.std.specs.Prelude.{◌⊎◌, Result}
+use Rattle.std.specs.Prelude.{◌⊎◌, Result, Ok, Err}
 use Rattle.std.specs.List.{All}
 use Rattle.bac_values.specs.declared.input.Input.{Input}
+use Rattle.ground_io.specs.Trace.{Told}
 use Rattle.turnstile.specs.Passes.{Known}
 use Rattle.turnstile.specs.declared.memo.Memo.{Memo}
 use Rattle.alarm_core.specs.State.{CoreState}
 use Rattle.alarm_journal.specs.Press.{PressState}
 use Rattle.floor_desk.specs.declared.entry.Entry.{Entry}
+use Rattle.floor_desk.specs.declared.entry.Entry.TheVariants.{Looked}
+use Rattle.floor_desk.specs.declared.entry.Look.TheVariants.{Refused}
+use Rattle.floor_desk.specs.declared.faults.CommitFault.TheVariants as commits
 use Rattle.floor_desk.specs.declared.entry.Ticket.{Ticket}
 use Rattle.floor_desk.specs.declared.faults.EnterFault.{EnterFault}
 use Rattle.floor_desk.specs.Accounts.{entry_for}
 use Rattle.floor_desk.specs.Desks.{MakesEntry}
 use Rattle.floor_desk.specs.declared.entering.Offer.{Offer}
 use Rattle.floor_desk.specs.declared.entering.Offer.TheVariants as offers
-use Rattle.floor_desk.specs.Tries.{IsBehind, IsInputOf, IsOfCommit, IsOfInput, IsTried, Try, tried_by, tries_in}
+use Rattle.floor_desk.specs.Tries.{FindsNone, IsBehind, IsInputOf, IsOfCommit, IsOfInput, IsTried, Try, tried_by, tries_in}
 use Rattle.floor_desk.specs.Workers.{AreShown, HasTried, Worked}
 use Rattle.floor_desk.proofs.Working.{MadeCommit, is_of_input, no_tries, tried_of, tries_append, worked_entry, worked_none, worked_then}
 
@@ -80,26 +84,31 @@ module _ {G : Type 0} where
       let P : Try → Type 0 = (λ t. shows t.moment) in
       subst (λ z. All P z) (sym (tries_snoc es e one is)) (All-append P (tries_in es) (one ∷ []) all (All-cons P one [] shown (All-nil P)))
 
+  finds_none : (e : Entry G) (memo : Memo Input) (moment : ℕ) (answer : Result Ticket EnterFault) → e ≡ entry_for memo moment answer → IsBehind answer → FindsNone e
+  finds_none e memo moment (Ok ticket) is behind = absurd behind
+  finds_none e memo moment (Err fault) is behind = subst FindsNone (sym is) behind
+
   -- the last try
-  pub tried_now : (disk_faults : G → ℕ) (origin : CoreState × PressState G) (shows : ℕ → Type 0) (p q r : Known (Entry G) (CoreState × PressState G)) (input : Input) (memo : Memo Input) (moment : ℕ) (answer : Result Ticket EnterFault) → HasTurnedBack shows p q input → memo.value ≡ input → shows moment
-      → MakesEntry disk_faults origin q r (entry_for memo moment answer) → HasTried shows p r input answer
-  tried_now disk_faults origin shows p q r input memo moment answer t is shown a =
+  pub tried_now : (told : G → Option Told) (disk_faults : G → ℕ) (origin : CoreState × PressState G) (shows : ℕ → Type 0) (p q r : Known (Entry G) (CoreState × PressState G)) (input : Input) (memo : Memo Input) (moment : ℕ) (answer : Result Ticket EnterFault) → HasTurnedBack shows p q input → memo.value ≡ input → shows moment
+      → MakesEntry told disk_faults origin q r (entry_for memo moment answer) → HasTried shows p r input answer
+  tried_now told disk_faults origin shows p q r input memo moment answer t is shown a =
       let e : Entry G = entry_for memo moment answer in let o = one_of shows memo moment answer shown in record {
         entries = t.entries ++ e ∷ [];
-        worked = worked_then p q r t.entries (e ∷ []) t.worked (worked_entry disk_faults origin q r e a);
+        worked = worked_then p q r t.entries (e ∷ []) t.worked (worked_entry told disk_faults origin q r e a);
         tried = subst (λ z. IsTried input answer z) (sym (tries_snoc t.entries e o.one o.is)) (tried_last input answer (tries_in t.entries) o.one t.tries (o.input_is ∙ is) o.answer_is);
         parts = All-append IsPart t.entries (e ∷ []) t.parts (All-cons IsPart e [] o.part (All-nil IsPart));
         shown = shown_snoc shows t.entries e o.one o.is o.moment t.shown;
+        gave_up = λ behind. (t.entries, e, refl, finds_none e memo moment answer refl behind);
       }
 
   -- a try to which a commit had to come first
-  pub turned_now : (disk_faults : G → ℕ) (origin : CoreState × PressState G) (shows : ℕ → Type 0) (p q r : Known (Entry G) (CoreState × PressState G)) (input : Input) (memo : Memo Input) (moment : ℕ) (answer : Result Ticket EnterFault) → HasTurnedBack shows p q input → memo.value ≡ input → shows moment
-      → MakesEntry disk_faults origin q r (entry_for memo moment answer) → IsBehind answer → HasTurnedBack shows p r input
-  turned_now disk_faults origin shows p q r input memo moment answer t is shown a behind =
+  pub turned_now : (told : G → Option Told) (disk_faults : G → ℕ) (origin : CoreState × PressState G) (shows : ℕ → Type 0) (p q r : Known (Entry G) (CoreState × PressState G)) (input : Input) (memo : Memo Input) (moment : ℕ) (answer : Result Ticket EnterFault) → HasTurnedBack shows p q input → memo.value ≡ input → shows moment
+      → MakesEntry told disk_faults origin q r (entry_for memo moment answer) → IsBehind answer → HasTurnedBack shows p r input
+  turned_now told disk_faults origin shows p q r input memo moment answer t is shown a behind =
       let e : Entry G = entry_for memo moment answer in let o = one_of shows memo moment answer shown in
       let P : Try → Type 0 = IsTurnedBack input in record {
         entries = t.entries ++ e ∷ [];
-        worked = worked_then p q r t.entries (e ∷ []) t.worked (worked_entry disk_faults origin q r e a);
+        worked = worked_then p q r t.entries (e ∷ []) t.worked (worked_entry told disk_faults origin q r e a);
         tries = subst (λ z. All P z) (sym (tries_snoc t.entries e o.one o.is))
             (All-append P (tries_in t.entries) (o.one ∷ []) t.tries (All-cons P o.one [] (o.input_is ∙ is, subst IsBehind (sym o.answer_is) behind) (All-nil P)));
         parts = All-append IsPart t.entries (e ∷ []) t.parts (All-cons IsPart e [] o.part (All-nil IsPart));
@@ -110,8 +119,8 @@ module _ {G : Type 0} where
   commits_are_parts es all = λ k d in_range. inr (all k d in_range)
 
   -- a commit behind it
-  pub turned_commit : (disk_faults : G → ℕ) (origin : CoreState × PressState G) (shows : ℕ → Type 0) (p q r : Known (Entry G) (CoreState × PressState G)) (input : Input) → HasTurnedBack shows p q input → MadeCommit disk_faults origin q r → HasTurnedBack shows p r input
-  turned_commit disk_faults origin shows p q r input t c =
+  pub turned_commit : (told : G → Option Told) (disk_faults : G → ℕ) (origin : CoreState × PressState G) (shows : ℕ → Type 0) (p q r : Known (Entry G) (CoreState × PressState G)) (input : Input) → HasTurnedBack shows p q input → MadeCommit told disk_faults origin q r → HasTurnedBack shows p r input
+  turned_commit told disk_faults origin shows p q r input t c =
       let same : tries_in (t.entries ++ c.entries) ≡ tries_in t.entries = tries_append t.entries c.entries ∙ (ap (λ z. tries_in t.entries ++ z) (no_tries c.entries c.parts) ∙ append-nil (tries_in t.entries)) in record {
         entries = t.entries ++ c.entries;
         worked = worked_then p q r t.entries c.entries t.worked c.worked;
@@ -120,14 +129,18 @@ module _ {G : Type 0} where
         shown = subst (λ z. All (λ (one : Try). shows one.moment) z) (sym same) t.shown;
       }
 
-  pub tried_commit : (disk_faults : G → ℕ) (origin : CoreState × PressState G) (shows : ℕ → Type 0) (p q r : Known (Entry G) (CoreState × PressState G)) (input : Input) (last : Result Ticket EnterFault) → HasTried shows p q input last → MadeCommit disk_faults origin q r → HasTried shows p r input last
-  tried_commit disk_faults origin shows p q r input last t c =
-      let same : tries_in (t.entries ++ c.entries) ≡ tries_in t.entries = tries_append t.entries c.entries ∙ (ap (λ z. tries_in t.entries ++ z) (no_tries c.entries c.parts) ∙ append-nil (tries_in t.entries)) in record {
-        entries = t.entries ++ c.entries;
-        worked = worked_then p q r t.entries c.entries t.worked c.worked;
+  -- a commit behind it found no memory
+  pub tried_none : (told : G → Option Told) (disk_faults : G → ℕ) (origin : CoreState × PressState G) (shows : ℕ → Type 0) (p q r : Known (Entry G) (CoreState × PressState G)) (input : Input) (last : Result Ticket EnterFault) → HasTried shows p q input last
+      → MakesEntry told disk_faults origin q r (Looked (Refused commits.NoMemory)) → HasTried shows p r input last
+  tried_none told disk_faults origin shows p q r input last t a =
+      let e : Entry G = Looked (Refused commits.NoMemory) in
+      let same : tries_in (t.entries ++ e ∷ []) ≡ tries_in t.entries = tries_append t.entries (e ∷ []) ∙ append-nil (tries_in t.entries) in record {
+        entries = t.entries ++ e ∷ [];
+        worked = worked_then p q r t.entries (e ∷ []) t.worked (worked_entry told disk_faults origin q r e a);
         tried = subst (λ z. IsTried input last z) (sym same) t.tried;
-        parts = All-append IsPart t.entries c.entries t.parts (commits_are_parts c.entries c.parts);
+        parts = All-append IsPart t.entries (e ∷ []) t.parts (All-cons IsPart e [] (inr tt) (All-nil IsPart));
         shown = subst (λ z. All (λ (one : Try). shows one.moment) z) (sym same) t.shown;
+        gave_up = λ behind. (t.entries, e, refl, refl);
       }
 
 -- an offer is one input

@@ -1,5 +1,5 @@
 -- What a pass made, one stretch after the other.
-use Rattle.std.proofs.Common.{◌≡◌, ◌≤◌, ℕ, List, [], ◌∷◌, ◌++◌, refl, sym, ap, ◌∙◌, subst, le_refl, le_trans, append_assoc, max}
+use Rattle.std.proofs.Common.{Option, ◌≡◌, ◌≤◌, ℕ, List, [], ◌∷◌, ◌++◌, refl, sym, ap, ◌∙◌, subst, le_refl, le_trans, append_assoc, max}
 use Rattle.std.proofs.lemmas.List.{append-nil}
 use Rattle.std.proofs.lemmas.List.Elements.{All-cons, All-head, All-nil, All-tail}
 use Rattle.std.proofs.Math.Nat.{le-max_left}
@@ -7,6 +7,7 @@ use Rattle.std.proofs.lemmas.Grind.{flat_map-append}
 use Rattle.std.specs.Prelude.{Result, Ok, Err}
 use Rattle.std.specs.List.{All}
 use Rattle.bac_values.specs.declared.input.Input.{Input}
+use Rattle.ground_io.specs.Trace.{Told}
 use Rattle.turnstile.specs.Passes.{Known}
 use Rattle.turnstile.specs.declared.memo.Memo.{Memo}
 use Rattle.alarm_core.specs.State.{CoreState}
@@ -56,7 +57,7 @@ module _ {G : Type 0} where
   quiet_commit : (e : Entry G) → IsOfCommit e → tried_by e ≡ []
   quiet_commit (Taken upto) is = refl
   quiet_commit (Returned upto press) is = refl
-  quiet_commit (Failed upto) is = refl
+  quiet_commit (Failed upto device) is = refl
   quiet_commit (Looked (Refused fault)) is = refl
   quiet_commit (Looked (Tried input moment answer)) is = absurd is
   quiet_commit (Looked Closing) is = absurd is
@@ -92,9 +93,9 @@ module _ {G : Type 0} where
 
 -- ---- what a call of the desk made
 
-module _ {G : Type 0} (disk_faults : G → ℕ) (origin : CoreState × PressState G) where
+module _ {G : Type 0} (told : G → Option Told) (disk_faults : G → ℕ) (origin : CoreState × PressState G) where
   -- one entry
-  pub worked_entry : (p q : Known (Entry G) (CoreState × PressState G)) (e : Entry G) → MakesEntry disk_faults origin p q e → Worked p q (e ∷ [])
+  pub worked_entry : (p q : Known (Entry G) (CoreState × PressState G)) (e : Entry G) → MakesEntry told disk_faults origin p q e → Worked p q (e ∷ [])
   worked_entry p q e a =
       let seen : q.seen ≡ (p.seen ++ a.between) ++ (p.number, e) ∷ [] = ap (λ (k : Known (Entry G) (CoreState × PressState G)). k.seen) a.same in
       let mark : q.mark ≡ p.mark = ap (λ (k : Known (Entry G) (CoreState × PressState G)). k.mark) a.same in record {
@@ -103,7 +104,7 @@ module _ {G : Type 0} (disk_faults : G → ℕ) (origin : CoreState × PressStat
         mark = subst (λ m. p.mark ≤ m) (sym mark) (le_refl p.mark);
       }
 
-  leaves_worked : (p q : Known (Entry G) (CoreState × PressState G)) (upto : ℕ) (e : Entry G) (mark : ℕ) → p.mark ≤ mark → Leaves disk_faults origin p q upto e mark → Worked p q (Taken upto ∷ (e ∷ []))
+  leaves_worked : (p q : Known (Entry G) (CoreState × PressState G)) (upto : ℕ) (e : Entry G) (mark : ℕ) → p.mark ≤ mark → Leaves told disk_faults origin p q upto e mark → Worked p q (Taken upto ∷ (e ∷ []))
   leaves_worked p q upto e mark up l =
       let first : List (ℕ × Entry G) = (p.number, Taken upto) ∷ [] in
       let last : List (ℕ × Entry G) = (p.number, e) ∷ [] in
@@ -124,19 +125,19 @@ module _ {G : Type 0} (disk_faults : G → ℕ) (origin : CoreState × PressStat
     pub worked : Worked p q entries
     pub parts : All IsOfCommit entries
 
-  refused_one : (p q : Known (Entry G) (CoreState × PressState G)) (fault : CommitFault) → MakesEntry disk_faults origin p q (Looked (Refused fault)) → MadeCommit p q
+  refused_one : (p q : Known (Entry G) (CoreState × PressState G)) (fault : CommitFault) → MakesEntry told disk_faults origin p q (Looked (Refused fault)) → MadeCommit p q
   refused_one p q fault a = record { entries = Looked (Refused fault) ∷ []; worked = worked_entry p q (Looked (Refused fault)) a; parts = All-cons IsOfCommit (Looked (Refused fault)) [] tt (All-nil IsOfCommit) }
 
-  pub made_commit : (p q : Known (Entry G) (CoreState × PressState G)) (result : Result ℕ CommitFault) → HasCommitted disk_faults origin p q result → MadeCommit p q
+  pub made_commit : (p q : Known (Entry G) (CoreState × PressState G)) (result : Result ℕ CommitFault) → HasCommitted told disk_faults origin p q result → MadeCommit p q
   made_commit p q (Ok upto) c = record {
     entries = Taken upto ∷ (Returned upto c.0 ∷ []);
     worked = leaves_worked p q upto (Returned upto c.0) (max p.mark upto) (le-max_left p.mark upto) c.1;
     parts = All-cons IsOfCommit (Taken upto) (Returned upto c.0 ∷ []) tt (All-cons IsOfCommit (Returned upto c.0) [] tt (All-nil IsOfCommit));
   }
   made_commit p q (Err commits.DiskFault) c = record {
-    entries = Taken c.0 ∷ (Failed c.0 ∷ []);
-    worked = leaves_worked p q c.0 (Failed c.0) p.mark (le_refl p.mark) c.1;
-    parts = All-cons IsOfCommit (Taken c.0) (Failed c.0 ∷ []) tt (All-cons IsOfCommit (Failed c.0) [] tt (All-nil IsOfCommit));
+    entries = Taken c.0 ∷ (Failed c.0 c.1 ∷ []);
+    worked = leaves_worked p q c.0 (Failed c.0 c.1) p.mark (le_refl p.mark) c.2;
+    parts = All-cons IsOfCommit (Taken c.0) (Failed c.0 c.1 ∷ []) tt (All-cons IsOfCommit (Failed c.0 c.1) [] tt (All-nil IsOfCommit));
   }
   made_commit p q (Err (commits.Stopped at)) c = refused_one p q (commits.Stopped at) c
   made_commit p q (Err (commits.Busy at upto)) c = refused_one p q (commits.Busy at upto) c

@@ -1,5 +1,5 @@
--- What a history of a floor comes to, and which entries may follow it.
-use Rattle.std.specs.Prelude.{◌≡◌, ◌⊎◌, ℕ, ◌+◌, ◌-◌, ◌<◌, ◌≤◌, ⊤, List, [], ◌∷◌, ◌++◌, length, map, drop, Option, Some, None, Result, Ok, Err}
+-- What a history of a floor comes to, and what may be answered behind it.
+use Rattle.std.specs.Prelude.{◌≡◌, ◌⊎◌, ℕ, ◌+◌, ◌-◌, ◌<◌, ◌≤◌, List, [], ◌∷◌, ◌++◌, length, map, drop, Option, Some, None, Result, Ok, Err}
 use Rattle.bac_values.specs.Limits.{most_batch_octets, most_pending_calls, most_record_octets}
 use Rattle.std.proofs.Common.{inl, inr, ⊎_elim}
 use Rattle.bac_values.specs.declared.input.Input.{Input}
@@ -14,7 +14,7 @@ use Rattle.floor_desk.specs.declared.entry.Entry.{Entry}
 use Rattle.floor_desk.specs.declared.entry.Entry.TheVariants.{Event as Happened, Looked, Taken, Returned, Failed}
 use Rattle.floor_desk.specs.declared.entry.Kind.{Kind}
 use Rattle.floor_desk.specs.declared.entry.Kind.TheVariants as kinds
-use Rattle.floor_desk.specs.declared.entry.Look.TheVariants.{Tried, Refused as Denied, Closing}
+use Rattle.floor_desk.specs.declared.entry.Look.TheVariants.{Tried}
 use Rattle.floor_desk.specs.declared.entry.Ticket.{Ticket}
 use Rattle.floor_desk.specs.declared.faults.CommitFault.{CommitFault}
 use Rattle.floor_desk.specs.declared.faults.CommitFault.TheVariants as commits
@@ -115,7 +115,7 @@ module _ {G : Type 0} where
   step a n (Looked look) = looked a
   step a n (Taken upto) = record a { long = a.long + 1; taken = front_of a; loan = Some record { number = n; place = a.long + 1; upto = upto } }
   step a n (Returned upto press) = record a { long = a.long + 1; back = a.taken; durable = upto; press = press.value; loan = None }
-  step a n (Failed upto) = record a { long = a.long + 1; loan = None; failed = Some (a.long + 1) }
+  step a n (Failed upto device) = record a { long = a.long + 1; loan = None; failed = Some (a.long + 1) }
 
   abbrev pub account_from : Account G → List (ℕ × Entry G) → Account G
   account_from a [] = a
@@ -125,7 +125,7 @@ module _ {G : Type 0} where
   abbrev pub account : CoreState × PressState G → List (ℕ × Entry G) → Account G
   account origin history = account_from (start origin) history
 
--- ---- which entries may follow
+-- ---- what may be answered
 
 -- so many octets of records may be pending that one more record fits a batch
 abbrev pub most_pending_octets : ℕ
@@ -193,25 +193,6 @@ module _ {G : Type 0} where
   abbrev pub IsOutWith : Account G → ℕ → ℕ → Type 0
   IsOutWith a n upto = (loan : Loan) × (a.loan ≡ Some loan) × (loan.number ≡ n) × (loan.upto ≡ upto)
 
-module _ {G : Type 0} (disk_faults : G → ℕ) where
-  -- an entry of a pass with this number
-  abbrev pub MayComeNext : Account G → ℕ → Entry G → Type 0
-  MayComeNext a n (Happened input moment ticket) = IsEntered a (answer_to a.state input.value moment) ticket
-  MayComeNext a n (Looked (Tried input moment answer)) = IsAnswered a (answer_to a.state input.value moment) answer
-  MayComeNext a n (Looked (Denied fault)) = IsDenied a fault
-  MayComeNext a n (Looked Closing) = (loan : Loan) × (a.loan ≡ Some loan)
-  MayComeNext a n (Taken upto) = (a.failed ≡ None) × (a.loan ≡ None) × IsPending a × (upto ≡ a.state.events)
-  MayComeNext a n (Returned upto press) = IsOutWith a n upto × (disk_faults a.press.device ≤ disk_faults press.value.device)
-  MayComeNext a n (Failed upto) = IsOutWith a n upto
-
-  abbrev pub IsLegalFrom : Account G → List (ℕ × Entry G) → Type 0
-  IsLegalFrom a [] = ⊤
-  IsLegalFrom a (e ∷ es) = MayComeNext a e.0 e.1 × IsLegalFrom (step a e.0 e.1) es
-
-  -- each entry may follow those before it
-  abbrev pub IsLegal : CoreState × PressState G → List (ℕ × Entry G) → Type 0
-  IsLegal origin history = IsLegalFrom (start origin) history
-
 -- ---- what a call of `enter` leaves, and which marks may be raised
 
 module _ {G : Type 0} where
@@ -229,7 +210,7 @@ module _ {G : Type 0} where
   GivesMark (Looked look) to = ⊥
   GivesMark (Taken upto) to = ⊥
   GivesMark (Returned upto press) to = to ≤ upto
-  GivesMark (Failed upto) to = ⊥
+  GivesMark (Failed upto device) to = ⊥
 
   -- the press came back with at least so many events written
   abbrev pub Licenses : List (ℕ × Entry G) → ℕ → Type 0

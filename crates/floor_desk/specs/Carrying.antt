@@ -1,16 +1,25 @@
 -- What leaves a floor with the press, and what comes back.
-use Rattle.std.specs.Prelude.{◌≡◌, ◌≤◌, ℕ, Option, None}
+use Rattle.std.specs.Prelude.{◌≡◌, ℕ, ◌-◌, ⊤, List, drop, length, map, take, Option, Some, None}
 use Rattle.ground_io.specs.Counts.{Rose}
-use Rattle.ground_io.specs.Trace.{Told}
+use Rattle.ground_io.specs.Disk.{Always}
+use Rattle.ground_io.specs.Trace.{Told, Adds, disk_of}
+use Rattle.ground_io.specs.declared.entry.Entry.{Entry as GroundEntry}
+use Rattle.bac_values.specs.declared.note.Send.{Send}
 use Rattle.turnstile.specs.declared.memo.Memo.{Memo}
+use Rattle.alarm_core.specs.Allowed.{Represents}
 use Rattle.alarm_core.specs.State.{CoreState}
+use Rattle.alarm_core.specs.declared.event.Event.{Event}
+use Rattle.alarm_core.specs.declared.site.Site.{Site}
+use Rattle.alarm_journal.specs.Emissions.{EmitsAll}
+use Rattle.alarm_journal.specs.Journal.{Site as Journal}
 use Rattle.alarm_journal.specs.Press.{PressState, room_of}
-use Rattle.state_codec.specs.Contents.{records_of}
+use Rattle.state_codec.specs.Contents.{ImageStands, records_of}
+use Rattle.state_codec.specs.Keeping.{Commits, HoldsHistory}
 use Rattle.state_codec.specs.Work.{IsWorkOf}
 use Rattle.floor_desk.specs.Accounts.{Account, Front, step}
 use Rattle.floor_desk.specs.Courses.{KeepsCourse, KeepsFronts}
-use Rattle.floor_desk.specs.Prefixes.{HasLost}
-use Rattle.floor_desk.specs.Standing.{KeptOrder, HoldsOrder, pending_events, pending_sends}
+use Rattle.floor_desk.specs.Prefixes.{HasLost, with_first}
+use Rattle.floor_desk.specs.Holding.{KeptOrder, HoldsOrder, pending_events, pending_sends}
 use Rattle.floor_desk.specs.declared.entry.Entry.{Entry}
 use Rattle.floor_desk.specs.declared.entry.Entry.TheVariants.{Taken, Returned, Failed}
 use Rattle.floor_desk.specs.declared.load.Carried.{Carried}
@@ -26,7 +35,7 @@ module _ {G : Type 0} where
   -- the entry tells of what came back
   abbrev pub TellsCarried : Carried G → Entry G → Type 0
   TellsCarried (Home press upto more) entry = (memo : Memo (PressState G)) × (memo.value ≡ press) × (entry ≡ Returned upto memo)
-  TellsCarried (Broken device upto) entry = entry ≡ Failed upto
+  TellsCarried (Broken device upto) entry = (memo : Memo G) × (memo.value ≡ device) × (entry ≡ Failed upto memo)
 
 module _ {G : Type 0} (told : G → Option Told) where
   -- a load leaves at the end of a history: with the press, which was at home as it last came back, and with all that was pending
@@ -45,10 +54,34 @@ module _ {G : Type 0} (told : G → Option Told) where
   abbrev pub LeftWith : CoreState × PressState G → Account G → Load G → Type 0
   LeftWith origin b load = (a : Account G) × (n : ℕ) × (b ≡ step a n (Taken load.upto)) × Lends origin a load
 
+-- From one to the other each image that a crash may leave stands for one history, where it tells.
+abbrev pub Stays : Journal → Site → List Event → Option Told → Option Told → Type 0
+Stays journal site history old None = ⊤
+Stays journal site history None (Some new) = ⊥
+Stays journal site history (Some old) (Some new) = (entries : List GroundEntry) × Adds (Some old) (Some new) entries × Always (λ image. ImageStands journal site image history) (disk_of old) entries
+
+-- First nothing is sent, and each image that a crash may leave stands for the one history or for the other. Only behind that these datagrams are sent, of which so many are lost, and each image stands for the other.
+pub record WritesThenSends (journal : Journal) (site : Site) (before after : List Event) (sends : List Send) (lost : ℕ) (old new : Option Told) : Type 0 where
+  pub written : Option Told
+  pub commits : Commits journal site before after old written
+  pub stays : Stays journal site after written new
+  pub emits : EmitsAll sends (length sends - lost) lost written new
+
+module _ {G : Type 0} (told : G → Option Told) where
+  -- Of each history that the press held at the opening: while a loan is carried out, each image stands for the events that were durable, or for those up to the loan's last one, and nothing is sent before the latter. So what was told durable is never gone.
+  abbrev pub KeepsLoan : CoreState × PressState G → Account G → ℕ → Front → ℕ → PressState G → Type 0
+  KeepsLoan origin a upto front lost press = (journal : Journal) (history : List Event) → Represents origin.0 history → HoldsHistory journal origin.0.site history origin.1.layout (told origin.1.device)
+      → WritesThenSends journal origin.0.site (with_first history (a.durable - origin.0.events) a.order) (with_first history (upto - origin.0.events) a.order) (map (λ due. due.send) (drop a.back.dues (take front.dues a.dues))) lost (told a.press.device) (told press.device)
+
+  -- the same where the disk failed: nothing was sent
+  abbrev pub BreaksLoan : CoreState × PressState G → Account G → ℕ → G → Type 0
+  BreaksLoan origin a upto device = (journal : Journal) (history : List Event) → Represents origin.0 history → HoldsHistory journal origin.0.site history origin.1.layout (told origin.1.device)
+      → Commits journal origin.0.site (with_first history (a.durable - origin.0.events) a.order) (with_first history (upto - origin.0.events) a.order) (told a.press.device) (told device)
+
 module _ {G : Type 0} (told : G → Option Told) (disk_faults : G → ℕ) where
-  -- What comes back belongs to a load that left with the press to write up to an event, when the history reached to a front of what it comes to now. Home, the order up to that event is written, and just the dues up to that front were sent, of which so many more were lost. Lost, none was sent behind those that were sent before the load.
+  -- What comes back belongs to a load that left with the press to write up to an event, when the history reached to a front of what it comes to now. Home, no call of the disk has failed, the order up to that event is written, and just the dues up to that front were sent, of which so many more were lost. Lost, none was sent behind those that were sent before the load.
   abbrev pub IsCarriedOut : CoreState × PressState G → Account G → ℕ → Front → Carried G → Type 0
   IsCarriedOut origin a upto front (Home press event more) =
-      (event ≡ upto) × (disk_faults a.press.device ≤ disk_faults press.device) × HoldsOrder told origin a upto front press × HasLost more (told a.press.device) (told press.device)
+      (event ≡ upto) × (disk_faults press.device ≡ disk_faults a.press.device) × HoldsOrder told origin a upto front press × HasLost more (told a.press.device) (told press.device) × KeepsLoan told origin a upto front more press
   IsCarriedOut origin a upto front (Broken device event) =
-      (event ≡ upto) × Rose (disk_faults a.press.device) (disk_faults device) × KeptOrder told origin a a.back device × HasLost 0 (told a.press.device) (told device)
+      (event ≡ upto) × Rose (disk_faults a.press.device) (disk_faults device) × KeptOrder told origin a a.back device × HasLost 0 (told a.press.device) (told device) × BreaksLoan told origin a upto device

@@ -1,5 +1,6 @@
 -- What a call of the desk adds to the history.
-use Rattle.std.specs.Prelude.{◌≡◌, ◌<◌, ◌≤◌, ℕ, List, [], ◌∷◌, ◌++◌, max, replicate, Some, Result, Ok, Err}
+use Rattle.std.specs.Prelude.{◌≡◌, ◌≢◌, ◌<◌, ◌≤◌, ℕ, List, [], ◌∷◌, ◌++◌, max, replicate, Option, Some, Result, Ok, Err}
+use Rattle.ground_io.specs.Trace.{Told}
 use Rattle.turnstile.specs.Histories.{StartsWith, entries_under}
 use Rattle.turnstile.specs.Passes.{Known}
 use Rattle.turnstile.specs.declared.memo.Memo.{Memo}
@@ -12,7 +13,8 @@ use Rattle.floor_desk.specs.declared.entry.Entry.TheVariants.{Looked, Taken, Ret
 use Rattle.floor_desk.specs.declared.entry.Look.TheVariants.{Refused, Closing}
 use Rattle.floor_desk.specs.declared.faults.CommitFault.{CommitFault}
 use Rattle.floor_desk.specs.declared.faults.CommitFault.TheVariants as commits
-use Rattle.floor_desk.specs.Accounts.{IsLegal, Loan, account}
+use Rattle.floor_desk.specs.Accounts.{Loan, account}
+use Rattle.floor_desk.specs.Legal.{IsLegal}
 use Rattle.floor_desk.specs.Courses.{KeepsFronts}
 
 module _ {G : Type 0} (origin : CoreState × PressState G) where
@@ -25,12 +27,14 @@ module _ {G : Type 0} (origin : CoreState × PressState G) where
     pub own : entries_under p.number p.seen ≡ p.mine
     pub fronts : KeepsFronts origin (account origin p.seen)
 
-module _ {G : Type 0} (disk_faults : G → ℕ) (origin : CoreState × PressState G) where
-  -- one entry of this call
+module _ {G : Type 0} (told : G → Option Told) (disk_faults : G → ℕ) (origin : CoreState × PressState G) where
+  -- One entry of this call, behind what came between: of the pass's own entries that holds those from before, and as many events were durable then as its mark tells.
   pub record MakesEntry (p q : Known (Entry G) (CoreState × PressState G)) (e : Entry G) : Type 0 where
     pub between : List (ℕ × Entry G)
     pub same : q ≡ record p { mine = p.mine ++ e ∷ []; seen = (p.seen ++ between) ++ (p.number, e) ∷ [] }
-    pub legal : IsLegal disk_faults origin q.seen
+    pub legal : IsLegal told disk_faults origin q.seen
+    pub own : entries_under p.number (p.seen ++ between) ≡ p.mine
+    pub marked : p.mark ≢ 0 → p.mark ≤ (account origin (p.seen ++ between)).durable
 
   -- the press left, with all events of that moment
   pub record TakesPress (p q : Known (Entry G) (CoreState × PressState G)) (upto : ℕ) : Type 0 where
@@ -44,12 +48,14 @@ module _ {G : Type 0} (disk_faults : G → ℕ) (origin : CoreState × PressStat
     pub between : List (ℕ × Entry G)
     pub same : q ≡ record p { mine = (p.mine ++ Taken upto ∷ []) ++ e ∷ []; seen = (((p.seen ++ before) ++ (p.number, Taken upto) ∷ []) ++ between) ++ (p.number, e) ∷ []; mark = mark }
     pub all : upto ≡ (account origin (p.seen ++ before)).state.events
-    pub legal : IsLegal disk_faults origin q.seen
+    pub legal : IsLegal told disk_faults origin q.seen
+    pub own : entries_under p.number (p.seen ++ before) ≡ p.mine
+    pub marked : p.mark ≢ 0 → p.mark ≤ (account origin (p.seen ++ before)).durable
 
   -- what a commit has done: all events were written that there were as the press left, and the mark is no lower; or the disk failed; or the commit was refused
   abbrev pub HasCommitted : Known (Entry G) (CoreState × PressState G) → Known (Entry G) (CoreState × PressState G) → Result ℕ CommitFault → Type 0
   HasCommitted p q (Ok upto) = (memo : Memo (PressState G)) × Leaves p q upto (Returned upto memo) (max p.mark upto)
-  HasCommitted p q (Err commits.DiskFault) = (upto : ℕ) × Leaves p q upto (Failed upto) p.mark
+  HasCommitted p q (Err commits.DiskFault) = (upto : ℕ) × (memo : Memo G) × Leaves p q upto (Failed upto memo) p.mark
   HasCommitted p q (Err fault) = MakesEntry p q (Looked (Refused fault))
 
 module _ {G : Type 0} where

@@ -20,7 +20,7 @@ module _ {G : Type 0} where
   -- the entries of a commit on a closed floor, under a number, by what it answers: the press left with all events, and came back with them written; or it left, and was lost; or the commit was refused, and no press was out
   abbrev pub AreOfCommit : Account G → ℕ → List (ℕ × Entry G) → Result ℕ CommitFault → Type 0
   AreOfCommit a n entries (Ok upto) = (upto ≡ a.state.events) × (memo : Memo (PressState G)) × (entries ≡ (n, Taken upto) ∷ (n, Returned upto memo) ∷ [])
-  AreOfCommit a n entries (Err commits.DiskFault) = (upto : ℕ) × (upto ≡ a.state.events) × (entries ≡ (n, Taken upto) ∷ (n, Failed upto) ∷ [])
+  AreOfCommit a n entries (Err commits.DiskFault) = (upto : ℕ) × (upto ≡ a.state.events) × (memo : Memo G) × (entries ≡ (n, Taken upto) ∷ (n, Failed upto memo) ∷ [])
   AreOfCommit a n entries (Err (commits.Busy at upto)) = ⊥
   AreOfCommit a n entries (Err fault) = entries ≡ (n, Looked (Refused fault)) ∷ []
 

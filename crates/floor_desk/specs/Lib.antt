@@ -3,6 +3,8 @@ pub mod Carrying
 pub mod Courses
 pub mod Desks
 pub mod Ending
+pub mod Holding
+pub mod Legal
 pub mod Moves
 pub mod Prefixes
 pub mod Serving

@@ -1,6 +1,7 @@
 -- What a server did, from the opening of its desk to its close: the closed history, and its numbers.
-use Rattle.std.specs.Prelude.{◌≡◌, ◌⊎◌, ℕ, ◌+◌, List, [], ◌∷◌, ◌++◌, length, IsTrue, false, Bool, Option, Some, None, Result, Ok, Err}
+use Rattle.std.specs.Prelude.{◌≡◌, ◌≢◌, ◌⊎◌, ℕ, ◌+◌, List, [], ◌∷◌, ◌++◌, length, IsTrue, false, Bool, Option, Some, None, Result, Ok, Err}
 use Rattle.std.specs.List.{All}
+use Rattle.ground_io.specs.Counts.{Rose}
 use Rattle.ground_io.specs.Trace.{Told}
 use Rattle.bac_values.specs.declared.input.Input.TheVariants.{Tick, Pump}
 use Rattle.bac_values.specs.declared.note.Send.{Send}
@@ -120,6 +121,11 @@ IsEndOf ends answered (Ok upto) ended = IsUnbroken ends answered ended
 IsEndOf ends answered (Err (commits.Nothing upto)) ended = IsUnbroken ends answered ended
 IsEndOf ends answered (Err (commits.Busy at upto)) ended = IsLate ends ended
 IsEndOf ends answered (Err commits.NoMemory) ended = IsLate ends ended
+
+-- The disk's count of faults rose where a server ended with a disk fault, and is as it was where it ended otherwise.
+pub record LeavesDisk (before now : ℕ) (ended : End) : Type 0 where
+  pub rose : ended ≡ end.DiskFault → Rose before now
+  pub same : ended ≢ end.DiskFault → now ≡ before
 
 module _ {G : Type 0} (told : G → Option Told) (disk_faults : G → ℕ) where
   -- What a server did over a desk that was opened with this origin: its history, the floor that it left, which stands for the history, the ground that came back, and its numbers.

@@ -7,6 +7,7 @@ use Rattle.floor_desk.specs.declared.entry.Entry.{Entry}
 use Rattle.floor_desk.specs.declared.entry.Entry.TheVariants.{Event, Looked, Taken, Returned, Failed}
 use Rattle.floor_desk.specs.declared.entry.Look.TheVariants.{Tried, Refused, Closing}
 use Rattle.floor_desk.specs.declared.entry.Ticket.{Ticket}
+use Rattle.floor_desk.specs.declared.faults.CommitFault.TheVariants as commits
 use Rattle.floor_desk.specs.declared.faults.EnterFault.{EnterFault}
 use Rattle.floor_desk.specs.declared.faults.EnterFault.TheVariants as enters
 use Rattle.floor_desk.specs.declared.entering.Offer.{Offer}
@@ -27,7 +28,7 @@ module _ {G : Type 0} where
   tried_by (Looked Closing) = []
   tried_by (Taken upto) = []
   tried_by (Returned upto press) = []
-  tried_by (Failed upto) = []
+  tried_by (Failed upto device) = []
 
   -- what some entries tried, the oldest first
   abbrev pub tries_in : List (Entry G) → List Try
@@ -37,7 +38,7 @@ module _ {G : Type 0} where
   abbrev pub IsOfCommit : Entry G → Type 0
   IsOfCommit (Taken upto) = Unit {0}
   IsOfCommit (Returned upto press) = Unit {0}
-  IsOfCommit (Failed upto) = Unit {0}
+  IsOfCommit (Failed upto device) = Unit {0}
   IsOfCommit (Looked (Refused fault)) = Unit {0}
   IsOfCommit (Looked (Tried input moment answer)) = ⊥
   IsOfCommit (Looked Closing) = ⊥
@@ -51,7 +52,7 @@ module _ {G : Type 0} where
   IsOfInput (Looked Closing) = ⊥
   IsOfInput (Taken upto) = ⊥
   IsOfInput (Returned upto press) = ⊥
-  IsOfInput (Failed upto) = ⊥
+  IsOfInput (Failed upto device) = ⊥
 
 -- the answer is that a commit has to come first
 abbrev pub IsBehind : Result Ticket EnterFault → Type 0
@@ -60,6 +61,17 @@ IsBehind (Err (enters.Behind pending octets)) = Unit {0}
 IsBehind (Err (enters.Stopped at)) = ⊥
 IsBehind (Err (enters.Full would limit)) = ⊥
 IsBehind (Err enters.NoMemory) = ⊥
+
+module _ {G : Type 0} where
+  -- a commit that found no memory, or a try to which a commit had to come first
+  abbrev pub FindsNone : Entry G → Type 0
+  FindsNone (Looked (Refused fault)) = fault ≡ commits.NoMemory
+  FindsNone (Looked (Tried input moment answer)) = IsBehind answer
+  FindsNone entry = ⊥
+
+  -- Why an input isn't tried again to which a commit had to come first: the commit found no memory; or there was none to make the input again, and no commit came.
+  abbrev pub GaveUp : List (Entry G) → Type 0
+  GaveUp entries = (front : List (Entry G)) × (last : Entry G) × (entries ≡ front ++ last ∷ []) × FindsNone last
 
 -- The input was tried until it was no longer answered that a commit has to come first, or once more was refused: each answer but the last is that, and this is the last one.
 abbrev pub IsTried : Input → Result Ticket EnterFault → List Try → Type 0

@@ -18,7 +18,7 @@ use Rattle.floor_desk.specs.declared.faults.EnterFault.{EnterFault}
 use Rattle.floor_desk.specs.declared.entering.Offer.TheVariants as offers
 use Rattle.floor_desk.specs.declared.receiver.Came.{Came}
 use Rattle.floor_desk.specs.declared.receiver.Ends.{Ends}
-use Rattle.floor_desk.specs.Tries.{AreTicks, AreTried, Attempt, IsBehind, IsOfCommit, IsOfInput, IsTried, tries_in}
+use Rattle.floor_desk.specs.Tries.{AreTicks, AreTried, Attempt, GaveUp, IsBehind, IsOfCommit, IsOfInput, IsTried, tries_in}
 
 -- a datagram of the link as an input: cut to these octets
 abbrev pub input_of : Send → Input
@@ -89,14 +89,16 @@ module _ {G : Type 0} where
     pub tried : IsTried input last (tries_in entries)
     pub parts : All (λ entry. IsOfInput entry ⊎ IsOfCommit entry) entries
     pub shown : AreShown shows entries
+    pub gave_up : IsBehind last → GaveUp entries
 
-  -- Some datagrams were taken from the link, and tried in their order, each again and again while a commit had to come first, with commits between.
+  -- Some datagrams were taken from the link, and tried in their order, each again and again while a commit had to come first, with commits between. None is left for which one had to come first, but where memory was refused: then the entries end with that.
   pub record IsReceived (shows : ℕ → Type 0) (old new : Option (List Send)) (entries : List (Entry G)) (attempts : List Attempt) : Type 0 where
     pub tried : AreTried attempts (tries_in entries)
     pub datagrams : All (λ one. IsDatagram one.input) attempts
     pub taken : AreTaken old new attempts
     pub parts : All (λ entry. IsOfInput entry ⊎ IsOfCommit entry) entries
     pub shown : AreShown shows entries
+    pub gave_up : All (λ one. IsBehind one.last → ⊥) attempts ⊎ GaveUp entries
 
   -- what a receiver did: it counts the datagrams, and those that were given no ticket. None is left for which a commit had to come first, but where memory was refused
   pub record HasReceived (shows : ℕ → Type 0) (old new : Option (List Send)) (p q : Known (Entry G) (CoreState × PressState G)) (ends : Ends) : Type 0 where

@@ -1,7 +1,8 @@
 //! An input that is tried until no commit has to come first.
 
-ghost use Rattle.std.specs.Prelude.{IfOk, MatchBool};
+ghost use Rattle.std.specs.Prelude.{◌≡◌, Err, IfOk, IsTrue, MatchBool};
 ghost use Rattle.turnstile.specs.Passes.{IsOf};
+ghost use Rattle.floor_desk.specs.declared.faults.CommitFault.TheVariants as commits;
 ghost use Rattle.floor_desk.specs.Tries.{IsBehind, IsInputOf};
 ghost use Rattle.floor_desk.specs.Workers.{HasTried};
 
@@ -52,12 +53,14 @@ pub(crate) fn is_behind(answer: &Result<Ticket, EnterFault>) -> bool
 }
 
 // Whether a commit found no memory.
-fn found_none(done: &Result<u64, CommitFault>) -> bool {
+fn found_none(done: &Result<u64, CommitFault>) -> bool
+    ensures none { IsTrue result → done.now ≡ Err commits.NoMemory }
+{
     matches!(done, Err(CommitFault::NoMemory))
 }
 
-/// Tries an input until it isn't answered that a commit has to come first, and commits in between. Where that commit, or
-/// the input made again, finds no memory, that answer is the last one.
+/// Tries an input until it isn't answered that a commit has to come first, and commits in between. Where the input can't be
+/// made again for want of memory, or that commit finds none, that answer is the last one.
 pub(crate) fn enter_until<R: Wait, G: Ground, K: Clock, W: Gate>(
     rt: &R,
     alloc: Global,
@@ -83,16 +86,16 @@ pub(crate) fn enter_until<R: Wait, G: Ground, K: Clock, W: Gate>(
         if !is_behind(&answer) {
             return (entered, answer);
         }
+        input = match offer.input(alloc, octets) {
+            Ok(input) => input,
+            Err(NoMemory) => return (entered, answer),
+        };
         steps.next(gate);
         let (committed, done) = desk.commit(rt, alloc, entered);
         if found_none(&done) {
             return (committed, answer);
         }
         pass = committed;
-        input = match offer.input(alloc, octets) {
-            Ok(input) => input,
-            Err(NoMemory) => return (pass, answer),
-        };
     }
     unreachable!()
 }

@@ -84,6 +84,8 @@ pub enum Entry<G: Ground> {
     Failed {
         /// It was to write the events up to this number.
         upto: u64,
+        /// What is left of it.
+        device: Memo<G>,
     },
 }
 

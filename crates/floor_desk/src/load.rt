@@ -58,7 +58,13 @@ impl<G: Ground> Carried<G> {
                     press: memo,
                 }
             }
-            Carried::Broken { upto, .. } => Entry::Failed { upto: *upto },
+            Carried::Broken { device, upto } => {
+                let memo = Memo::of(device);
+                Entry::Failed {
+                    upto: *upto,
+                    device: memo,
+                }
+            }
         }
     }
 }

@@ -4,7 +4,7 @@ ghost use Rattle.std.specs.Prelude.{◌≡◌, ◌≤◌, ◌↔◌, ◌⊎◌, 
 ghost use Rattle.std.specs.Thread.{IsSync};
 ghost use Rattle.ground_io.specs.Counts.{HasCause};
 ghost use Rattle.turnstile.specs.Passes.{IsOf, first_pass};
-ghost use Rattle.floor_desk.specs.Serving.{HasEnded, WasAnswered, IsEndOf, Serves, WorkedTogether};
+ghost use Rattle.floor_desk.specs.Serving.{HasEnded, LeavesDisk, WasAnswered, IsEndOf, Serves, WorkedTogether};
 ghost use Rattle.floor_desk.specs.Workers.{EndsReceiving, HasKept, HasReceived, HasTicked};
 
 use crate::committer::commit_all;
@@ -226,6 +226,7 @@ pub fn serve_desk<
 ) -> (G, L, Closed)
     requires first { pass ≡ first_pass desk }
     ensures serves { Serves G.told G.disk_faults (K.shows clock.now) (L.left link) (L.left result.1) (desk.origin) result.0 result.2 }
+    ensures disk { LeavesDisk (G.disk_faults desk.origin.1.device) (G.disk_faults result.0) result.2.end }
     ensures most { result.2.received ≤ count }
     ensures done { result.2.end ≡ End.Done → result.2.received ≡ count }
     ensures cause { HasCause (L.faults link) (L.faults result.1) (result.2.end ≡ End.LinkFault) }

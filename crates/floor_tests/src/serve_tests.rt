@@ -164,22 +164,22 @@ fn a_server_ends_by_itself_once_its_disk_has_failed(rt: HostRuntime) -> Result<(
     ended
 }
 
-/// A gate that holds the receiver's first turn until the ticker's third.
+/// A gate that holds the receiver's first turn until the ticker's third, and knows whether that came.
 #[derive(Drop)]
 struct UntilTicked {
     ticks: AtomicU64,
-    gave_up: AtomicU64,
+    came: AtomicU64,
 }
 
-/// Waits until a count has come so far. Where it doesn't come, it is told.
-fn wait_for(count: &AtomicU64, wanted: u64, gave_up: &AtomicU64) {
+/// Waits until a count has come so far, and tells it where it does.
+fn wait_for(count: &AtomicU64, wanted: u64, came: &AtomicU64) {
     for _ in 0..LOOKS {
         if count.load(Ordering::SeqCst) >= wanted {
+            came.store(1, Ordering::SeqCst);
             return;
         }
         hint::spin_loop();
     }
-    gave_up.store(1, Ordering::SeqCst);
 }
 
 impl Gate for UntilTicked {
@@ -188,13 +188,13 @@ impl Gate for UntilTicked {
     fn turn(&self, worker: Worker, step: u64) {
         match worker {
             Worker::Ticker => self.ticks.store(step, Ordering::SeqCst),
-            Worker::Receiver if step == 1 => wait_for(&self.ticks, 3, &self.gave_up),
+            Worker::Receiver if step == 1 => wait_for(&self.ticks, 3, &self.came),
             _ => {}
         }
     }
 }
 
-/// The ticker takes three turns before the receiver takes one.
+/// The ticker takes three turns before the receiver, which asks for its own, takes one.
 fn expect_ticks<R: Threads + Wait + Sync + Abort>(
     rt: &R,
     alloc: Global,
@@ -206,12 +206,12 @@ fn expect_ticks<R: Threads + Wait + Sync + Abort>(
     let link = link_of(alloc, &WHO_IS)?;
     let gate = UntilTicked {
         ticks: AtomicU64::new(0),
-        gave_up: AtomicU64::new(0),
+        came: AtomicU64::new(0),
     };
     let (device, closed) = serve_on(rt, alloc, site, device, link, 1, &gate);
     drop(device);
     expect_served(rt, &closed, 1, 0);
-    same(rt, &gate.gave_up.load(Ordering::SeqCst), &0);
+    same(rt, &gate.came.load(Ordering::SeqCst), &1);
     Ok(())
 }
 
@@ -229,7 +229,7 @@ fn the_ticker_goes_on_beside_the_receiver(rt: HostRuntime) -> Result<(), Fail> {
 #[derive(Drop)]
 struct UntilSynced {
     syncs: AtomicU64,
-    gave_up: AtomicU64,
+    came: AtomicU64,
 }
 
 impl Gate for UntilSynced {
@@ -237,7 +237,7 @@ impl Gate for UntilSynced {
 
     fn turn(&self, worker: Worker, step: u64) {
         if worker == Worker::Receiver && step == 2 {
-            wait_for(&self.syncs, 4, &self.gave_up);
+            wait_for(&self.syncs, 4, &self.came);
         }
     }
 }
@@ -262,7 +262,7 @@ fn link_of_two(alloc: Global) -> Result<MemoryLink, Fail> {
     Ok(MemoryLink::new(datagrams, Vec::new(alloc)))
 }
 
-/// The first event is written before the receiver takes its second turn.
+/// The first event is written before the receiver, which asks for it, takes its second turn.
 fn expect_written<R: Threads + Wait + Sync + Abort>(
     rt: &R,
     alloc: Global,
@@ -272,14 +272,14 @@ fn expect_written<R: Threads + Wait + Sync + Abort>(
 {
     let gate = UntilSynced {
         syncs: AtomicU64::new(0),
-        gave_up: AtomicU64::new(0),
+        came: AtomicU64::new(0),
     };
     let device = HeldGround::new(blank(alloc, site, &[])?, Syncs { gate: &gate });
     let link = link_of_two(alloc)?;
     let (device, closed) = serve_on(rt, alloc, site, device, link, 2, &gate);
     drop(device);
     expect_served(rt, &closed, 2, 1);
-    same(rt, &gate.gave_up.load(Ordering::SeqCst), &0);
+    same(rt, &gate.came.load(Ordering::SeqCst), &1);
     Ok(())
 }
 
@@ -290,4 +290,77 @@ fn the_committer_writes_beside_the_receiver(rt: HostRuntime) -> Result<(), Fail>
     let written = expect_written(&rt, alloc, &site);
     drop(site);
     written
+}
+
+/// A gate that counts the receiver's turns.
+#[derive(Drop)]
+struct Turns {
+    turns: AtomicU64,
+    came: AtomicU64,
+}
+
+impl Gate for Turns {
+    ghost passed = { λ gate worker step. Unit {0} };
+
+    fn turn(&self, worker: Worker, step: u64) {
+        if worker == Worker::Receiver {
+            self.turns.store(step, Ordering::SeqCst);
+        }
+    }
+}
+
+/// A gate that holds the ground's fourth sync, the first that writes an event, until the receiver's third turn.
+#[derive(Drop)]
+struct UntilEntered<'a> {
+    gate: &'a Turns,
+}
+
+impl<'a> Gate for UntilEntered<'a> {
+    ghost passed = { λ gate worker step. Unit {0} };
+
+    fn turn(&self, _worker: Worker, step: u64) {
+        if step == 4 {
+            wait_for(&self.gate.turns, 3, &self.gate.came);
+        }
+    }
+}
+
+/// A link on which the inhibition comes, and two Who-Is behind it.
+fn link_of_three(alloc: Global) -> Result<MemoryLink, Fail> {
+    let datagrams = vec![in alloc;
+        datagram(alloc, &INHIBIT)?,
+        datagram(alloc, &WHO_IS)?,
+        datagram(alloc, &WHO_IS)?,
+    ]?;
+    Ok(MemoryLink::new(datagrams, Vec::new(alloc)))
+}
+
+/// While the first event is on its way to the disk, the receiver enters what comes next.
+fn expect_entered<R: Threads + Wait + Sync + Abort>(
+    rt: &R,
+    alloc: Global,
+    site: &Site,
+) -> Result<(), Fail>
+    requires site { IsSite site.now }
+{
+    let gate = Turns {
+        turns: AtomicU64::new(0),
+        came: AtomicU64::new(0),
+    };
+    let device = HeldGround::new(blank(alloc, site, &[])?, UntilEntered { gate: &gate });
+    let link = link_of_three(alloc)?;
+    let (device, closed) = serve_on(rt, alloc, site, device, link, 3, &gate);
+    drop(device);
+    expect_served(rt, &closed, 3, 1);
+    same(rt, &gate.came.load(Ordering::SeqCst), &1);
+    Ok(())
+}
+
+#[test]
+fn the_receiver_goes_on_beside_a_sync(rt: HostRuntime) -> Result<(), Fail> {
+    let alloc = rt.alloc();
+    let site = plant(alloc)?;
+    let entered = expect_entered(&rt, alloc, &site);
+    drop(site);
+    entered
 }

@@ -12,10 +12,10 @@ use Rattle.alarm_server.specs.Keeping.{KeepsOpened}
 use Rattle.alarm_server.specs.Pieces.{piece_text}
 use Rattle.alarm_server.specs.Report.{report_of}
 use Rattle.alarm_server.specs.Script.{spelled_in}
-use Rattle.alarm_server.specs.SessionSteps.{state_front}
+use Rattle.alarm_server.specs.Sessions.{state_front}
 use Rattle.alarm_server.specs.Status.{of_open_fault}
 use Rattle.alarm_server.specs.Stopping.{StopsReading}
-use Rattle.alarm_server.proofs.BehindOpening.{ends_refused, ends_session, keeps_session, not_played, opens_session, stops_session}
+use Rattle.alarm_server.proofs.BehindOpening.{ends_refused, ends_session, keeps_session, opens_refused, opens_session, stops_session}
 use Rattle.alarm_server.proofs.KeptOpenings.{opening_kept}
 use Rattle.alarm_server.proofs.KeptProgress.{in_any}
 use Rattle.alarm_server.proofs.OfOpenFault.{disk_cause, is_session_fault, refusal_is}
@@ -114,18 +114,19 @@ returns-clause-script_told g c = λ e.
     told_more (λ t rest. StopsReading Emits piece_text (state_front c.in-Ok.opened.1) Session t rest old new) (g.T.Source.left c.args.script.now) (g.T.Source.left c.play_session-device.new.script) (c.play_session-device.ensures.stops (c.in-Err-played.is ∙ ap Err same))
 
 pub returns-in-Err-clause-opened : goal.returns-in-Err-clause-opened
-returns-in-Err-clause-opened g c = λ played. absurd (not_played c.in-Err.fault (rw c.from.ensures at played))
+returns-in-Err-clause-opened g c =
+    rw c.from.ensures (opens_refused c.args.site.now c.args.text.now c.in-Err.fault (g.G.Ground.told c.args.device) (g.G.Ground.told c.in-Err.device) (g.T.Source.left c.args.script.now) c.in-Err.ensures.quiet)
 
 pub returns-in-Ok-played-clause-opened : goal.returns-in-Ok-played-clause-opened
-returns-in-Ok-played-clause-opened g c = λ _.
+returns-in-Ok-played-clause-opened g c =
     let old = g.G.Ground.told c.args.device in
     let mid = g.G.Ground.told c.in-Ok.opened.0.device in
     let new = g.G.Ground.told c.play_session-device.result.0 in
-    opens_session c.args.site.now c.args.text.now c.in-Ok.opened.1 Done old mid new (g.T.Source.left c.args.script.now) (opened_to c.args.site.now c.args.text.now (content_in c.in-Ok.opened.2) c.in-Ok.opened.1 old mid c.in-Ok.ensures.opened c.in-Ok.ensures.leads) (rw c.in-Ok-played.is at c.play_session-device.ensures.ends)
+    opens_session c.args.site.now c.args.text.now c.in-Ok.opened.1 Done old mid new (g.T.Source.left c.args.script.now) c.in-Ok.ensures.quiet (opened_to c.args.site.now c.args.text.now (content_in c.in-Ok.opened.2) c.in-Ok.opened.1 old mid c.in-Ok.ensures.opened c.in-Ok.ensures.leads) (rw c.in-Ok-played.is at c.play_session-device.ensures.ends)
 
 pub returns-clause-opened : goal.returns-clause-opened
-returns-clause-opened g c = λ _.
+returns-clause-opened g c =
     let old = g.G.Ground.told c.args.device in
     let mid = g.G.Ground.told c.in-Ok.opened.0.device in
     let new = g.G.Ground.told c.play_session-device.result.0 in
-    opens_session c.args.site.now c.args.text.now c.in-Ok.opened.1 c.in-Err-played.status old mid new (g.T.Source.left c.args.script.now) (opened_to c.args.site.now c.args.text.now (content_in c.in-Ok.opened.2) c.in-Ok.opened.1 old mid c.in-Ok.ensures.opened c.in-Ok.ensures.leads) (rw c.in-Err-played.is at c.play_session-device.ensures.ends)
+    opens_session c.args.site.now c.args.text.now c.in-Ok.opened.1 c.in-Err-played.status old mid new (g.T.Source.left c.args.script.now) c.in-Ok.ensures.quiet (opened_to c.args.site.now c.args.text.now (content_in c.in-Ok.opened.2) c.in-Ok.opened.1 old mid c.in-Ok.ensures.opened c.in-Ok.ensures.leads) (rw c.in-Err-played.is at c.play_session-device.ensures.ends)

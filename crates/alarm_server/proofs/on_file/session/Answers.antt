@@ -16,7 +16,7 @@ use Rattle.alarm_server.specs.Script.{refused_line, spelled_in}
 use Rattle.alarm_server.specs.Status.{status_of}
 use Rattle.alarm_server.specs.Stopping.{StopsReading}
 use Rattle.alarm_server.proofs.Emitting.{emits}
-use Rattle.alarm_server.proofs.OnFile.{each_script, each_told, ends_unopened, keeps_unopened, on_ok_more, on_read}
+use Rattle.alarm_server.proofs.OnFile.{each_script, each_told, ends_unopened, keeps_unopened, on_ok_more, on_read, opens_unopened}
 use Rattle.alarm_server.proofs.on_file.session.Goals as goal
 
 pub returns-in-Err-clause-ends : goal.returns-in-Err-clause-ends
@@ -82,9 +82,15 @@ returns-clause-stops g c = λ e.
     (each_told (λ history. StoodFor (journal_of site text) site history old new) (λ t left history. StopsReading Emits piece_text (front_pieces site history) Session t left old new) script rest (c.play_site.ensures.script_told e) (λ history before. c.play_site.ensures.stops history before e)) in
     inr (c.play_site.ensures.read_cause.rose e, stood)
 
+pub returns-in-Err-clause-opened : goal.returns-in-Err-clause-opened
+returns-in-Err-clause-opened g c =
+    opens_unopened (g.S.Source.left c.args.site.now) (g.T.Source.left c.args.script.now) c.in-Err.status (g.G.Ground.told c.args.device) c.in-Err.ensures.fault
+    (λ own same. c.open_site.ensures.refused own (c.in-Err.is ∙ ap Err same))
+
 pub returns-clause-opened : goal.returns-clause-opened
-returns-clause-opened g c = λ played.
+returns-clause-opened g c =
     let old = g.G.Ground.told c.args.device in
     let new = g.G.Ground.told c.play_site.result.0 in
     let script = g.T.Source.left c.args.script.now in
-    on_read (λ octets says. IfSome script (λ t. OpensOnSite octets says old new)) (g.S.Source.left c.args.site.now) c.in-Ok.read.0 c.in-Ok.read.1.items c.as_slice.result.now c.as_slice.ensures.value c.in-Ok.ensures.site (c.play_site.ensures.opened played)
+    let ended = status_of c.play_site.result.1 in
+    on_read (λ octets says. IfSome script (λ t. OpensOnSite octets says ended t old new)) (g.S.Source.left c.args.site.now) c.in-Ok.read.0 c.in-Ok.read.1.items c.as_slice.result.now c.as_slice.ensures.value c.in-Ok.ensures.site c.play_site.ensures.opened

@@ -1,6 +1,7 @@
-use Rattle.std.proofs.Common.{inl, inr, refl, ap, ◌∙◌}
-use Rattle.alarm_server.specs.declared.serve.Served.{Served}
+use Rattle.std.proofs.Common.{ℕ, inl, inr, refl, ap, ◌∙◌, subst}
+use Rattle.floor_desk.specs.Serving.{LeavesDisk}
 use Rattle.alarm_server.specs.declared.status.Status.{Status}
+use Rattle.alarm_server.proofs.ServedFaults.{rose_served, rose_unopened, same_served, unopened_not_done}
 use Rattle.alarm_server.proofs.ServedKept.{site_served}
 use Rattle.alarm_server.proofs.serve.serve_site.Goals as goal
 
@@ -25,4 +26,20 @@ pub returns-clause-serves : goal.returns-clause-serves
 returns-clause-serves g c =
     let e = c.in-Ok.ensures in let d = c.serve_desk-device in
     inr (site_served g.G.Ground.told g.G.Ground.disk_faults (g.K.Clock.shows c.args.clock.now) c.args.site.now c.args.text.now c.args.count (g.L.Link.left c.args.link) (g.L.Link.left d.result.1) c.args.device d.result.0 c.in-Ok.desk.origin d.result.2 c.of.result
-    e.site c.of.ensures.closed d.ensures.most d.ensures.done d.ensures.serves e.leads e.represents e.holds e.reopens)
+    e.site c.of.ensures.closed d.ensures.most d.ensures.done d.ensures.serves (subst (λ (n : ℕ). LeavesDisk n (g.G.Ground.disk_faults d.result.0) d.result.2.end) e.cause d.ensures.disk) e.leads e.represents e.holds e.reopens)
+
+pub returns-in-Err-clause-disk_cause : goal.returns-in-Err-clause-disk_cause
+returns-in-Err-clause-disk_cause g c = rose_unopened _ _ c.in-Err.fault c.from.result c.none.result c.from.ensures c.none.ensures.none c.in-Err.ensures.cause
+
+pub returns-in-Err-clause-no_disk_fault : goal.returns-in-Err-clause-no_disk_fault
+returns-in-Err-clause-no_disk_fault g c = λ done. absurd (unopened_not_done c.in-Err.fault c.from.result c.none.result c.from.ensures c.none.ensures.none done)
+
+pub returns-clause-disk_cause : goal.returns-clause-disk_cause
+returns-clause-disk_cause g c =
+    let d = c.serve_desk-device in
+    rose_served _ _ d.result.2 c.of.result c.of.ensures.closed (subst (λ (n : ℕ). LeavesDisk n (g.G.Ground.disk_faults d.result.0) d.result.2.end) c.in-Ok.ensures.cause d.ensures.disk)
+
+pub returns-clause-no_disk_fault : goal.returns-clause-no_disk_fault
+returns-clause-no_disk_fault g c =
+    let d = c.serve_desk-device in
+    same_served _ _ d.result.2 c.of.result c.of.ensures.closed (subst (λ (n : ℕ). LeavesDisk n (g.G.Ground.disk_faults d.result.0) d.result.2.end) c.in-Ok.ensures.cause d.ensures.disk)

@@ -1,4 +1,4 @@
-use Rattle.std.proofs.Common.{◌≡◌, ◌∷◌, [], List, Err, ap, subst, ◌∙◌, arith, refl}
+use Rattle.std.proofs.Common.{◌≡◌, ◌∷◌, [], List, Err, ap, subst, ◌∙◌, refl}
 use Rattle.ground_io.specs.Trace.{WhereTold}
 use Rattle.script_lines.specs.declared.line.Grammar.TheVariants.{Session}
 use Rattle.script_lines.specs.Reading.{octets_to_come}
@@ -13,7 +13,7 @@ use Rattle.alarm_server.specs.Keeping.{KeepsLines, KeepsReport}
 use Rattle.alarm_server.specs.Pieces.{end_piece, open_piece, piece_of, piece_text}
 use Rattle.state_codec.specs.Emission.{Emits}
 use Rattle.alarm_server.specs.Script.{spelled_in}
-use Rattle.alarm_server.specs.SessionSteps.{session_over}
+use Rattle.alarm_server.specs.Sessions.{session_over}
 use Rattle.alarm_server.specs.Status.{of_line_fault}
 use Rattle.alarm_server.proofs.Emitting.{emits, emits_sent, emits_up_to}
 use Rattle.alarm_server.proofs.KeptProgress.{in_any, KeepsLine, kept_at_end, kept_at_first, kept_at_line, kept_at_once, kept_between, plays_first, plays_on}
@@ -54,9 +54,9 @@ loop-line-init g c =
       grammar = refl;
       source = λ e. absurd cc;
       size = c.begin.ensures.size;
-      disk = omega arith;
-      read = omega arith;
-      emitted = c.begin.ensures.cause.later;
+      disk = c.begin.ensures.disk;
+      read = refl;
+      emitted = c.in_default.ensures.uncounted;
     })
 
 pub returns-in-Err-next_line-clause-ends : goal.returns-in-Err-next_line-clause-ends
@@ -149,9 +149,9 @@ loop-line-preserved g c =
       grammar = c.next_line.ensures.grammar ∙ here.invariant.grammar;
       source = c.next_line.ensures.source;
       size = c.in-Ok-play_line.ensures.size ∙ here.invariant.size;
-      disk = omega (arith, here.invariant.disk, c.in-Ok-play_line.ensures.disk_cause);
-      read = omega (arith, here.invariant.read, c.next_line.ensures.cause.later);
-      emitted = omega (arith, here.invariant.emitted, c.in-Ok-play_line.ensures.emit_cause);
+      disk = c.in-Ok-play_line.ensures.disk_cause ∙ here.invariant.disk;
+      read = c.in-Ok-Some.ensures.uncounted ∙ here.invariant.read;
+      emitted = c.in-Ok-play_line.ensures.emit_cause ∙ here.invariant.emitted;
     }
 
 pub loop-line-preserved-in-Ok-play_line : goal.loop-line-preserved-in-Ok-play_line
@@ -174,9 +174,9 @@ loop-line-preserved-in-Ok-play_line g c =
       grammar = c.next_line.ensures.grammar ∙ here.invariant.grammar;
       source = c.next_line.ensures.source;
       size = c.in-Ok-play_line.ensures.size ∙ here.invariant.size;
-      disk = omega (arith, here.invariant.disk, c.in-Ok-play_line.ensures.disk_cause);
-      read = omega (arith, here.invariant.read, c.next_line.ensures.cause.later);
-      emitted = omega (arith, here.invariant.emitted, c.in-Ok-play_line.ensures.emit_cause);
+      disk = c.in-Ok-play_line.ensures.disk_cause ∙ here.invariant.disk;
+      read = c.in-Ok-Some.ensures.uncounted ∙ here.invariant.read;
+      emitted = c.in-Ok-play_line.ensures.emit_cause ∙ here.invariant.emitted;
     }
 
 pub loop-line-preserved-in-Ok-play_line-2 : goal.loop-line-preserved-in-Ok-play_line-2
@@ -199,9 +199,9 @@ loop-line-preserved-in-Ok-play_line-2 g c =
       grammar = c.next_line.ensures.grammar ∙ here.invariant.grammar;
       source = c.next_line.ensures.source;
       size = c.in-Ok-play_line.ensures.size ∙ here.invariant.size;
-      disk = omega (arith, here.invariant.disk, c.in-Ok-play_line.ensures.disk_cause);
-      read = omega (arith, here.invariant.read, c.next_line.ensures.cause.later);
-      emitted = omega (arith, here.invariant.emitted, c.in-Ok-play_line.ensures.emit_cause);
+      disk = c.in-Ok-play_line.ensures.disk_cause ∙ here.invariant.disk;
+      read = c.in-Ok-Some.ensures.uncounted ∙ here.invariant.read;
+      emitted = c.in-Ok-play_line.ensures.emit_cause ∙ here.invariant.emitted;
     }
 
 pub loop-line-preserved-in-Ok-play_line-3 : goal.loop-line-preserved-in-Ok-play_line-3
@@ -224,9 +224,9 @@ loop-line-preserved-in-Ok-play_line-3 g c =
       grammar = c.next_line.ensures.grammar ∙ here.invariant.grammar;
       source = c.next_line.ensures.source;
       size = c.in-Ok-play_line.ensures.size ∙ here.invariant.size;
-      disk = omega (arith, here.invariant.disk, c.in-Ok-play_line.ensures.disk_cause);
-      read = omega (arith, here.invariant.read, c.next_line.ensures.cause.later);
-      emitted = omega (arith, here.invariant.emitted, c.in-Ok-play_line.ensures.emit_cause);
+      disk = c.in-Ok-play_line.ensures.disk_cause ∙ here.invariant.disk;
+      read = c.in-Ok-Some.ensures.uncounted ∙ here.invariant.read;
+      emitted = c.in-Ok-play_line.ensures.emit_cause ∙ here.invariant.emitted;
     }
 
 pub returns-in-Ok-end-clause-ends : goal.returns-in-Ok-end-clause-ends

@@ -80,8 +80,8 @@ loop-lines-preserved g c =
       source = c.next_line.ensures.source;
       size = c.take.ensures.size ∙ here.invariant.size;
       disk = c.take.ensures.disk ∙ here.invariant.disk;
-      read = omega (arith, here.invariant.read, c.next_line.ensures.cause.later);
-      emitted = omega (arith, here.invariant.emitted, c.take.ensures.cause.later);
+      read = c.in_ok-line.ensures.uncounted ∙ here.invariant.read;
+      emitted = c.in_ok-take.ensures.uncounted ∙ here.invariant.emitted;
     }
 
 pub returns-in_err-emit-clause-ends : goal.returns-in_err-emit-clause-ends

@@ -13,7 +13,7 @@ loop-preserved g c =
     let faults = g.G.Ground.disk_faults in let origin = c.args.desk.now.origin in
     let p = c.loop.pass in let q = c.commit-committed.result.0 in record {
       here = c.commit-committed.ensures.here;
-      kept = kept_more faults origin c.args.pass p q c.loop.invariant.kept (made_commit faults origin p q c.commit-committed.result.1 c.commit-committed.ensures.commits);
+      kept = kept_more g.G.Ground.told faults origin c.args.pass p q c.loop.invariant.kept (made_commit g.G.Ground.told faults origin p q c.commit-committed.result.1 c.commit-committed.ensures.commits);
     }
 
 pub returns-clause-kept : goal.returns-clause-kept
@@ -22,5 +22,5 @@ returns-clause-kept g c =
     elim c.match-next.branch [
       | in-None w ↦ subst (λ k. HasKept c.args.pass k) (sym w.pass-is) c.loop.invariant.kept
       | in-Some+then-load-ge2 w ↦ subst (λ k. HasKept c.args.pass k) (sym w.pass-is)
-          (kept_more faults origin c.args.pass p w.commit-committed.result.0 c.loop.invariant.kept (made_commit faults origin p w.commit-committed.result.0 w.commit-committed.result.1 w.commit-committed.ensures.commits))
+          (kept_more g.G.Ground.told faults origin c.args.pass p w.commit-committed.result.0 c.loop.invariant.kept (made_commit g.G.Ground.told faults origin p w.commit-committed.result.0 w.commit-committed.result.1 w.commit-committed.ensures.commits))
     ]

@@ -1,5 +1,5 @@
 use Rattle.std.proofs.Common.{refl, ◌∙◌}
-use Rattle.floor_desk.proofs.Trying.{same_input, tried_commit, tried_now, turned_commit, turned_none, turned_now}
+use Rattle.floor_desk.proofs.Trying.{same_input, tried_none, tried_now, turned_commit, turned_none, turned_now}
 use Rattle.floor_desk.proofs.Working.{made_commit}
 use Rattle.floor_desk.proofs.entering.enter_until.Goals as goal
 
@@ -9,23 +9,20 @@ loop-init g c = record { here = c.requires.here; input = refl; turned = turned_n
 pub returns-then-not-is_behind-clause-tried : goal.returns-then-not-is_behind-clause-tried
 returns-then-not-is_behind-clause-tried g c =
     let a = c.enter-entered.ensures.entered in
-    tried_now g.G.Ground.disk_faults c.args.desk.now.origin (g.K.Clock.shows c.args.clock.now) c.args.pass c.loop.pass c.enter-entered.result.0 c.args.first a.0 c.now.result c.enter-entered.result.1 c.loop.invariant.turned (a.1 ∙ c.loop.invariant.input) c.now.ensures.shown a.2
+    tried_now g.G.Ground.told g.G.Ground.disk_faults c.args.desk.now.origin (g.K.Clock.shows c.args.clock.now) c.args.pass c.loop.pass c.enter-entered.result.0 c.args.first a.0 c.now.result c.enter-entered.result.1 c.loop.invariant.turned (a.1 ∙ c.loop.invariant.input) c.now.ensures.shown a.2
 
 pub returns-then-found_none-clause-tried : goal.returns-then-found_none-clause-tried
 returns-then-found_none-clause-tried g c =
     let faults = g.G.Ground.disk_faults in let origin = c.args.desk.now.origin in let shows = g.K.Clock.shows c.args.clock.now in
     let a = c.enter-entered.ensures.entered in let r = c.enter-entered.result.0 in let s = c.commit-committed.result.0 in
-    tried_commit faults origin shows c.args.pass r s c.args.first c.enter-entered.result.1
-    (tried_now faults origin shows c.args.pass c.loop.pass r c.args.first a.0 c.now.result c.enter-entered.result.1 c.loop.invariant.turned (a.1 ∙ c.loop.invariant.input) c.now.ensures.shown a.2)
-    (made_commit faults origin r s c.commit-committed.result.1 c.commit-committed.ensures.commits)
+    tried_none g.G.Ground.told faults origin shows c.args.pass r s c.args.first c.enter-entered.result.1
+    (tried_now g.G.Ground.told faults origin shows c.args.pass c.loop.pass r c.args.first a.0 c.now.result c.enter-entered.result.1 c.loop.invariant.turned (a.1 ∙ c.loop.invariant.input) c.now.ensures.shown a.2)
+    (rw (c.found_none.ensures.none c.if-found_none.true) at c.commit-committed.ensures.commits)
 
 pub returns-in-Err-clause-tried : goal.returns-in-Err-clause-tried
 returns-in-Err-clause-tried g c =
-    let faults = g.G.Ground.disk_faults in let origin = c.args.desk.now.origin in let shows = g.K.Clock.shows c.args.clock.now in
-    let a = c.enter-entered.ensures.entered in let r = c.enter-entered.result.0 in let s = c.commit-committed.result.0 in
-    tried_commit faults origin shows c.args.pass r s c.args.first c.enter-entered.result.1
-    (tried_now faults origin shows c.args.pass c.loop.pass r c.args.first a.0 c.now.result c.enter-entered.result.1 c.loop.invariant.turned (a.1 ∙ c.loop.invariant.input) c.now.ensures.shown a.2)
-    (made_commit faults origin r s c.commit-committed.result.1 c.commit-committed.ensures.commits)
+    let a = c.enter-entered.ensures.entered in
+    tried_now g.G.Ground.told g.G.Ground.disk_faults c.args.desk.now.origin (g.K.Clock.shows c.args.clock.now) c.args.pass c.loop.pass c.enter-entered.result.0 c.args.first a.0 c.now.result c.enter-entered.result.1 c.loop.invariant.turned (a.1 ∙ c.loop.invariant.input) c.now.ensures.shown a.2
 
 pub loop-preserved : goal.loop-preserved
 loop-preserved g c =
@@ -33,7 +30,7 @@ loop-preserved g c =
     let a = c.enter-entered.ensures.entered in let r = c.enter-entered.result.0 in let s = c.commit-committed.result.0 in record {
       here = c.commit-committed.ensures.here;
       input = same_input c.args.offer c.args.octets.now c.in-Ok.input c.args.first (rw c.in-Ok.is at c.input.ensures.input) c.requires.input;
-      turned = turned_commit faults origin shows c.args.pass r s c.args.first
-          (turned_now faults origin shows c.args.pass c.loop.pass r c.args.first a.0 c.now.result c.enter-entered.result.1 c.loop.invariant.turned (a.1 ∙ c.loop.invariant.input) c.now.ensures.shown a.2 (rw c.if-not-is_behind.false at c.is_behind.ensures.behind))
-          (made_commit faults origin r s c.commit-committed.result.1 c.commit-committed.ensures.commits);
+      turned = turned_commit g.G.Ground.told faults origin shows c.args.pass r s c.args.first
+          (turned_now g.G.Ground.told faults origin shows c.args.pass c.loop.pass r c.args.first a.0 c.now.result c.enter-entered.result.1 c.loop.invariant.turned (a.1 ∙ c.loop.invariant.input) c.now.ensures.shown a.2 (rw c.if-not-is_behind.false at c.is_behind.ensures.behind))
+          (made_commit g.G.Ground.told faults origin r s c.commit-committed.result.1 c.commit-committed.ensures.commits);
     }

@@ -47,4 +47,4 @@ returns-in-Broken-clause-commits g c =
     let l = rw c.in-Ok.is at c.take_press-pass.ensures.lends in
     let k = rw c.in-Broken.is at (carried_out told faults origin (account origin p.seen) load c.carry_out.result l c.carry_out.ensures.carried) in
     let a = c.return_press-pass-in-Broken.ensures.adds in
-    (c.in-Broken.upto, fails told faults origin c.args.pass p c.return_press-pass-in-Broken.result load.upto c.in-Broken.upto a.0 t a.2 a.1 k.0)
+    (c.in-Broken.upto, a.1.0, fails told faults origin c.args.pass p c.return_press-pass-in-Broken.result load.upto c.in-Broken.upto a.0 a.1.0 t a.2 a.1.2 k.0)

@@ -16,6 +16,6 @@ returns-clause-entered g c =
     let from : c.admit-answer.new.self.origin ≡ c.args.self.now.origin = search rules in (
       c.of-memo.result,
       c.of-memo.ensures.value,
-      adds g.G.Ground.told g.G.Ground.disk_faults c.args.self.now.origin _ c.args.pass q c.give.result _ c.admit-answer.new.self c.take-turn.ensures.sees
+      adds g.G.Ground.told g.G.Ground.disk_faults c.args.self.now.origin c.args.pass q c.give.result _ c.admit-answer.new.self c.take-turn.ensures.sees
           (subst (λ e. c.give.result ≡ with_entry q e) c.of-entry.ensures.entry c.give.ensures) from (c.admit-answer.ensures.stands q.seen q.number c.of-memo.result c.of-memo.ensures.value c.take-turn.ensures.value),
     )

@@ -35,4 +35,4 @@ returns-clause-adds g c =
     let stands = subst (λ n. FloorStands told faults c.bring.new.self (q.seen ++ (n, c.entry-entry.result) ∷ [])) number
     (c.bring.ensures.stands q.seen w.1.loan c.entry-entry.result c.take-turn.ensures.place c.entry-entry.ensures.tells f (still.loan ∙ w.1.out)
     (carried_for told faults c.args.self.now.origin _ c.args.pass q w.0 old c.args.carried w.1 c.take-turn.ensures.sees from f w.2)) in
-    (c.entry-entry.result, c.entry-entry.ensures.tells, adds told faults c.args.self.now.origin _ c.args.pass q c.give.result c.entry-entry.result c.bring.new.self c.take-turn.ensures.sees c.give.ensures after stands)
+    (c.entry-entry.result, c.entry-entry.ensures.tells, adds told faults c.args.self.now.origin c.args.pass q c.give.result c.entry-entry.result c.bring.new.self c.take-turn.ensures.sees c.give.ensures after stands)

@@ -20,5 +20,5 @@ returns-in-Broken-clause-stands g c = λ h loan entry at tells f out carried.
     let t = rw c.in-Broken.is at tells in
     let k = rw c.in-Broken.is at carried in
     let r = c.requires.out in
-    subst (λ e. FloorStands told faults c.end_loan-in-Broken.new.self (h ++ (loan.number, e) ∷ [])) (sym t)
-    (breaks told faults c.args.self.now c.end_loan-in-Broken.new.self h loan c.in-Broken.device r.0 r.1 c.args.place c.in-Broken.upto c.durable-durable.result r.2 c.durable-durable.ensures.durable c.end_loan-in-Broken.ensures.ended at f out k)
+    subst (λ e. FloorStands told faults c.end_loan-in-Broken.new.self (h ++ (loan.number, e) ∷ [])) (sym t.2)
+    (breaks told faults c.args.self.now c.end_loan-in-Broken.new.self h loan c.in-Broken.device t.0 r.0 r.1 c.args.place c.in-Broken.upto c.durable-durable.result t.1 r.2 c.durable-durable.ensures.durable c.end_loan-in-Broken.ensures.ended at f out k)

@@ -3,3 +3,6 @@ use Rattle.floor_desk.proofs.load.Carried.entry.Goals as goal
 
 pub returns-in-Home : goal.returns-in-Home
 returns-in-Home g c = rw c.in-Home.is (record { tells = (c.of-memo.result, c.of-memo.ensures.value, refl) })
+
+pub returns-in-Broken : goal.returns-in-Broken
+returns-in-Broken g c = rw c.in-Broken.is (record { tells = (c.of-memo-in-Broken.result, c.of-memo-in-Broken.ensures.value, refl) })

@@ -1,4 +1,4 @@
--- A session, line by line: what each line comes to, and the pieces of the report.
+-- A session from a state on, line by line: what each line comes to, and the pieces of the report.
 use Rattle.std.specs.Prelude.{ℕ, List, [], ◌∷◌, ◌++◌, length}
 use Rattle.bac_values.specs.declared.report.ReportLine.{ReportLine}
 use Rattle.script_lines.specs.declared.line.Grammar.TheVariants.{Session}
