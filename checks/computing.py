@@ -15,6 +15,8 @@ TIED = {
     ("property_services", "who_is_of"): "property_services::read_who_is",
     ("summaries", "enrollment_request_of"): "summaries::read_enrollment_request",
     ("summaries", "groups_of"): "summaries::read_many_request",
+    ("list_binding", "list_request_of"): "list_binding::read_list_request",
+    ("list_binding", "edit_of"): "list_binding::edit",
     ("alarm_core", "first_state"): "alarm_core::Core::start",
     ("alarm_core", "next_notes"): "alarm_core::stands_for_its_history",
     ("alarm_core", "next_sends"): "alarm_core::stands_for_its_history",

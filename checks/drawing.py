@@ -165,9 +165,22 @@ def property_asked(draws):
     return tagged(0, shortest(8 if draws.often(0.1) else draws.one_of(PROPERTIES))) + index
 
 
+def edit_of_a_list(draws):
+    """An edit of a list, mostly of a class's recipients: up to three elements, of which one in eight is none that a class can have."""
+    elements = []
+    for _ in range(draws.below(4)):
+        days, begin = draws.one_of([b"\x82\x01\xfe", b"\x82\x01\xf8"]), bytes([0xB4, draws.one_of([0, 0, 8]), 0, 0, 0])
+        address = b"\x65\x06" + bytes([10, 0, 0, draws.one_of([5, 6, 7, 8, 9])]) + (47808).to_bytes(2, "big")
+        who = tagged(0, object_octets(draws)) if draws.often(0.1) else b"\x1e\x21" + bytes([draws.below(16) // 15]) + address + b"\x1f"
+        rest = bytes([0x21, draws.below(3), 0x10 + draws.below(2)]) + draws.one_of([b"\x82\x05\xe0", b"\x82\x05\xe0", b"\x82\x06\xc0"])
+        elements.append(days + begin + b"\xb4\x17\x3b\x3b\x63" + who + rest if draws.often(0.95) else application_value(draws))
+    of_a_class = b"\x0c" + (15 << 22 | draws.one_of([7, 7, 8, 1])).to_bytes(4, "big") + b"\x19\x66"
+    return (of_a_class if draws.often(0.8) else reference(draws)) + b"\x3e" + b"".join(elements) + b"\x3f"
+
+
 def request_parameters(draws, moment):
     """A service and its parameters, mostly in its grammar."""
-    kind = draws.below(9)
+    kind = draws.below(10)
     if kind == 0:
         stamp = stamp_of(moment - draws.one_of([0, 0, 0, 1, 1000, 10000]))
         state = shortest(draws.below(6))
@@ -195,6 +208,8 @@ def request_parameters(draws, moment):
         return 4, filters(draws)
     if kind == 7:
         return 14, objects_asked(draws)
+    if kind == 8:
+        return 8 + draws.below(2), edit_of_a_list(draws)
     return draws.below(256), draws.octets(20)
 
 

@@ -30,7 +30,9 @@ TIMEOUT = 50
 RECIPIENTS, SEEN = 3, 4
 OF_A_VALUE, OF_A_LOG, OF_A_CLASS = [85, 36, 103, 111, 81, 130, 0, 35, 45, 59, 25, 52, 113, 354, 7, 6], [133, 141, 145], [102]
 OBJECT_NAME, TIME_DELAY, TIME_DELAY_NORMAL = 77, 113, 356
-READ_RANGE, SERVICES = 26, (0, 3, 4, 12, 14, 15, 26, 29)
+# What stands in an edit of recipients, and in nothing else that is drawn: the property, and the tag behind which the elements begin.
+RECIPIENTS_EDITED = b"\x19\x66\x3e"
+READ_RANGE, SERVICES, EDITS = 26, (0, 3, 4, 8, 9, 12, 14, 15, 26, 29), (8, 9)
 # The services that have a result, and those that are answered with no Error.
 WITH_RESULTS, WITHOUT_ERRORS = (3, 4, 12, 14, 26, 29), (3, 4, 14)
 MAXIMA = [50, 128, 206, 480, 1024, 1476]
@@ -125,6 +127,13 @@ def is_note(apdu):
     return apdu[0] >> 4 == 0 or apdu[:2] == bytes([0x10, bacnet.UNCONFIRMED_EVENT_NOTIFICATION])
 
 
+def is_error(service, apdu):
+    """Whether an Error has the octets that it has of a service: of an edit of a list a class and a code between tags, and an element's number."""
+    if service in EDITS:
+        return len(apdu) in (11, 12, 13) and apdu[3:5] == b"\x0e\x91" and apdu[6] == 0x91 and apdu[8] == 0x0F and apdu[9] - 0x18 == len(apdu) - 10
+    return len(apdu) == 7
+
+
 class Ledger:
     """What a socket is owed for the datagrams that were sent, in their order."""
 
@@ -150,9 +159,9 @@ class Ledger:
         want(kind in ("simple-ack", "complex-ack", "error", "reject", "abort") and apdu[1] == asked[2], text)
         service = None if is_segment else asked[3]
         want(kind not in ("simple-ack", "complex-ack", "error") or apdu[2] == service, text)
-        want(kind != "simple-ack" or len(apdu) == 3 and service in (0, 15), text)
+        want(kind != "simple-ack" or len(apdu) == 3 and service in (0, 15, *EDITS), text)
         want(kind != "complex-ack" or len(apdu) <= MAXIMA[min(asked[1] & 15, 5)] and service in WITH_RESULTS, text)
-        want(kind != "error" or len(apdu) == 7 and service in SERVICES and service not in WITHOUT_ERRORS, text)
+        want(kind != "error" or is_error(service, apdu) and service in SERVICES and service not in WITHOUT_ERRORS, text)
         want(kind != "reject" or len(apdu) == 3 and apdu[2] in ((4, 5, 7) if service in SERVICES else (9,)), text)
         want(kind != "abort" or len(apdu) == 3 and apdu[0] == 0x71 and apdu[2] in ((4,) if is_segment else (0, 4)), text)
         want(is_segment <= (kind == "abort"), text)
@@ -298,8 +307,11 @@ def valid_request(draws, peers, invoke):
 
 
 def drawn(draws, moment):
-    """A datagram as in a session, and now and then an empty one, or one that is longer than is taken."""
+    """A datagram as in a session, and now and then an empty one, or one that is longer than is taken. No edit of recipients: the sockets of the
+    check are to stay the only ones."""
     octets, kind = datagram(draws, moment), draws.below(100)
+    while RECIPIENTS_EDITED in octets:
+        octets = datagram(draws, moment)
     if kind == 0:
         return b""
     return octets.ljust(LONGEST, b"\x00") + draws.octets(500) if kind == 1 else octets

@@ -7,6 +7,8 @@ from serving import MANY, Client, Server
 
 # So many summaries of 61 octets have room in an answer beside seven; so many octets an answer and a datagram may have.
 PAGE, ANSWER, DATAGRAM = 24, 1476, 1497
+# How many peers may be known, and the address of one that no site has.
+MOST_PEERS, OTHER = 8192, (0, bytes([192, 0, 2, 9, 0xBA, 0xC0]))
 LENGTH, OBJECT_IDENTIFIER = 0, 75
 ALARM_VALUES, FAULT_VALUES = 7, 39
 # How an element of each kind of value is read.
@@ -67,8 +69,12 @@ def see_recipients(told, client, site):
 
 
 def see_edits(told, client, site):
-    """All recipients of a class are taken out of its list, and put into it again, by one request each. A program without these services rejects them."""
+    """All recipients of a class are taken out of its list, and put into it again, by one request each. A program without these services rejects them.
+
+    Where as many are known as may be, one that isn't has no space, also in a list that has none.
+    """
     of = site.classes - 1
+    known = {it.address for of_class in range(site.classes) for it in site.destinations(of_class)}
     octets = b"".join(map(bacnet.destination, site.destinations(of)))
     for service, left in ((bacnet.REMOVE_LIST_ELEMENT, []), (bacnet.ADD_LIST_ELEMENT, site.destinations(of))):
         answer = client.ask(lambda invoke, service=service: bacnet.edit_list(invoke, service, (CLASS, of), bacnet.RECIPIENT_LIST, octets))
@@ -77,6 +83,10 @@ def see_edits(told, client, site):
             return
         told.same("the answer to an edit", answer[::2], ("simple-ack", service))
         same_list(told, "the recipients behind an edit", bacnet.destinations_of(values_of(client, (CLASS, of), bacnet.RECIPIENT_LIST)), left)
+        if len(known) == MOST_PEERS and not left:
+            other = bacnet.destination(site.destinations(of)[0]._replace(address=OTHER))
+            refused = client.ask(lambda invoke, other=other: bacnet.edit_list(invoke, bacnet.ADD_LIST_ELEMENT, (CLASS, of), bacnet.RECIPIENT_LIST, other))
+            told.same("the answer to one peer more than may be known", tuple(bacnet.list_error_of(refused)), (3, 19, 1))
 
 
 def see_log(told, client, site, log, whole):

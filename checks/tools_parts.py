@@ -82,6 +82,7 @@ def try_client(told, program, folder):
     """Reads, writes, lists, acknowledges, is refused, and goes on over a lost datagram and a killed server."""
     with Plant(program, folder) as it:
         see_reads(told, it)
+        see_recipients(told, it)
         see_refusals(told, it)
         see_alarms(told, it)
         see_losses(told, it)
@@ -122,14 +123,26 @@ def see_refusals(told, it):
         (["write", "multi-state-value:1", "1"], 4, "Error 1,31"), (["write", "integer-value:1", "1", "--type", "real"], 4, "Error 2,9, invalid-data-type"),
         (["write", "integer-value:1", "x", "--property", "object-name", "--type", "text"], 4, "Error 2,40, write-access-denied"),
         (["read", "integer-value:9", "--all"], 4, "Error 1,31, unknown-object"),
-        (["recipients", "add", "7", "10.0.0.8:47808"], 4, "AddListElement (Reject 9, unrecognized-service)"),
-        (["recipients", "remove", "7", f"127.0.0.1:{it.recipient}"], 4, "RemoveListElement (Reject 9"),
+        (["recipients", "add", "9", "10.0.0.8:47808"], 4, "Error 1,31, unknown-object"), (["recipients", "remove", "7", "10.0.0.8:47808"], 4, "has no recipient"),
         (["write", "integer-value:1", "21.5"], 2, "tenths"), (["write", "binary-value:1", "on"], 2, "inactive or active"),
         (["read", "temperature:1"], 2, "KIND:INSTANCE is wanted"), (["ack"], 2, "--all"), (["ack", "integer-value:99"], 4, "unknown-object"),
         (["recipients", "add", "7", "plant.example"], 2, "A.B.C.D:PORT is wanted"), (["read", "integer-value:1", "colour"], 2, "is no property"),
     ]
     for (words, wanted, text), (status, output, said) in zip(rows, it.clients([words for words, _, _ in rows])):
         told.want(status == wanted and text in said and not output, f"{words}: status {status}, {output!r}, {said!r}")
+
+
+def see_recipients(told, it):
+    """A recipient is added, shown, kept where it is added again, and removed; the others stay."""
+    address = "127.0.0.1:9"
+    had = it.client("recipients", "show", "7", "--json")[1]
+    added, again = (it.client("recipients", "add", "7", address, "--process", "2", "--transitions", "001", "--json") for _ in range(2))
+    shown, removed = it.client("recipients", "show", "7", "--json"), it.client("recipients", "remove", "7", address, "--json")
+    listed = [(it["address"], it["process"], it["transitions"]) for it in json.loads(added[1] or "{}").get("recipients", [])]
+    told.same("a recipient that is added", (added[0], listed[-1:], len(listed)), (0, [(address, 2, ["to-normal"])], len(json.loads(had)["recipients"]) + 1))
+    told.same("one that is added again", (again[0], again[1]), (0, added[1]))
+    told.same("a list that is shown behind it", (shown[0], shown[1]), (0, added[1]))
+    told.same("one that is removed", (removed[0], removed[1]), (0, had))
 
 
 def see_alarms(told, it):
