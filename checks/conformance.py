@@ -1,5 +1,5 @@
 """Holds docs/PICS.md against what the program is proved by, for checks/clauses: the properties of each type of object, which of them
-can be written, and the services that the device carries out."""
+can be written, and the services that the device carries out; and that no page has one of these among what isn't built."""
 import re
 
 from contracts import text_of
@@ -11,6 +11,8 @@ TABLES = {
     "Notification Class": "class_properties", "Event Log": "log_properties",
 }
 UNCONFIRMED = "who_is"  # it has no number among those of the confirmed services
+UNBUILT = (("docs/PROFILE.md", r"\*\*What isn't built\.\*\*.*"), ("docs/CLAUSES.md", r"## What isn't built\n(?:(?!## ).*\n)*"), ("README.md", r"^\| .* \|$"))
+SPOKEN = {"AddListElement": "edits? of a list", "GetAlarmSummary": "summaries", "GetEventInformation": "event information", "ReadRange": "ranges of a log"}
 
 
 def section_of(heading):
@@ -46,9 +48,21 @@ def faults_of_properties():
         yield from (f"{PAGE}: {heading} has {one}, which the page says is missing" for one in sorted(set(built) & missing))
 
 
+def services_built():
+    return re.findall(r"\w+", text_of(SERVICES).partition("\nservices = ")[2].partition("\n")[0])
+
+
+def faults_of_unbuilt():
+    """Services that are carried out, and that a page has among what isn't built: in README the last cell of a row."""
+    for page, where in UNBUILT:
+        told = "\n".join(part.rstrip(" |").rpartition(" | ")[2] if page == "README.md" else part for part in re.findall(where, text_of(page), re.M))
+        for name in services_built():
+            if found := re.search(rf"\b(?:{name}|{SPOKEN.get(name, name)})\b", told):
+                yield f"{page}: {name} is carried out, and '{found[0]}' is told among what isn't built"
+
+
 def faults_of_services():
-    block = text_of(SERVICES).partition("\nservices = ")[2].partition("\n")[0]
-    built = {snake(name) for name in re.findall(r"\w+", block)} | {UNCONFIRMED}
+    built = {snake(name) for name in services_built()} | {UNCONFIRMED}
     rows = re.findall(r"^\| ([A-Z][\w-]*)[^|]*\| [^|]* \| yes", section_of("Services"), re.M)
     for one in sorted(built ^ {snake(name) for name in rows}):
         yield f"{PAGE}: {one} is carried out, or is said to be, on one side alone"
@@ -60,7 +74,7 @@ def snake(name):
 
 def faults_of_statement():
     """What isn't told rightly, where there is such a page."""
-    return [*faults_of_properties(), *faults_of_services()] if text_of(PAGE) else []
+    return [*faults_of_properties(), *faults_of_services(), *faults_of_unbuilt()] if text_of(PAGE) else []
 
 
 def test_itself():
@@ -70,13 +84,21 @@ def test_itself():
     page = "## Services\n\n| AddListElement (15.1) | no | no: rejected |\n| ReadProperty (15.5) | no | yes |\n| Who-Is (16.10) | no | yes |\n\n"
     page += "".join(f"### {heading}\n\n| Required | Object_Name |\n| Missing | Property_List |\n\n" for heading in TABLES)
     page = page.replace("Object_Name |", "Object_Name, Present_Value *W*; Event_Algorithm_Inhibit *W* |", 1)
-    right = {TABLE: tables, SERVICES: "\nservices = ReadProperty ∷ []\n", PAGE: page}
+    right = {
+        TABLE: tables, SERVICES: "\nservices = ReadProperty ∷ []\n", PAGE: page,
+        "README.md": "| It has | It hasn't |\n| ReadProperty | AddListElement |\n",
+        "docs/PROFILE.md": "**What isn't built.** No edit of a list.\n\nReadProperty is.\n", "docs/CLAUSES.md": "## What isn't built\n\n| 15.1 | AddListElement |\n\n## ReadProperty\n",
+    }
     wrong = {
         "Device has units on the page alone": {PAGE: page.replace("Object_Name,", "Object_Name, Units,")},
         "Device has present_value, and": {PAGE: page.replace("Present_Value *W*;", "")},
         "whether present_value of Device can": {PAGE: page.replace("Present_Value *W*", "Present_Value")},
         "Event Log has object_name, which": {PAGE: page.replace("Property_List", "Object_Name")},
         "add_list_element is carried out": {PAGE: page.replace("no: rejected", "yes")},
+        "docs/PROFILE.md: ReadProperty is carried out": {"docs/PROFILE.md": "**What isn't built.** No ReadProperty.\n"},
+        "'edit of a list' is told among": {SERVICES: "\nservices = ReadProperty ∷ AddListElement ∷ []\n"},
+        "docs/CLAUSES.md: ReadProperty is carried out": {"docs/CLAUSES.md": "## What isn't built\n\n| 15.5 | ReadProperty |\n"},
+        "README.md: ReadProperty is carried out": {"README.md": right["README.md"].replace("AddListElement", "ReadProperty")},
         "read_range is carried out": {SERVICES: "\nservices = ReadProperty ∷ ReadRange ∷ []\n"},
     }
     return unfound(faults_of_statement, right, wrong)
