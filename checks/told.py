@@ -4,8 +4,9 @@
   on that of decisions, which tells of what was.
 - ARCHITECTURE names the calls by which a datagram goes through the server, and every crate; the head of main.rt the top calls.
 - SITE says of each key in which definition it acts.
-- README leads to every page of docs/, and from there a newcomer finds in at most three steps what SEARCHES asks: each step is what has to
-  stand on the page to which the one before it led.
+- README leads to every page of docs/, and from there a newcomer finds in at most three steps what SEARCHES asks. Each step is a link of
+  the page to which the one before it led, or a file that is named there, and words that stand in the same line; the last is what stands
+  there.
 """
 import glob
 import os
@@ -23,17 +24,15 @@ WALKED = (
     "alarm_journal::Press::commit_batch", "alarm_journal::Press::emit_all", "floor_desk::tick_all", "outbox::Outbox::pump",
 )
 SEARCHES = {
-    "what a crash leaves of a server that is killed": (
-        ("README.md", "(SECURITY.md#a-server-that-is-killed)"), ("SECURITY.md", "(docs/THEOREM.md#a-server)"),
-        ("docs/THEOREM.md", "`alarm_server/ServedSites.antt`: `HasServedSite`, `KeepsServed`"),
-    ),
+    "what a crash leaves of a server that is killed": ("killed SECURITY.md#a-server-that-is-killed", "commit floor_desk/Carrying.antt", "KeepsLoan"),
     "when an alarm ends": (
-        ("README.md", "(docs/GLOSSARY.md)"), ("docs/GLOSSARY.md", "(PROFILE.md#the-rules-of-the-event-algorithms-133), `algorithm_rules/Rules.antt`: `rules_of`"),
-        ("docs/PROFILE.md", "| NORMAL | the value is below the high limit by more than the deadband |"),
+        "run docs/OPERATE.md", "Ended PROFILE.md#the-rules-of-the-event-algorithms-133",
+        "| NORMAL | the value is below the high limit by more than the deadband |",
     ),
-    "which error a write gets": (("README.md", "(docs/CLAUSES.md)"), ("docs/CLAUSES.md", "`profile_laws/PropertyErrors.antt`: `write_errors`")),
-    "where the key retries acts": (("README.md", "(docs/SITE.md)"), ("docs/SITE.md", "`outbox/Delivery.antt`: `is_repeated`")),
-    "how a property is added": (("README.md", "(docs/RECIPES.md)"), ("docs/RECIPES.md", "## A property of an object")),
+    "what ends an alarm by definition": ("clause docs/CLAUSES.md", "rules algorithm_rules/Rules.antt", "to Normal BelowHighLessDeadband NormalDelay"),
+    "which error a write gets": ("clause docs/CLAUSES.md", "errors of a write profile_laws/PropertyErrors.antt", "write_errors state request ="),
+    "where a key acts": ("key docs/SITE.md", "`retries` outbox/Delivery.antt", "is_repeated retries attempts ="),
+    "how a property is added": ("property docs/RECIPES.md", "## A property of an object"),
 }
 MOST_STEPS = 3
 
@@ -79,10 +78,30 @@ def faults_of_doors():
     yield from (f"README.md doesn't lead to {page}" for page in sorted(glob.glob("docs/*.md")) if f"({page})" not in text_of("README.md"))
 
 
+def led_to(page, link):
+    """How a page tells where a step leads, the file to which it does, and the text there: of a heading that of its section."""
+    if named := re.fullmatch(r"(\w+)/(\w+)\.(antt|rt)", link):
+        path = f"crates/{named[1]}/{'specs' if named[3] == 'antt' else 'src'}/{named[2]}.{named[3]}"
+        return f"`{link}`", path, text_of(path)
+    target, _, heading = link.partition("#")
+    path = os.path.normpath(os.path.join(os.path.dirname(page), target))
+    parts = re.split(r"^(?=#+ )", text_of(path), flags=re.M)
+    is_there = lambda part: re.sub(r"[^\w -]", "", part.partition("\n")[0].strip("# ").lower()).replace(" ", "-") == heading
+    return f"({link})", path, "".join(filter(is_there, parts)) if heading else text_of(path)
+
+
 def faults_of_searches():
-    """Questions whose answer isn't found in so many steps."""
-    for question, steps in SEARCHES.items():
-        yield from (f"{page}: who looks for {question} doesn't find {text}" for page, text in steps if text not in text_of(page))
+    """Questions whose answer isn't found from README on by the links and the files that stand beside these words, in so many steps."""
+    for question, (*steps, wanted) in SEARCHES.items():
+        page, text = "README.md", text_of("README.md")
+        for step in steps:
+            words, _, link = step.rpartition(" ")
+            mark, path, there = led_to(page, link)
+            if not any(words in line and mark in line for line in text.splitlines()):
+                yield f"{page}: who looks for {question} finds no {mark} beside '{words}'"
+            page, text = path, there
+        if wanted not in text:
+            yield f"{page}: who looks for {question} doesn't find {wanted}"
         if len(steps) > MOST_STEPS:
             yield f"{question} is found in {len(steps)} steps"
 
@@ -98,9 +117,10 @@ def test_itself():
         "crates/a/src/lib.rt": "pub fn hold() {}\n",
         "crates/a_tests/src/lib.rt": "mod hold_tests;\n",
         MAIN: "//! `run` and `serve`.\n",
-        "README.md": f"[promises]({PROMISES}), [architecture]({ARCHITECTURE}), [site]({SITE})\n",
+        "crates/a/specs/Held.antt": "held =\n",
+        "README.md": f"[promises]({PROMISES}), [architecture]({ARCHITECTURE}), [names]({ARCHITECTURE}#names), [site]({SITE})\n",
         PROMISES: "| It holds | `a::hold`: `holds` |\n",
-        ARCHITECTURE: "`a::hold` of alarm_server, `a_tests`, `a/Held.antt`\n",
+        ARCHITECTURE: "# Names\n`a::hold` of alarm_server, `a_tests`, `a/Held.antt`\n",
         SITE: "| Key | Acts in |\n| `name` | 12 `a/Held.antt`: `name` |\n| `enable` | as there |\n\n| `other` | no key |\n",
     }
     wrong = {
@@ -112,9 +132,14 @@ def test_itself():
         "its head doesn't name serve": {MAIN: "//! `run` is the top call.\n"},
         "doesn't say where name acts": {SITE: right[SITE].replace(" 12 `a/Held.antt`: `name` |", " none that can be read |")},
         "doesn't lead to docs/SITE.md": {"README.md": right["README.md"].replace(SITE, "docs")},
-        "looks for it doesn't find `enable`": {SITE: right[SITE].replace("enable", "disable")},
+        "looks for it finds no (docs/SITE.md) beside 'site'": {"README.md": right["README.md"].replace("[site]", "[keys]")},
+        "looks for it finds no `a/Held.antt` beside '12'": {SITE: right[SITE].replace("Acts", "acts").replace("a/Held.antt", "a/Kept.antt")},
+        "looks for it doesn't find held =": {"crates/a/specs/Held.antt": "hold =\n"},
+        "looks for them finds no (docs/ARCHITECTURE.md#names)": {"README.md": right["README.md"].replace("#names", "")},
+        "looks for them doesn't find `a_tests`": {ARCHITECTURE: right[ARCHITECTURE].replace("# Names\n", "# Names\n# More\n")},
     }
-    with unittest.mock.patch.dict(globals(), WALKED=("a::hold",), SEARCHES={"it": (("README.md", SITE), (SITE, "`enable`"))}):
+    searches = {"it": ("site docs/SITE.md", "12 a/Held.antt", "held ="), "them": (f"names {ARCHITECTURE}#names", "`a_tests`")}
+    with unittest.mock.patch.dict(globals(), WALKED=("a::hold",), SEARCHES=searches):
         found = unfound(lambda: faults(("README.md", ARCHITECTURE)), right, wrong)
         with unittest.mock.patch.dict(globals(), MOST_STEPS=1):
             return found + unfound(lambda: faults(()) if text_of(MAIN) else [], {}, {"it is found in 2 steps": right})
