@@ -4,6 +4,7 @@
   on that of decisions, which tells of what was.
 - ARCHITECTURE names the calls by which a datagram goes through the server, and every crate; the head of main.rt the top calls.
 - SITE says of each key in which definition it acts.
+- The program, the page of the manual, the first start and CHANGELOG have the number of VERSION, and what CHANGELOG has above it isn't tagged.
 - README leads to every page of docs/, and from there a newcomer finds in at most three steps what SEARCHES asks. Each step is a link of
   the page to which the one before it led, or a file that is named there, and words that stand in the same line; the last is what stands
   there.
@@ -18,6 +19,7 @@ from small_trees import unfound
 
 PROMISES, ARCHITECTURE, SITE, PAST = "docs/PROMISES.md", "docs/ARCHITECTURE.md", "docs/SITE.md", "docs/DECISIONS.md"
 MAIN, TOP = "crates/alarm_server/src/main.rt", ("run", "serve")
+VERSIONED = {MAIN: '"alarm-server {}"', "packaging/alarm-server.8": '"alarm-server {}"', "docs/OPERATE.md": "alarm-server_{}_amd64.deb", "CHANGELOG.md": "\n## {}, 20"}
 WALKED = (
     "alarm_server::serve", "floor_desk::serve_desk", "floor_desk::receive_all", "floor_desk::Desk::enter", "turnstile::Turnstile::take",
     "floor_desk::Floor::admit", "service_desk::decide", "alarm_core::Core::step", "floor_desk::Desk::commit",
@@ -73,6 +75,14 @@ def faults_of_keys():
             yield f"{SITE}: it doesn't say where {key[1]} acts"
 
 
+def faults_of_version():
+    """Places that have another number than VERSION, and newer versions that CHANGELOG doesn't say are to come."""
+    version = text_of("VERSION").strip()
+    yield from (f"{path}: it doesn't have {told.format(version).strip()}" for path, told in VERSIONED.items() if told.format(version) not in text_of(path))
+    newer = re.findall(r"^## .*", text_of("CHANGELOG.md").partition(f"\n## {version}, ")[0], re.M)
+    yield from (f"CHANGELOG.md: {one} is newer than VERSION, and isn't told as not tagged yet" for one in newer if "not tagged yet" not in one)
+
+
 def faults_of_doors():
     """Pages that nobody comes to from the first one."""
     yield from (f"README.md doesn't lead to {page}" for page in sorted(glob.glob("docs/*.md")) if f"({page})" not in text_of("README.md"))
@@ -108,7 +118,7 @@ def faults_of_searches():
 
 def faults(pages):
     found = [fault for page in pages for fault in faults_of_files(page)]
-    return found + [*faults_of_promises(), *faults_of_walk(), *faults_of_head(), *faults_of_keys(), *faults_of_doors(), *faults_of_searches()]
+    return found + [*faults_of_promises(), *faults_of_walk(), *faults_of_head(), *faults_of_keys(), *faults_of_version(), *faults_of_doors(), *faults_of_searches()]
 
 
 def test_itself():
@@ -116,9 +126,11 @@ def test_itself():
     right = {
         "crates/a/src/lib.rt": "pub fn hold() {}\n",
         "crates/a_tests/src/lib.rt": "mod hold_tests;\n",
-        MAIN: "//! `run` and `serve`.\n",
+        MAIN: "//! `run` and `serve`.\nconst VERSION: &str = \"alarm-server 1.2.3\";\n",
+        "VERSION": "1.2.3\n", "packaging/alarm-server.8": "\"alarm-server 1.2.3\"\n", "docs/OPERATE.md": "alarm-server_1.2.3_amd64.deb",
+        "CHANGELOG.md": "\n## 1.3.0, not tagged yet\n\n## 1.2.3, 2026-11-29\n",
         "crates/a/specs/Held.antt": "held =\n",
-        "README.md": f"[promises]({PROMISES}), [architecture]({ARCHITECTURE}), [names]({ARCHITECTURE}#names), [site]({SITE})\n",
+        "README.md": f"[operate](docs/OPERATE.md), [promises]({PROMISES}), [architecture]({ARCHITECTURE}), [names]({ARCHITECTURE}#names), [site]({SITE})\n",
         PROMISES: "| It holds | `a::hold`: `holds` |\n",
         ARCHITECTURE: "# Names\n`a::hold` of alarm_server, `a_tests`, `a/Held.antt`\n",
         SITE: "| Key | Acts in |\n| `name` | 12 `a/Held.antt`: `name` |\n| `enable` | as there |\n\n| `other` | no key |\n",
@@ -129,8 +141,11 @@ def test_itself():
         "Held.antt is told without its crate": {ARCHITECTURE: right[ARCHITECTURE].replace("a/Held", "Held")},
         "doesn't name a::hold": {ARCHITECTURE: right[ARCHITECTURE].replace("hold", "keep")},
         "doesn't name a_tests": {ARCHITECTURE: right[ARCHITECTURE].replace("a_tests", "tests")},
-        "its head doesn't name serve": {MAIN: "//! `run` is the top call.\n"},
+        "its head doesn't name serve": {MAIN: right[MAIN].replace(" and `serve`", "")},
         "doesn't say where name acts": {SITE: right[SITE].replace(" 12 `a/Held.antt`: `name` |", " none that can be read |")},
+        "packaging/alarm-server.8: it doesn't have": {"packaging/alarm-server.8": "\"alarm-server 1.2.2\"\n"},
+        "CHANGELOG.md: it doesn't have ## 1.2.3, 20": {"CHANGELOG.md": "\n## 1.2.3, not tagged yet\n"},
+        "1.3.0, 2026-11-30 is newer than VERSION": {"CHANGELOG.md": right["CHANGELOG.md"].replace("not tagged yet", "2026-11-30")},
         "doesn't lead to docs/SITE.md": {"README.md": right["README.md"].replace(SITE, "docs")},
         "looks for it finds no (docs/SITE.md) beside 'site'": {"README.md": right["README.md"].replace("[site]", "[keys]")},
         "looks for it finds no `a/Held.antt` beside '12'": {SITE: right[SITE].replace("Acts", "acts").replace("a/Held.antt", "a/Kept.antt")},
