@@ -1,6 +1,6 @@
 """What certain pages have to tell, whatever else they do: for checks/clauses, which says what each page names that isn't there.
 
-- In the tables of PROMISES every call has its crate. On every page a file of code or of definitions has it, and a call of a type, but
+- In the tables of PROMISES every call has its crate, and a clause that is named is no `requires`. On every page a file of code or of definitions has it, and a call of a type, but
   on that of decisions, which tells of what was.
 - ARCHITECTURE names the calls by which a datagram goes through the server, and every crate; the head of main.rt the top calls.
 - SITE says of each key in which definition it acts.
@@ -14,7 +14,7 @@ import os
 import re
 import unittest.mock
 
-from contracts import crates, text_of
+from contracts import crates, functions_of, text_of
 from small_trees import unfound
 
 PROMISES, ARCHITECTURE, SITE, PAST = "docs/PROMISES.md", "docs/ARCHITECTURE.md", "docs/SITE.md", "docs/DECISIONS.md"
@@ -40,9 +40,13 @@ MOST_STEPS = 3
 
 
 def faults_of_promises():
-    """Calls in the last cell of a row that are told without their crate."""
+    """Calls in the last cell of a row that are told without their crate, and premises that are told as promises."""
     for line in text_of(PROMISES).splitlines():
         cell = line.rsplit("|", 2)[1] if line.startswith("| ") and line.endswith("|") else ""
+        for crate, call, clauses in re.findall(r"`(\w+)::([\w:]+)`: (`\w+`(?:, `\w+`)*)(?!:)", cell):
+            known = functions_of(crate).get(call, (None, None, {}))[2]
+            premises = [one for one in re.findall(r"\w+", clauses) if one in known and not re.search(rf"^ensures {one} ", known[one], re.M)]
+            yield from (f"{PROMISES}: {one} of {crate}::{call} is a premise, and no promise" for one in premises)
         yield from (f"{PROMISES}: {name} is told without its crate" for name in re.findall(r"`(\w+(?:::\w+)*)`:", cell) if not os.path.isdir(f"crates/{name.partition('::')[0]}"))
 
 
@@ -124,7 +128,7 @@ def faults(pages):
 def test_itself():
     """What isn't found in small trees whose pages don't tell these things."""
     right = {
-        "crates/a/src/lib.rt": "pub fn hold() {}\n",
+        "crates/a/src/lib.rt": "pub fn hold()\n    requires open { IsHeld }\n    ensures holds { IsHeld }\n{\n}\n",
         "crates/a_tests/src/lib.rt": "mod hold_tests;\n",
         MAIN: "//! `run` and `serve`.\nconst VERSION: &str = \"alarm-server 1.2.3\";\n",
         "VERSION": "1.2.3\n", "packaging/alarm-server.8": "\"alarm-server 1.2.3\"\n", "docs/OPERATE.md": "alarm-server_1.2.3_amd64.deb",
@@ -137,6 +141,7 @@ def test_itself():
     }
     wrong = {
         "hold is told without its crate": {PROMISES: "| It holds | `hold`: `holds` |\n"},
+        "open of a::hold is a premise": {PROMISES: right[PROMISES].replace("holds", "open")},
         "Desk::hold is told without its crate": {ARCHITECTURE: right[ARCHITECTURE] + "`Desk::hold`"},
         "Held.antt is told without its crate": {ARCHITECTURE: right[ARCHITECTURE].replace("a/Held", "Held")},
         "doesn't name a::hold": {ARCHITECTURE: right[ARCHITECTURE].replace("hold", "keep")},
