@@ -43,6 +43,7 @@ pub mod NeverFull
 pub mod Written
 pub mod TypesApart
 pub mod Listed
+pub mod Counted
 pub mod Counting
 pub mod Accepted
 pub mod LastLists

@@ -1,4 +1,5 @@
-ghost use Rattle.std.specs.Prelude.{◌≡◌, All, OnErr, OnOk};
+ghost use Rattle.std.specs.Prelude.{◌≡◌, All, List, OnErr, OnOk, length};
+ghost use Rattle.bac_values.specs.declared.note.Note.{Note as Written};
 ghost use Rattle.outbox.specs.Outboxes.{AreKnown, peers_of, queued};
 ghost use Rattle.alarm_core.specs.Notes.{IsShort};
 ghost use Rattle.alarm_core.specs.Verdicts.{Answers, queue_verdict, refusal_of};
@@ -16,6 +17,23 @@ fn refusal_of(fault: QueueFault) -> StepFault
         QueueFault::Full { would, limit, .. } => StepFault::Full { would, limit },
         QueueFault::NoMemory { .. } => StepFault::NoMemory,
     }
+}
+
+/// Whether an outbox with this limit takes so many notes more.
+pub(crate) fn see_room(outbox: &Outbox, limit: u32, added: usize) -> Result<(), StepFault>
+    requires limit { outbox.now.limit ≡ limit }
+    ensures verdict { (notes : List Written) → length notes ≡ added → Answers result (queue_verdict notes outbox.now) }
+{
+    // No site has objects and recipients for so many; an outbox couldn't count them.
+    if added >= 1 << 31 {
+        return Err(StepFault::NoMemory);
+    }
+    let (added, room) = (added as u32, outbox.room());
+    if added > room {
+        let would = limit - room + added;
+        return Err(StepFault::Full { would, limit });
+    }
+    Ok(())
 }
 
 /// Queues the notes of an event, all of them or none.

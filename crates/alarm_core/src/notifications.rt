@@ -1,8 +1,9 @@
-ghost use Rattle.std.specs.Prelude.{◌≡◌, ◌++◌, All, IfOk, OnOk};
+ghost use Rattle.std.specs.Prelude.{◌≡◌, ◌+◌, ◌++◌, All, IfOk, OnOk, length, map};
 ghost use Rattle.std.specs.List.{flat_map};
 ghost use Rattle.std.specs.Option.{option_copied, option_to_list};
 ghost use Rattle.event_services.specs.Notifications.{IsTold};
 ghost use Rattle.note_maker.specs.EventTypes.{transition_type};
+ghost use Rattle.notify_class.specs.Chosen.{chosen_destinations};
 ghost use Rattle.enrollment.specs.Enrollments.{site_of};
 ghost use Rattle.enrollment.specs.Snapshots.{algorithm_with};
 ghost use Rattle.enrollment.specs.Subjects.{subject_in};
@@ -10,7 +11,7 @@ ghost use Rattle.alarm_core.specs.ListLimits.{InstancesAscend};
 ghost use Rattle.alarm_core.specs.History.{state_in};
 ghost use Rattle.alarm_core.specs.CoreSteps.{states_of};
 ghost use Rattle.alarm_core.specs.DueSteps.{AscendByObject};
-ghost use Rattle.alarm_core.specs.Notes.{IsShort, class_for, flags_at, notes_of_acknowledgement, notification_of, out_of_service_in, source_of, text_of, told_flags, told_value, values_of};
+ghost use Rattle.alarm_core.specs.Notes.{IsShort, class_for, flags_at, notes_of_acknowledgement, notes_of_transition, notes_of_transitions, notification_of, out_of_service_in, source_of, text_of, told_flags, told_value, values_of};
 ghost use Rattle.alarm_core.specs.Sites.{IsSite};
 ghost use Rattle.alarm_core.specs.ViewSteps.{addressed_in, notes_to, transition_in};
 
@@ -30,7 +31,7 @@ use note_maker::{
     Source, acknowledgement_notification, notes_of, status_flags, transition_notification,
     values_of,
 };
-use notify_class::Class;
+use notify_class::{Class, uses_at};
 use object_table::{Row, Table};
 use reliability_eval::reliability;
 use std::alloc::Global;
@@ -239,6 +240,60 @@ pub(crate) fn add_notes(notes: &mut Vec<Note>, mut more: Vec<Note>) -> Result<()
         Ok(()) => Ok(()),
         Err(_refused) => Err(NoMemory),
     }
+}
+
+// How many recipients of a class are told of a transition of this kind at a moment.
+fn count_chosen(class: &Class, kind: Transition, at: &LocalMoment) -> usize
+    ensures count { result ≡ length (chosen_destinations class.now.destinations kind at.now.moment at.now.zone) }
+{
+    class
+        .destinations
+        .as_slice()
+        .iter()
+        .filter(|destination| uses_at(destination, kind, at))
+        .count()
+}
+
+// How many notes tell of a transition.
+fn count_of(view: &SiteView<'_>, transition: &ObjectTransition) -> usize
+    ensures count { result ≡ length (notes_of_transition view.now.site view.now.classes (transition_in view.now transition.now)) }
+{
+    let kind = transition.made.to.transition();
+    let Some(subject) = view.objects.subject(transition.object) else {
+        return 0;
+    };
+    if !subject.is_enabled(kind) {
+        return 0;
+    }
+    match class_for(&subject, view.classes) {
+        Some(class) => count_chosen(class, kind, view.at),
+        None => 0,
+    }
+}
+
+// Some more of what is counted. More than can be counted is nothing that there is memory for.
+fn counted(count: usize, more: usize) -> Result<usize, NoMemory>
+    ensures sum { IfOk result (λ sum. sum ≡ count + more) }
+{
+    match count.checked_add(more) {
+        Some(sum) => Ok(sum),
+        None => Err(NoMemory),
+    }
+}
+
+/// How many notes tell of some transitions, behind so many others. None of them is made.
+pub(crate) fn count_notes(
+    view: &SiteView<'_>,
+    transitions: &[ObjectTransition],
+    others: usize,
+) -> Result<usize, NoMemory>
+    ensures count { IfOk result (λ count. count ≡ others + length (notes_of_transitions view.now.site view.now.classes (map (transition_in view.now) transitions.now))) }
+{
+    let mut count = others;
+    for transition in transitions {
+        count = counted(count, count_of(view, transition))?;
+    }
+    Ok(count)
 }
 
 /// The notes of some notifications at a moment.

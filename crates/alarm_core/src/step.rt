@@ -1,7 +1,8 @@
-ghost use Rattle.std.specs.Prelude.{◌≡◌, ◌↔◌, ◌<◌, ◌≤◌, ◌∷◌, ◌+◌, ◌++◌, [], All, List, None, Ok, max, map, IfOk, IfSome, IsFalse, IsTrue, OnErr, OnOk};
+ghost use Rattle.std.specs.Prelude.{◌≡◌, ◌↔◌, ◌<◌, ◌≤◌, ◌∷◌, ◌+◌, ◌++◌, [], All, List, None, Ok, length, max, map, IfOk, IfSome, IsFalse, IsTrue, OnErr, OnOk};
 ghost use Rattle.std.specs.List.{flat_map};
 ghost use Rattle.bac_values.specs.Limits.{most_events};
 ghost use Rattle.bac_values.specs.Moments.{IsMoment};
+ghost use Rattle.bac_values.specs.declared.note.Note.{Note};
 ghost use Rattle.notify_class.specs.Edits.{recipient_peers};
 ghost use Rattle.outbox.specs.Outboxes.{AreKnown, answered, learned, pumped, queued, sends_of, unfinished_in};
 ghost use Rattle.enrollment.specs.Objects.{IsTaken, written};
@@ -26,8 +27,8 @@ use crate::class_peers::recipient_peers;
 use crate::classes::{copy_of_list, put_list};
 use crate::due_looks::Round;
 use crate::logs::{change_all, enter_all, kept_log};
-use crate::note_queue::queue_all;
-use crate::notifications::{add_notes, notes_of_acknowledgement};
+use crate::note_queue::{queue_all, see_room};
+use crate::notifications::{add_notes, count_notes, notes_of_acknowledgement};
 use crate::taking::raised_moment;
 use crate::transition::ObjectTransition;
 use crate::transition_report::{Told, add_moves, tell};
@@ -88,6 +89,22 @@ impl Core {
     {
         let view = self.view(at);
         tell(alloc, &view, &self.logs, transitions)
+    }
+
+    // Whether the notes of the transitions of the last look find room behind so many others of the event. None is made.
+    fn see_room(
+        &self,
+        at: &LocalMoment,
+        transitions: &[ObjectTransition],
+        others: usize,
+    ) -> Result<(), StepFault>
+        requires zone { at.now.zone ≡ site_zone self.now.site }
+        ensures verdict { (notes : List Note) → length notes ≡ others →
+            Answers result (queue_verdict (notes ++ notes_of_transitions self.now.site self.now.classes (seen_in at.now.moment self.now transitions.now)) self.now.outbox) }
+    {
+        let view = self.view(at);
+        let count = count_notes(&view, transitions, others)?;
+        see_room(&self.outbox, self.site.device.outbox, count)
     }
 
     // One more look at the objects that are due, and what is told of it.
@@ -209,6 +226,7 @@ impl Core {
         ensures same { OnErr result (self.new ≡ self.old) }
         ensures verdict { Answers result (queue_verdict (before.notes.items ++ notes_of_transitions self.old.site self.old.classes (seen_in at.now.moment self.old transitions.now)) self.old.outbox) }
     {
+        self.see_room(at, transitions, before.notes.len())?;
         let after = self.told(alloc, at, transitions)?;
         let (mut moves, mut notes) = (before.moves, before.notes);
         add_moves(&mut moves, after.moves)?;
