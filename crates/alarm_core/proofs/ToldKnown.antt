@@ -1,11 +1,10 @@
 -- The notes that an act queues go to peers that the outbox knows.
-use Rattle.std.proofs.Common.{◌≡◌, ℕ, IsTrue, IfOk, Result, Ok, Err, List, [], ◌++◌, ◌∙◌, sym, subst}
+use Rattle.std.proofs.Common.{◌≡◌, ℕ, IsTrue, List, [], ◌++◌, ◌∙◌, sym, subst}
 use Rattle.std.specs.List.{All}
 use Rattle.std.proofs.lemmas.List.Elements.{All-append, All-weaker}
 use Rattle.bac_values.specs.Address.{PeerData}
 use Rattle.bac_values.specs.Orders.{is_among}
 use Rattle.bac_values.specs.declared.note.Note.{Note}
-use Rattle.bac_values.specs.declared.no_memory.NoMemory.{NoMemory}
 use Rattle.notify_class.specs.declared.class.Class.{Class}
 use Rattle.outbox.specs.Outboxes.{AreKnown, is_known, peers_of}
 use Rattle.outbox.specs.Posts.{MailboxState}
@@ -13,7 +12,6 @@ use Rattle.outbox.proofs.Learning.{known_addresses}
 use Rattle.enrollment.specs.Objects.{ObjectsState}
 use Rattle.alarm_core.specs.declared.event.Act.{Act}
 use Rattle.alarm_core.specs.declared.event.Act.TheVariants.{Tick}
-use Rattle.alarm_core.specs.declared.transition_report.Told.{Told}
 use Rattle.alarm_core.specs.declared.site.Site.{Site}
 use Rattle.alarm_core.specs.Classes.{first_classes, known_peers_of}
 use Rattle.alarm_core.specs.Known.{KnowsClass}
@@ -45,8 +43,3 @@ module _ (site : Site) (classes : List Class) (peers : List PeerData) (posts : L
 pub first_known : (site : Site) (peers : List PeerData) (classes : List Class) → peers ≡ known_peers_of site [] → classes ≡ first_classes site → All (KnowsClass peers) classes
 first_known site peers classes e f =
     subst (λ ps. All (KnowsClass ps) classes) (sym e) (subst (All (KnowsClass (known_peers_of site []))) (sym f) (classes_known site []))
-
--- notes that are told
-pub if_told_known : (result : Result Told NoMemory) (notes : List Note) (posts : List MailboxState) → AreKnown notes posts → IfOk result (λ told. told.notes.items ≡ notes) → IfOk result (λ told. AreKnown told.notes.items posts)
-if_told_known (Ok told) notes posts known same = subst (λ ns. AreKnown ns posts) (sym same) known
-if_told_known (Err fault) notes posts known same = tt

@@ -1,5 +1,5 @@
 -- What the transitions of a look are told with, and what is told of each.
-use Rattle.std.specs.Prelude.{ℕ, ◌/◌, if◌then◌else◌, Option, List, [], ◌∷◌, map}
+use Rattle.std.specs.Prelude.{ℕ, ◌+◌, ◌/◌, ◌≤◌, if◌then◌else◌, Option, List, [], ◌∷◌, map}
 use Rattle.std.specs.Option.{option_map}
 use Rattle.bac_values.specs.EventStates.{transition_to}
 use Rattle.bac_values.specs.declared.moved.Moved.{Moved}
@@ -12,6 +12,7 @@ use Rattle.event_services.specs.declared.notification.Notification.{Notification
 use Rattle.note_maker.specs.Notes.{notes_for}
 use Rattle.notify_class.specs.declared.class.Class.{Class}
 use Rattle.event_log.specs.declared.log_site.LogSite.{LogSite}
+use Rattle.outbox.specs.Outboxes.{OutboxState, unfinished_in}
 use Rattle.enrollment.specs.declared.subject.Subject.{Subject}
 use Rattle.enrollment.specs.Objects.{ObjectsState}
 use Rattle.alarm_core.specs.declared.site.Site.{Site}
@@ -62,3 +63,7 @@ notes_to at told = notes_for told.facts told.class.destinations told.kind at.mom
 -- and its record in a log
 abbrev pub record_to : LocalMomentData → LogSite → AddressedData → List Call
 record_to at listed told = if records_class listed told.class then Recorded (record { stamp = stamp_at at; hundredths = at.moment / 10; body = written_notification told.facts }) ∷ [] else []
+
+-- an outbox has room for so many notes more
+abbrev pub HasRoom : ℕ → OutboxState → Type 0
+HasRoom count outbox = unfinished_in outbox.posts + count ≤ outbox.limit

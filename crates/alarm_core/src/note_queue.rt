@@ -1,8 +1,9 @@
 ghost use Rattle.std.specs.Prelude.{◌≡◌, All, List, OnErr, OnOk, length};
-ghost use Rattle.bac_values.specs.declared.note.Note.{Note as Written};
+ghost use Rattle.bac_values.specs.declared.note.Note.{Note as Notification};
 ghost use Rattle.outbox.specs.Outboxes.{AreKnown, peers_of, queued};
 ghost use Rattle.alarm_core.specs.Notes.{IsShort};
 ghost use Rattle.alarm_core.specs.Verdicts.{Answers, queue_verdict, refusal_of};
+ghost use Rattle.alarm_core.specs.ViewSteps.{HasRoom};
 
 use crate::StepFault;
 use bac_values::Note;
@@ -22,7 +23,8 @@ fn refusal_of(fault: QueueFault) -> StepFault
 /// Whether an outbox with this limit takes so many notes more.
 pub(crate) fn see_room(outbox: &Outbox, limit: u32, added: usize) -> Result<(), StepFault>
     requires limit { outbox.now.limit ≡ limit }
-    ensures verdict { (notes : List Written) → length notes ≡ added → Answers result (queue_verdict notes outbox.now) }
+    ensures room { OnOk result (HasRoom added outbox.now) }
+    ensures verdict { (notes : List Notification) → length notes ≡ added → Answers result (queue_verdict notes outbox.now) }
 {
     // No site has objects and recipients for so many; an outbox couldn't count them.
     if added >= 1 << 31 {

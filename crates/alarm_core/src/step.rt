@@ -21,7 +21,7 @@ ghost use Rattle.alarm_core.specs.Logs.{call_of_change, kept_log, records_of, Si
 ghost use Rattle.alarm_core.specs.Moving.{moving_of, touched_of};
 ghost use Rattle.alarm_core.specs.Notes.{IsShort, notes_of_transitions};
 ghost use Rattle.alarm_core.specs.Verdicts.{Answers, queue_verdict, step_verdict};
-ghost use Rattle.alarm_core.specs.ViewSteps.{seen_in};
+ghost use Rattle.alarm_core.specs.ViewSteps.{HasRoom, seen_in};
 
 use crate::class_peers::recipient_peers;
 use crate::classes::{copy_of_list, put_list};
@@ -41,6 +41,13 @@ use notify_class::Destination;
 use object_table::{Change, copy_of_change};
 use std::alloc::Global;
 use std::sync::ledger::Ledger;
+
+/// What is told of a look if its notes find room, and nothing if they don't; and how many they are.
+#[derive(Drop)]
+struct Look {
+    count: usize,
+    told: Told,
+}
 
 /// What an act reports.
 #[derive(Drop)]
@@ -91,6 +98,20 @@ impl Core {
         tell(alloc, &view, &self.logs, transitions)
     }
 
+    // How many notes tell of the transitions of the last look, behind so many others. None is made.
+    fn count(
+        &self,
+        at: &LocalMoment,
+        transitions: &[ObjectTransition],
+        others: usize,
+    ) -> Result<usize, NoMemory>
+        requires zone { at.now.zone ≡ site_zone self.now.site }
+        ensures count { IfOk result (λ count. count ≡ others + length (notes_of_transitions self.now.site self.now.classes (seen_in at.now.moment self.now transitions.now))) }
+    {
+        let view = self.view(at);
+        count_notes(&view, transitions, others)
+    }
+
     // Whether the notes of the transitions of the last look find room behind so many others of the event. None is made.
     fn see_room(
         &self,
@@ -101,36 +122,54 @@ impl Core {
         requires zone { at.now.zone ≡ site_zone self.now.site }
         ensures verdict { (notes : List Note) → length notes ≡ others →
             Answers result (queue_verdict (notes ++ notes_of_transitions self.now.site self.now.classes (seen_in at.now.moment self.now transitions.now)) self.now.outbox) }
+        ensures room { OnOk result (HasRoom others self.now.outbox) }
     {
-        let view = self.view(at);
-        let count = count_notes(&view, transitions, others)?;
+        let count = self.count(at, transitions, others)?;
         see_room(&self.outbox, self.site.device.outbox, count)
     }
 
-    // One more look at the objects that are due, and what is told of it.
+    // The transitions of a look if so many notes find room, and none if they don't.
+    fn that_fit<'a>(
+        &self,
+        transitions: &'a [ObjectTransition],
+        count: usize,
+    ) -> &'a [ObjectTransition]
+        ensures fit { HasRoom count self.now.outbox → result.now ≡ transitions.now }
+    {
+        if count <= self.outbox.room() as usize {
+            transitions
+        } else {
+            &[]
+        }
+    }
+
+    // One more look at the objects that are due, and what is told of it. Where its own notes find no room, nothing is made.
     fn look<L: Ledger>(
         &mut self,
         alloc: Global,
         at: &LocalMoment,
         steps: &mut Steps<L>,
         round: &mut Round,
-    ) -> Result<Told, NoMemory>
+    ) -> Result<Look, NoMemory>
         requires zone { at.now.zone ≡ site_zone self.old.site }
         requires none { round.old.formers.items ≡ [] }
         ensures rest { self.new ≡ record self.old { alarms = self.new.alarms } }
         ensures alarms { OnOk result (self.new.alarms ≡ evaluated_all (site_moment self.old.site at.now.moment) self.old.values self.old.alarms) }
-        ensures moves { IfOk result (λ told. told.moves.items ≡ map moved_by (transitions_all (site_moment self.old.site at.now.moment) self.old.values self.old.alarms)) }
-        ensures notes { IfOk result (λ told. told.notes.items
+        ensures count { IfOk result (λ look. look.count ≡ length (notes_of_transitions self.old.site self.old.classes (transitions_all (site_moment self.old.site at.now.moment) self.old.values self.old.alarms))) }
+        ensures moves { IfOk result (λ look. HasRoom look.count self.old.outbox → look.told.moves.items ≡ map moved_by (transitions_all (site_moment self.old.site at.now.moment) self.old.values self.old.alarms)) }
+        ensures notes { IfOk result (λ look. HasRoom look.count self.old.outbox → look.told.notes.items
             ≡ notes_of_transitions self.old.site self.old.classes (transitions_all (site_moment self.old.site at.now.moment) self.old.values self.old.alarms)) }
-        ensures records { IfOk result (λ told. map (λ list. list.items) told.records.items
+        ensures records { IfOk result (λ look. HasRoom look.count self.old.outbox → map (λ list. list.items) look.told.records.items
             ≡ map (λ (kept : SiteLogState). records_of self.old.site self.old.classes kept.site (transitions_all (site_moment self.old.site at.now.moment) self.old.values self.old.alarms)) self.old.logs) }
-        ensures short { IfOk result (λ told. All IsShort told.notes.items) }
-        ensures known { IfOk result (λ told. AreKnown told.notes.items self.old.outbox.posts) }
+        ensures short { IfOk result (λ look. All IsShort look.told.notes.items) }
+        ensures known { IfOk result (λ look. AreKnown look.told.notes.items self.old.outbox.posts) }
         ensures undoes { LeadsBack round.new.formers.items (detections_of self.old) (detections_of self.new) }
         ensures steps { steps.new ≤ steps.old + due_count at.now.moment (dues_of (detections_of self.old)) }
     {
         self.detections.evaluate(at, steps, round)?;
-        self.told(alloc, at, &round.transitions)
+        let count = self.count(at, &round.transitions, 0)?;
+        let told = self.told(alloc, at, self.that_fit(&round.transitions, count))?;
+        Ok(Look { count, told })
     }
 
     fn tick<L: Ledger>(
@@ -150,7 +189,9 @@ impl Core {
         ensures verdict { Answers result (step_verdict (tick_at at.now.moment) self.old) }
         ensures steps { steps.new ≤ steps.old + due_count at.now.moment (dues_of (detections_of self.old)) }
     {
-        let told = self.look(alloc, at, steps, round)?;
+        let look = self.look(alloc, at, steps, round)?;
+        see_room(&self.outbox, self.site.device.outbox, look.count)?;
+        let told = look.told;
         queue_all(alloc, &mut self.outbox, told.notes)?;
         enter_all(&mut self.logs, told.records);
         Ok(Done {
@@ -204,30 +245,32 @@ impl Core {
     fn finish_write(
         &mut self,
         alloc: Global,
-        before: Told,
+        before: Look,
         change: &Change,
         at: &LocalMoment,
         transitions: &[ObjectTransition],
     ) -> Result<Done, StepFault>
         requires zone { at.now.zone ≡ site_zone self.old.site }
-        requires short { All IsShort before.notes.items }
-        requires known { AreKnown before.notes.items self.old.outbox.posts }
+        requires short { All IsShort before.told.notes.items }
+        requires known { AreKnown before.told.notes.items self.old.outbox.posts }
         ensures state { OnOk result (self.new ≡ record self.old {
-          outbox = queued (before.notes.items ++ notes_of_transitions self.old.site self.old.classes (seen_in at.now.moment self.old transitions.now)) self.old.outbox;
+          outbox = queued (before.told.notes.items ++ notes_of_transitions self.old.site self.old.classes (seen_in at.now.moment self.old transitions.now)) self.old.outbox;
           logs = self.new.logs;
         }) }
-        ensures logs { (first : LogPlace → List Call) → map (λ list. list.items) before.records.items ≡ map (λ (kept : SiteLogState). first kept.site) self.old.logs →
+        ensures logs { (first : LogPlace → List Call) → map (λ list. list.items) before.told.records.items ≡ map (λ (kept : SiteLogState). first kept.site) self.old.logs →
             OnOk result (self.new.logs ≡ map (λ (kept : SiteLogState). record kept {
               log = after_calls (first kept.site ++ (call_of_change kept.site change.now
                   ++ records_of self.old.site self.old.classes kept.site (seen_in at.now.moment self.old transitions.now))) kept.log;
             }) self.old.logs) }
-        ensures moves { IfOk result (λ done. done.moves.items ≡ before.moves.items ++ map moved_by (seen_in at.now.moment self.old transitions.now)) }
+        ensures moves { IfOk result (λ done. done.moves.items ≡ before.told.moves.items ++ map moved_by (seen_in at.now.moment self.old transitions.now)) }
         ensures sends { IfOk result (λ done. done.sends.items ≡ []) }
         ensures same { OnErr result (self.new ≡ self.old) }
-        ensures verdict { Answers result (queue_verdict (before.notes.items ++ notes_of_transitions self.old.site self.old.classes (seen_in at.now.moment self.old transitions.now)) self.old.outbox) }
+        ensures room { OnOk result (HasRoom before.count self.old.outbox) }
+        ensures verdict { (first : List Note) → length first ≡ before.count → (HasRoom before.count self.old.outbox → before.told.notes.items ≡ first) →
+            Answers result (queue_verdict (first ++ notes_of_transitions self.old.site self.old.classes (seen_in at.now.moment self.old transitions.now)) self.old.outbox) }
     {
-        self.see_room(at, transitions, before.notes.len())?;
-        let after = self.told(alloc, at, transitions)?;
+        self.see_room(at, transitions, before.count)?;
+        let (before, after) = (before.told, self.told(alloc, at, transitions)?);
         let (mut moves, mut notes) = (before.moves, before.notes);
         add_moves(&mut moves, after.moves)?;
         add_notes(&mut notes, after.notes)?;

@@ -11,6 +11,7 @@ use Rattle.alarm_core.specs.Logs.{HasNoLog, call_of_change, records_of, SiteLogS
 use Rattle.alarm_core.specs.Notes.{notes_of_transitions}
 use Rattle.alarm_core.specs.State.{CoreState}
 use Rattle.alarm_core.specs.Verdicts.{Answers, queue_verdict}
+use Rattle.alarm_core.specs.ViewSteps.{HasRoom}
 use Rattle.alarm_core.specs.declared.step.Done.{Done}
 use Rattle.alarm_core.proofs.Apart.{written_apart}
 use Rattle.alarm_core.proofs.MovesTold.{at_site}
@@ -52,20 +53,21 @@ returns-in-Ok-clause-state g c =
     c.change.ensures.rest c.in_ok-undo.ensures.values c.in_ok-undo.ensures.alarms made in
     let between = evaluated_all (site_moment old.site moment) old.values old.alarms in
     let values = written c.args.change.now old.values in
-    let notes = c.in_ok-before.before.notes.items in
+    let room : HasRoom c.in_ok-before.before.count old.outbox = subst (λ (s : CoreState). HasRoom c.in_ok-before.before.count s.outbox) second.state c.in-Ok.ensures.room in
+    let notes = c.in_ok-before.before.told.notes.items in
     let logs = c.finish_write.new.self.logs in
     let second_ones = transitions_all (site_moment old.site moment) values between in
     let first = λ (listed : LogSite). records_of old.site old.classes listed (transitions_all (site_moment old.site moment) old.values old.alarms) in
     let calls = λ (s : CoreState) (ts : List StateTransition). map (λ (kept : SiteLogState). record kept {
       log = after_calls (first kept.site ++ (call_of_change kept.site c.args.change.now ++ records_of s.site s.classes kept.site ts)) kept.log;
     }) s.logs in
-    let records : map (λ (list : Vec Call Global). list.items) c.in_ok-before.before.records.items ≡ map (λ (kept : SiteLogState). first kept.site) c.change.new.self.logs =
-    c.in_ok-before.ensures.records ∙ ap (λ (s : CoreState). map (λ (kept : SiteLogState). first kept.site) s.logs) (sym second.state) in
+    let records : map (λ (list : Vec Call Global). list.items) c.in_ok-before.before.told.records.items ≡ map (λ (kept : SiteLogState). first kept.site) c.change.new.self.logs =
+    c.in_ok-before.ensures.records room ∙ ap (λ (s : CoreState). map (λ (kept : SiteLogState). first kept.site) s.logs) (sym second.state) in
     let state = c.in-Ok.ensures.state ∙ (λ k. record (second.state k) {
       outbox = queued (notes ++ notes_of_transitions (second.state k).site (second.state k).classes (second.seen k)) (second.state k).outbox;
       logs = logs;
     }) in
-    written_state old moment c.args.change.now values refl between refl notes c.in_ok-before.ensures.notes c.finish_write.new.self logs state
+    written_state old moment c.args.change.now values refl between refl notes (c.in_ok-before.ensures.notes room) c.finish_write.new.self logs state
     (c.in-Ok.ensures.logs first records ∙ (λ k. calls (second.state k) (second.seen k)))
 
 pub returns-in-Ok-clause-moves : goal.returns-in-Ok-clause-moves
@@ -77,10 +79,11 @@ returns-in-Ok-clause-moves g c =
     c.change.ensures.rest c.in_ok-undo.ensures.values c.in_ok-undo.ensures.alarms made in
     let between = evaluated_all (site_moment old.site moment) old.values old.alarms in
     let values = written c.args.change.now old.values in
-    let notes = c.in_ok-before.before.notes.items in
-    let moves = c.in_ok-before.before.moves.items in
+    let room : HasRoom c.in_ok-before.before.count old.outbox = subst (λ (s : CoreState). HasRoom c.in_ok-before.before.count s.outbox) second.state c.in-Ok.ensures.room in
+    let notes = c.in_ok-before.before.told.notes.items in
+    let moves = c.in_ok-before.before.told.moves.items in
     c.in-Ok.ensures.moves ∙ (ap (λ ts. moves ++ map moved_by ts) second.seen
-    ∙ written_moves old moment c.args.change.now values refl between refl notes c.in_ok-before.ensures.notes moves c.in_ok-before.ensures.moves)
+    ∙ written_moves old moment c.args.change.now values refl between refl notes (c.in_ok-before.ensures.notes room) moves (c.in_ok-before.ensures.moves room))
 
 pub returns-in-Ok-clause-verdict : goal.returns-in-Ok-clause-verdict
 returns-in-Ok-clause-verdict g c =
@@ -91,10 +94,11 @@ returns-in-Ok-clause-verdict g c =
     c.change.ensures.rest c.in_ok-undo.ensures.values c.in_ok-undo.ensures.alarms made in
     let between = evaluated_all (site_moment old.site moment) old.values old.alarms in
     let values = written c.args.change.now old.values in
-    let notes = c.in_ok-before.before.notes.items in
-    let same = (λ k. queue_verdict (notes ++ notes_of_transitions (second.state k).site (second.state k).classes (second.seen k)) (second.state k).outbox)
-    ∙ written_verdict old moment c.args.change.now values refl between refl notes c.in_ok-before.ensures.notes in
-    sym same ∙ c.in-Ok.ensures.verdict
+    let first = notes_of_transitions old.site old.classes (transitions_all (site_moment old.site moment) old.values old.alarms) in
+    let told = λ (room : HasRoom c.in_ok-before.before.count c.change.new.self.outbox). c.in_ok-before.ensures.notes (subst (λ (s : CoreState). HasRoom c.in_ok-before.before.count s.outbox) second.state room) in
+    let same = (λ k. queue_verdict (first ++ notes_of_transitions (second.state k).site (second.state k).classes (second.seen k)) (second.state k).outbox)
+    ∙ written_verdict old moment c.args.change.now values refl between refl first refl in
+    sym same ∙ c.in-Ok.ensures.verdict first (sym c.in_ok-before.ensures.count) told
 
 pub returns-in-Ok-clause-steps : goal.returns-in-Ok-clause-steps
 returns-in-Ok-clause-steps g c =
@@ -138,10 +142,11 @@ returns-after-undo-4-clause-verdict g c =
     c.change.ensures.rest c.in_ok-undo.ensures.values c.in_ok-undo.ensures.alarms made in
     let between = evaluated_all (site_moment old.site moment) old.values old.alarms in
     let values = written c.args.change.now old.values in
-    let notes = c.in_ok-before.before.notes.items in
-    let same = (λ k. queue_verdict (notes ++ notes_of_transitions (second.state k).site (second.state k).classes (second.seen k)) (second.state k).outbox)
-    ∙ written_verdict old moment c.args.change.now values refl between refl notes c.in_ok-before.ensures.notes in
-    subst (Answers {A = Done} (Err c.in-Err.fault)) same c.in-Err.ensures.verdict
+    let first = notes_of_transitions old.site old.classes (transitions_all (site_moment old.site moment) old.values old.alarms) in
+    let told = λ (room : HasRoom c.in_ok-before.before.count c.change.new.self.outbox). c.in_ok-before.ensures.notes (subst (λ (s : CoreState). HasRoom c.in_ok-before.before.count s.outbox) second.state room) in
+    let same = (λ k. queue_verdict (first ++ notes_of_transitions (second.state k).site (second.state k).classes (second.seen k)) (second.state k).outbox)
+    ∙ written_verdict old moment c.args.change.now values refl between refl first refl in
+    subst (Answers {A = Done} (Err c.in-Err.fault)) same (c.in-Err.ensures.verdict first (sym c.in_ok-before.ensures.count) told)
 
 pub returns-after-undo-4-clause-steps : goal.returns-after-undo-4-clause-steps
 returns-after-undo-4-clause-steps g c =
