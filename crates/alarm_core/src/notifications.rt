@@ -1,4 +1,4 @@
-ghost use Rattle.std.specs.Prelude.{◌≡◌, ◌+◌, ◌++◌, All, IfOk, OnOk, length, map};
+ghost use Rattle.std.specs.Prelude.{◌≡◌, ◌+◌, ◌++◌, All, IfOk, None, OnOk, if◌then◌else◌, length, map};
 ghost use Rattle.std.specs.List.{flat_map};
 ghost use Rattle.std.specs.Option.{option_copied, option_to_list};
 ghost use Rattle.event_services.specs.Notifications.{IsTold};
@@ -6,7 +6,7 @@ ghost use Rattle.note_maker.specs.EventTypes.{transition_type};
 ghost use Rattle.notify_class.specs.Chosen.{chosen_destinations};
 ghost use Rattle.enrollment.specs.Enrollments.{site_of};
 ghost use Rattle.enrollment.specs.Snapshots.{algorithm_with};
-ghost use Rattle.enrollment.specs.Subjects.{subject_in};
+ghost use Rattle.enrollment.specs.Subjects.{is_enabled, subject_in};
 ghost use Rattle.alarm_core.specs.ListLimits.{InstancesAscend};
 ghost use Rattle.alarm_core.specs.History.{state_in};
 ghost use Rattle.alarm_core.specs.CoreSteps.{states_of};
@@ -56,6 +56,18 @@ pub(crate) fn class_for<'a>(subject: &Subject, classes: &'a [Class]) -> Option<&
     match subject.class {
         Some(instance) => class_among(classes, instance),
         None => None,
+    }
+}
+
+// The class whose recipients are told of an object's transitions of a kind, if these are told of.
+fn class_told<'a>(subject: &Subject, kind: Transition, classes: &'a [Class]) -> Option<&'a Class>
+    requires ascending { InstancesAscend classes.now }
+    ensures class { option_copied result ≡ (if is_enabled kind subject.now then class_for subject.now classes.now else None) }
+{
+    if subject.is_enabled(kind) {
+        class_for(subject, classes)
+    } else {
+        None
     }
 }
 
@@ -189,10 +201,7 @@ fn addressed_notification<'a>(
     let Some(subject) = view.objects.subject(transition.object) else {
         return Ok(None);
     };
-    if !subject.is_enabled(kind) {
-        return Ok(None);
-    }
-    let Some(class) = class_for(&subject, view.classes) else {
+    let Some(class) = class_told(&subject, kind, view.classes) else {
         return Ok(None);
     };
     let facts = notification_of(view, transition, &subject, class)?;
@@ -262,10 +271,7 @@ fn count_of(view: &SiteView<'_>, transition: &ObjectTransition) -> usize
     let Some(subject) = view.objects.subject(transition.object) else {
         return 0;
     };
-    if !subject.is_enabled(kind) {
-        return 0;
-    }
-    match class_for(&subject, view.classes) {
+    match class_told(&subject, kind, view.classes) {
         Some(class) => count_chosen(class, kind, view.at),
         None => 0,
     }
