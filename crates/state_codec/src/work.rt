@@ -61,6 +61,7 @@ pub fn write_work<G: Ground>(press: Press<G>, work: Work) -> Result<Press<G>, G>
     ensures cause { MatchResult result
         (λ kept. G.disk_faults kept.device ≡ G.disk_faults press.device)
         (λ device. HasCause (G.disk_faults press.device) (G.disk_faults device) ⊤) }
+    ensures half { IfOk result (λ kept. kept.layout.half ≡ press.layout.half) }
     ensures same { MatchResult result (λ kept. G.size kept.device ≡ G.size press.device) (λ device. G.size device ≡ G.size press.device) }
     ensures emitted { MatchResult result (λ kept. G.emit_faults kept.device ≡ G.emit_faults press.device) (λ device. G.emit_faults device ≡ G.emit_faults press.device) }
 {

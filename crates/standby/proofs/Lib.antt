@@ -1,0 +1,10 @@
+pub mod Endings
+pub mod Fronts
+pub mod Judged
+pub mod Offered
+pub mod Once
+pub mod Reached
+pub mod Runs
+pub mod Spelling
+pub mod Steps
+pub mod Walks

@@ -1,0 +1,12 @@
+pub mod Followers
+pub mod FrameSteps
+pub mod Judging
+pub mod Leads
+pub mod Offers
+pub mod Once
+pub mod Packets
+pub mod Reaches
+pub mod Runs
+pub mod TakeFaults
+pub mod Takes
+pub mod Walks
