@@ -39,6 +39,7 @@ pub mod TablesRead
 pub mod ReadState
 pub mod Following
 pub mod Recovered
+pub mod DamageLaws
 pub mod Committed
 pub mod Quiet
 pub mod Works

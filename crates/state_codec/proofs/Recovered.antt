@@ -30,7 +30,7 @@ use Rattle.state_codec.proofs.EventLaws.{one_spelling}
 
 -- ---- a history's later events may follow
 
-older_is_history : (site : Site) (newer older : List Event) → IsHistory site (newer ++ older) → IsHistory site older
+pub older_is_history : (site : Site) (newer older : List Event) → IsHistory site (newer ++ older) → IsHistory site older
 older_is_history site [] older is = is
 older_is_history site (event ∷ newer) older is = older_is_history site newer older is.4
 
@@ -137,11 +137,11 @@ pieces_among (first ∷ before) body behind octets =
 
 -- ---- what follows in order
 
-allowed_behind : (first later : List Event) (state : CoreState) → AreAllowed state (first ++ later) → AreAllowed (state_over state first) later
+pub allowed_behind : (first later : List Event) (state : CoreState) → AreAllowed state (first ++ later) → AreAllowed (state_over state first) later
 allowed_behind [] later state are = are
 allowed_behind (event ∷ first) later state are = allowed_behind first later (next_state event state) are.1
 
-allowed_front : (first later : List Event) (state : CoreState) → AreAllowed state (first ++ later) → AreAllowed state first
+pub allowed_front : (first later : List Event) (state : CoreState) → AreAllowed state (first ++ later) → AreAllowed state first
 allowed_front [] later state are = tt
 allowed_front (event ∷ first) later state are = (are.0, allowed_front first later (next_state event state) are.1)
 

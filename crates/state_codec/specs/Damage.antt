@@ -2,6 +2,7 @@
 use Rattle.std.specs.Prelude.{◌≡◌, ◌⊎◌, ℕ, ◌+◌, ◌<◌, List, [], ◌∷◌, ◌++◌, length, take, drop}
 use Rattle.alarm_core.specs.declared.event.Event.{Event}
 use Rattle.alarm_core.specs.declared.site.Site.{Site}
+use Rattle.alarm_core.specs.Allowed.{IsHistory}
 use Rattle.alarm_core.specs.CoreSteps.{first_state}
 use Rattle.alarm_core.specs.Following.{AreAllowed, MayFollow, state_over}
 use Rattle.alarm_core.specs.State.{CoreState}
@@ -9,7 +10,7 @@ use Rattle.alarm_journal.specs.Journal.{Content}
 use Rattle.alarm_journal.specs.Opened.{pieces, sum_of}
 use Rattle.alarm_journal.specs.declared.body.Body.{Body}
 use Rattle.alarm_journal.specs.declared.opened.Opened.{Opened}
-use Rattle.state_codec.specs.Contents.{SpellEvents, SpellsEvents}
+use Rattle.state_codec.specs.Contents.{SpellEvents, SpellsEvents, StandsForHistory}
 use Rattle.state_codec.specs.Records.{SpellsEvent}
 use Rattle.state_codec.specs.Spelled.{SpellsNothing, SpellsState}
 
@@ -75,3 +76,21 @@ pub record IsDamagedSnapshot (site : Site) (opened : Opened) (at : ℕ) : Type 0
 abbrev pub IsDamagedAt : Site → Opened → ℕ → Type 0
 IsDamagedAt site opened at =
     IsDamagedSnapshot site opened at ⊎ ((state : CoreState) × Tells site opened.snapshot state × IsDamagedRecord state opened.bodies opened.batches at)
+
+-- octets don't begin with the record of an event that may come next in a history of the site
+abbrev pub NoneComes : Site → List Event → List ℕ → Type 0
+NoneComes site history octets = (event : Event) (first more : List ℕ) → octets ≡ first ++ more → SpellsEvent first event → IsHistory site (event ∷ history) → ⊥
+
+-- The same by a history of the site. What was opened stands for it up to this place: the records before the place are those of its later events, behind a snapshot of the state after the older ones, or none. At the place stands the record of no event that may come next.
+pub record IsDamagedBehind (site : Site) (opened : Opened) (history : List Event) (at : ℕ) : Type 0 where
+  pub before : List Body
+  pub body : Body
+  pub behind : List Body
+  pub bodies_are : opened.bodies ≡ before ++ body ∷ behind
+  pub front : List ℕ
+  pub rest : List ℕ
+  pub octets : take body.length (drop (sum_of before) opened.batches) ≡ front ++ rest
+  pub stands : StandsForHistory site (record { snapshot = opened.snapshot; bodies = pieces before opened.batches ++ front ∷ [] }) history
+  pub some : 0 < length rest
+  pub none : NoneComes site history rest
+  pub place : at ≡ body.place + length front

@@ -1,13 +1,19 @@
 -- What is so of all records.
-use Rattle.std.specs.Prelude.{◌≡◌, ℕ, ◌<◌, ◌≤◌, List, ◌++◌, length}
+use Rattle.std.specs.Prelude.{◌≡◌, ◌↔◌, ℕ, ◌<◌, ◌≤◌, All, List, ◌++◌, length}
 use Rattle.bac_values.specs.Limits.{snapshot_octets_limit}
 use Rattle.bac_values.specs.Moments.{IsMoment}
-use Rattle.alarm_core.specs.Allowed.{IsAllowed}
+use Rattle.alarm_core.specs.Allowed.{IsAllowed, IsHistory}
+use Rattle.alarm_core.specs.Fits.{FitsEvent}
 use Rattle.alarm_core.specs.State.{CoreState}
 use Rattle.alarm_core.specs.declared.event.Event.{Event}
 use Rattle.alarm_core.specs.SiteStates.{IsStateOf}
 use Rattle.alarm_core.specs.Sites.{IsSite}
 use Rattle.alarm_core.specs.declared.site.Site.{Site}
+use Rattle.alarm_journal.specs.Journal.{Content}
+use Rattle.alarm_journal.specs.Opened.{content_in}
+use Rattle.alarm_journal.specs.declared.opened.Opened.{Opened}
+use Rattle.state_codec.specs.Contents.{IsSnapshotAfter}
+use Rattle.state_codec.specs.Damage.{ContentLeadsTo, IsDamagedAt, IsDamagedBehind}
 use Rattle.state_codec.specs.Records.{HasRecord, SpellsEvent, written_event}
 use Rattle.state_codec.specs.Sizes.{most_text, need, snapshot_bound}
 use Rattle.state_codec.specs.Snapshots.{written_state}
@@ -43,3 +49,14 @@ pub record BoundsAreLow : Type 0 where
 pub record OneSnapshot : Type 0 where
   pub state : (site : Site) (octets : List ℕ) (x y : CoreState) → IsSite site → SpellsState site octets x → SpellsState site octets y → x ≡ y
   pub octets : (site : Site) (first second : List ℕ) (x : CoreState) → SpellsState site first x → SpellsState site second x → first ≡ second
+
+-- A content leads to one state of its site at most; and where what was opened leads to one, it is damaged nowhere.
+pub record LeadsOnce : Type 0 where
+  pub state : (site : Site) (content : Content) (x y : CoreState) → IsSite site → ContentLeadsTo site content x → ContentLeadsTo site content y → x ≡ y
+  pub never_both : (site : Site) (opened : Opened) (state : CoreState) (at : ℕ) → IsSite site → ContentLeadsTo site (content_in opened) state → IsDamagedAt site opened at → ⊥
+
+-- Where the snapshot is that of the state after a history, or there is none and no event, a place is damaged exactly if it is so by some history.
+abbrev pub DamageByHistories : Type 0
+DamageByHistories =
+    (site : Site) (opened : Opened) (older : List Event) (at : ℕ) → IsSite site → IsHistory site older → All FitsEvent older → IsSnapshotAfter site older opened.snapshot →
+    IsDamagedAt site opened at ↔ ((history : List Event) × IsDamagedBehind site opened history at)

@@ -1,7 +1,7 @@
 ghost use Rattle.std.specs.Prelude.{◌≡◌, IfErr, IfOk};
 ghost use Rattle.alarm_core.specs.SiteStates.{IsStateOf};
 ghost use Rattle.alarm_core.specs.Sites.{IsSite};
-ghost use Rattle.state_codec.specs.Laws.{BoundsAreLow, HasRecordWhereAllowed, OneSnapshot, OneSpelling, RecordsAreShort, SnapshotsAreShort};
+ghost use Rattle.state_codec.specs.Laws.{BoundsAreLow, DamageByHistories, HasRecordWhereAllowed, LeadsOnce, OneSnapshot, OneSpelling, RecordsAreShort, SnapshotsAreShort};
 ghost use Rattle.state_codec.specs.Spelled.{FitsState};
 
 use crate::CodecFault;
@@ -42,6 +42,22 @@ pub fn bounds_are_low()
 /// No two states of a site have the same snapshot, and no state has two.
 pub fn snapshots_have_one_spelling()
     ensures spelling { OneSnapshot }
+{
+    tests_posts();
+    restores_what_it_tells();
+}
+
+/// What was opened leads to one state of its site at most, and where it does it is damaged nowhere.
+pub fn contents_lead_once()
+    ensures once { LeadsOnce }
+{
+    tests_posts();
+    restores_what_it_tells();
+}
+
+/// Damage by states is damage by histories, where the snapshot is that of the state after one.
+pub fn damage_is_told_by_histories()
+    ensures told { DamageByHistories }
 {
     tests_posts();
     restores_what_it_tells();

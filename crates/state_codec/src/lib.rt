@@ -44,8 +44,9 @@ pub use fault::CodecFault;
 pub use keep_fault::KeepFault;
 pub use keeping::{keep_event, keep_events};
 pub use laws::{
-    allowed_event_has_record, bounds_are_low, reads_what_it_writes, records_are_short,
-    records_have_one_spelling, snapshots_are_short, snapshots_have_one_spelling,
+    allowed_event_has_record, bounds_are_low, contents_lead_once, damage_is_told_by_histories,
+    reads_what_it_writes, records_are_short, records_have_one_spelling, snapshots_are_short,
+    snapshots_have_one_spelling,
 };
 pub use opening::open_journal;
 pub use parts::{take_octet, take_octets, take_u16, take_u32, take_u64};

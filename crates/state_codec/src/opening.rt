@@ -48,6 +48,9 @@ pub fn open_journal<G: Ground>(
     ensures opened { IfOk result (λ opened. Answers (journal_of site.now text.now) (G.told device) (G.told opened.0.device) (Ok (content_in opened.2))) }
     ensures leads { IfOk result (λ opened. ContentLeadsTo site.now (content_in opened.2) opened.1) }
 
+    // A device that is too small isn't opened, whether it tells its octets or not.
+    ensures enough { IfOk result (λ _. need site.now (length text.now) ≤ G.size device) }
+
     // An area has room for the longest snapshot, and for what comes before the next one.
     ensures area { IfOk result (λ opened. (need site.now (length text.now) - 22 - length text.now) / 2 ≤ opened.0.layout.half) }
 

@@ -65,3 +65,6 @@ returns-in-Err-recover-clause-small g c = rw c.refusal_of.ensures.refusal (not_s
 
 pub returns-in-Err-recover-clause-below : goal.returns-in-Err-recover-clause-below
 returns-in-Err-recover-clause-below g c = λ less. absurd (omega (arith, less, rw c.need-size.ensures.need at c.in-Ok.ensures.enough, c.in-Ok.ensures.same))
+
+pub returns-in-Ok-recover-clause-enough : goal.returns-in-Ok-recover-clause-enough
+returns-in-Ok-recover-clause-enough g c = omega (arith, rw c.need-size.ensures.need at c.in-Ok.ensures.enough, c.in-Ok.ensures.same)
