@@ -1,13 +1,14 @@
 //! What public calls answer that want memory, each of them made again where it answered that memory was refused.
 //!
 //! It prints the reports of three sessions with the records of their events and their last snapshots, what a journal on a ground
-//! in memory holds, and what a floor answers to its callers. `checks/refused-memory` runs it once for each of its allocations,
+//! in memory holds, what a floor answers to its callers, and what a follower answers to a leader. `checks/refused-memory` runs it once for each of its allocations,
 //! with that one refused, and wants the same octets: a call that is refused memory has changed nothing, and gives the good
 //! answer as it is made again. A ground in memory that can't keep an entry of its trace fails, as its contract says; the
 //! part then ends with `disk fault`, or has lost a datagram.
 #![tactic(auto)]
 
 mod desk;
+mod following;
 mod journal;
 mod missed;
 mod play;
@@ -17,6 +18,7 @@ mod script;
 mod sites;
 
 use crate::desk::shared;
+use crate::following::followed;
 use crate::journal::kept;
 use crate::missed::Missed;
 use crate::play::played;
@@ -73,6 +75,7 @@ enum Part {
     Full,
     Journal,
     Desk,
+    Following,
 }
 
 // A site is dropped by a call in each of these, since it is dear to drop where it stands.
@@ -113,6 +116,13 @@ fn desk_of_two<R: Wait>(rt: &R, alloc: Global) -> Result<Text, Missed> {
     text
 }
 
+fn following_of_one(alloc: Global) -> Result<Text, Missed> {
+    let site = site_of(alloc, TANK)?;
+    let text = followed(alloc, &site);
+    drop(site);
+    text
+}
+
 impl Part {
     fn name(&self) -> &'static str {
         match self {
@@ -121,6 +131,7 @@ impl Part {
             Part::Full => "full",
             Part::Journal => "journal",
             Part::Desk => "desk",
+            Part::Following => "following",
         }
     }
 
@@ -131,6 +142,7 @@ impl Part {
             Part::Full => full(alloc),
             Part::Journal => journal_of_three(alloc),
             Part::Desk => desk_of_two(rt, alloc),
+            Part::Following => following_of_one(alloc),
         }
     }
 }
@@ -159,5 +171,6 @@ fn main(rt: HostRuntime) -> io::Result<ExitCode> {
     show(&rt, alloc, &Part::Full)?;
     show(&rt, alloc, &Part::Journal)?;
     show(&rt, alloc, &Part::Desk)?;
+    show(&rt, alloc, &Part::Following)?;
     Ok(ExitCode::SUCCESS)
 }
