@@ -1,5 +1,5 @@
 -- How a server's status tells of its disk.
-use Rattle.std.proofs.Common.{◌≡◌, ◌≢◌, ℕ, refl, sym, ap, ◌∙◌}
+use Rattle.std.proofs.Common.{◌≡◌, ◌≢◌, ◌<◌, ◌≤◌, ℕ, arith, refl, sym, ap, ◌∙◌, subst}
 use Rattle.ground_io.specs.Counts.{HasCause, Rose}
 use Rattle.alarm_journal.specs.declared.open_fault.OpenFault.{OpenFault}
 use Rattle.alarm_journal.specs.declared.open_fault.OpenFault.TheVariants as open_fault
@@ -52,3 +52,14 @@ rose_unopened before now fault from served is unserved cause same = cause.rose (
 
 pub unopened_not_done : (fault : OpenFault) (from : Status) (served : Served) → from ≡ of_open_fault fault → IsUnserved served from → served.status ≡ status.Done → ⊥
 unopened_not_done fault from served is unserved same = not_done fault (sym is ∙ (sym (ap (λ (s : Served). s.status) unserved) ∙ same))
+
+-- datagrams that were sent and lost, by the numbers of a server
+pub lost_served : (before now : ℕ) (closed : Closed) (served : Served) → served ≡ served_of closed → HasCause before now (closed.received < closed.lost) → HasCause before now (served.received < served.lost)
+lost_served before now closed served is cause = record { later = cause.later; rose = λ more. cause.rose (subst (λ (s : Served). s.received < s.lost) is more) }
+
+pub none_served : (before now : ℕ) (closed : Closed) (served : Served) → served ≡ served_of closed → (closed.lost ≡ 0 → now ≡ before) → served.lost ≡ 0 → now ≡ before
+none_served before now closed served is same none = same (sym (ap (λ (s : Served). s.lost) is) ∙ none)
+
+-- where no desk was opened, none was sent
+pub lost_unserved : (before now : ℕ) (from : Status) (served : Served) → IsUnserved served from → now ≡ before → HasCause before now (served.received < served.lost)
+lost_unserved before now from served unserved same = record { later = omega (arith, same); rose = λ more. absurd (omega (arith, subst (λ (s : Served). s.received < s.lost) unserved more)) }

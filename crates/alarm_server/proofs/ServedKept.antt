@@ -21,7 +21,7 @@ use Rattle.floor_desk.specs.Accounts.{Account, Due, account}
 use Rattle.state_codec.specs.Keeping.{HoldsHistory, StoodFor, journal_of}
 use Rattle.state_codec.specs.Openings.{OpenedTo}
 use Rattle.floor_desk.specs.Moves.{IsGroundOf}
-use Rattle.floor_desk.specs.Prefixes.{HasLost, KeepsOrder, LeavesPrefix, RestsOn, Settle}
+use Rattle.floor_desk.specs.Prefixes.{CountsLost, HasLost, KeepsOrder, LeavesPrefix, RestsOn, Settle}
 use Rattle.floor_desk.specs.Standing.{ShowsAccount, Stands}
 use Rattle.floor_desk.specs.States.{FloorState}
 use Rattle.floor_desk.specs.declared.floor.Spot.{Spot}
@@ -97,27 +97,18 @@ told_before lost None (Some new) l journal site history first stood = absurd l
 told_before lost (Some old) (Some new) l journal site history None stood = stood
 told_before lost (Some old) (Some new) l journal site history (Some first) stood = stood
 
--- so what was opened is told as long as the ground tells
-opened_still : (lost : ℕ) (old new : Option Told) → HasLost lost old new → (site : Site) (text : List ℕ) (state : CoreState) (first : Option Told) → OpenedTo site text first old state → OpenedTo site text first new state
-opened_still lost None None l site text state first opened = opened
-opened_still lost (Some old) None l site text state None opened = tt
-opened_still lost (Some old) None l site text state (Some first) opened = tt
-opened_still lost None (Some new) l site text state first opened = absurd l
-opened_still lost (Some old) (Some new) l site text state None opened = tt
-opened_still lost (Some old) (Some new) l site text state (Some first) opened = opened
-
-module _ {G : Type 0} (told : G → Option Told) (disk_faults : G → ℕ) where
+module _ {G : Type 0} (told : G → Option Told) (size disk_faults emit_faults : G → ℕ) where
   -- a ground that came back tells what the floor's press told, or what is left of it
-  pub ground_told : (origin : CoreState × PressState G) (a : Account G) (floor : FloorState G) (device : G) → ShowsAccount told disk_faults floor a → floor.origin ≡ origin → IsGroundOf floor.spot device → HasLost floor.lost (told origin.1.device) (told device)
+  pub ground_told : (origin : CoreState × PressState G) (a : Account G) (floor : FloorState G) (device : G) → ShowsAccount told size disk_faults emit_faults floor a → floor.origin ≡ origin → IsGroundOf floor.spot device → HasLost floor.lost (told origin.1.device) (told device)
   ground_told origin a floor device shows from ground = by_spot floor.spot shows.spot ground
     where
-      by_spot : (spot : Spot G) → Stands told disk_faults floor.origin a floor.lost spot → IsGroundOf spot device → HasLost floor.lost (told origin.1.device) (told device)
+      by_spot : (spot : Spot G) → Stands told size disk_faults emit_faults floor.origin a floor.lost spot → IsGroundOf spot device → HasLost floor.lost (told origin.1.device) (told device)
       by_spot (Home press) s g = subst (λ (d : G). HasLost floor.lost (told origin.1.device) (told d)) (ap (λ (p : PressState G). p.device) (sym s.2) ∙ sym g) (subst (λ (o : CoreState × PressState G). HasLost floor.lost (told o.1.device) (told a.press.device)) from shows.lost)
       by_spot (Out place upto) s g = absurd g
       by_spot (Broken left place) s g = subst (λ (d : G). HasLost floor.lost (told origin.1.device) (told d)) (sym g) (subst (λ (o : CoreState × PressState G). HasLost floor.lost (told o.1.device) (told left)) from s.4)
 
   -- and keeps the order
-  pub ground_keeps : (origin : CoreState × PressState G) (a : Account G) (floor : FloorState G) (device : G) (journal : Journal) (history : List Event) → ShowsAccount told disk_faults floor a → floor.origin ≡ origin → IsGroundOf floor.spot device → Represents origin.0 history
+  pub ground_keeps : (origin : CoreState × PressState G) (a : Account G) (floor : FloorState G) (device : G) (journal : Journal) (history : List Event) → ShowsAccount told size disk_faults emit_faults floor a → floor.origin ≡ origin → IsGroundOf floor.spot device → Represents origin.0 history
       → HoldsHistory journal origin.0.site history origin.1.layout (told origin.1.device) → KeepsOrder journal origin.0.site history a.order a.dues a.back.dues (told origin.1.device) (told device)
   ground_keeps origin a floor device journal history shows from ground represents holds = by_spot floor.spot shows.spot ground
     where
@@ -130,19 +121,19 @@ module _ {G : Type 0} (told : G → Option Told) (disk_faults : G → ℕ) where
       holds' : HoldsHistory journal floor.origin.0.site history floor.origin.1.layout (told floor.origin.1.device)
       holds' = subst (λ (o : CoreState × PressState G). HoldsHistory journal o.0.site history o.1.layout (told o.1.device)) (sym from) holds
 
-      by_spot : (spot : Spot G) → Stands told disk_faults floor.origin a floor.lost spot → IsGroundOf spot device → Kept origin device
+      by_spot : (spot : Spot G) → Stands told size disk_faults emit_faults floor.origin a floor.lost spot → IsGroundOf spot device → Kept origin device
       by_spot (Home press) s g = subst (λ (d : G). Kept origin d) (ap (λ (p : PressState G). p.device) (sym s.2) ∙ sym g) (subst (λ (o : CoreState × PressState G). Kept o a.press.device) from (shows.holds journal history represents' holds').1)
       by_spot (Out place upto) s g = absurd g
       by_spot (Broken left place) s g = subst (λ (d : G). Kept origin d) (sym g) (subst (λ (o : CoreState × PressState G). Kept o left) from (s.3 journal history represents' holds'))
 
   -- a desk that was opened on a site has served it
   pub site_served : (shows : ℕ → Type 0) (site : Site) (text : List ℕ) (count : ℕ) (old new : Option (List Send)) (before after : G) (origin : CoreState × PressState G) (closed : Closed) (served : Served)
-      → origin.0.site ≡ site → served ≡ served_of closed → closed.received ≤ count → (closed.end ≡ Done → closed.received ≡ count) → Serves told disk_faults shows old new origin after closed → LeavesDisk (disk_faults before) (disk_faults after) closed.end
+      → origin.0.site ≡ site → served ≡ served_of closed → closed.received ≤ count → (closed.end ≡ Done → closed.received ≡ count) → Serves told size disk_faults emit_faults shows old new origin after closed → LeavesDisk (disk_faults before) (disk_faults after) closed.end → emit_faults origin.1.device ≡ emit_faults before
       → OpenedTo site text (told before) (told origin.1.device) origin.0
       → ((history : List Event) → StoodFor (journal_of site text) site history (told before) (told origin.1.device) → Represents origin.0 history)
       → ((history : List Event) → StoodFor (journal_of site text) site history (told before) (told origin.1.device) → HoldsHistory (journal_of site text) site history origin.1.layout (told origin.1.device))
-      → ReopensSynced (journal_of site text) (told before) (told origin.1.device) → HasServedSite told disk_faults shows site text count old new before after served
-  site_served shows site text count old new before after origin closed served of_site is most all s disk opens represents holds reopens =
+      → ReopensSynced (journal_of site text) (told before) (told origin.1.device) → HasServedSite told size disk_faults emit_faults shows site text count old new before after served
+  site_served shows site text count old new before after origin closed served of_site is most all s disk emitted opens represents holds reopens =
       let journal = journal_of site text in
       let f = s.floor in
       let a : Account G = account f.origin s.history in
@@ -157,8 +148,9 @@ module _ {G : Type 0} (told : G → Option Told) (disk_faults : G → ℕ) where
         all = all;
         serves = s;
         disk = disk;
-        opens = opened_still f.lost (told origin.1.device) (told after) lost site text origin.0 (told before) opens;
-        begins = λ history stood. represents history (early history stood);
+        counted = subst (λ (n : ℕ). CountsLost n (emit_faults after) s.floor.lost) emitted s.counted;
+        opens = opens;
+        begins = represents;
         keeps = λ history stood.
             let e = early history stood in
             let k : KeepsOrder journal origin.0.site history a.order a.dues a.back.dues (told origin.1.device) (told after) =

@@ -15,7 +15,7 @@ use Rattle.alarm_journal.specs.Press.{PressState}
 use Rattle.floor_desk.specs.Accounts.{Due, account}
 use Rattle.state_codec.specs.Keeping.{StoodFor, journal_of}
 use Rattle.state_codec.specs.Openings.{OpenedTo}
-use Rattle.floor_desk.specs.Prefixes.{LeavesPrefix, Settle}
+use Rattle.floor_desk.specs.Prefixes.{CountsLost, LeavesPrefix, Settle}
 use Rattle.floor_desk.specs.Serving.{LeavesDisk, Serves}
 use Rattle.floor_desk.specs.declared.serve.Closed.{Closed}
 use Rattle.floor_desk.specs.declared.serve.End.{End}
@@ -53,8 +53,8 @@ pub record LeavesLink (before now : ℕ) (ended : Status) : Type 0 where
 abbrev pub IsUnserved : Served → Status → Type 0
 IsUnserved served status = served ≡ record { status = status; received = 0; events = 0; durable = 0; lost = 0 }
 
-module _ {G : Type 0} (told : G → Option Told) (disk_faults : G → ℕ) where
-  -- The octets of the device opened, and lead to the state that a desk began with, which served at most so many datagrams; Done, it was so many. Of each history that the octets of the device stood for, the desk began with it, and a crash leaves it with a prefix of the order.
+module _ {G : Type 0} (told : G → Option Told) (size disk_faults emit_faults : G → ℕ) where
+  -- The octets of the device opened, and lead to the state that a desk began with, which served at most so many datagrams; Done, it was so many. Of what was sent, datagrams were lost just where emissions of the ground failed. Of each history that the octets of the device stood for, the desk began with it, and a crash leaves it with a prefix of the order.
   pub record HasServedSite (shows : ℕ → Type 0) (site : Site) (text : List ℕ) (count : ℕ) (old new : Option (List Send)) (before after : G) (served : Served) : Type 0 where
     pub origin : CoreState × PressState G
     pub of_site : origin.0.site ≡ site
@@ -62,9 +62,10 @@ module _ {G : Type 0} (told : G → Option Told) (disk_faults : G → ℕ) where
     pub is : served ≡ served_of closed
     pub most : closed.received ≤ count
     pub all : closed.end ≡ end.Done → closed.received ≡ count
-    pub serves : Serves told disk_faults shows old new origin after closed
-    pub opens : OpenedTo site text (told before) (told after) origin.0
+    pub serves : Serves told size disk_faults emit_faults shows old new origin after closed
+    pub opens : OpenedTo site text (told before) (told origin.1.device) origin.0
     pub disk : LeavesDisk (disk_faults before) (disk_faults after) closed.end
-    pub begins : (history : List Event) → StoodFor (journal_of site text) site history (told before) (told after) → Represents origin.0 history
+    pub counted : CountsLost (emit_faults before) (emit_faults after) serves.floor.lost
+    pub begins : (history : List Event) → StoodFor (journal_of site text) site history (told before) (told origin.1.device) → Represents origin.0 history
     pub keeps : (history : List Event) → StoodFor (journal_of site text) site history (told before) (told after)
         → KeepsServed (journal_of site text) site history (account origin serves.history).order (account origin serves.history).dues (account origin serves.history).back.dues (told before) (told after)

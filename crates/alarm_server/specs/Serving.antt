@@ -24,7 +24,7 @@ use Rattle.alarm_server.specs.Status.{of_open_fault}
 abbrev pub IsNoSite : Option (List ℕ) → Served → Type 0
 IsNoSite file served = (fault : SiteFault) × IsUnserved served (SiteRefused fault) × RefusesFile file fault
 
-module _ {G : Type 0} (told : G → Option Told) (disk_faults : G → ℕ) where
+module _ {G : Type 0} (told : G → Option Told) (size disk_faults emit_faults : G → ℕ) where
   -- The journal wasn't opened, and nothing was sent. A device that was refused was synced, and nothing else.
   pub record IsNotOpened (site : Site) (text : List ℕ) (before after : G) (served : Served) : Type 0 where
     pub fault : OpenFault
@@ -39,7 +39,7 @@ module _ {G : Type 0} (told : G → Option Told) (disk_faults : G → ℕ) where
   -- the journal of a site wasn't opened, and no datagram was taken; or a desk was, and served
   abbrev pub ServesSite : {L : Type 0} → (ℕ → Type 0) → Site → List ℕ → ℕ → L → L → Option (List Send) → Option (List Send) → G → G → Served → Type 0
   ServesSite shows site text count link rest old new before after served =
-      (IsNotOpened site text before after served × (rest ≡ link)) ⊎ HasServedSite told disk_faults shows site text count old new before after served
+      (IsNotOpened site text before after served × (rest ≡ link)) ⊎ HasServedSite told size disk_faults emit_faults shows site text count old new before after served
 
   -- the site's text wasn't found, or is none: nothing was done. Or a site was found, and it is the text's.
   abbrev pub ServesFile : {L : Type 0} → (ℕ → Type 0) → Option (List ℕ) → ℕ → L → L → Option (List Send) → Option (List Send) → G → G → Served → Type 0

@@ -1,4 +1,4 @@
-ghost use Rattle.std.specs.Prelude.{◌≡◌, ◌↔◌, ◌≤◌, None, IfSome, length, map, string_bytes};
+ghost use Rattle.std.specs.Prelude.{◌≡◌, ◌↔◌, ◌<◌, ◌≤◌, None, IfSome, length, map, string_bytes};
 ghost use Rattle.ground_io.specs.Counts.{HasCause, Rose};
 ghost use Rattle.alarm_core.specs.Sites.{IsSite};
 ghost use Rattle.state_codec.specs.Sizes.{most_text};
@@ -93,10 +93,13 @@ fn serve_site<
 ) -> (G, L, Served)
     requires site { IsSite site.now }
     requires short { length text.now ≤ most_text }
-    ensures serves { ServesSite G.told G.disk_faults (K.shows clock.now) site.now text.now count link result.1 (L.left link) (L.left result.1) device result.0 result.2 }
+    ensures serves { ServesSite G.told G.size G.disk_faults G.emit_faults (K.shows clock.now) site.now text.now count link result.1 (L.left link) (L.left result.1) device result.0 result.2 }
     ensures link { LeavesLink (L.faults link) (L.faults result.1) result.2.status }
     ensures disk_cause { result.2.status ≡ Status.DiskFault → Rose (G.disk_faults device) (G.disk_faults result.0) }
     ensures no_disk_fault { result.2.status ≡ Status.Done → G.disk_faults result.0 ≡ G.disk_faults device }
+    ensures size { G.size result.0 ≡ G.size device }
+    ensures emit_cause { HasCause (G.emit_faults device) (G.emit_faults result.0) (result.2.received < result.2.lost) }
+    ensures no_emit_fault { result.2.lost ≡ 0 → G.emit_faults result.0 ≡ G.emit_faults device }
 {
     let (desk, pass) = match Desk::open(alloc, site, text, device) {
         Ok((desk, pass, _)) => (desk, pass),
@@ -133,13 +136,16 @@ pub fn serve<
 
     // A desk was opened on the site whose text the source has, and served; or none was, and nothing was sent.
     ensures serves { IfSome (count_in (map string_bytes words.now)) (λ count.
-        ServesFile G.told G.disk_faults (K.shows clock.now) (S.left site.old) count link result.1 (L.left link) (L.left result.1) device result.0 result.2) }
+        ServesFile G.told G.size G.disk_faults G.emit_faults (K.shows clock.now) (S.left site.old) count link result.1 (L.left link) (L.left result.1) device result.0 result.2) }
 
-    // A fault comes only where its count rose.
+    // A fault comes only where its count rose, and so does a datagram that was sent and lost.
     ensures read_cause { HasCause (S.faults site.old) (S.faults site.new) (result.2.status ≡ Status.ReadFault) }
     ensures link { LeavesLink (L.faults link) (L.faults result.1) result.2.status }
     ensures disk_cause { result.2.status ≡ Status.DiskFault → Rose (G.disk_faults device) (G.disk_faults result.0) }
     ensures no_disk_fault { result.2.status ≡ Status.Done → G.disk_faults result.0 ≡ G.disk_faults device }
+    ensures size { G.size result.0 ≡ G.size device }
+    ensures emit_cause { HasCause (G.emit_faults device) (G.emit_faults result.0) (result.2.received < result.2.lost) }
+    ensures no_emit_fault { result.2.lost ≡ 0 → G.emit_faults result.0 ≡ G.emit_faults device }
 {
     let Some(count) = count_of(words) else {
         return (device, link, Served::none(Status::Usage));

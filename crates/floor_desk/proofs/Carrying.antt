@@ -5,7 +5,6 @@ use Rattle.std.proofs.lemmas.List.Elements.{All-append, All-drop}
 use Rattle.ground_io.specs.Trace.{Told, disk_of}
 use Rattle.ground_io.proofs.Crashes.{always_weaker}
 use Rattle.bac_values.specs.declared.note.Send.{Send}
-use Rattle.ground_io.specs.Counts.{Rose}
 use Rattle.alarm_core.specs.Allowed.{IsHistory, Represents}
 use Rattle.alarm_core.specs.Fits.{FitsEvent}
 use Rattle.alarm_core.specs.State.{CoreState}
@@ -20,7 +19,7 @@ use Rattle.state_codec.specs.Records.{HasRecord}
 use Rattle.state_codec.proofs.Works.{All-reverse, batch_of_events, content_committed, no_events}
 use Rattle.floor_desk.specs.Accounts.{Account, Due, Front, front_of}
 use Rattle.state_codec.specs.Work.{content_with}
-use Rattle.floor_desk.specs.Carrying.{IsCarriedOut, IsWorkFor, KeepsLoan, Lends, Stays}
+use Rattle.floor_desk.specs.Carrying.{CountsCarried, IsCarriedOut, IsWorkFor, KeepsLoan, Lends, Stays}
 use Rattle.floor_desk.specs.Courses.{KeepsCourse}
 use Rattle.state_codec.specs.Keeping.{Commits, HoldsHistory, Rests}
 use Rattle.floor_desk.specs.Prefixes.{HasLost, KeepsOrder, RestsOn, with_first}
@@ -171,18 +170,18 @@ module _ {G : Type 0} (told : G → Option Told) where
         )
 
     -- what comes back home
-    pub back_home : (disk_faults : G → ℕ) (mid press : PressState G) (gone lost : ℕ) → lost ≤ 2 ^ 64 - 1 → gone + lost ≡ length load.sends
+    pub back_home : (size disk_faults emit_faults : G → ℕ) (mid press : PressState G) (gone lost : ℕ) → lost ≤ 2 ^ 64 - 1 → gone + lost ≡ length load.sends
         → ((journal : Journal) (content : Content) → Rests journal load.press.layout (told load.press.device) content → Rests journal mid.layout (told mid.device) (content_with load.work content))
         → ((journal : Journal) (content : Content) → Rests journal load.press.layout (told load.press.device) content → Between journal content (content_with load.work content) (told load.press.device) (told mid.device))
-        → HasLost 0 (told load.press.device) (told mid.device) → disk_faults mid.device ≡ disk_faults load.press.device
+        → HasLost 0 (told load.press.device) (told mid.device)
         → EmitsAll load.sends gone lost (told mid.device) (told press.device)
         → ((journal : Journal) (content : Content) → Settled journal mid.layout (told mid.device) content → Settled journal press.layout (told press.device) content)
         → ((journal : Journal) (content : Content) → Settled journal mid.layout (told mid.device) content → Lasts journal (told press.device) content)
         → ((journal : Journal) (content : Content) → Settled journal mid.layout (told mid.device) content → Throughout journal content (told mid.device) (told press.device))
-        → disk_faults press.device ≡ disk_faults mid.device → IsCarriedOut told disk_faults origin a load.upto (front_of a) (HomeAgain press load.upto lost)
-    back_home disk_faults mid press gone lost few all rest between quiet later emits settled lasts through same = (
+        → CountsCarried size disk_faults emit_faults load.press.device (HomeAgain press load.upto lost) → IsCarriedOut told size disk_faults emit_faults origin a load.upto (front_of a) (HomeAgain press load.upto lost)
+    back_home size disk_faults emit_faults mid press gone lost few all rest between quiet emits settled lasts through counted = (
       refl,
-      same ∙ (later ∙ ap (λ (p : PressState G). disk_faults p.device) lent.press),
+      subst (λ (p : PressState G). CountsCarried size disk_faults emit_faults p.device (HomeAgain press load.upto lost)) lent.press counted,
       holds_carried mid press gone lost rest between emits settled lasts through,
       subst (λ (p : PressState G). HasLost lost (told p.device) (told press.device)) lent.press
           (subst (λ (n : ℕ). HasLost n (told load.press.device) (told press.device)) (omega (arith, few))
@@ -191,12 +190,12 @@ module _ {G : Type 0} (told : G → Option Told) where
     )
 
     -- what is left where the disk failed
-    pub back_broken : (disk_faults : G → ℕ) (device : G)
+    pub back_broken : (size disk_faults emit_faults : G → ℕ) (device : G)
         → ((journal : Journal) (content : Content) → Rests journal load.press.layout (told load.press.device) content → Between journal content (content_with load.work content) (told load.press.device) (told device))
-        → HasLost 0 (told load.press.device) (told device) → Rose (disk_faults load.press.device) (disk_faults device) → IsCarriedOut told disk_faults origin a load.upto (front_of a) (Gone device load.upto)
-    back_broken disk_faults device between quiet rose = (
+        → HasLost 0 (told load.press.device) (told device) → CountsCarried size disk_faults emit_faults load.press.device (Gone device load.upto) → IsCarriedOut told size disk_faults emit_faults origin a load.upto (front_of a) (Gone device load.upto)
+    back_broken size disk_faults emit_faults device between quiet counted = (
       refl,
-      subst (λ (p : PressState G). Rose (disk_faults p.device) (disk_faults device)) lent.press rose,
+      subst (λ (p : PressState G). CountsCarried size disk_faults emit_faults p.device (Gone device load.upto)) lent.press counted,
       λ journal history stands first.
           subst (λ (t : Front). KeepsOrder journal origin.0.site history a.order a.dues t.dues (told origin.1.device) (told device)) (sym home.0) (keeps_written journal history (told device) stands first (between journal)),
       subst (λ (p : PressState G). HasLost 0 (told p.device) (told device)) lent.press quiet,

@@ -78,10 +78,10 @@ module _ {G : Type 0} where
   same_quiet one (suc count) quiet = ap (λ z. z ++ tries_in (replicate count one)) quiet ∙ same_quiet one count quiet
 
   -- the pass that has waited for the press has this
-  pub closes : (shows : ℕ → Type 0) (old new : Option (List Send)) (told : G → Option Told) (disk_faults : G → ℕ) (p q : Known (Entry G) (CoreState × PressState G)) (ends : Ends) (tick pump : Result Ticket EnterFault) (floor : FloorState G)
-      → (w : WorkedTogether shows old new p ends) → (e : HasEnded shows p q tick pump) → (c : IsClosed told disk_faults q floor)
+  pub closes : (shows : ℕ → Type 0) (old new : Option (List Send)) (told : G → Option Told) (size disk_faults emit_faults : G → ℕ) (p q : Known (Entry G) (CoreState × PressState G)) (ends : Ends) (tick pump : Result Ticket EnterFault) (floor : FloorState G)
+      → (w : WorkedTogether shows old new p ends) → (e : HasEnded shows p q tick pump) → (c : IsClosed told size disk_faults emit_faults q floor)
       → Stays shows old new c.last.seen (record w.workings { last = e.entries ++ replicate c.waited.count (Looked Closing) }) w.attempts tick pump
-  closes shows old new told disk_faults p q ends tick pump floor w e c =
+  closes shows old new told size disk_faults emit_faults p q ends tick pump floor w e c =
       let k = c.waited.count in
       let more : List (Entry G) = replicate k (Looked Closing) in
       let v : Workings G = record w.workings { last = e.entries ++ more } in

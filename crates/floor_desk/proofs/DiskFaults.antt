@@ -32,17 +32,17 @@ module _ {G : Type 0} where
   press_tried a answer (Err (enters.Full would limit)) = refl
   press_tried a answer (Err enters.NoMemory) = refl
 
-module _ {G : Type 0} (told : G → Option Told) (disk_faults : G → ℕ) (origin : CoreState × PressState G) where
-  faults_step : (a : Account G) (n : ℕ) (e : Entry G) → MayComeNext told disk_faults origin a n e → disk_faults (step a n e).press.device ≡ disk_faults a.press.device
+module _ {G : Type 0} (told : G → Option Told) (size disk_faults emit_faults : G → ℕ) (origin : CoreState × PressState G) where
+  faults_step : (a : Account G) (n : ℕ) (e : Entry G) → MayComeNext told size disk_faults emit_faults origin a n e → disk_faults (step a n e).press.device ≡ disk_faults a.press.device
   faults_step a n (Happened input moment ticket) m = refl
   faults_step a n (Looked (Tried input moment answer)) m = ap (λ (p : PressState G). disk_faults p.device) (press_tried a (answer_to a.state input.value moment) answer)
   faults_step a n (Looked (Denied fault)) m = refl
   faults_step a n (Looked Closing) m = refl
   faults_step a n (Taken upto) m = refl
-  faults_step a n (Returned upto press) (out, lost, carried) = carried.1
+  faults_step a n (Returned upto press) (out, lost, carried) = carried.1.1
   faults_step a n (Failed upto device) m = refl
 
-  faults_from : (a : Account G) (h : List (ℕ × Entry G)) → IsLegalFrom told disk_faults origin a h → disk_faults (account_from a h).press.device ≡ disk_faults a.press.device
+  faults_from : (a : Account G) (h : List (ℕ × Entry G)) → IsLegalFrom told size disk_faults emit_faults origin a h → disk_faults (account_from a h).press.device ≡ disk_faults a.press.device
   faults_from a [] legal = refl
   faults_from a (e ∷ es) legal = faults_from (step a e.0 e.1) es legal.1 ∙ faults_step a e.0 e.1 legal.0
 
@@ -59,18 +59,18 @@ module _ {G : Type 0} (told : G → Option Told) (disk_faults : G → ℕ) (orig
   no_place failed at none some = cc
 
   -- the ground of a server that has ended
-  pub ground_faults : (floor : FloorState G) (h : List (ℕ × Entry G)) (device : G) (attempts : List Attempt) (tick pump : Result Ticket EnterFault) (ended : End) → FloorStands told disk_faults floor h → floor.origin ≡ origin → IsGroundOf floor.spot device
+  pub ground_faults : (floor : FloorState G) (h : List (ℕ × Entry G)) (device : G) (attempts : List Attempt) (tick pump : Result Ticket EnterFault) (ended : End) → FloorStands told size disk_faults emit_faults floor h → floor.origin ≡ origin → IsGroundOf floor.spot device
       → IsEnd (account origin h) attempts tick pump ended → LeavesDisk (disk_faults origin.1.device) (disk_faults device) ended
   ground_faults floor h device attempts tick pump ended f from ground is =
-      by_spot floor.spot (subst (λ (o : CoreState × PressState G). Stands told disk_faults o (account o h) floor.lost floor.spot) from f.shows.spot) ground
+      by_spot floor.spot (subst (λ (o : CoreState × PressState G). Stands told size disk_faults emit_faults o (account o h) floor.lost floor.spot) from f.shows.spot) ground
     where
       a : Account G
       a = account origin h
 
       before : disk_faults a.press.device ≡ disk_faults origin.1.device
-      before = faults_from (start origin) h (subst (λ (o : CoreState × PressState G). IsLegalFrom told disk_faults o (start o) h) from f.legal)
+      before = faults_from (start origin) h (subst (λ (o : CoreState × PressState G). IsLegalFrom told size disk_faults emit_faults o (start o) h) from f.legal)
 
-      by_spot : (spot : Spot G) → Stands told disk_faults origin a floor.lost spot → IsGroundOf spot device → LeavesDisk (disk_faults origin.1.device) (disk_faults device) ended
+      by_spot : (spot : Spot G) → Stands told size disk_faults emit_faults origin a floor.lost spot → IsGroundOf spot device → LeavesDisk (disk_faults origin.1.device) (disk_faults device) ended
       by_spot (Home press) s g = record {
         rose = λ same. let (at, failed) = fails a attempts tick pump ended is same in absurd (no_place a.failed at s.1 failed);
         same = λ not. ap disk_faults g ∙ (ap (λ (p : PressState G). disk_faults p.device) s.2 ∙ before);

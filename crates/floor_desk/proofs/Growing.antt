@@ -1,6 +1,6 @@
 -- What stands for an account stands for one that went on from it.
-use Rattle.std.proofs.Common.{◌≡◌, ℕ, ◌+◌, ◌-◌, ◌≤◌, Option, List, [], ◌∷◌, ◌++◌, All, length, map, take, drop, refl, ap, ◌∙◌, sym, subst, arith, length-append}
-use Rattle.std.proofs.lemmas.List.{drop-append-le, map-append, take-append-le}
+use Rattle.std.proofs.Common.{◌≡◌, ℕ, ◌+◌, ◌-◌, ◌≤◌, Option, Some, List, [], ◌∷◌, ◌++◌, All, length, map, take, drop, refl, ap, ◌∙◌, sym, subst, arith, length-append}
+use Rattle.std.proofs.lemmas.List.{drop-append-le, map-append, take-append-le, take_all}
 use Rattle.std.proofs.lemmas.List.Concat.{flat_map-append}
 use Rattle.std.proofs.lemmas.List.Elements.{All-append, All-map, All-weaker}
 use Rattle.ground_io.specs.Counts.{Rose}
@@ -14,8 +14,8 @@ use Rattle.alarm_journal.specs.Press.{PressState}
 use Rattle.service_desk.specs.Answers.{Answer, Entered, Full, Refused, Replied, Unchanged, Ignored, dues_of, event_of, state_behind}
 use Rattle.state_codec.specs.Contents.{records_of}
 use Rattle.state_codec.specs.Records.{HasRecord, written_event}
-use Rattle.floor_desk.specs.Accounts.{Account, Due, Front, accepted, due_after, front_of, if_event, looked, step}
-use Rattle.floor_desk.specs.Carrying.{BreaksLoan, IsCarriedOut, KeepsLoan, WritesThenSends}
+use Rattle.floor_desk.specs.Accounts.{Account, Due, Front, Loan, accepted, due_after, front_of, if_event, looked, step}
+use Rattle.floor_desk.specs.Carrying.{BreaksLoan, CountsCarried, IsCarriedOut, KeepsLoan, Lends, WritesThenSends}
 use Rattle.floor_desk.specs.Courses.{KeepsCourse, KeepsFronts}
 use Rattle.state_codec.specs.Keeping.{Commits, HoldsHistory}
 use Rattle.floor_desk.specs.Moves.{MayEnter, with_answer}
@@ -25,6 +25,7 @@ use Rattle.floor_desk.specs.Standing.{ShowsAccount, Stands}
 use Rattle.floor_desk.specs.States.{FloorState}
 use Rattle.floor_desk.specs.declared.entry.Entry.TheVariants.{Taken}
 use Rattle.floor_desk.specs.declared.load.Carried.{Carried}
+use Rattle.floor_desk.specs.declared.load.Load.{Load}
 use Rattle.floor_desk.specs.declared.load.Carried.TheVariants.{Home as HomeAgain, Broken as Gone}
 use Rattle.floor_desk.specs.declared.floor.Spot.{Spot}
 use Rattle.floor_desk.specs.declared.floor.Spot.TheVariants.{Home, Out, Broken}
@@ -55,6 +56,9 @@ dues_rest events sends = All-map (λ (due : Due). due.after ≤ events) (due_aft
 sends_of_dues : (events : ℕ) (sends : List Send) → map (λ (due : Due). due.send) (map (due_after events) sends) ≡ sends
 sends_of_dues events [] = refl
 sends_of_dues events (send ∷ sends) = ap (λ (l : List Send). send ∷ l) (sends_of_dues events sends)
+
+loan_is : (x y : Loan) → Some x ≡ Some y → x ≡ y
+loan_is x y same = cc
 
 module _ {G : Type 0} (origin : CoreState × PressState G) where
   -- ---- what the press took
@@ -102,15 +106,17 @@ module _ {G : Type 0} (origin : CoreState × PressState G) where
         (subst (λ (p : PressState G). HoldsOrder told origin b a.durable a.back p) (sym s.press)
         (holds_more a b a.durable a.back a.press s (omega (arith, f.durable, f.events)) (omega (arith, f.back, f.dues)) holds)))
 
-    pub stands_still : (disk_faults : G → ℕ) (a b : Account G) (lost : ℕ) (spot : Spot G) → IsStill a b → KeepsFronts origin a → Stands told disk_faults origin a lost spot → Stands told disk_faults origin b lost spot
-    stands_still disk_faults a b lost (Home press) s f here = (s.loan ∙ here.0, s.failed ∙ here.1, here.2 ∙ sym s.press)
-    stands_still disk_faults a b lost (Out place upto) s f here = (s.failed ∙ here.0, here.1, s.loan ∙ here.2)
-    stands_still disk_faults a b lost (Broken device place) s f here = (
+    pub stands_still : (size disk_faults emit_faults : G → ℕ) (a b : Account G) (lost : ℕ) (spot : Spot G) → IsStill a b → KeepsFronts origin a → Stands told size disk_faults emit_faults origin a lost spot → Stands told size disk_faults emit_faults origin b lost spot
+    stands_still size disk_faults emit_faults a b lost (Home press) s f here = (s.loan ∙ here.0, s.failed ∙ here.1, here.2 ∙ sym s.press)
+    stands_still size disk_faults emit_faults a b lost (Out place upto) s f here = (s.failed ∙ here.0, here.1, s.loan ∙ here.2)
+    stands_still size disk_faults emit_faults a b lost (Broken device place) s f here = (
       s.loan ∙ here.0,
       s.failed ∙ here.1,
       subst (λ (p : PressState G). Rose (disk_faults p.device) (disk_faults device)) (sym s.press) here.2,
       subst (λ (t : Front). KeptOrder told origin b t device) (sym s.back) (held_more a b a.back device s (omega (arith, f.back, f.dues)) here.3),
       here.4,
+      here.5 ∙ ap (λ (p : PressState G). size p.device) (sym s.press),
+      here.6 ∙ ap (λ (p : PressState G). emit_faults p.device) (sym s.press),
     )
 
     -- ---- what comes back
@@ -153,26 +159,40 @@ module _ {G : Type 0} (origin : CoreState × PressState G) where
         (subst (λ (h : List Event). Commits journal site before h (told b.press.device) (told device)) (sym same)
         (subst (λ (p : PressState G). Commits journal site before after (told p.device) (told device)) (sym s.press) (kept journal history stands first)))
 
-    pub carried_still : (disk_faults : G → ℕ) (a b : Account G) (upto : ℕ) (carried : Carried G) → IsStill a b → KeepsFronts origin a → upto ≡ origin.0.events + a.taken.events → IsCarriedOut told disk_faults origin a upto a.taken carried → IsCarriedOut told disk_faults origin b upto b.taken carried
-    carried_still disk_faults a b upto (HomeAgain press event more) s f is c = (
+    pub carried_still : (size disk_faults emit_faults : G → ℕ) (a b : Account G) (upto : ℕ) (carried : Carried G) → IsStill a b → KeepsFronts origin a → upto ≡ origin.0.events + a.taken.events → IsCarriedOut told size disk_faults emit_faults origin a upto a.taken carried → IsCarriedOut told size disk_faults emit_faults origin b upto b.taken carried
+    carried_still size disk_faults emit_faults a b upto (HomeAgain press event more) s f is c = (
       c.0,
-      subst (λ (p : PressState G). disk_faults press.device ≡ disk_faults p.device) (sym s.press) c.1,
+      subst (λ (p : PressState G). CountsCarried size disk_faults emit_faults p.device (HomeAgain press event more)) (sym s.press) c.1,
       subst (λ (t : Front). HoldsOrder told origin b upto t press) (sym s.taken) (holds_more a b upto a.taken press s (omega (arith, is, f.events)) f.dues c.2),
       subst (λ (p : PressState G). HasLost more (told p.device) (told press.device)) (sym s.press) c.3,
       loan_still a b upto more press s f is c.4,
     )
-    carried_still disk_faults a b upto (Gone device event) s f is c = (
+    carried_still size disk_faults emit_faults a b upto (Gone device event) s f is c = (
       c.0,
-      subst (λ (p : PressState G). Rose (disk_faults p.device) (disk_faults device)) (sym s.press) c.1,
+      subst (λ (p : PressState G). CountsCarried size disk_faults emit_faults p.device (Gone device event)) (sym s.press) c.1,
       subst (λ (t : Front). KeptOrder told origin b t device) (sym s.back) (held_more a b a.back device s (omega (arith, f.back, f.dues)) c.2),
       subst (λ (p : PressState G). HasLost 0 (told p.device) (told device)) (sym s.press) c.3,
       break_still a b upto device s f is c.4,
     )
 
+    -- what the press took at that entry
+    pub fronts_taken : (a : Account G) (n : ℕ) (load : Load G) → Lends told origin a load → KeepsFronts origin (step a n (Taken load.upto))
+    fronts_taken a n load l = record {
+      events = omega arith;
+      dues = omega arith;
+      calls = omega arith;
+      rests = subst (λ (z : List Due). RestsOn (origin.0.events + length a.order) z) (sym (take_all (length a.dues) a.dues (omega arith))) (subst (λ (k : ℕ). RestsOn k a.dues) l.course.events l.course.rests);
+      lent = λ loan out. ap (λ (k : Loan). k.upto) (sym (loan_is _ loan out)) ∙ (l.upto ∙ l.course.events);
+      home = λ none works. absurd (cc);
+      back = omega (arith, l.fronts.back, l.fronts.dues);
+      first = l.fronts.first;
+      durable = omega (arith, l.fronts.durable, l.fronts.events);
+    }
+
     -- behind the entry with which the press left
-    pub carried_at : (disk_faults : G → ℕ) (a : Account G) (n upto : ℕ) (carried : Carried G) → IsCarriedOut told disk_faults origin a upto (front_of a) carried → IsCarriedOut told disk_faults origin (step a n (Taken upto)) upto (step a n (Taken upto)).taken carried
-    carried_at disk_faults a n upto (HomeAgain press event more) c = c
-    carried_at disk_faults a n upto (Gone device event) c = c
+    pub carried_at : (size disk_faults emit_faults : G → ℕ) (a : Account G) (n upto : ℕ) (carried : Carried G) → IsCarriedOut told size disk_faults emit_faults origin a upto (front_of a) carried → IsCarriedOut told size disk_faults emit_faults origin (step a n (Taken upto)) upto (step a n (Taken upto)).taken carried
+    carried_at size disk_faults emit_faults a n upto (HomeAgain press event more) c = c
+    carried_at size disk_faults emit_faults a n upto (Gone device event) c = c
 
   -- ---- an answer that is taken
 
@@ -202,9 +222,9 @@ module _ {G : Type 0} (origin : CoreState × PressState G) where
     rests = subst (λ (s : CoreState). RestsOn s.events b.dues) (sym state) (subst (λ (l : List Due). RestsOn a.state.events l) (sym dues) c.rests);
   }
 
-module _ {G : Type 0} (told : G → Option Told) (disk_faults : G → ℕ) where
+module _ {G : Type 0} (told : G → Option Told) (size disk_faults emit_faults : G → ℕ) where
   -- an answer is taken: the floor with it shows the account with it
-  pub shows_accepted : (floor : FloorState G) (a : Account G) (answer : Answer) → MayEnter a.state answer → ShowsAccount told disk_faults floor a → ShowsAccount told disk_faults (with_answer a.state floor answer) (accepted a answer)
+  pub shows_accepted : (floor : FloorState G) (a : Account G) (answer : Answer) → MayEnter a.state answer → ShowsAccount told size disk_faults emit_faults floor a → ShowsAccount told size disk_faults emit_faults (with_answer a.state floor answer) (accepted a answer)
   shows_accepted floor a answer may s =
       let origin = floor.origin in
       let event : List Event = if_event (event_of answer) in
@@ -220,24 +240,28 @@ module _ {G : Type 0} (told : G → Option Told) (disk_faults : G → ℕ) where
             ∙ (sym (map-append (λ (due : Due). due.send) (drop a.taken.dues a.dues) dues) ∙ ap (λ (l : List Due). map (λ due. due.send) l) (sym (drop-append-le a.taken.dues a.dues dues s.fronts.dues))));
         calls = omega (arith, s.calls, s.fronts.calls);
         durable = s.durable;
-        spot = stands_still origin told disk_faults a (accepted a answer) floor.lost floor.spot still s.fronts s.spot;
+        spot = stands_still origin told size disk_faults emit_faults a (accepted a answer) floor.lost floor.spot still s.fronts s.spot;
         holds = holds_still origin told a (accepted a answer) still s.fronts s.holds;
         lost = s.lost;
+        counted = s.counted;
+        sized = s.sized;
         course = course_accepted origin a answer may s.course;
         fronts = fronts_still origin a (accepted a answer) still s.fronts;
       }
 
   -- an entry that changes nothing
-  pub shows_looked : (floor : FloorState G) (a : Account G) → ShowsAccount told disk_faults floor a → ShowsAccount told disk_faults floor (looked a)
+  pub shows_looked : (floor : FloorState G) (a : Account G) → ShowsAccount told size disk_faults emit_faults floor a → ShowsAccount told size disk_faults emit_faults floor (looked a)
   shows_looked floor a s = record {
     core = s.core;
     records = s.records;
     sends = s.sends;
     calls = s.calls;
     durable = s.durable;
-    spot = stands_still floor.origin told disk_faults a (looked a) floor.lost floor.spot (still_looked a) s.fronts s.spot;
+    spot = stands_still floor.origin told size disk_faults emit_faults a (looked a) floor.lost floor.spot (still_looked a) s.fronts s.spot;
     holds = s.holds;
     lost = s.lost;
+    counted = s.counted;
+    sized = s.sized;
     course = course_same floor.origin a (looked a) refl refl refl s.course;
     fronts = fronts_still floor.origin a (looked a) (still_looked a) s.fronts;
   }

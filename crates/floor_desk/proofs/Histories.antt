@@ -1,7 +1,7 @@
 -- Accounts of longer histories, and a loan that stays open.
-use Rattle.std.proofs.Common.{◌≡◌, ℕ, ◌+◌, ◌≤◌, true, false, List, [], ◌∷◌, ◌++◌, length, refl, sym, ap, ◌∙◌, arith, inr, eq-eqb, append_assoc}
+use Rattle.std.proofs.Common.{◌≡◌, ◌⊎◌, ℕ, ◌+◌, ◌<◌, ◌≤◌, true, false, List, [], ◌∷◌, ◌++◌, length, refl, sym, ap, ◌∙◌, subst, arith, inl, inr, ⊎_elim, eq-eqb, append_assoc}
 use Rattle.std.proofs.lemmas.List.{append-nil}
-use Rattle.std.specs.Prelude.{Option, Some, Ok, Err, Result, ◌==◌, if◌then◌else◌}
+use Rattle.std.specs.Prelude.{Option, Some, None, Ok, Err, Result, ◌==◌, if◌then◌else◌}
 use Rattle.ground_io.specs.Trace.{Told}
 use Rattle.turnstile.specs.Histories.{entries_under}
 use Rattle.alarm_core.specs.State.{CoreState}
@@ -99,17 +99,17 @@ module _ {G : Type 0} where
   still_tried a answer (Err (enters.Full would limit)) = still_accepted a answer
   still_tried a answer (Err enters.NoMemory) = still_looked a
 
-module _ {G : Type 0} (told : G → Option Told) (disk_faults : G → ℕ) (origin : CoreState × PressState G) where
-  pub legal_snoc : (a : Account G) (h : List (ℕ × Entry G)) (c : ℕ × Entry G) → IsLegalFrom told disk_faults origin a h → MayComeNext told disk_faults origin (account_from a h) c.0 c.1 → IsLegalFrom told disk_faults origin a (h ++ c ∷ [])
+module _ {G : Type 0} (told : G → Option Told) (size disk_faults emit_faults : G → ℕ) (origin : CoreState × PressState G) where
+  pub legal_snoc : (a : Account G) (h : List (ℕ × Entry G)) (c : ℕ × Entry G) → IsLegalFrom told size disk_faults emit_faults origin a h → MayComeNext told size disk_faults emit_faults origin (account_from a h) c.0 c.1 → IsLegalFrom told size disk_faults emit_faults origin a (h ++ c ∷ [])
   legal_snoc a [] c l m = (m, tt)
   legal_snoc a (e ∷ es) c l m = (l.0, legal_snoc (step a e.0 e.1) es c l.1 m)
 
-  pub legal_after : (a : Account G) (h k : List (ℕ × Entry G)) → IsLegalFrom told disk_faults origin a (h ++ k) → IsLegalFrom told disk_faults origin (account_from a h) k
+  pub legal_after : (a : Account G) (h k : List (ℕ × Entry G)) → IsLegalFrom told size disk_faults emit_faults origin a (h ++ k) → IsLegalFrom told size disk_faults emit_faults origin (account_from a h) k
   legal_after a [] k l = l
   legal_after a (e ∷ es) k l = legal_after (step a e.0 e.1) es k l.1
 
   -- the front of a legal history is legal
-  pub legal_front : (a : Account G) (h k : List (ℕ × Entry G)) → IsLegalFrom told disk_faults origin a (h ++ k) → IsLegalFrom told disk_faults origin a h
+  pub legal_front : (a : Account G) (h k : List (ℕ × Entry G)) → IsLegalFrom told size disk_faults emit_faults origin a (h ++ k) → IsLegalFrom told size disk_faults emit_faults origin a h
   legal_front a [] k l = tt
   legal_front a (e ∷ es) k l = (l.0, legal_front (step a e.0 e.1) es k l.1)
 
@@ -122,7 +122,7 @@ module _ {G : Type 0} (told : G → Option Told) (disk_faults : G → ℕ) (orig
       let yes : (n == l.number) ≡ true = eq-eqb n l.number same in cc
 
   -- an entry of another pass
-  kept : (a : Account G) (l : Loan) (n : ℕ) (e : Entry G) → a.loan ≡ Some l → MayComeNext told disk_faults origin a n e → (n == l.number) ≡ false → IsStill a (step a n e)
+  kept : (a : Account G) (l : Loan) (n : ℕ) (e : Entry G) → a.loan ≡ Some l → MayComeNext told size disk_faults emit_faults origin a n e → (n == l.number) ≡ false → IsStill a (step a n e)
   kept a l n (Happened input moment ticket) x m differs = still_accepted a (answer_to a.state input.value moment)
   kept a l n (Looked (Tried input moment answer)) x m differs = still_tried a (answer_to a.state input.value moment) answer
   kept a l n (Looked (Denied fault)) x m differs = still_looked a
@@ -132,7 +132,7 @@ module _ {G : Type 0} (told : G → Option Told) (disk_faults : G → ℕ) (orig
   kept a l n (Failed upto device) x m differs = absurd (own a l m.0.0 n x m.0.1 m.0.2 differs)
 
   -- while a loan is open, only its own pass may end it
-  pub still_out : (a : Account G) (l : Loan) (h : List (ℕ × Entry G)) → a.loan ≡ Some l → IsLegalFrom told disk_faults origin a h → entries_under l.number h ≡ [] → IsStill a (account_from a h)
+  pub still_out : (a : Account G) (l : Loan) (h : List (ℕ × Entry G)) → a.loan ≡ Some l → IsLegalFrom told size disk_faults emit_faults origin a h → entries_under l.number h ≡ [] → IsStill a (account_from a h)
   still_out a l [] x legal none_own = still_here a
   still_out a l (e ∷ es) x legal none_own =
       elim (e.0 == l.number) as (λ b. (e.0 == l.number) ≡ b → (if b then (e.1 ∷ entries_under l.number es) else entries_under l.number es) ≡ [] → IsStill a (account_from (step a e.0 e.1) es)) [
@@ -141,3 +141,55 @@ module _ {G : Type 0} (told : G → Option Told) (disk_faults : G → ℕ) (orig
             let one : IsStill a (step a e.0 e.1) = kept a l e.0 e.1 x legal.0 is in
             still_then a (step a e.0 e.1) (account_from (step a e.0 e.1) es) one (still_out (step a e.0 e.1) l es (one.loan ∙ x) legal.1 none)
       ] refl none_own
+
+  -- ---- a loan that is open still
+
+  -- no loan is open, or one that began behind this place
+  abbrev IsLater : ℕ → Option Loan → Type 0
+  IsLater place None = Unit {0}
+  IsLater place (Some loan) = place < loan.place
+
+  not_later : (loan : Option Loan) (l : Loan) → IsLater l.place loan → loan ≡ Some l → ⊥
+  not_later None l later is = cc
+  not_later (Some k) l later is = omega (arith, later, ap (λ (x : Loan). x.place) (loan_of k l is))
+    where
+      loan_of : (k l : Loan) → Some k ≡ Some l → k ≡ l
+      loan_of k l is = cc
+
+  later_tried : (a : Account G) (place : ℕ) (answer : Answer) (result : Result Ticket EnterFault) → IsLater place a.loan → IsLater place (tried a answer result).loan
+  later_tried a place answer result later = subst (λ (o : Option Loan). IsLater place o) (sym (still_tried a answer result).loan) later
+
+  later_step : (a : Account G) (place n : ℕ) (e : Entry G) → place ≤ a.long → IsLater place a.loan → IsLater place (step a n e).loan
+  later_step a place n (Happened input moment ticket) few later = later
+  later_step a place n (Looked (Tried input moment answer)) few later = later_tried a place (answer_to a.state input.value moment) answer later
+  later_step a place n (Looked (Denied fault)) few later = later
+  later_step a place n (Looked Closing) few later = later
+  later_step a place n (Taken upto) few later = omega (arith, few)
+  later_step a place n (Returned upto press) few later = tt
+  later_step a place n (Failed upto device) few later = tt
+
+  -- what was ended once isn't open again
+  later_from : (a : Account G) (place : ℕ) (h : List (ℕ × Entry G)) → place ≤ a.long → IsLater place a.loan → IsLater place (account_from a h).loan
+  later_from a place [] few later = later
+  later_from a place (e ∷ es) few later = later_from (step a e.0 e.1) place es (let s = long_step a e.0 e.1 in omega (arith, few)) (later_step a place e.0 e.1 few later)
+
+  -- the entry leaves the loan open, or ends it
+  kept_or_ended : (a : Account G) (l : Loan) (n : ℕ) (e : Entry G) → a.loan ≡ Some l → MayComeNext told size disk_faults emit_faults origin a n e → IsStill a (step a n e) ⊎ ((step a n e).loan ≡ None)
+  kept_or_ended a l n (Happened input moment ticket) x m = inl (still_accepted a (answer_to a.state input.value moment))
+  kept_or_ended a l n (Looked (Tried input moment answer)) x m = inl (still_tried a (answer_to a.state input.value moment) answer)
+  kept_or_ended a l n (Looked (Denied fault)) x m = inl (still_looked a)
+  kept_or_ended a l n (Looked Closing) x m = inl (still_looked a)
+  kept_or_ended a l n (Taken upto) x m = (let y = m.1 in cc)
+  kept_or_ended a l n (Returned upto press) x m = inr refl
+  kept_or_ended a l n (Failed upto device) x m = inr refl
+
+  -- where the same loan is open behind more entries, it was never ended
+  pub still_open : (a : Account G) (l : Loan) (h : List (ℕ × Entry G)) → a.loan ≡ Some l → l.place ≤ a.long → IsLegalFrom told size disk_faults emit_faults origin a h → (account_from a h).loan ≡ Some l → IsStill a (account_from a h)
+  still_open a l [] x few legal open_then = still_here a
+  still_open a l (e ∷ es) x few legal open_then =
+      let b : Account G = step a e.0 e.1 in
+      let long : l.place ≤ b.long = (let s = long_step a e.0 e.1 in omega (arith, few)) in
+      ⊎_elim
+      (λ (still : IsStill a b). still_then a b (account_from b es) still (still_open b l es (still.loan ∙ x) long legal.1 open_then))
+      (λ (ended : b.loan ≡ None). absurd (not_later (account_from b es).loan l (later_from b l.place es long (subst (λ (o : Option Loan). IsLater l.place o) (sym ended) tt)) open_then))
+      (kept_or_ended a l e.0 e.1 x legal.0)

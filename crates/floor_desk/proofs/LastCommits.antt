@@ -105,31 +105,31 @@ module _ {G : Type 0} where
   behind : (origin : CoreState × PressState G) (h es fs : List (ℕ × Entry G)) → es ≡ fs → account origin (h ++ es) ≡ account_from (account origin h) fs
   behind origin h es fs is = account_append (start origin) h es ∙ ap (λ z. account_from (account origin h) z) is
 
-  by_answer : (told : G → Option Told) (disk_faults : G → ℕ) (floor : FloorState G) (h es : List (ℕ × Entry G)) (n : ℕ) (answer : Result ℕ CommitFault) (attempts : List Attempt) (tick pump : Result Ticket EnterFault) (ends : Ends) (answered : Bool) (ended : End)
-      → FloorStands told disk_faults floor h → AreOfCommit (account floor.origin h) n es answer → IsLegalFrom told disk_faults floor.origin (account floor.origin h) es → (IsTrue ends.no_memory ⊎ All (λ one. IsBehind one.last → ⊥) attempts) → (IsTrue answered → WasAnswered tick × WasAnswered pump)
+  by_answer : (told : G → Option Told) (size disk_faults emit_faults : G → ℕ) (floor : FloorState G) (h es : List (ℕ × Entry G)) (n : ℕ) (answer : Result ℕ CommitFault) (attempts : List Attempt) (tick pump : Result Ticket EnterFault) (ends : Ends) (answered : Bool) (ended : End)
+      → FloorStands told size disk_faults emit_faults floor h → AreOfCommit (account floor.origin h) n es answer → IsLegalFrom told size disk_faults emit_faults floor.origin (account floor.origin h) es → (IsTrue ends.no_memory ⊎ All (λ one. IsBehind one.last → ⊥) attempts) → (IsTrue answered → WasAnswered tick × WasAnswered pump)
       → IsEndOf ends answered answer ended → IsEnd (account floor.origin (h ++ es)) attempts tick pump ended
-  by_answer told disk_faults floor h es n (Ok upto) attempts tick pump ends answered ended stands are legal tried answers is =
+  by_answer told size disk_faults emit_faults floor h es n (Ok upto) attempts tick pump ends answered ended stands are legal tried answers is =
       let a : Account G = account floor.origin h in
       let fs : List (ℕ × Entry G) = (n, Taken upto) ∷ ((n, Returned upto are.1) ∷ []) in
-      let l = (subst (λ z. IsLegalFrom told disk_faults floor.origin a z) are.2 legal).0 in
+      let l = (subst (λ z. IsLegalFrom told size disk_faults emit_faults floor.origin a z) are.2 legal).0 in
       subst (λ (b : Account G). IsEnd b attempts tick pump ended) (sym (behind floor.origin h es fs are.2))
       (unbroken (account_from a fs) attempts tick pump ends answered ended (record { works = l.0; tried = tried; answers = answers }) (record { written = are.0; sent = refl }) is ends.link_fault ends.no_memory answered refl refl refl)
-  by_answer told disk_faults floor h es n (Err commits.DiskFault) attempts tick pump ends answered ended stands are legal tried answers is =
+  by_answer told size disk_faults emit_faults floor h es n (Err commits.DiskFault) attempts tick pump ends answered ended stands are legal tried answers is =
       let a : Account G = account floor.origin h in
       let fs : List (ℕ × Entry G) = (n, Taken are.0) ∷ ((n, Failed are.0 are.2) ∷ []) in
       subst (λ (b : Account G). IsEnd b attempts tick pump ended) (sym (behind floor.origin h es fs are.3))
       (subst (λ z. IsEnd (account_from a fs) attempts tick pump z) (sym is) ((a.long + 1) + 1, refl))
-  by_answer told disk_faults floor h es n (Err (commits.Stopped at)) attempts tick pump ends answered ended stands are legal tried answers is =
+  by_answer told size disk_faults emit_faults floor h es n (Err (commits.Stopped at)) attempts tick pump ends answered ended stands are legal tried answers is =
       let a : Account G = account floor.origin h in
       let fs : List (ℕ × Entry G) = (n, Looked (Refused (commits.Stopped at))) ∷ [] in
-      let l = (subst (λ z. IsLegalFrom told disk_faults floor.origin a z) are legal).0 in
+      let l = (subst (λ z. IsLegalFrom told size disk_faults emit_faults floor.origin a z) are legal).0 in
       subst (λ (b : Account G). IsEnd b attempts tick pump ended) (sym (behind floor.origin h es fs are))
       (subst (λ z. IsEnd (account_from a fs) attempts tick pump z) (sym is) (at, l))
-  by_answer told disk_faults floor h es n (Err (commits.Busy at upto)) attempts tick pump ends answered ended stands are legal tried answers is = absurd are
-  by_answer told disk_faults floor h es n (Err (commits.Nothing upto)) attempts tick pump ends answered ended stands are legal tried answers is =
+  by_answer told size disk_faults emit_faults floor h es n (Err (commits.Busy at upto)) attempts tick pump ends answered ended stands are legal tried answers is = absurd are
+  by_answer told size disk_faults emit_faults floor h es n (Err (commits.Nothing upto)) attempts tick pump ends answered ended stands are legal tried answers is =
       let a : Account G = account floor.origin h in
       let fs : List (ℕ × Entry G) = (n, Looked (Refused (commits.Nothing upto))) ∷ [] in
-      let l = (subst (λ z. IsLegalFrom told disk_faults floor.origin a z) are legal).0 in
+      let l = (subst (λ z. IsLegalFrom told size disk_faults emit_faults floor.origin a z) are legal).0 in
       let all = (counted floor.origin h).all l.2 in
       let f = stands.shows.fronts in
       let home = f.home l.1 l.0 in
@@ -137,18 +137,18 @@ module _ {G : Type 0} where
       subst (λ (b : Account G). IsEnd b attempts tick pump ended) (sym (behind floor.origin h es fs are))
       (unbroken (account_from a fs) attempts tick pump ends answered ended (record { works = l.0; tried = tried; answers = answers })
       (record { written = home.1 ∙ (ap (λ z. floor.origin.0.events + z) all.0 ∙ sym c.events); sent = ap (λ z. z.dues) home.0 ∙ all.1 }) is ends.link_fault ends.no_memory answered refl refl refl)
-  by_answer told disk_faults floor h es n (Err commits.NoMemory) attempts tick pump ends answered ended stands are legal tried answers is =
+  by_answer told size disk_faults emit_faults floor h es n (Err commits.NoMemory) attempts tick pump ends answered ended stands are legal tried answers is =
       let a : Account G = account floor.origin h in
       let fs : List (ℕ × Entry G) = (n, Looked (Refused commits.NoMemory)) ∷ [] in
-      let l = (subst (λ z. IsLegalFrom told disk_faults floor.origin a z) are legal).0 in
+      let l = (subst (λ z. IsLegalFrom told size disk_faults emit_faults floor.origin a z) are legal).0 in
       subst (λ (b : Account G). IsEnd b attempts tick pump ended) (sym (behind floor.origin h es fs are)) (late (account_from a fs) attempts tick pump ends ended l.0 is ends.link_fault refl)
 
-  pub ends_so : (told : G → Option Told) (disk_faults : G → ℕ) (floor after : FloorState G) (h : List (ℕ × Entry G)) (n : ℕ) (answer : Result ℕ CommitFault) (attempts : List Attempt) (tick pump : Result Ticket EnterFault) (ends : Ends) (answered : Bool) (ended : End)
-      → FloorStands told disk_faults floor h → (c : IsLastCommit told disk_faults floor after h n answer) → after.origin ≡ floor.origin → (IsTrue ends.no_memory ⊎ All (λ one. IsBehind one.last → ⊥) attempts) → (IsTrue answered → WasAnswered tick × WasAnswered pump)
+  pub ends_so : (told : G → Option Told) (size disk_faults emit_faults : G → ℕ) (floor after : FloorState G) (h : List (ℕ × Entry G)) (n : ℕ) (answer : Result ℕ CommitFault) (attempts : List Attempt) (tick pump : Result Ticket EnterFault) (ends : Ends) (answered : Bool) (ended : End)
+      → FloorStands told size disk_faults emit_faults floor h → (c : IsLastCommit told size disk_faults emit_faults floor after h n answer) → after.origin ≡ floor.origin → (IsTrue ends.no_memory ⊎ All (λ one. IsBehind one.last → ⊥) attempts) → (IsTrue answered → WasAnswered tick × WasAnswered pump)
       → IsEndOf ends answered answer ended → IsEnd (account floor.origin (h ++ c.entries)) attempts tick pump ended
-  ends_so told disk_faults floor after h n answer attempts tick pump ends answered ended stands c same tried answers is =
-      let legal : IsLegalFrom told disk_faults floor.origin (account floor.origin h) c.entries = legal_after told disk_faults floor.origin (start floor.origin) h c.entries (subst (λ (o : CoreState × PressState G). IsLegalFrom told disk_faults o (start o) (h ++ c.entries)) same c.stands.legal) in
-      by_answer told disk_faults floor h c.entries n answer attempts tick pump ends answered ended stands c.are legal tried answers is
+  ends_so told size disk_faults emit_faults floor after h n answer attempts tick pump ends answered ended stands c same tried answers is =
+      let legal : IsLegalFrom told size disk_faults emit_faults floor.origin (account floor.origin h) c.entries = legal_after told size disk_faults emit_faults floor.origin (start floor.origin) h c.entries (subst (λ (o : CoreState × PressState G). IsLegalFrom told size disk_faults emit_faults o (start o) (h ++ c.entries)) same c.stands.legal) in
+      by_answer told size disk_faults emit_faults floor h c.entries n answer attempts tick pump ends answered ended stands c.are legal tried answers is
 
 -- ---- what an end tells of the receiver
 

@@ -18,8 +18,8 @@ use Rattle.floor_desk.specs.Workers.{HasTried}
 use Rattle.floor_desk.proofs.Working.{MadeCommit, no_tries, tries_append, worked_then}
 
 module _ {G : Type 0} where
-  pub ended : (told : G → Option Told) (disk_faults : G → ℕ) (origin : CoreState × PressState G) (shows : ℕ → Type 0) (p q r s : Known (Entry G) (CoreState × PressState G)) (tick pump : Result Ticket EnterFault) → MadeCommit told disk_faults origin p q → HasTried shows q r Tick tick → HasTried shows r s Pump pump → HasEnded shows p s tick pump
-  ended told disk_faults origin shows p q r s tick pump c t u =
+  pub ended : (told : G → Option Told) (size disk_faults emit_faults : G → ℕ) (origin : CoreState × PressState G) (shows : ℕ → Type 0) (p q r s : Known (Entry G) (CoreState × PressState G)) (tick pump : Result Ticket EnterFault) → MadeCommit told size disk_faults emit_faults origin p q → HasTried shows q r Tick tick → HasTried shows r s Pump pump → HasEnded shows p s tick pump
+  ended told size disk_faults emit_faults origin shows p q r s tick pump c t u =
       let S : Try → Type 0 = λ (one : Try). shows one.moment in
       let both = t.entries ++ u.entries in
       let same : tries_in (c.entries ++ both) ≡ tries_in t.entries ++ tries_in u.entries = tries_append c.entries both ∙ (ap (λ z. z ++ tries_in both) (no_tries c.entries c.parts) ∙ tries_append t.entries u.entries) in record {

@@ -2,6 +2,7 @@ pub mod Carrying
 pub mod ClosedHistories
 pub mod Desks
 pub mod DiskFaults
+pub mod Emissions
 pub mod Ending
 pub mod Floors
 pub mod Growing
@@ -17,4 +18,5 @@ pub mod Receiving
 pub mod ServedDesks
 pub mod Ticking
 pub mod Trying
+pub mod Turns
 pub mod Working

@@ -49,8 +49,8 @@ module _ {G : Type 0} where
 same_loan : (one other : Loan) → Some one ≡ Some other → one ≡ other
 same_loan one other same = cc
 
-module _ {G : Type 0} (told : G → Option Told) (disk_faults : G → ℕ) (origin : CoreState × PressState G) where
-  within_step : (a : Account G) (n : ℕ) (e : Entry G) → MayComeNext told disk_faults origin a n e → IsWithin a → IsWithin (step a n e)
+module _ {G : Type 0} (told : G → Option Told) (size disk_faults emit_faults : G → ℕ) (origin : CoreState × PressState G) where
+  within_step : (a : Account G) (n : ℕ) (e : Entry G) → MayComeNext told size disk_faults emit_faults origin a n e → IsWithin a → IsWithin (step a n e)
   within_step a n (Happened input moment ticket) m w = within_accepted a (answer_to a.state input.value moment) w
   within_step a n (Looked (Tried input moment answer)) m w = within_tried a (answer_to a.state input.value moment) answer w
   within_step a n (Looked (Denied fault)) m w = within_looked a w
@@ -71,7 +71,7 @@ module _ {G : Type 0} (told : G → Option Told) (disk_faults : G → ℕ) (orig
     within = λ loan none. absurd (cc);
   }
 
-  durable_step : (a : Account G) (n : ℕ) (e : Entry G) → MayComeNext told disk_faults origin a n e → IsWithin a → a.durable ≤ (step a n e).durable
+  durable_step : (a : Account G) (n : ℕ) (e : Entry G) → MayComeNext told size disk_faults emit_faults origin a n e → IsWithin a → a.durable ≤ (step a n e).durable
   durable_step a n (Happened input moment ticket) m w = omega arith
   durable_step a n (Looked (Tried input moment answer)) m w = omega (arith, durable_tried a (answer_to a.state input.value moment) answer)
   durable_step a n (Looked (Denied fault)) m w = omega arith
@@ -81,7 +81,7 @@ module _ {G : Type 0} (told : G → Option Told) (disk_faults : G → ℕ) (orig
   durable_step a n (Failed upto device) m w = omega arith
 
   -- what is durable stays so
-  durable_grows : (a : Account G) (h : List (ℕ × Entry G)) → IsLegalFrom told disk_faults origin a h → IsWithin a → a.durable ≤ (account_from a h).durable
+  durable_grows : (a : Account G) (h : List (ℕ × Entry G)) → IsLegalFrom told size disk_faults emit_faults origin a h → IsWithin a → a.durable ≤ (account_from a h).durable
   durable_grows a [] legal w = omega arith
   durable_grows a (e ∷ es) legal w = omega (arith, durable_step a e.0 e.1 legal.0 w, durable_grows (step a e.0 e.1) es legal.1 (within_step a e.0 e.1 legal.0 w))
 
@@ -92,12 +92,12 @@ module _ {G : Type 0} (told : G → Option Told) (disk_faults : G → ℕ) (orig
   given a n (Returned upto press) to gives = gives
   given a n (Failed upto device) to gives = absurd gives
 
-  licensed_from : (a : Account G) (h : List (ℕ × Entry G)) (to : ℕ) → IsLegalFrom told disk_faults origin a h → IsWithin a → Licenses h to → to ≤ (account_from a h).durable
+  licensed_from : (a : Account G) (h : List (ℕ × Entry G)) (to : ℕ) → IsLegalFrom told size disk_faults emit_faults origin a h → IsWithin a → Licenses h to → to ≤ (account_from a h).durable
   licensed_from a [] to legal w l = absurd l
   licensed_from a (e ∷ es) to legal w l =
       let next = within_step a e.0 e.1 legal.0 w in
       ⊎_elim (λ (gives : GivesMark e.1 to). omega (arith, given a e.0 e.1 to gives, durable_grows (step a e.0 e.1) es legal.1 next)) (λ (later : Licenses es to). licensed_from (step a e.0 e.1) es to legal.1 next later) l
 
   -- a mark that a history licenses is no more than what is durable
-  pub licensed_durable : (h : List (ℕ × Entry G)) (to : ℕ) → IsLegal told disk_faults origin h → Licenses h to → to ≤ (account_from (start origin) h).durable
+  pub licensed_durable : (h : List (ℕ × Entry G)) (to : ℕ) → IsLegal told size disk_faults emit_faults origin h → Licenses h to → to ≤ (account_from (start origin) h).durable
   licensed_durable h to legal l = licensed_from (start origin) h to legal (record { durable = omega arith; before = λ loan none. absurd (cc); within = λ loan none. absurd (cc) }) l

@@ -22,20 +22,21 @@ use Rattle.floor_desk.specs.declared.receiver.Ends.{Ends}
 use Rattle.floor_desk.specs.declared.serve.Closed.{Closed}
 use Rattle.floor_desk.specs.Serving.{HasEnded, WasAnswered, IsEnd, IsEndOf, Serves, Workings, WorkedTogether}
 use Rattle.floor_desk.proofs.ClosedHistories.{closes, settles}
+use Rattle.floor_desk.proofs.Emissions.{ground_counts}
 use Rattle.floor_desk.proofs.LastCommits.{ends_so}
 
-module _ {G : Type 0} (told : G → Option Told) (disk_faults : G → ℕ) where
+module _ {G : Type 0} (told : G → Option Told) (size disk_faults emit_faults : G → ℕ) where
   pub served : (shows : ℕ → Type 0) (old new : Option (List Send)) (origin : CoreState × PressState G) (p q : Known (Entry G) (CoreState × PressState G)) (ends : Ends) (tick pump : Result Ticket EnterFault) (floor after : FloorState G) (answer : Result ℕ CommitFault) (answered : Bool) (device : G) (closed : Closed)
-      → WorkedTogether shows old new p ends → HasEnded shows p q tick pump → (k : IsClosed told disk_faults q floor) → floor.origin ≡ origin
-      → ((h : List (ℕ × Entry G)) (n : ℕ) → floor.next ≡ length h + 1 → FloorStands told disk_faults floor h → IsLastCommit told disk_faults floor after h n answer) → after.origin ≡ floor.origin → IsGroundOf after.spot device
+      → WorkedTogether shows old new p ends → HasEnded shows p q tick pump → (k : IsClosed told size disk_faults emit_faults q floor) → floor.origin ≡ origin
+      → ((h : List (ℕ × Entry G)) (n : ℕ) → floor.next ≡ length h + 1 → FloorStands told size disk_faults emit_faults floor h → IsLastCommit told size disk_faults emit_faults floor after h n answer) → after.origin ≡ floor.origin → IsGroundOf after.spot device
       → (IsTrue answered → WasAnswered tick × WasAnswered pump) → IsEndOf ends answered answer closed.end
       → closed.received ≡ ends.received → closed.events ≡ after.core.events → closed.durable ≡ after.durable → closed.lost ≡ capped (after.lost + ends.lost)
-      → Serves told disk_faults shows old new origin device closed
+      → Serves told size disk_faults emit_faults shows old new origin device closed
   served shows old new origin p q ends tick pump floor after answer answered device closed w e k from settled same ground answers is_end received events durable lost =
       let h = k.last.seen in
       let v : Workings G = record w.workings { last = e.entries ++ replicate k.waited.count (Looked Closing) } in
-      let s : IsLastCommit told disk_faults floor after h v.server answer = settled h v.server k.next k.stands in
-      let g = settles shows old new h s.entries v w.attempts tick pump (account floor.origin h) answer s.are (closes shows old new told disk_faults p q ends tick pump floor w e k) in
+      let s : IsLastCommit told size disk_faults emit_faults floor after h v.server answer = settled h v.server k.next k.stands in
+      let g = settles shows old new h s.entries v w.attempts tick pump (account floor.origin h) answer s.are (closes shows old new told size disk_faults emit_faults p q ends tick pump floor w e k) in
       let whole : after.origin ≡ origin = same ∙ from in record {
         history = h ++ s.entries;
         workings = g.workings;
@@ -53,6 +54,7 @@ module _ {G : Type 0} (told : G → Option Told) (disk_faults : G → ℕ) where
         events = events ∙ (ap (λ (c : CoreState). c.events) s.stands.shows.core ∙ ap (λ (o : CoreState × PressState G). (account o (h ++ s.entries)).state.events) whole);
         durable = durable ∙ (s.stands.shows.durable ∙ ap (λ (o : CoreState × PressState G). (account o (h ++ s.entries)).durable) whole);
         lost = lost ∙ ap (λ z. capped (after.lost + z)) w.lost;
+        counted = (ground_counts told size disk_faults emit_faults origin after (h ++ s.entries) device s.stands whole ground).1;
         ended = subst (λ (o : CoreState × PressState G). IsEnd (account o (h ++ s.entries)) w.attempts tick pump closed.end) from
-            (ends_so told disk_faults floor after h v.server answer w.attempts tick pump ends answered closed.end k.stands s same w.tried answers is_end);
+            (ends_so told size disk_faults emit_faults floor after h v.server answer w.attempts tick pump ends answered closed.end k.stands s same w.tried answers is_end);
       }

@@ -41,15 +41,15 @@ module _ {G : Type 0} where
       }
 
   -- a Tick and then a Pump
-  pub ticked_once : (told : G → Option Told) (disk_faults : G → ℕ) (origin : CoreState × PressState G) (shows : ℕ → Type 0) (p q r : Known (Entry G) (CoreState × PressState G)) (one two : Memo Input) (early late : ℕ) (first second : Result Ticket EnterFault) → one.value ≡ Tick → shows early → MakesEntry told disk_faults origin p q (entry_for one early first)
-      → two.value ≡ Pump → shows late → MakesEntry told disk_faults origin q r (entry_for two late second) → HasTicked shows p r
-  ticked_once told disk_faults origin shows p q r one two early late first second is_tick shown adds is_pump shown' adds' =
+  pub ticked_once : (told : G → Option Told) (size disk_faults emit_faults : G → ℕ) (origin : CoreState × PressState G) (shows : ℕ → Type 0) (p q r : Known (Entry G) (CoreState × PressState G)) (one two : Memo Input) (early late : ℕ) (first second : Result Ticket EnterFault) → one.value ≡ Tick → shows early → MakesEntry told size disk_faults emit_faults origin p q (entry_for one early first)
+      → two.value ≡ Pump → shows late → MakesEntry told size disk_faults emit_faults origin q r (entry_for two late second) → HasTicked shows p r
+  ticked_once told size disk_faults emit_faults origin shows p q r one two early late first second is_tick shown adds is_pump shown' adds' =
       let S : Try → Type 0 = λ (t : Try). shows t.moment in
       let e : Entry G = entry_for one early first in let f : Entry G = entry_for two late second in
       let t : Try = record { input = one.value; moment = early; answer = first } in let u : Try = record { input = two.value; moment = late; answer = second } in
       let same : tries_in (e ∷ (f ∷ [])) ≡ t ∷ (u ∷ []) = ap (λ z. z ++ (tried_by f ++ [])) (tried_of e one early first refl) ∙ ap (λ z. t ∷ (z ++ [])) (tried_of f two late second refl) in record {
         entries = e ∷ (f ∷ []);
-        worked = worked_then p q r (e ∷ []) (f ∷ []) (worked_entry told disk_faults origin p q e adds) (worked_entry told disk_faults origin q r f adds');
+        worked = worked_then p q r (e ∷ []) (f ∷ []) (worked_entry told size disk_faults emit_faults origin p q e adds) (worked_entry told size disk_faults emit_faults origin q r f adds');
         ticks = subst AreTicks (sym same) (is_tick, is_pump, tt);
         parts = All-cons IsOfInput e (f ∷ []) (is_of_input e one early first refl) (All-cons IsOfInput f [] (is_of_input f two late second refl) (All-nil IsOfInput));
         shown = subst (λ z. All S z) (sym same) (All-cons S t (u ∷ []) shown (All-cons S u [] shown' (All-nil S)));
@@ -68,8 +68,8 @@ module _ {G : Type 0} where
   pub kept_none : (p : Known (Entry G) (CoreState × PressState G)) → HasKept p p
   kept_none p = record { entries = []; worked = worked_none p; parts = All-nil IsOfCommit }
 
-  pub kept_more : (told : G → Option Told) (disk_faults : G → ℕ) (origin : CoreState × PressState G) (p q r : Known (Entry G) (CoreState × PressState G)) → HasKept p q → MadeCommit told disk_faults origin q r → HasKept p r
-  kept_more told disk_faults origin p q r a b = record {
+  pub kept_more : (told : G → Option Told) (size disk_faults emit_faults : G → ℕ) (origin : CoreState × PressState G) (p q r : Known (Entry G) (CoreState × PressState G)) → HasKept p q → MadeCommit told size disk_faults emit_faults origin q r → HasKept p r
+  kept_more told size disk_faults emit_faults origin p q r a b = record {
     entries = a.entries ++ b.entries;
     worked = worked_then p q r a.entries b.entries a.worked b.worked;
     parts = All-append IsOfCommit a.entries b.entries a.parts b.parts;

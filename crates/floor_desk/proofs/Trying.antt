@@ -89,12 +89,12 @@ module _ {G : Type 0} where
   finds_none e memo moment (Err fault) is behind = subst FindsNone (sym is) behind
 
   -- the last try
-  pub tried_now : (told : G → Option Told) (disk_faults : G → ℕ) (origin : CoreState × PressState G) (shows : ℕ → Type 0) (p q r : Known (Entry G) (CoreState × PressState G)) (input : Input) (memo : Memo Input) (moment : ℕ) (answer : Result Ticket EnterFault) → HasTurnedBack shows p q input → memo.value ≡ input → shows moment
-      → MakesEntry told disk_faults origin q r (entry_for memo moment answer) → HasTried shows p r input answer
-  tried_now told disk_faults origin shows p q r input memo moment answer t is shown a =
+  pub tried_now : (told : G → Option Told) (size disk_faults emit_faults : G → ℕ) (origin : CoreState × PressState G) (shows : ℕ → Type 0) (p q r : Known (Entry G) (CoreState × PressState G)) (input : Input) (memo : Memo Input) (moment : ℕ) (answer : Result Ticket EnterFault) → HasTurnedBack shows p q input → memo.value ≡ input → shows moment
+      → MakesEntry told size disk_faults emit_faults origin q r (entry_for memo moment answer) → HasTried shows p r input answer
+  tried_now told size disk_faults emit_faults origin shows p q r input memo moment answer t is shown a =
       let e : Entry G = entry_for memo moment answer in let o = one_of shows memo moment answer shown in record {
         entries = t.entries ++ e ∷ [];
-        worked = worked_then p q r t.entries (e ∷ []) t.worked (worked_entry told disk_faults origin q r e a);
+        worked = worked_then p q r t.entries (e ∷ []) t.worked (worked_entry told size disk_faults emit_faults origin q r e a);
         tried = subst (λ z. IsTried input answer z) (sym (tries_snoc t.entries e o.one o.is)) (tried_last input answer (tries_in t.entries) o.one t.tries (o.input_is ∙ is) o.answer_is);
         parts = All-append IsPart t.entries (e ∷ []) t.parts (All-cons IsPart e [] o.part (All-nil IsPart));
         shown = shown_snoc shows t.entries e o.one o.is o.moment t.shown;
@@ -102,13 +102,13 @@ module _ {G : Type 0} where
       }
 
   -- a try to which a commit had to come first
-  pub turned_now : (told : G → Option Told) (disk_faults : G → ℕ) (origin : CoreState × PressState G) (shows : ℕ → Type 0) (p q r : Known (Entry G) (CoreState × PressState G)) (input : Input) (memo : Memo Input) (moment : ℕ) (answer : Result Ticket EnterFault) → HasTurnedBack shows p q input → memo.value ≡ input → shows moment
-      → MakesEntry told disk_faults origin q r (entry_for memo moment answer) → IsBehind answer → HasTurnedBack shows p r input
-  turned_now told disk_faults origin shows p q r input memo moment answer t is shown a behind =
+  pub turned_now : (told : G → Option Told) (size disk_faults emit_faults : G → ℕ) (origin : CoreState × PressState G) (shows : ℕ → Type 0) (p q r : Known (Entry G) (CoreState × PressState G)) (input : Input) (memo : Memo Input) (moment : ℕ) (answer : Result Ticket EnterFault) → HasTurnedBack shows p q input → memo.value ≡ input → shows moment
+      → MakesEntry told size disk_faults emit_faults origin q r (entry_for memo moment answer) → IsBehind answer → HasTurnedBack shows p r input
+  turned_now told size disk_faults emit_faults origin shows p q r input memo moment answer t is shown a behind =
       let e : Entry G = entry_for memo moment answer in let o = one_of shows memo moment answer shown in
       let P : Try → Type 0 = IsTurnedBack input in record {
         entries = t.entries ++ e ∷ [];
-        worked = worked_then p q r t.entries (e ∷ []) t.worked (worked_entry told disk_faults origin q r e a);
+        worked = worked_then p q r t.entries (e ∷ []) t.worked (worked_entry told size disk_faults emit_faults origin q r e a);
         tries = subst (λ z. All P z) (sym (tries_snoc t.entries e o.one o.is))
             (All-append P (tries_in t.entries) (o.one ∷ []) t.tries (All-cons P o.one [] (o.input_is ∙ is, subst IsBehind (sym o.answer_is) behind) (All-nil P)));
         parts = All-append IsPart t.entries (e ∷ []) t.parts (All-cons IsPart e [] o.part (All-nil IsPart));
@@ -119,8 +119,8 @@ module _ {G : Type 0} where
   commits_are_parts es all = λ k d in_range. inr (all k d in_range)
 
   -- a commit behind it
-  pub turned_commit : (told : G → Option Told) (disk_faults : G → ℕ) (origin : CoreState × PressState G) (shows : ℕ → Type 0) (p q r : Known (Entry G) (CoreState × PressState G)) (input : Input) → HasTurnedBack shows p q input → MadeCommit told disk_faults origin q r → HasTurnedBack shows p r input
-  turned_commit told disk_faults origin shows p q r input t c =
+  pub turned_commit : (told : G → Option Told) (size disk_faults emit_faults : G → ℕ) (origin : CoreState × PressState G) (shows : ℕ → Type 0) (p q r : Known (Entry G) (CoreState × PressState G)) (input : Input) → HasTurnedBack shows p q input → MadeCommit told size disk_faults emit_faults origin q r → HasTurnedBack shows p r input
+  turned_commit told size disk_faults emit_faults origin shows p q r input t c =
       let same : tries_in (t.entries ++ c.entries) ≡ tries_in t.entries = tries_append t.entries c.entries ∙ (ap (λ z. tries_in t.entries ++ z) (no_tries c.entries c.parts) ∙ append-nil (tries_in t.entries)) in record {
         entries = t.entries ++ c.entries;
         worked = worked_then p q r t.entries c.entries t.worked c.worked;
@@ -130,13 +130,13 @@ module _ {G : Type 0} where
       }
 
   -- a commit behind it found no memory
-  pub tried_none : (told : G → Option Told) (disk_faults : G → ℕ) (origin : CoreState × PressState G) (shows : ℕ → Type 0) (p q r : Known (Entry G) (CoreState × PressState G)) (input : Input) (last : Result Ticket EnterFault) → HasTried shows p q input last
-      → MakesEntry told disk_faults origin q r (Looked (Refused commits.NoMemory)) → HasTried shows p r input last
-  tried_none told disk_faults origin shows p q r input last t a =
+  pub tried_none : (told : G → Option Told) (size disk_faults emit_faults : G → ℕ) (origin : CoreState × PressState G) (shows : ℕ → Type 0) (p q r : Known (Entry G) (CoreState × PressState G)) (input : Input) (last : Result Ticket EnterFault) → HasTried shows p q input last
+      → MakesEntry told size disk_faults emit_faults origin q r (Looked (Refused commits.NoMemory)) → HasTried shows p r input last
+  tried_none told size disk_faults emit_faults origin shows p q r input last t a =
       let e : Entry G = Looked (Refused commits.NoMemory) in
       let same : tries_in (t.entries ++ e ∷ []) ≡ tries_in t.entries = tries_append t.entries (e ∷ []) ∙ append-nil (tries_in t.entries) in record {
         entries = t.entries ++ e ∷ [];
-        worked = worked_then p q r t.entries (e ∷ []) t.worked (worked_entry told disk_faults origin q r e a);
+        worked = worked_then p q r t.entries (e ∷ []) t.worked (worked_entry told size disk_faults emit_faults origin q r e a);
         tried = subst (λ z. IsTried input last z) (sym same) t.tried;
         parts = All-append IsPart t.entries (e ∷ []) t.parts (All-cons IsPart e [] (inr tt) (All-nil IsPart));
         shown = subst (λ z. All (λ (one : Try). shows one.moment) z) (sym same) t.shown;

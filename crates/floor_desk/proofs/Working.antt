@@ -1,5 +1,5 @@
 -- What a pass made, one stretch after the other.
-use Rattle.std.proofs.Common.{Option, ◌≡◌, ◌≤◌, ℕ, List, [], ◌∷◌, ◌++◌, refl, sym, ap, ◌∙◌, subst, le_refl, le_trans, append_assoc, max}
+use Rattle.std.proofs.Common.{Option, ◌≡◌, ◌≤◌, ℕ, List, [], ◌∷◌, ◌++◌, refl, sym, ap, ◌∙◌, subst, le_refl, le_trans, append_assoc, max, arith}
 use Rattle.std.proofs.lemmas.List.{append-nil}
 use Rattle.std.proofs.lemmas.List.Elements.{All-cons, All-head, All-nil, All-tail}
 use Rattle.std.proofs.Math.Nat.{le-max_left}
@@ -26,7 +26,7 @@ use Rattle.floor_desk.specs.declared.desk.Standing.TheVariants.{Durable, NotYet}
 use Rattle.floor_desk.specs.Accounts.{entry_by, entry_for}
 use Rattle.floor_desk.specs.Desks.{MakesEntry, HasCommitted, TellsStanding, Leaves}
 use Rattle.floor_desk.specs.Tries.{IsOfCommit, IsOfInput, tried_by, tries_in}
-use Rattle.floor_desk.specs.Workers.{Worked}
+use Rattle.floor_desk.specs.Workers.{Worked, calls_in}
 
 module _ {G : Type 0} where
   -- nothing was made
@@ -93,9 +93,18 @@ module _ {G : Type 0} where
 
 -- ---- what a call of the desk made
 
-module _ {G : Type 0} (told : G → Option Told) (disk_faults : G → ℕ) (origin : CoreState × PressState G) where
+module _ {G : Type 0} where
+  -- an entry was made by one call, or it is the second of a commit
+  pub calls_one : (e : Entry G) → calls_in (e ∷ []) ≤ 1
+  calls_one (Event input moment ticket) = omega arith
+  calls_one (Looked look) = omega arith
+  calls_one (Taken upto) = omega arith
+  calls_one (Returned upto press) = omega arith
+  calls_one (Failed upto device) = omega arith
+
+module _ {G : Type 0} (told : G → Option Told) (size disk_faults emit_faults : G → ℕ) (origin : CoreState × PressState G) where
   -- one entry
-  pub worked_entry : (p q : Known (Entry G) (CoreState × PressState G)) (e : Entry G) → MakesEntry told disk_faults origin p q e → Worked p q (e ∷ [])
+  pub worked_entry : (p q : Known (Entry G) (CoreState × PressState G)) (e : Entry G) → MakesEntry told size disk_faults emit_faults origin p q e → Worked p q (e ∷ [])
   worked_entry p q e a =
       let seen : q.seen ≡ (p.seen ++ a.between) ++ (p.number, e) ∷ [] = ap (λ (k : Known (Entry G) (CoreState × PressState G)). k.seen) a.same in
       let mark : q.mark ≡ p.mark = ap (λ (k : Known (Entry G) (CoreState × PressState G)). k.mark) a.same in record {
@@ -104,7 +113,7 @@ module _ {G : Type 0} (told : G → Option Told) (disk_faults : G → ℕ) (orig
         mark = subst (λ m. p.mark ≤ m) (sym mark) (le_refl p.mark);
       }
 
-  leaves_worked : (p q : Known (Entry G) (CoreState × PressState G)) (upto : ℕ) (e : Entry G) (mark : ℕ) → p.mark ≤ mark → Leaves told disk_faults origin p q upto e mark → Worked p q (Taken upto ∷ (e ∷ []))
+  leaves_worked : (p q : Known (Entry G) (CoreState × PressState G)) (upto : ℕ) (e : Entry G) (mark : ℕ) → p.mark ≤ mark → Leaves told size disk_faults emit_faults origin p q upto e mark → Worked p q (Taken upto ∷ (e ∷ []))
   leaves_worked p q upto e mark up l =
       let first : List (ℕ × Entry G) = (p.number, Taken upto) ∷ [] in
       let last : List (ℕ × Entry G) = (p.number, e) ∷ [] in
@@ -124,20 +133,23 @@ module _ {G : Type 0} (told : G → Option Told) (disk_faults : G → ℕ) (orig
     pub entries : List (Entry G)
     pub worked : Worked p q entries
     pub parts : All IsOfCommit entries
+    pub calls : calls_in entries ≤ 1
 
-  refused_one : (p q : Known (Entry G) (CoreState × PressState G)) (fault : CommitFault) → MakesEntry told disk_faults origin p q (Looked (Refused fault)) → MadeCommit p q
-  refused_one p q fault a = record { entries = Looked (Refused fault) ∷ []; worked = worked_entry p q (Looked (Refused fault)) a; parts = All-cons IsOfCommit (Looked (Refused fault)) [] tt (All-nil IsOfCommit) }
+  refused_one : (p q : Known (Entry G) (CoreState × PressState G)) (fault : CommitFault) → MakesEntry told size disk_faults emit_faults origin p q (Looked (Refused fault)) → MadeCommit p q
+  refused_one p q fault a = record { entries = Looked (Refused fault) ∷ []; worked = worked_entry p q (Looked (Refused fault)) a; parts = All-cons IsOfCommit (Looked (Refused fault)) [] tt (All-nil IsOfCommit); calls = omega arith }
 
-  pub made_commit : (p q : Known (Entry G) (CoreState × PressState G)) (result : Result ℕ CommitFault) → HasCommitted told disk_faults origin p q result → MadeCommit p q
+  pub made_commit : (p q : Known (Entry G) (CoreState × PressState G)) (result : Result ℕ CommitFault) → HasCommitted told size disk_faults emit_faults origin p q result → MadeCommit p q
   made_commit p q (Ok upto) c = record {
     entries = Taken upto ∷ (Returned upto c.0 ∷ []);
     worked = leaves_worked p q upto (Returned upto c.0) (max p.mark upto) (le-max_left p.mark upto) c.1;
     parts = All-cons IsOfCommit (Taken upto) (Returned upto c.0 ∷ []) tt (All-cons IsOfCommit (Returned upto c.0) [] tt (All-nil IsOfCommit));
+    calls = omega arith;
   }
   made_commit p q (Err commits.DiskFault) c = record {
     entries = Taken c.0 ∷ (Failed c.0 c.1 ∷ []);
     worked = leaves_worked p q c.0 (Failed c.0 c.1) p.mark (le_refl p.mark) c.2;
     parts = All-cons IsOfCommit (Taken c.0) (Failed c.0 c.1 ∷ []) tt (All-cons IsOfCommit (Failed c.0 c.1) [] tt (All-nil IsOfCommit));
+    calls = omega arith;
   }
   made_commit p q (Err (commits.Stopped at)) c = refused_one p q (commits.Stopped at) c
   made_commit p q (Err (commits.Busy at upto)) c = refused_one p q (commits.Busy at upto) c

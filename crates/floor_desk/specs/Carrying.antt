@@ -11,14 +11,15 @@ use Rattle.alarm_core.specs.State.{CoreState}
 use Rattle.alarm_core.specs.declared.event.Event.{Event}
 use Rattle.alarm_core.specs.declared.site.Site.{Site}
 use Rattle.alarm_journal.specs.Emissions.{EmitsAll}
+use Rattle.alarm_journal.specs.Journal.{Content}
 use Rattle.alarm_journal.specs.Journal.{Site as Journal}
 use Rattle.alarm_journal.specs.Press.{PressState, room_of}
 use Rattle.state_codec.specs.Contents.{ImageStands, records_of}
-use Rattle.state_codec.specs.Keeping.{Commits, HoldsHistory}
+use Rattle.state_codec.specs.Keeping.{Commits, HoldsHistory, Rests}
 use Rattle.state_codec.specs.Work.{IsWorkOf}
 use Rattle.floor_desk.specs.Accounts.{Account, Front, step}
 use Rattle.floor_desk.specs.Courses.{KeepsCourse, KeepsFronts}
-use Rattle.floor_desk.specs.Prefixes.{HasLost, with_first}
+use Rattle.floor_desk.specs.Prefixes.{CountsLost, HasLost, with_first}
 use Rattle.floor_desk.specs.Holding.{KeptOrder, HoldsOrder, pending_events, pending_sends}
 use Rattle.floor_desk.specs.declared.entry.Entry.{Entry}
 use Rattle.floor_desk.specs.declared.entry.Entry.TheVariants.{Taken, Returned, Failed}
@@ -78,10 +79,22 @@ module _ {G : Type 0} (told : G → Option Told) where
   BreaksLoan origin a upto device = (journal : Journal) (history : List Event) → Represents origin.0 history → HoldsHistory journal origin.0.site history origin.1.layout (told origin.1.device)
       → Commits journal origin.0.site (with_first history (a.durable - origin.0.events) a.order) (with_first history (upto - origin.0.events) a.order) (told a.press.device) (told device)
 
-module _ {G : Type 0} (told : G → Option Told) (disk_faults : G → ℕ) where
-  -- What comes back belongs to a load that left with the press to write up to an event, when the history reached to a front of what it comes to now. Home, no call of the disk has failed, the order up to that event is written, and just the dues up to that front were sent, of which so many more were lost. Lost, none was sent behind those that were sent before the load.
+module _ {G : Type 0} (size disk_faults emit_faults : G → ℕ) where
+  -- What the ground counts behind a load, whoever made that. Home, no call of the disk has failed, and emissions failed just where datagrams were lost. Lost, a call of the disk has failed, and no emission. The device has its size.
+  abbrev pub CountsCarried : G → Carried G → Type 0
+  CountsCarried before (Home press upto lost) = (size press.device ≡ size before) × (disk_faults press.device ≡ disk_faults before) × CountsLost (emit_faults before) (emit_faults press.device) lost
+  CountsCarried before (Broken device upto) = (size device ≡ size before) × Rose (disk_faults before) (disk_faults device) × (emit_faults device ≡ emit_faults before)
+
+module _ {G : Type 0} (told : G → Option Told) where
+  -- home, the journal rests on this content
+  abbrev pub RestsCarried : Journal → Content → Carried G → Type 0
+  RestsCarried journal content (Home press upto lost) = Rests journal press.layout (told press.device) content
+  RestsCarried journal content (Broken device upto) = ⊤
+
+module _ {G : Type 0} (told : G → Option Told) (size disk_faults emit_faults : G → ℕ) where
+  -- What comes back belongs to a load that left with the press to write up to an event, when the history reached to a front of what it comes to now. Home, the order up to that event is written, and just the dues up to that front were sent, of which so many more were lost. Lost, none was sent behind those that were sent before the load. And the ground counts so.
   abbrev pub IsCarriedOut : CoreState × PressState G → Account G → ℕ → Front → Carried G → Type 0
   IsCarriedOut origin a upto front (Home press event more) =
-      (event ≡ upto) × (disk_faults press.device ≡ disk_faults a.press.device) × HoldsOrder told origin a upto front press × HasLost more (told a.press.device) (told press.device) × KeepsLoan told origin a upto front more press
+      (event ≡ upto) × CountsCarried size disk_faults emit_faults a.press.device (Home press event more) × HoldsOrder told origin a upto front press × HasLost more (told a.press.device) (told press.device) × KeepsLoan told origin a upto front more press
   IsCarriedOut origin a upto front (Broken device event) =
-      (event ≡ upto) × Rose (disk_faults a.press.device) (disk_faults device) × KeptOrder told origin a a.back device × HasLost 0 (told a.press.device) (told device) × BreaksLoan told origin a upto device
+      (event ≡ upto) × CountsCarried size disk_faults emit_faults a.press.device (Broken device event) × KeptOrder told origin a a.back device × HasLost 0 (told a.press.device) (told device) × BreaksLoan told origin a upto device

@@ -27,12 +27,12 @@ module _ {G : Type 0} (origin : CoreState × PressState G) where
     pub own : entries_under p.number p.seen ≡ p.mine
     pub fronts : KeepsFronts origin (account origin p.seen)
 
-module _ {G : Type 0} (told : G → Option Told) (disk_faults : G → ℕ) (origin : CoreState × PressState G) where
+module _ {G : Type 0} (told : G → Option Told) (size disk_faults emit_faults : G → ℕ) (origin : CoreState × PressState G) where
   -- One entry of this call, behind what came between: of the pass's own entries that holds those from before, and as many events were durable then as its mark tells.
   pub record MakesEntry (p q : Known (Entry G) (CoreState × PressState G)) (e : Entry G) : Type 0 where
     pub between : List (ℕ × Entry G)
     pub same : q ≡ record p { mine = p.mine ++ e ∷ []; seen = (p.seen ++ between) ++ (p.number, e) ∷ [] }
-    pub legal : IsLegal told disk_faults origin q.seen
+    pub legal : IsLegal told size disk_faults emit_faults origin q.seen
     pub own : entries_under p.number (p.seen ++ between) ≡ p.mine
     pub marked : p.mark ≢ 0 → p.mark ≤ (account origin (p.seen ++ between)).durable
 
@@ -48,7 +48,7 @@ module _ {G : Type 0} (told : G → Option Told) (disk_faults : G → ℕ) (orig
     pub between : List (ℕ × Entry G)
     pub same : q ≡ record p { mine = (p.mine ++ Taken upto ∷ []) ++ e ∷ []; seen = (((p.seen ++ before) ++ (p.number, Taken upto) ∷ []) ++ between) ++ (p.number, e) ∷ []; mark = mark }
     pub all : upto ≡ (account origin (p.seen ++ before)).state.events
-    pub legal : IsLegal told disk_faults origin q.seen
+    pub legal : IsLegal told size disk_faults emit_faults origin q.seen
     pub own : entries_under p.number (p.seen ++ before) ≡ p.mine
     pub marked : p.mark ≢ 0 → p.mark ≤ (account origin (p.seen ++ before)).durable
 

@@ -24,19 +24,19 @@ module _ {G : Type 0} where
   AreOfCommit a n entries (Err (commits.Busy at upto)) = ⊥
   AreOfCommit a n entries (Err fault) = entries ≡ (n, Looked (Refused fault)) ∷ []
 
-module _ {G : Type 0} (told : G → Option Told) (disk_faults : G → ℕ) where
+module _ {G : Type 0} (told : G → Option Told) (size disk_faults emit_faults : G → ℕ) where
   -- what is left of a desk whose last pass has waited for the press: the floor stands for a history that has all calls of the pass, and knows the place of the next entry
   pub record IsClosed (p : Known (Entry G) (CoreState × PressState G)) (floor : FloorState G) : Type 0 where
     pub waiting : Known (Entry G) (CoreState × PressState G)
     pub last : Known (Entry G) (CoreState × PressState G)
     pub waited : Waited p waiting
     pub sees : Sees Licenses waiting last
-    pub stands : FloorStands told disk_faults floor last.seen
+    pub stands : FloorStands told size disk_faults emit_faults floor last.seen
     pub next : floor.next ≡ length last.seen + 1
 
   -- A commit on a closed floor added its entries to the history, under a number. The floor stands for that, and knows the place of the next entry, as far as 64 bits go.
   pub record IsLastCommit (old new : FloorState G) (h : List (ℕ × Entry G)) (n : ℕ) (answer : Result ℕ CommitFault) : Type 0 where
     pub entries : List (ℕ × Entry G)
     pub are : AreOfCommit (account old.origin h) n entries answer
-    pub stands : FloorStands told disk_faults new (h ++ entries)
+    pub stands : FloorStands told size disk_faults emit_faults new (h ++ entries)
     pub next : new.next ≡ capped (length (h ++ entries) + 1)

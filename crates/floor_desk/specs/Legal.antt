@@ -11,7 +11,7 @@ use Rattle.floor_desk.specs.declared.load.Carried.TheVariants.{Home, Broken}
 use Rattle.floor_desk.specs.Accounts.{Account, Loan, IsAnswered, IsDenied, IsEntered, IsOutWith, IsPending, start, step}
 use Rattle.floor_desk.specs.Carrying.{IsCarriedOut}
 
-module _ {G : Type 0} (told : G → Option Told) (disk_faults : G → ℕ) (origin : CoreState × PressState G) where
+module _ {G : Type 0} (told : G → Option Told) (size disk_faults emit_faults : G → ℕ) (origin : CoreState × PressState G) where
   -- an entry of a pass with this number
   abbrev pub MayComeNext : Account G → ℕ → Entry G → Type 0
   MayComeNext a n (Happened input moment ticket) = IsEntered a (answer_to a.state input.value moment) ticket
@@ -19,8 +19,8 @@ module _ {G : Type 0} (told : G → Option Told) (disk_faults : G → ℕ) (orig
   MayComeNext a n (Looked (Denied fault)) = IsDenied a fault
   MayComeNext a n (Looked Closing) = (loan : Loan) × (a.loan ≡ Some loan)
   MayComeNext a n (Taken upto) = (a.failed ≡ None) × (a.loan ≡ None) × IsPending a × (upto ≡ a.state.events)
-  MayComeNext a n (Returned upto press) = IsOutWith a n upto × (lost : ℕ) × IsCarriedOut told disk_faults origin a upto a.taken (Home press.value upto lost)
-  MayComeNext a n (Failed upto device) = IsOutWith a n upto × IsCarriedOut told disk_faults origin a upto a.taken (Broken device.value upto)
+  MayComeNext a n (Returned upto press) = IsOutWith a n upto × (lost : ℕ) × IsCarriedOut told size disk_faults emit_faults origin a upto a.taken (Home press.value upto lost)
+  MayComeNext a n (Failed upto device) = IsOutWith a n upto × IsCarriedOut told size disk_faults emit_faults origin a upto a.taken (Broken device.value upto)
 
   abbrev pub IsLegalFrom : Account G → List (ℕ × Entry G) → Type 0
   IsLegalFrom a [] = ⊤

@@ -1,5 +1,6 @@
 -- What a crash leaves of a floor: at each moment a prefix of its order, with every event that a datagram sent until then rests on.
-use Rattle.std.specs.Prelude.{◌≡◌, ◌≤◌, ℕ, ◌+◌, ◌-◌, ◌^◌, min, ⊤, Option, Some, None, List, [], ◌∷◌, ◌++◌, All, length, map, reverse, take}
+use Rattle.std.specs.Prelude.{◌≡◌, ◌<◌, ◌≤◌, ℕ, ◌+◌, ◌-◌, ◌^◌, min, ⊤, Option, Some, None, List, [], ◌∷◌, ◌++◌, All, length, map, reverse, take}
+use Rattle.ground_io.specs.Counts.{HasCause}
 use Rattle.ground_io.specs.Sent.{Along, emissions}
 use Rattle.ground_io.specs.Trace.{Told, Adds, disk_of}
 use Rattle.ground_io.specs.declared.entry.Entry.{Entry}
@@ -69,3 +70,8 @@ abbrev pub HasLost : ℕ → Option Told → Option Told → Type 0
 HasLost lost old None = ⊤
 HasLost lost None (Some new) = ⊥
 HasLost lost (Some old) (Some new) = (entries : List Entry) × Adds (Some old) (Some new) entries × (lost ≡ capped (losses (emissions entries)))
+
+-- So many datagrams were lost between the two counts of emissions that failed: the count rose where any was, and else it is as it was.
+pub record CountsLost (before now lost : ℕ) : Type 0 where
+  pub cause : HasCause before now (0 < lost)
+  pub same : lost ≡ 0 → now ≡ before

@@ -17,7 +17,7 @@ use Rattle.floor_desk.specs.declared.faults.EnterFault.{EnterFault}
 use Rattle.floor_desk.specs.declared.faults.EnterFault.TheVariants as enters
 use Rattle.floor_desk.specs.Accounts.{Account, account}
 use Rattle.floor_desk.specs.Moves.{IsGroundOf}
-use Rattle.floor_desk.specs.Prefixes.{capped}
+use Rattle.floor_desk.specs.Prefixes.{CountsLost, capped}
 use Rattle.floor_desk.specs.Standing.{FloorStands}
 use Rattle.floor_desk.specs.States.{FloorState}
 use Rattle.floor_desk.specs.declared.receiver.Ends.{Ends}
@@ -127,8 +127,8 @@ pub record LeavesDisk (before now : ℕ) (ended : End) : Type 0 where
   pub rose : ended ≡ end.DiskFault → Rose before now
   pub same : ended ≢ end.DiskFault → now ≡ before
 
-module _ {G : Type 0} (told : G → Option Told) (disk_faults : G → ℕ) where
-  -- What a server did over a desk that was opened with this origin: its history, the floor that it left, which stands for the history, the ground that came back, and its numbers.
+module _ {G : Type 0} (told : G → Option Told) (size disk_faults emit_faults : G → ℕ) where
+  -- What a server did over a desk that was opened with this origin: its history, the floor that it left, which stands for the history, the ground that came back, and its numbers. Of what was sent, datagrams were lost just where emissions of the ground failed.
   pub record Serves (shows : ℕ → Type 0) (old new : Option (List Send)) (origin : CoreState × PressState G) (device : G) (closed : Closed) : Type 0 where
     pub history : List (ℕ × Entry G)
     pub workings : Workings G
@@ -137,7 +137,7 @@ module _ {G : Type 0} (told : G → Option Told) (disk_faults : G → ℕ) where
     pub pump : Result Ticket EnterFault
     pub floor : FloorState G
     pub from : floor.origin ≡ origin
-    pub stands : FloorStands told disk_faults floor history
+    pub stands : FloorStands told size disk_faults emit_faults floor history
     pub ground : IsGroundOf floor.spot device
     pub all : HasAll history workings
     pub are : AreWorkings shows old new workings attempts
@@ -146,4 +146,5 @@ module _ {G : Type 0} (told : G → Option Told) (disk_faults : G → ℕ) where
     pub events : closed.events ≡ (account origin history).state.events
     pub durable : closed.durable ≡ (account origin history).durable
     pub lost : closed.lost ≡ capped (floor.lost + lost_of attempts)
+    pub counted : CountsLost (emit_faults origin.1.device) (emit_faults device) floor.lost
     pub ended : IsEnd (account origin history) attempts tick pump closed.end

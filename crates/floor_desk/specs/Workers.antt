@@ -1,5 +1,5 @@
 -- What each worker of a server did, told by the entries that its pass made.
-use Rattle.std.specs.Prelude.{◌≡◌, ◌⊎◌, ◌≤◌, ◌+◌, ℕ, ⊤, All, List, [], ◌∷◌, ◌++◌, length, map, take, drop, IsTrue, Option, Some, None, Result, Ok, Err}
+use Rattle.std.specs.Prelude.{◌≡◌, ◌⊎◌, ◌<◌, ◌≤◌, ◌+◌, ℕ, ⊤, All, List, [], ◌∷◌, ◌++◌, length, map, take, drop, IsTrue, Option, Some, None, Result, Ok, Err}
 use Rattle.bac_values.specs.Limits.{most_datagram_octets}
 use Rattle.bac_values.specs.Address.{PeerData}
 use Rattle.bac_values.specs.declared.input.Input.{Input}
@@ -13,11 +13,13 @@ use Rattle.turnstile.specs.Passes.{Known}
 use Rattle.alarm_core.specs.State.{CoreState}
 use Rattle.alarm_journal.specs.Press.{PressState}
 use Rattle.floor_desk.specs.declared.entry.Entry.{Entry}
+use Rattle.floor_desk.specs.declared.entry.Entry.TheVariants.{Returned, Failed}
 use Rattle.floor_desk.specs.declared.entry.Ticket.{Ticket}
 use Rattle.floor_desk.specs.declared.faults.EnterFault.{EnterFault}
 use Rattle.floor_desk.specs.declared.entering.Offer.TheVariants as offers
 use Rattle.floor_desk.specs.declared.receiver.Came.{Came}
 use Rattle.floor_desk.specs.declared.receiver.Ends.{Ends}
+use Rattle.floor_desk.specs.Prefixes.{capped}
 use Rattle.floor_desk.specs.Tries.{AreTicks, AreTried, Attempt, GaveUp, IsBehind, IsOfCommit, IsOfInput, IsTried, tries_in}
 
 -- a datagram of the link as an input: cut to these octets
@@ -77,6 +79,24 @@ module _ {G : Type 0} where
     pub begins : StartsWith q.seen p.seen
     pub same : q ≡ record p { mine = p.mine ++ entries; seen = q.seen; mark = q.mark }
     pub mark : p.mark ≤ q.mark
+
+  -- how many calls of the desk made these entries: each made one entry, but that a commit whose press left made two
+  abbrev pub calls_in : List (Entry G) → ℕ
+  calls_in [] = 0
+  calls_in (Returned upto press ∷ more) = calls_in more
+  calls_in (Failed upto device ∷ more) = calls_in more
+  calls_in (entry ∷ more) = 1 + calls_in more
+
+  -- Behind one of its steps and up to another a worker went through its gate at each, and its pass made no more calls of the desk than these, as far as 64 bits number the steps.
+  pub record GoesThrough (passed : ℕ → Type 0) (from to : ℕ) (p q : Known (Entry G) (CoreState × PressState G)) : Type 0 where
+    pub entries : List (Entry G)
+    pub mine : q.mine ≡ p.mine ++ entries
+    pub turns : (step : ℕ) → from < step → step ≤ to → passed step
+    pub calls : capped (from + calls_in entries) ≤ to
+
+  -- a worker went through its gate at its first steps, so many, and made no more calls of the desk
+  abbrev pub TakesTurns : (ℕ → Type 0) → Known (Entry G) (CoreState × PressState G) → Known (Entry G) (CoreState × PressState G) → Type 0
+  TakesTurns passed p q = (steps : ℕ) × GoesThrough passed 0 steps p q
 
   -- each moment is one that the clock shows
   abbrev pub AreShown : (ℕ → Type 0) → List (Entry G) → Type 0

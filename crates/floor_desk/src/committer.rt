@@ -1,7 +1,7 @@
 //! Brings what happened to the ground.
 
 ghost use Rattle.turnstile.specs.Passes.{IsOf};
-ghost use Rattle.floor_desk.specs.Workers.{HasKept};
+ghost use Rattle.floor_desk.specs.Workers.{HasKept, TakesTurns};
 
 use crate::desk::{Desk, DeskPass};
 use crate::steps::Steps;
@@ -22,6 +22,7 @@ pub fn commit_all<R: Wait, G: Ground, W: Gate>(
     requires here { IsOf desk.now pass }
     ensures here { IsOf desk.now result }
     ensures kept { HasKept pass result }
+    ensures turns { TakesTurns (W.passed gate.now Worker.Committer) pass result }
 {
     let mut steps = Steps::new(Worker::Committer);
     let mut pass = pass;

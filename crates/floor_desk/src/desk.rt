@@ -163,7 +163,7 @@ impl<G: Ground> Desk<G> {
         requires here { IsOf self.now pass }
         requires moment { IsMoment moment }
         ensures here { IsOf self.now result.0 }
-        ensures entered { (memo : Kept Entered) × (memo.value ≡ input) × MakesEntry G.told G.disk_faults self.now.origin pass result.0 (entry_for memo moment result.1) }
+        ensures entered { (memo : Kept Entered) × (memo.value ≡ input) × MakesEntry G.told G.size G.disk_faults G.emit_faults self.now.origin pass result.0 (entry_for memo moment result.1) }
     {
         let memo = Memo::of(&input);
         let mut turn = self.turnstile.take(rt, pass);
@@ -181,8 +181,8 @@ impl<G: Ground> Desk<G> {
     ) -> (DeskPass<G>, Result<Load<G>, CommitFault>)
         requires here { IsOf self.now pass }
         ensures here { IsOf self.now result.0 }
-        ensures refused { IfErr result.1 (λ fault. MakesEntry G.told G.disk_faults self.now.origin pass result.0 (Looked (Refused fault))) }
-        ensures taken { IfOk result.1 (λ load. TakesPress G.told G.disk_faults self.now.origin pass result.0 load.upto) }
+        ensures refused { IfErr result.1 (λ fault. MakesEntry G.told G.size G.disk_faults G.emit_faults self.now.origin pass result.0 (Looked (Refused fault))) }
+        ensures taken { IfOk result.1 (λ load. TakesPress G.told G.size G.disk_faults G.emit_faults self.now.origin pass result.0 load.upto) }
         ensures lends { IfOk result.1 (λ load. LeftWith G.told self.now.origin (account self.now.origin result.0.seen) load) }
         ensures fits { IfOk result.1 (λ load. FitsPress (room_of load.press.layout) load.press.layout.half load.work) }
     {
@@ -202,9 +202,9 @@ impl<G: Ground> Desk<G> {
     // The press that this pass took comes back, or what is left of it.
     fn return_press<R: Wait>(&self, rt: &R, pass: DeskPass<G>, carried: Carried<G>) -> DeskPass<G>
         requires here { IsOf self.now pass }
-        requires taken { (upto : ℕ) × HasTaken self.now.origin pass upto × IsCarriedOut G.told G.disk_faults self.now.origin (account self.now.origin pass.seen) upto (account self.now.origin pass.seen).taken carried }
+        requires taken { (upto : ℕ) × HasTaken self.now.origin pass upto × IsCarriedOut G.told G.size G.disk_faults G.emit_faults self.now.origin (account self.now.origin pass.seen) upto (account self.now.origin pass.seen).taken carried }
         ensures here { IsOf self.now result }
-        ensures adds { (entry : Step G) × TellsCarried carried entry × MakesEntry G.told G.disk_faults self.now.origin pass result entry }
+        ensures adds { (entry : Step G) × TellsCarried carried entry × MakesEntry G.told G.size G.disk_faults G.emit_faults self.now.origin pass result entry }
     {
         let entry = carried.entry();
         let mut turn = self.turnstile.take(rt, pass);
@@ -222,7 +222,7 @@ impl<G: Ground> Desk<G> {
     ) -> (DeskPass<G>, Result<u64, CommitFault>)
         requires here { IsOf self.now pass }
         ensures here { IsOf self.now result.0 }
-        ensures commits { HasCommitted G.told G.disk_faults self.now.origin pass result.0 result.1 }
+        ensures commits { HasCommitted G.told G.size G.disk_faults G.emit_faults self.now.origin pass result.0 result.1 }
     {
         let (pass, load) = self.take_press(rt, alloc, pass);
         let load = match load {
@@ -281,7 +281,7 @@ impl<G: Ground> Desk<G> {
     pub fn close<R: Wait>(self, rt: &R, pass: DeskPass<G>) -> Floor<G>
         requires here { IsOf self pass }
         ensures origin { result.origin ≡ self.origin }
-        ensures closed { IsClosed G.told G.disk_faults pass result }
+        ensures closed { IsClosed G.told G.size G.disk_faults G.emit_faults pass result }
         ensures home { IsNotOut result.spot }
     {
         let mut pass = pass;

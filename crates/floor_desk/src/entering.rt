@@ -4,7 +4,7 @@ ghost use Rattle.std.specs.Prelude.{◌≡◌, Err, IfOk, IsTrue, MatchBool};
 ghost use Rattle.turnstile.specs.Passes.{IsOf};
 ghost use Rattle.floor_desk.specs.declared.faults.CommitFault.TheVariants as commits;
 ghost use Rattle.floor_desk.specs.Tries.{IsBehind, IsInputOf};
-ghost use Rattle.floor_desk.specs.Workers.{HasTried};
+ghost use Rattle.floor_desk.specs.Workers.{GoesThrough, HasTried};
 
 use crate::desk::{Desk, DeskPass};
 use crate::entry::Ticket;
@@ -77,6 +77,8 @@ pub(crate) fn enter_until<R: Wait, G: Ground, K: Clock, W: Gate>(
     requires input { IsInputOf offer octets.now first }
     ensures here { IsOf desk.now result.0 }
     ensures tried { HasTried (K.shows clock.now) pass result.0 first result.1 }
+    ensures worker { steps.new.worker ≡ steps.old.worker }
+    ensures turns { GoesThrough (W.passed gate.now steps.old.worker) steps.old.count steps.new.count pass result.0 }
 {
     let mut pass = pass;
     let mut input = first;

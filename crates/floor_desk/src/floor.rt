@@ -23,7 +23,8 @@ ghost use Rattle.floor_desk.specs.declared.entry.Look.TheVariants.{Refused};
 ghost use Rattle.floor_desk.specs.declared.faults.CommitFault.TheVariants as commits;
 ghost use Rattle.floor_desk.specs.declared.faults.EnterFault.TheVariants as enters;
 ghost use Rattle.floor_desk.specs.declared.floor.Spot.TheVariants.{Home, Out};
-ghost use Rattle.floor_desk.specs.Accounts.{Loan, account, entry_for, most_pending_octets};
+ghost use Rattle.floor_desk.specs.declared.load.Load.{Load as Lent};
+ghost use Rattle.floor_desk.specs.Accounts.{Loan, account, entry_for, front_of, most_pending_octets};
 ghost use Rattle.state_codec.specs.Work.{FitsPress};
 ghost use Rattle.floor_desk.specs.Carrying.{IsCarriedOut, Lends, TellsCarried};
 ghost use Rattle.floor_desk.specs.Ending.{IsLastCommit};
@@ -190,7 +191,7 @@ fn ground_of<G: Ground>(spot: Spot<G>) -> G
 impl<G: Ground> Floor<G> {
     /// A floor with the press at home and nothing pending.
     pub(crate) fn new(alloc: Global, core: Core, press: Press<G>) -> Floor<G>
-        ensures stands { FloorStands G.told G.disk_faults result [] }
+        ensures stands { FloorStands G.told G.size G.disk_faults G.emit_faults result [] }
         ensures origin { result.origin ≡ (core, press) }
         ensures home { (result.core ≡ core) × (result.spot ≡ Home press) }
     {
@@ -372,7 +373,7 @@ impl<G: Ground> Floor<G> {
     /// whose requester is told, nothing has changed behind one.
     pub fn admit(&mut self, alloc: Global, moment: u64, input: Input) -> Result<Ticket, EnterFault>
         requires moment { IsMoment moment }
-        ensures stands { (h : List (ℕ × Step G)) (n : ℕ) (memo : Kept Entered) → memo.value ≡ input → FloorStands G.told G.disk_faults self.old h → FloorStands G.told G.disk_faults self.new (h ++ (n, entry_for memo moment result) ∷ []) }
+        ensures stands { (h : List (ℕ × Step G)) (n : ℕ) (memo : Kept Entered) → memo.value ≡ input → FloorStands G.told G.size G.disk_faults G.emit_faults self.old h → FloorStands G.told G.size G.disk_faults G.emit_faults self.new (h ++ (n, entry_for memo moment result) ∷ []) }
         ensures refused { IfErr result (λ fault. self.new.core ≡ self.old.core) }
         ensures same { IfErr result (λ fault. ((would limit : ℕ) → fault ≢ enters.Full would limit) → self.new ≡ self.old) }
         ensures origin { self.new.origin ≡ self.old.origin }
@@ -431,10 +432,10 @@ impl<G: Ground> Floor<G> {
 
     /// The press leaves, with all that is pending, and the entry of this turn stands at this place.
     pub fn lend(&mut self, alloc: Global, place: u64) -> Result<Load<G>, CommitFault>
-        ensures lent { IfOk result (λ load. (h : List (ℕ × Step G)) (n : ℕ) → place ≡ length h + 1 → FloorStands G.told G.disk_faults self.old h
-            → Lends G.told self.old.origin (account self.old.origin h) load × FloorStands G.told G.disk_faults self.new (h ++ (n, Taken load.upto) ∷ [])) }
+        ensures lent { IfOk result (λ load. (h : List (ℕ × Step G)) (n : ℕ) → place ≡ length h + 1 → FloorStands G.told G.size G.disk_faults G.emit_faults self.old h
+            → Lends G.told self.old.origin (account self.old.origin h) load × FloorStands G.told G.size G.disk_faults G.emit_faults self.new (h ++ (n, Taken load.upto) ∷ [])) }
         ensures fits { IfOk result (λ load. FitsPress (room_of load.press.layout) load.press.layout.half load.work) }
-        ensures refused { IfErr result (λ fault. (h : List (ℕ × Step G)) (n : ℕ) → FloorStands G.told G.disk_faults self.old h → FloorStands G.told G.disk_faults self.new (h ++ (n, Looked (Refused fault)) ∷ [])) }
+        ensures refused { IfErr result (λ fault. (h : List (ℕ × Step G)) (n : ℕ) → FloorStands G.told G.size G.disk_faults G.emit_faults self.old h → FloorStands G.told G.size G.disk_faults G.emit_faults self.new (h ++ (n, Looked (Refused fault)) ∷ [])) }
         ensures out { IfOk result (λ load. self.new.spot ≡ Out place load.upto) }
         ensures few { IfOk result (λ load. place < 2 ^ 63) }
         ensures hinders { IfErr result (λ fault. Hinders self.old fault) }
@@ -460,8 +461,15 @@ impl<G: Ground> Floor<G> {
     /// The press comes back, or what is left of it, and the entry of this turn stands at this place. It takes no memory.
     pub fn bring(&mut self, place: u64, carried: Carried<G>)
         requires out { (at : ℕ) × (upto : ℕ) × (self.old.spot ≡ Out at upto) }
-        ensures stands { (h : List (ℕ × Step G)) (loan : Loan) (entry : Step G) → place ≡ length h + 1 → TellsCarried carried entry → FloorStands G.told G.disk_faults self.old h → (account self.old.origin h).loan ≡ Some loan
-            → IsCarriedOut G.told G.disk_faults self.old.origin (account self.old.origin h) loan.upto (account self.old.origin h).taken carried → FloorStands G.told G.disk_faults self.new (h ++ (loan.number, entry) ∷ []) }
+        ensures stands { (h : List (ℕ × Step G)) (loan : Loan) (entry : Step G) → place ≡ length h + 1 → TellsCarried carried entry → FloorStands G.told G.size G.disk_faults G.emit_faults self.old h → (account self.old.origin h).loan ≡ Some loan
+            → IsCarriedOut G.told G.size G.disk_faults G.emit_faults self.old.origin (account self.old.origin h) loan.upto (account self.old.origin h).taken carried → FloorStands G.told G.size G.disk_faults G.emit_faults self.new (h ++ (loan.number, entry) ∷ []) }
+
+        // What was carried out of a load that left here fits each longer history in which its loan is open.
+        ensures fits { (h between : List (ℕ × Step G)) (n : ℕ) (load : Lent G) (entry : Step G) → place ≡ length ((h ++ (n, Taken load.upto) ∷ []) ++ between) + 1 → TellsCarried carried entry → Lends G.told self.old.origin (account self.old.origin h) load
+            → IsCarriedOut G.told G.size G.disk_faults G.emit_faults self.old.origin (account self.old.origin h) load.upto (front_of (account self.old.origin h)) carried
+            → FloorStands G.told G.size G.disk_faults G.emit_faults self.old ((h ++ (n, Taken load.upto) ∷ []) ++ between)
+            → (account self.old.origin ((h ++ (n, Taken load.upto) ∷ []) ++ between)).loan ≡ Some record { number = n; place = length h + 1; upto = load.upto }
+            → FloorStands G.told G.size G.disk_faults G.emit_faults self.new (((h ++ (n, Taken load.upto) ∷ []) ++ between) ++ (n, entry) ∷ []) }
         ensures home { IsNotOut self.new.spot }
         ensures origin { self.new.origin ≡ self.old.origin }
     {
@@ -474,8 +482,8 @@ impl<G: Ground> Floor<G> {
         }
     }
 
-    // Of a floor that was closed, the place of the next entry.
-    fn next(&self) -> u64
+    /// Of a floor that was closed, the place of the next entry.
+    pub fn next(&self) -> u64
         ensures next { result ≡ self.now.next }
     {
         self.next
@@ -490,17 +498,16 @@ impl<G: Ground> Floor<G> {
         floor
     }
 
-    /// Commits on a floor whose desk was closed, as the pass that closed it would have: writes all that is pending and then
-    /// emits what is owed. `Ok` tells the number of the last event that is written.
-    pub fn settle(self, alloc: Global) -> (Floor<G>, Result<u64, CommitFault>)
+    /// Commits on a floor whose desk was closed, as the pass that closed it would have, and the entries stand from this place
+    /// on: writes all that is pending and then emits what is owed. `Ok` tells the number of the last event that is written.
+    pub fn settle(self, alloc: Global, place: u64) -> (Floor<G>, Result<u64, CommitFault>)
         requires home { IsNotOut self.spot }
-        ensures settled { (h : List (ℕ × Step G)) (n : ℕ) → self.next ≡ length h + 1 → FloorStands G.told G.disk_faults self h → IsLastCommit G.told G.disk_faults self result.0 h n result.1 }
-        ensures same { IfErr result.1 (λ fault. fault ≢ commits.DiskFault → result.0 ≡ record self { next = capped (self.next + 1) }) }
+        ensures settled { (h : List (ℕ × Step G)) (n : ℕ) → place ≡ length h + 1 → FloorStands G.told G.size G.disk_faults G.emit_faults self h → IsLastCommit G.told G.size G.disk_faults G.emit_faults self result.0 h n result.1 }
+        ensures same { IfErr result.1 (λ fault. fault ≢ commits.DiskFault → result.0 ≡ record self { next = capped (place + 1) }) }
         ensures origin { result.0.origin ≡ self.origin }
         ensures home { IsNotOut result.0.spot }
     {
         let mut floor = self;
-        let place = floor.next();
         let load = match floor.lend(alloc, place) {
             Ok(load) => load,
             Err(fault) => return (floor.ended_at(place.saturating_add(1)), Err(fault)),
@@ -526,7 +533,7 @@ impl<G: Ground> Chronicle for Floor<G> {
 
     type Origin = (Core, Press<G>);
 
-    ghost stands = { λ floor history. FloorStands G.told G.disk_faults floor history };
+    ghost stands = { λ floor history. FloorStands G.told G.size G.disk_faults G.emit_faults floor history };
 
     ghost origin = { λ floor. floor.origin };
 

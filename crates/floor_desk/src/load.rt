@@ -1,10 +1,13 @@
 //! What leaves a floor with the press, and what comes back.
 
 ghost use Rattle.alarm_core.specs.State.{CoreState};
+ghost use Rattle.alarm_journal.specs.Journal.{Content};
+ghost use Rattle.alarm_journal.specs.Journal.{Site as Journal};
 ghost use Rattle.alarm_journal.specs.Press.{PressState, room_of};
 ghost use Rattle.floor_desk.specs.Accounts.{Account, front_of};
-ghost use Rattle.state_codec.specs.Work.{FitsPress};
-ghost use Rattle.floor_desk.specs.Carrying.{IsCarriedOut, Lends, TellsCarried};
+ghost use Rattle.state_codec.specs.Keeping.{Rests};
+ghost use Rattle.state_codec.specs.Work.{FitsPress, content_with};
+ghost use Rattle.floor_desk.specs.Carrying.{CountsCarried, IsCarriedOut, Lends, RestsCarried, TellsCarried};
 
 use crate::entry::Entry;
 use alarm_journal::Press;
@@ -73,7 +76,12 @@ impl<G: Ground> Load<G> {
     /// Writes, and then emits, without the floor. It takes no memory.
     pub fn carry_out(self) -> Carried<G>
         requires fits { FitsPress (room_of self.press.layout) self.press.layout.half self.work }
-        ensures carried { (origin : CoreState × PressState G) (a : Account G) → Lends G.told origin a self → IsCarriedOut G.told G.disk_faults origin a self.upto (front_of a) result }
+        // Whoever made the load: what the ground counts, and that all of it is written where the press comes home.
+        ensures counts { CountsCarried G.size G.disk_faults G.emit_faults self.press.device result }
+        ensures rests { (journal : Journal) (content : Content) → Rests journal self.press.layout (G.told self.press.device) content → RestsCarried G.told journal (content_with self.work content) result }
+
+        // A load that was lent is carried out.
+        ensures carried { (origin : CoreState × PressState G) (a : Account G) → Lends G.told origin a self → IsCarriedOut G.told G.size G.disk_faults G.emit_faults origin a self.upto (front_of a) result }
     {
         let Load {
             press,

@@ -8,7 +8,7 @@ ghost use Rattle.ground_io.specs.Link.{FitsInto};
 ghost use Rattle.ground_io.specs.declared.link.Received.{Received as Arrival};
 ghost use Rattle.turnstile.specs.Passes.{IsOf};
 ghost use Rattle.floor_desk.specs.Tries.{IsBehind, IsInputOf};
-ghost use Rattle.floor_desk.specs.Workers.{EndsReceiving, HasCome, HasReceived, IsDatagram, IsNext, StaysLeft, if_lost};
+ghost use Rattle.floor_desk.specs.Workers.{EndsReceiving, HasCome, HasReceived, IsDatagram, IsNext, StaysLeft, TakesTurns, if_lost};
 
 use crate::desk::{Desk, DeskPass};
 use crate::entering::{Offer, enter_until, is_behind};
@@ -162,6 +162,9 @@ pub fn receive_all<R: Wait, G: Ground, L: Link, K: Clock, W: Gate>(
 
     // It ends where all have come, where the link failed, or where memory was refused.
     ensures ends { EndsReceiving count (L.faults link.old) (L.faults link.new) result.1 }
+
+    // It went through its gate before each call of the desk.
+    ensures turns { TakesTurns (W.passed gate.now Worker.Receiver) pass result.0 }
 {
     let mut into = [0; MOST_DATAGRAM_OCTETS];
     let mut steps = Steps::new(Worker::Receiver);

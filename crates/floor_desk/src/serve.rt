@@ -1,6 +1,6 @@
 //! Serves from an opened desk to its close.
 
-ghost use Rattle.std.specs.Prelude.{◌≡◌, ◌≤◌, ◌↔◌, ◌⊎◌, false, IsTrue};
+ghost use Rattle.std.specs.Prelude.{◌≡◌, ◌<◌, ◌≤◌, ◌↔◌, ◌⊎◌, false, IsTrue};
 ghost use Rattle.std.specs.Thread.{IsSync};
 ghost use Rattle.ground_io.specs.Counts.{HasCause};
 ghost use Rattle.turnstile.specs.Passes.{IsOf, first_pass};
@@ -225,8 +225,11 @@ pub fn serve_desk<
     gate: &W,
 ) -> (G, L, Closed)
     requires first { pass ≡ first_pass desk }
-    ensures serves { Serves G.told G.disk_faults (K.shows clock.now) (L.left link) (L.left result.1) (desk.origin) result.0 result.2 }
+    ensures serves { Serves G.told G.size G.disk_faults G.emit_faults (K.shows clock.now) (L.left link) (L.left result.1) (desk.origin) result.0 result.2 }
+    ensures size { G.size result.0 ≡ G.size desk.origin.1.device }
     ensures disk { LeavesDisk (G.disk_faults desk.origin.1.device) (G.disk_faults result.0) result.2.end }
+    ensures emit_cause { HasCause (G.emit_faults desk.origin.1.device) (G.emit_faults result.0) (result.2.received < result.2.lost) }
+    ensures no_emit_fault { result.2.lost ≡ 0 → G.emit_faults result.0 ≡ G.emit_faults desk.origin.1.device }
     ensures most { result.2.received ≤ count }
     ensures done { result.2.end ≡ End.Done → result.2.received ≡ count }
     ensures cause { HasCause (L.faults link) (L.faults result.1) (result.2.end ≡ End.LinkFault) }
@@ -235,10 +238,10 @@ pub fn serve_desk<
     let (pass, link, ends) = work(rt, alloc, &desk, pass, count, link, clock, gate);
     let (pass, tick, pump) = finish(rt, alloc, &desk, pass, clock);
     let floor = desk.close(rt, pass);
-    let (floor, settled) = floor.settle(alloc);
-    let answered = are_answered(&tick, &pump);
+    let place = floor.next();
+    let (floor, settled) = floor.settle(alloc, place);
     let closed = Closed {
-        end: end_of(&ends, answered, &settled),
+        end: end_of(&ends, are_answered(&tick, &pump), &settled),
         received: ends.received,
         events: floor.events(),
         durable: floor.durable(),

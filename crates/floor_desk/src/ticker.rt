@@ -1,7 +1,8 @@
 //! Lets time pass.
 
+ghost use Rattle.std.specs.Prelude.{◌≡◌};
 ghost use Rattle.turnstile.specs.Passes.{IsOf};
-ghost use Rattle.floor_desk.specs.Workers.{HasTicked};
+ghost use Rattle.floor_desk.specs.Workers.{GoesThrough, HasTicked, TakesTurns};
 
 use crate::desk::{Desk, DeskPass};
 use crate::entry::Ticket;
@@ -25,6 +26,8 @@ fn tick_once<R: Wait, G: Ground, K: Clock, W: Gate>(
     requires here { IsOf desk.now pass }
     ensures here { IsOf desk.now result }
     ensures ticked { HasTicked (K.shows clock.now) pass result }
+    ensures worker { steps.new.worker ≡ steps.old.worker }
+    ensures turns { GoesThrough (W.passed gate.now steps.old.worker) steps.old.count steps.new.count pass result }
 {
     steps.next(gate);
     let (pass, ticked) = desk.enter(rt, alloc, pass, clock.now(), Input::Tick);
@@ -52,6 +55,7 @@ pub fn tick_all<R: Wait, G: Ground, K: Clock, W: Gate>(
     requires here { IsOf desk.now pass }
     ensures here { IsOf desk.now result }
     ensures ticked { HasTicked (K.shows clock.now) pass result }
+    ensures turns { TakesTurns (W.passed gate.now Worker.Ticker) pass result }
 {
     let mut steps = Steps::new(Worker::Ticker);
     let mut pass = pass;

@@ -279,7 +279,9 @@ fn ground_of<R: Wait>(rt: &R, desk: Shared, pass: Caller) -> MemoryGround
 fn settle<R: Wait + Abort>(rt: &R, alloc: Global, desk: Shared, pass: Caller) -> MemoryGround
     requires here { IsOf desk pass }
 {
-    let (floor, answer) = desk.close(rt, pass).settle(alloc);
+    let floor = desk.close(rt, pass);
+    let place = floor.next();
+    let (floor, answer) = floor.settle(alloc, place);
     same(rt, &answer, &Ok(1));
     same(rt, &floor.events(), &1);
     same(rt, &floor.durable(), &1);

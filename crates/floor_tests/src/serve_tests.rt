@@ -2,13 +2,14 @@ ghost use Rattle.alarm_core.specs.Sites.{IsSite};
 
 use crate::comparing::{holds, same};
 use crate::desk_tests::{TEXT, blank};
-use crate::plant::{START, plant};
+use crate::plant::{START, late_plant, operator, plant};
 use alarm_core::Site;
-use bac_values::{Items, Peer, Send as Message};
+use bac_values::{Items, MOST_PENDING_CALLS, Peer, Send as Message};
 use ending_link::{EndingLink, NotingGround, SharedFlag};
 use floor_desk::{Closed, Desk, End, serve_desk};
 use ground_io::{
-    Entry, FreeGate, Gate, Ground, HeldGround, Link, MemoryGround, MemoryLink, StillClock, Worker,
+    Clock, Entry, FreeGate, Gate, Ground, HeldGround, Link, MemoryGround, MemoryLink, StillClock,
+    Worker,
 };
 use std::alloc::Global;
 use std::hint;
@@ -84,8 +85,8 @@ fn serve_on<
     (device, closed)
 }
 
-/// Whether these octets, and no others, went out to the peer.
-fn sent_alone(device: &MemoryGround, wanted: &[u8]) -> bool {
+/// Whether these octets, and no others, went out to the peer so many times.
+fn sent_alone(device: &MemoryGround, wanted: &[u8], times: u32) -> bool {
     let Some(trace) = device.trace() else {
         return false;
     };
@@ -102,7 +103,7 @@ fn sent_alone(device: &MemoryGround, wanted: &[u8]) -> bool {
             _ => {}
         }
     }
-    count == 1
+    count == times
 }
 
 /// The device answers a Who-Is.
@@ -117,7 +118,7 @@ fn expect_i_am<R: Threads + Wait + Sync + Abort>(
     let link = link_of(alloc, &WHO_IS)?;
     let (device, closed) = serve_on(rt, alloc, site, device, link, 1, &FreeGate);
     expect_served(rt, &closed, 1, 0);
-    holds(rt, sent_alone(&device, &I_AM));
+    holds(rt, sent_alone(&device, &I_AM, 1));
     drop(device);
     Ok(())
 }
@@ -164,11 +165,23 @@ fn a_server_ends_by_itself_once_its_disk_has_failed(rt: HostRuntime) -> Result<(
     ended
 }
 
-/// A gate that holds the receiver's first turn until the ticker's third, and knows whether that came.
+/// A gate that holds the receiver's first turn until a later one of the ticker's, and knows whether that came.
 #[derive(Drop)]
 struct UntilTicked {
     ticks: AtomicU64,
+    wanted: u64,
     came: AtomicU64,
+}
+
+impl UntilTicked {
+    /// Until the ticker's turn with this number.
+    fn new(wanted: u64) -> UntilTicked {
+        UntilTicked {
+            ticks: AtomicU64::new(0),
+            wanted,
+            came: AtomicU64::new(0),
+        }
+    }
 }
 
 /// Waits until a count has come so far, and tells it where it does.
@@ -188,7 +201,7 @@ impl Gate for UntilTicked {
     fn turn(&self, worker: Worker, step: u64) {
         match worker {
             Worker::Ticker => self.ticks.store(step, Ordering::SeqCst),
-            Worker::Receiver if step == 1 => wait_for(&self.ticks, 3, &self.came),
+            Worker::Receiver if step == 1 => wait_for(&self.ticks, self.wanted, &self.came),
             _ => {}
         }
     }
@@ -204,10 +217,7 @@ fn expect_ticks<R: Threads + Wait + Sync + Abort>(
 {
     let device = blank(alloc, site, &[])?;
     let link = link_of(alloc, &WHO_IS)?;
-    let gate = UntilTicked {
-        ticks: AtomicU64::new(0),
-        came: AtomicU64::new(0),
-    };
+    let gate = UntilTicked::new(3);
     let (device, closed) = serve_on(rt, alloc, site, device, link, 1, &gate);
     drop(device);
     expect_served(rt, &closed, 1, 0);
@@ -363,4 +373,142 @@ fn the_receiver_goes_on_beside_a_sync(rt: HostRuntime) -> Result<(), Fail> {
     let entered = expect_entered(&rt, alloc, &site);
     drop(site);
     entered
+}
+
+/// So many datagrams come in one burst: more than may wait for a commit.
+const BURST: u32 = MOST_PENDING_CALLS as u32 + 76;
+
+/// A link on which so many Who-Is come.
+fn link_of_many(alloc: Global, count: u32) -> Result<MemoryLink, Fail> {
+    let mut datagrams = Vec::new(alloc);
+    for _ in 0..count {
+        datagrams.push(datagram(alloc, &WHO_IS)?)?;
+    }
+    Ok(MemoryLink::new(datagrams, Vec::new(alloc)))
+}
+
+/// A gate that holds the committer's first turn until the receiver has taken one more than may wait for a commit, and then
+/// its own to commit.
+#[derive(Drop)]
+struct UntilBehind {
+    turns: AtomicU64,
+    came: AtomicU64,
+}
+
+impl Gate for UntilBehind {
+    ghost passed = { λ gate worker step. Unit {0} };
+
+    fn turn(&self, worker: Worker, step: u64) {
+        match worker {
+            Worker::Receiver => self.turns.store(step, Ordering::SeqCst),
+            Worker::Committer if step == 1 => {
+                wait_for(&self.turns, MOST_PENDING_CALLS + 2, &self.came);
+            }
+            _ => {}
+        }
+    }
+}
+
+/// While nobody else commits, more datagrams come in one burst than may wait for a commit, and each is answered: the
+/// receiver commits by itself, and tries the datagram again for which that had to come first.
+fn expect_burst<R: Threads + Wait + Sync + Abort>(
+    rt: &R,
+    alloc: Global,
+    site: &Site,
+) -> Result<(), Fail>
+    requires site { IsSite site.now }
+{
+    let device = blank(alloc, site, &[])?;
+    let link = link_of_many(alloc, BURST)?;
+    let gate = UntilBehind {
+        turns: AtomicU64::new(0),
+        came: AtomicU64::new(0),
+    };
+    let (device, closed) = serve_on(rt, alloc, site, device, link, BURST, &gate);
+    expect_served(rt, &closed, u64::from(BURST), 0);
+    holds(rt, sent_alone(&device, &I_AM, BURST));
+    same(rt, &gate.came.load(Ordering::SeqCst), &1);
+    drop(device);
+    Ok(())
+}
+
+#[test]
+fn a_burst_of_more_than_may_wait_is_answered(rt: HostRuntime) -> Result<(), Fail> {
+    let alloc = rt.alloc();
+    let site = plant(alloc)?;
+    let answered = expect_burst(&rt, alloc, &site);
+    drop(site);
+    answered
+}
+
+/// A clock that has gone on by a second at each look.
+#[derive(Drop)]
+struct PassingClock {
+    looks: AtomicU64,
+}
+
+/// So many seconds it goes on at most.
+const MOST_SECONDS: u64 = 1_000_000;
+
+impl Clock for PassingClock {
+    ghost use Rattle.bac_values.specs.Moments.{IsMoment};
+
+    ghost shows = { λ _ moment. IsMoment moment };
+
+    fn now(&self) -> u64 {
+        let looks = self.looks.fetch_add(1, Ordering::SeqCst);
+        START + looks.min(MOST_SECONDS) * 1_000
+    }
+}
+
+/// Whether something went out to the operator.
+fn operator_was_told(device: &MemoryGround) -> bool {
+    let Some(trace) = device.trace() else {
+        return false;
+    };
+    for entry in trace {
+        if let Entry::Emitted { peer, .. } = entry {
+            if *peer == operator() {
+                return true;
+            }
+        }
+    }
+    false
+}
+
+/// A value is above its limit for longer than its delay, by a clock that each worker has to look at again and again: the
+/// operator is told of it.
+fn expect_alarm<R: Threads + Wait + Sync + Abort>(
+    rt: &R,
+    alloc: Global,
+    site: &Site,
+) -> Result<(), Fail>
+    requires site { IsSite site.now }
+{
+    let device = blank(alloc, site, &[])?;
+    let link = link_of(alloc, &WHO_IS)?;
+    let (desk, pass) = match Desk::open(alloc, site, TEXT, device) {
+        Ok((desk, pass, _)) => (desk, pass),
+        Err(_) => panic!(rt; "the journal doesn't open"),
+    };
+    let gate = UntilTicked::new(60);
+    let clock = PassingClock {
+        looks: AtomicU64::new(0),
+    };
+    let (device, link, closed) = serve_desk(rt, alloc, desk, pass, 1, link, &clock, &gate);
+    drop(link);
+    same(rt, &closed.end, &End::Done);
+    same(rt, &gate.came.load(Ordering::SeqCst), &1);
+    holds(rt, operator_was_told(&device));
+    drop(device);
+    Ok(())
+}
+
+#[test]
+fn a_delay_ends_as_the_clock_goes_on(rt: HostRuntime) -> Result<(), Fail> {
+    let alloc = rt.alloc();
+    let site = late_plant(alloc)?;
+    let told = expect_alarm(&rt, alloc, &site);
+    drop(site);
+    told
 }

@@ -281,9 +281,13 @@ fn settle(alloc: Global, floor: Floor<MemoryGround>) -> (Floor<MemoryGround>, Co
     requires home { IsNotOut floor.spot }
     ensures home { IsNotOut result.0.spot }
 {
-    let (floor, settled) = floor.settle(alloc);
+    let place = floor.next();
+    let (floor, settled) = floor.settle(alloc, place);
     match settled {
-        Err(CommitFault::NoMemory) => floor.settle(alloc),
+        Err(CommitFault::NoMemory) => {
+            let place = floor.next();
+            floor.settle(alloc, place)
+        }
         settled => (floor, settled),
     }
 }

@@ -1,5 +1,6 @@
 use Rattle.std.proofs.Common.{◌≡◌}
 use Rattle.turnstile.specs.Passes.{IsOf}
+use Rattle.floor_desk.specs.Workers.{GoesThrough}
 use Rattle.floor_desk.proofs.Trying.{HasTurnedBack}
 use Rattle.floor_desk.proofs.entering.enter_until.Given as goal
 
@@ -8,4 +9,6 @@ invariant-loop g l = record {
   here : IsOf l.fn.desk l.pass;
   input : l.input ≡ l.fn.first;
   turned : HasTurnedBack (g.K.Clock.shows l.fn.clock) l.fn.pass l.pass l.fn.first;
+  worker : l.steps.worker ≡ l.fn.steps.worker;
+  turns : GoesThrough (g.W.Gate.passed l.fn.gate l.fn.steps.worker) l.fn.steps.count l.steps.count l.fn.pass l.pass;
 }

@@ -11,7 +11,7 @@ pub give-pass-requires-clause-value : goal.give-pass-requires-clause-value
 give-pass-requires-clause-value g c =
     let q = c.take-turn.result.pass in
     let out = rw c.if-is_out.true at c.is_out.ensures.out in
-    waits_out g.G.Ground.told g.G.Ground.disk_faults c.take-turn.result.value q.seen q.number out.0 out.1 out.2 c.take-turn.ensures.value
+    waits_out g.G.Ground.told g.G.Ground.size g.G.Ground.disk_faults g.G.Ground.emit_faults c.take-turn.result.value q.seen q.number out.0 out.1 out.2 c.take-turn.ensures.value
 
 pub loop-preserved : goal.loop-preserved
 loop-preserved g c =
@@ -31,7 +31,7 @@ returns-else-is_out-clause-closed g c =
       waited = c.loop.invariant.waited;
       sees = c.take-turn.ensures.sees;
       stands =
-          subst (λ (x : FloorState _). FloorStands told faults x q.seen) (sym c.ended_at.ensures.ended)
-          (stands_at told faults floor c.take-turn.result.place q.seen (subst (λ (x : FloorState _). FloorStands told faults x q.seen) (sym c.close.ensures) c.take-turn.ensures.value));
+          subst (λ (x : FloorState _). FloorStands told g.G.Ground.size faults g.G.Ground.emit_faults x q.seen) (sym c.ended_at.ensures.ended)
+          (stands_at told g.G.Ground.size faults g.G.Ground.emit_faults floor c.take-turn.result.place q.seen (subst (λ (x : FloorState _). FloorStands told g.G.Ground.size faults g.G.Ground.emit_faults x q.seen) (sym c.close.ensures) c.take-turn.ensures.value));
       next = ap (λ (x : FloorState _). x.next) c.ended_at.ensures.ended ∙ c.take-turn.ensures.place;
     }

@@ -6,7 +6,7 @@ use Rattle.floor_desk.proofs.desk.Desk.commit.Goals as goal
 
 pub returns-in-Err-clause-commits : goal.returns-in-Err-clause-commits
 returns-in-Err-clause-commits g c =
-    refused_commits g.G.Ground.told g.G.Ground.disk_faults c.args.self.now.origin c.args.pass c.take_press-pass.result.0 c.in-Err.fault (rw c.in-Err.is at c.take_press-pass.ensures.refused)
+    refused_commits g.G.Ground.told g.G.Ground.size g.G.Ground.disk_faults g.G.Ground.emit_faults c.args.self.now.origin c.args.pass c.take_press-pass.result.0 c.in-Err.fault (rw c.in-Err.is at c.take_press-pass.ensures.refused)
 
 pub return_press-pass-requires-clause-taken : goal.return_press-pass-requires-clause-taken
 return_press-pass-requires-clause-taken g c =
@@ -14,7 +14,7 @@ return_press-pass-requires-clause-taken g c =
     let p = c.take_press-pass.result.0 in let origin = c.args.self.now.origin in let load = c.in-Ok.load in
     let t = rw c.in-Ok.is at c.take_press-pass.ensures.taken in
     let l = rw c.in-Ok.is at c.take_press-pass.ensures.lends in
-    (load.upto, t.has, rw c.in-Home.is at (carried_out told faults origin (account origin p.seen) load c.carry_out.result l c.carry_out.ensures.carried))
+    (load.upto, t.has, rw c.in-Home.is at (carried_out told g.G.Ground.size faults g.G.Ground.emit_faults origin (account origin p.seen) load c.carry_out.result l c.carry_out.ensures.carried))
 
 pub return_press-pass-requires-in-Broken-clause-taken : goal.return_press-pass-requires-in-Broken-clause-taken
 return_press-pass-requires-in-Broken-clause-taken g c =
@@ -22,7 +22,7 @@ return_press-pass-requires-in-Broken-clause-taken g c =
     let p = c.take_press-pass.result.0 in let origin = c.args.self.now.origin in let load = c.in-Ok.load in
     let t = rw c.in-Ok.is at c.take_press-pass.ensures.taken in
     let l = rw c.in-Ok.is at c.take_press-pass.ensures.lends in
-    (load.upto, t.has, rw c.in-Broken.is at (carried_out told faults origin (account origin p.seen) load c.carry_out.result l c.carry_out.ensures.carried))
+    (load.upto, t.has, rw c.in-Broken.is at (carried_out told g.G.Ground.size faults g.G.Ground.emit_faults origin (account origin p.seen) load c.carry_out.result l c.carry_out.ensures.carried))
 
 pub raise_mark-requires-clause-licensed : goal.raise_mark-requires-clause-licensed
 raise_mark-requires-clause-licensed g c = λ not_zero.
@@ -35,9 +35,9 @@ returns-in-Home-clause-commits g c =
     let p = c.take_press-pass.result.0 in let origin = c.args.self.now.origin in let load = c.in-Ok.load in
     let t = rw c.in-Ok.is at c.take_press-pass.ensures.taken in
     let l = rw c.in-Ok.is at c.take_press-pass.ensures.lends in
-    let k = rw c.in-Home.is at (carried_out told faults origin (account origin p.seen) load c.carry_out.result l c.carry_out.ensures.carried) in
+    let k = rw c.in-Home.is at (carried_out told g.G.Ground.size faults g.G.Ground.emit_faults origin (account origin p.seen) load c.carry_out.result l c.carry_out.ensures.carried) in
     let a = c.return_press-pass.ensures.adds in let tells = a.1 in
-    (tells.0, writes told faults origin c.args.pass p c.return_press-pass.result c.raise_mark.result load.upto c.in-Home.upto a.0 tells.0 t a.2 tells.2 k.0 c.raise_mark.ensures)
+    (tells.0, writes told g.G.Ground.size faults g.G.Ground.emit_faults origin c.args.pass p c.return_press-pass.result c.raise_mark.result load.upto c.in-Home.upto a.0 tells.0 t a.2 tells.2 k.0 c.raise_mark.ensures)
 
 pub returns-in-Broken-clause-commits : goal.returns-in-Broken-clause-commits
 returns-in-Broken-clause-commits g c =
@@ -45,6 +45,6 @@ returns-in-Broken-clause-commits g c =
     let p = c.take_press-pass.result.0 in let origin = c.args.self.now.origin in let load = c.in-Ok.load in
     let t = rw c.in-Ok.is at c.take_press-pass.ensures.taken in
     let l = rw c.in-Ok.is at c.take_press-pass.ensures.lends in
-    let k = rw c.in-Broken.is at (carried_out told faults origin (account origin p.seen) load c.carry_out.result l c.carry_out.ensures.carried) in
+    let k = rw c.in-Broken.is at (carried_out told g.G.Ground.size faults g.G.Ground.emit_faults origin (account origin p.seen) load c.carry_out.result l c.carry_out.ensures.carried) in
     let a = c.return_press-pass-in-Broken.ensures.adds in
-    (c.in-Broken.upto, a.1.0, fails told faults origin c.args.pass p c.return_press-pass-in-Broken.result load.upto c.in-Broken.upto a.0 a.1.0 t a.2 a.1.2 k.0)
+    (c.in-Broken.upto, a.1.0, fails told g.G.Ground.size faults g.G.Ground.emit_faults origin c.args.pass p c.return_press-pass-in-Broken.result load.upto c.in-Broken.upto a.0 a.1.0 t a.2 a.1.2 k.0)

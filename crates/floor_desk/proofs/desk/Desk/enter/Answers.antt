@@ -7,7 +7,7 @@ use Rattle.floor_desk.proofs.desk.Desk.enter.Goals as goal
 pub give-requires-clause-value : goal.give-requires-clause-value
 give-requires-clause-value g c =
     let q = c.take-turn.result.pass in
-    subst (λ e. FloorStands g.G.Ground.told g.G.Ground.disk_faults c.admit-answer.new.self (q.seen ++ (q.number, e) ∷ [])) (sym c.of-entry.ensures.entry)
+    subst (λ e. FloorStands g.G.Ground.told g.G.Ground.size g.G.Ground.disk_faults g.G.Ground.emit_faults c.admit-answer.new.self (q.seen ++ (q.number, e) ∷ [])) (sym c.of-entry.ensures.entry)
     (c.admit-answer.ensures.stands q.seen q.number c.of-memo.result c.of-memo.ensures.value c.take-turn.ensures.value)
 
 pub returns-clause-entered : goal.returns-clause-entered
@@ -16,6 +16,6 @@ returns-clause-entered g c =
     let from : c.admit-answer.new.self.origin ≡ c.args.self.now.origin = search rules in (
       c.of-memo.result,
       c.of-memo.ensures.value,
-      adds g.G.Ground.told g.G.Ground.disk_faults c.args.self.now.origin c.args.pass q c.give.result _ c.admit-answer.new.self c.take-turn.ensures.sees
+      adds g.G.Ground.told g.G.Ground.size g.G.Ground.disk_faults g.G.Ground.emit_faults c.args.self.now.origin c.args.pass q c.give.result _ c.admit-answer.new.self c.take-turn.ensures.sees
           (subst (λ e. c.give.result ≡ with_entry q e) c.of-entry.ensures.entry c.give.ensures) from (c.admit-answer.ensures.stands q.seen q.number c.of-memo.result c.of-memo.ensures.value c.take-turn.ensures.value),
     )
