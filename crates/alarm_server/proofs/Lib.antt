@@ -3,6 +3,7 @@ pub mod BehindOpening
 pub mod ByHistory
 pub mod Comings
 pub mod Course
+pub mod DressedEnds
 pub mod Emitting
 pub mod Entering
 pub mod Fronts

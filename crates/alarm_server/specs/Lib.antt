@@ -1,5 +1,6 @@
 pub mod Causes
 pub mod Commands
+pub mod Dressed
 pub mod Emission
 pub mod Faults
 pub mod GeneratedSite

@@ -7,6 +7,7 @@
 
 mod announcing_link;
 mod command;
+mod dressed;
 mod emission;
 mod on_file;
 mod paths;
@@ -25,16 +26,14 @@ mod watch;
 mod workload;
 
 use crate::announcing_link::AnnouncingLink;
+use crate::dressed::serve_over;
 use crate::paths::paths_of;
 use crate::run::run;
-use crate::serve::{Served, serve};
+use crate::serve::Served;
 use crate::status::Status;
 use crate::text::read_text;
-use crate::waking_gate::WakingGate;
-use ending_link::{EndingLink, NotingGround, SharedFlag};
-use ground_io::{FileGround, Ground, Link, Source, StdSource, SystemClock, UdpLink};
+use ground_io::{FileGround, StdSource, UdpLink};
 use site_config::{SiteFault, line_of_refusal};
-use std::alloc::Global;
 use std::env::VarError;
 use std::fs::{File, OpenOptions};
 use std::io::{ErrorKind, Read};
@@ -183,9 +182,6 @@ fn run_on_files(
     Ok(ends_on_file(rt, path, status))
 }
 
-/// So many milliseconds a server's ticker and committer rest.
-const REST: u64 = 5;
-
 /// So many milliseconds a call for a datagram waits for one.
 const PATIENCE: u64 = 200;
 
@@ -207,24 +203,6 @@ fn bound(rt: &HostRuntime) -> io::Result<(UdpSocket, String)> {
     place.push_str(port.as_str())?;
     let socket = UdpSocket::bind(rt, place.as_str())?;
     Ok((socket, place))
-}
-
-// Serves over a ground and a link, by the system's clock. The link fails once the disk has, so that the server ends.
-fn serve_over<
-    R: Threads + Wait + Sync + Clock,
-    S: Source,
-    G: Ground + Send + Drop,
-    L: Link + Send + Drop,
->(rt: &R, alloc: Global, words: &[String], site: &mut S, device: G, link: L) -> Served {
-    let clock = SystemClock::new(rt);
-    let gate = WakingGate::new(rt, Duration::from_millis(REST));
-    let flag = SharedFlag::new();
-    let device = NotingGround::new(device, &flag);
-    let link = EndingLink::new(link, &flag);
-    let (device, link, served) = serve(rt, alloc, words, site, device, link, &clock, &gate);
-    drop(device);
-    drop(link);
-    served
 }
 
 // The files of a server, its socket, and where that is bound.
@@ -289,7 +267,9 @@ fn serve_on_files<R: Threads + Wait + Sync + Clock>(
     let link = UdpLink::new(&socket, Duration::from_millis(PATIENCE))?;
     let link = AnnouncingLink::new(link, rt, place);
     let device = FileGround::new(Some(journal), io::writer(rt), Some(socket))?;
-    let served = serve_over(workers, rt.alloc(), words, &mut source, device, link);
+    let (device, link, served) = serve_over(workers, rt.alloc(), words, &mut source, device, link);
+    drop(device);
+    drop(link);
     Ok(ends_serving(rt, path, served))
 }
 

@@ -1,19 +1,20 @@
 ghost use Rattle.std.specs.Prelude.{◌≡◌, ◌+◌, ◌≤◌, [], ◌∷◌, length, IfOk, IsErr, OnOk, OnErr};
-ghost use Rattle.ground_io.specs.Counts.{HasCause};
+ghost use Rattle.ground_io.specs.Counts.{HasCause, next_count};
 ghost use Rattle.ground_io.specs.Trace.{Adds, AddsBroken, Reads, emission};
 ghost use Rattle.ground_io.specs.declared.entry.Entry.TheVariants.{Wrote, Synced};
 
 use crate::Flag;
+use crate::raiser::Raiser;
 use bac_values::Peer;
 use ground_io::{Failed, Ground};
 use std::marker::Model;
 
-/// A ground that is its inner ground, call for call, and raises a flag where a call of the device fails. An emission that
-/// fails raises none: a datagram that is lost ends nothing.
+/// A ground that is its inner ground, call for call, and raises a flag where a call of the device fails, and only there. An
+/// emission that fails raises none: a datagram that is lost ends nothing. It counts how often it has raised the flag.
 #[derive(Drop)]
 pub struct NotingGround<G: Ground, F: Flag> {
     inner: G,
-    flag: F,
+    raiser: Raiser<F>,
 }
 
 impl<G: Ground, F: Flag> Model for NotingGround<G, F> {
@@ -21,25 +22,40 @@ impl<G: Ground, F: Flag> Model for NotingGround<G, F> {
 
     ghost Value = { NotingGroundState G F };
 
-    ghost view = { λ noting. record { inner = noting.inner; flag = noting.flag } };
+    ghost view = { λ noting. record { inner = noting.inner; flag = noting.raiser.flag; raised = noting.raiser.raised } };
 }
 
 impl<G: Ground, F: Flag> NotingGround<G, F> {
     /// The inner ground, with the flag that it raises.
     pub fn new(inner: G, flag: F) -> NotingGround<G, F>
-        ensures made { result ≡ record { inner = inner; flag = flag } }
+        ensures made { result ≡ record { inner = inner; flag = flag; raised = 0 } }
     {
-        NotingGround { inner, flag }
+        NotingGround {
+            inner,
+            raiser: Raiser::new(flag),
+        }
+    }
+}
+
+impl<G: Ground, F: Flag + Drop> NotingGround<G, F> {
+    /// The inner ground.
+    pub fn into_inner(self) -> G
+        ensures inner { result ≡ self.inner }
+    {
+        self.inner
     }
 }
 
 // The answer of a call of the device. Where it failed, the flag is raised.
-fn noted<T, F: Flag>(answer: Result<T, Failed>, flag: &F) -> Result<T, Failed>
+fn noted<T, F: Flag>(answer: Result<T, Failed>, raiser: &mut Raiser<F>) -> Result<T, Failed>
     ensures same { result ≡ answer }
-    ensures raised { OnErr result (F.raised flag.now) }
+    ensures flag { raiser.new.flag ≡ raiser.old.flag }
+    ensures raised { OnErr result (F.raised raiser.new.flag) }
+    ensures counted { OnErr result (raiser.new.raised ≡ next_count raiser.old.raised) }
+    ensures only { OnOk result (raiser.new.raised ≡ raiser.old.raised) }
 {
     if answer.is_err() {
-        flag.raise();
+        raiser.raise();
     }
     answer
 }
@@ -64,8 +80,10 @@ impl<G: Ground, F: Flag> Ground for NotingGround<G, F> {
         ensures emitted { G.emit_faults self.new.inner ≡ G.emit_faults self.old.inner }
         ensures flag { self.new.flag ≡ self.old.flag }
         ensures raised { OnErr result (F.raised self.new.flag) }
+        ensures counted { OnErr result (self.new.raised ≡ next_count self.old.raised) }
+        ensures only { OnOk result (self.new.raised ≡ self.old.raised) }
     {
-        noted(self.inner.size(), &self.flag)
+        noted(self.inner.size(), &mut self.raiser)
     }
 
     fn read_at(&mut self, place: u64, into: &mut [u8]) -> Result<(), Failed>
@@ -78,8 +96,10 @@ impl<G: Ground, F: Flag> Ground for NotingGround<G, F> {
         ensures emitted { G.emit_faults self.new.inner ≡ G.emit_faults self.old.inner }
         ensures flag { self.new.flag ≡ self.old.flag }
         ensures raised { OnErr result (F.raised self.new.flag) }
+        ensures counted { OnErr result (self.new.raised ≡ next_count self.old.raised) }
+        ensures only { OnOk result (self.new.raised ≡ self.old.raised) }
     {
-        noted(self.inner.read_at(place, into), &self.flag)
+        noted(self.inner.read_at(place, into), &mut self.raiser)
     }
 
     fn write_at(&mut self, place: u64, octets: &[u8]) -> Result<(), Failed>
@@ -92,8 +112,10 @@ impl<G: Ground, F: Flag> Ground for NotingGround<G, F> {
         ensures emitted { G.emit_faults self.new.inner ≡ G.emit_faults self.old.inner }
         ensures flag { self.new.flag ≡ self.old.flag }
         ensures raised { OnErr result (F.raised self.new.flag) }
+        ensures counted { OnErr result (self.new.raised ≡ next_count self.old.raised) }
+        ensures only { OnOk result (self.new.raised ≡ self.old.raised) }
     {
-        noted(self.inner.write_at(place, octets), &self.flag)
+        noted(self.inner.write_at(place, octets), &mut self.raiser)
     }
 
     fn sync(&mut self) -> Result<(), Failed>
@@ -105,8 +127,10 @@ impl<G: Ground, F: Flag> Ground for NotingGround<G, F> {
         ensures emitted { G.emit_faults self.new.inner ≡ G.emit_faults self.old.inner }
         ensures flag { self.new.flag ≡ self.old.flag }
         ensures raised { OnErr result (F.raised self.new.flag) }
+        ensures counted { OnErr result (self.new.raised ≡ next_count self.old.raised) }
+        ensures only { OnOk result (self.new.raised ≡ self.old.raised) }
     {
-        noted(self.inner.sync(), &self.flag)
+        noted(self.inner.sync(), &mut self.raiser)
     }
 
     fn emit(&mut self, peer: Peer, octets: &[u8]) -> Result<(), Failed>
@@ -116,6 +140,7 @@ impl<G: Ground, F: Flag> Ground for NotingGround<G, F> {
         ensures cause { HasCause (G.emit_faults self.old.inner) (G.emit_faults self.new.inner) (IsErr result) }
         ensures uncounted { OnOk result (G.emit_faults self.new.inner ≡ G.emit_faults self.old.inner) }
         ensures flag { self.new.flag ≡ self.old.flag }
+        ensures only { self.new.raised ≡ self.old.raised }
     {
         self.inner.emit(peer, octets)
     }
