@@ -2,7 +2,8 @@
 
 - In the tables of PROMISES every call has its crate, and a clause that is named is no `requires`. On every page a file of code or of definitions has it, and a call of a type, but
   on that of decisions, which tells of what was.
-- ARCHITECTURE names the calls by which a datagram goes through the server, and every crate; the head of main.rt the top calls.
+- ARCHITECTURE names the calls by which a datagram goes through the server, and every crate; the head of main.rt the top calls. Each file
+  of code begins with a comment that says what it is.
 - SITE says of each key in which definition it acts.
 - The program, the page of the manual, the first start and CHANGELOG have the number of VERSION, and what CHANGELOG has above it isn't tagged.
 - README leads to every page of docs/, and from there a newcomer finds in at most three steps what SEARCHES asks. Each step is a link of
@@ -14,7 +15,7 @@ import os
 import re
 import unittest.mock
 
-from contracts import crates, functions_of, text_of
+from contracts import crates, functions_of, sources_of, text_of
 from small_trees import unfound
 
 PROMISES, ARCHITECTURE, SITE, PAST = "docs/PROMISES.md", "docs/ARCHITECTURE.md", "docs/SITE.md", "docs/DECISIONS.md"
@@ -63,8 +64,11 @@ def faults_of_walk():
     yield from (f"{ARCHITECTURE}: it doesn't name {crate}" for crate in crates() if not re.search(rf"\b{crate}\b", text_of(ARCHITECTURE)))
 
 
-def faults_of_head():
-    """Top calls that the head of the program doesn't name."""
+def faults_of_heads():
+    """Files of code without a head, and top calls that the head of the program doesn't name."""
+    for path in (path for crate in crates() for path in sources_of(crate)):
+        if not text_of(path).startswith("//"):
+            yield f"{path}: it doesn't begin with what it is"
     head = "".join(line for line in text_of(MAIN).splitlines() if line.startswith("//!"))
     yield from (f"{MAIN}: its head doesn't name {call}" for call in TOP if f"`{call}`" not in head)
 
@@ -122,14 +126,14 @@ def faults_of_searches():
 
 def faults(pages):
     found = [fault for page in pages for fault in faults_of_files(page)]
-    return found + [*faults_of_promises(), *faults_of_walk(), *faults_of_head(), *faults_of_keys(), *faults_of_version(), *faults_of_doors(), *faults_of_searches()]
+    return found + [*faults_of_promises(), *faults_of_walk(), *faults_of_heads(), *faults_of_keys(), *faults_of_version(), *faults_of_doors(), *faults_of_searches()]
 
 
 def test_itself():
     """What isn't found in small trees whose pages don't tell these things."""
     right = {
-        "crates/a/src/lib.rt": "pub fn hold()\n    requires open { IsHeld }\n    ensures holds { IsHeld }\n{\n}\n",
-        "crates/a_tests/src/lib.rt": "mod hold_tests;\n",
+        "crates/a/src/lib.rt": "//! What it is.\npub fn hold()\n    requires open { IsHeld }\n    ensures holds { IsHeld }\n{\n}\n",
+        "crates/a_tests/src/lib.rt": "//! Tests.\nmod hold_tests;\n",
         MAIN: "//! `run` and `serve`.\nconst VERSION: &str = \"alarm-server 1.2.3\";\n",
         "VERSION": "1.2.3\n", "packaging/alarm-server.8": "\"alarm-server 1.2.3\"\n", "docs/OPERATE.md": "alarm-server_1.2.3_amd64.deb",
         "CHANGELOG.md": "\n## 1.3.0, not tagged yet\n\n## 1.2.3, 2026-11-29\n",
@@ -146,6 +150,7 @@ def test_itself():
         "Held.antt is told without its crate": {ARCHITECTURE: right[ARCHITECTURE].replace("a/Held", "Held")},
         "doesn't name a::hold": {ARCHITECTURE: right[ARCHITECTURE].replace("hold", "keep")},
         "doesn't name a_tests": {ARCHITECTURE: right[ARCHITECTURE].replace("a_tests", "tests")},
+        "crates/a_tests/src/lib.rt: it doesn't begin with what it is": {"crates/a_tests/src/lib.rt": "mod hold_tests;\n"},
         "its head doesn't name serve": {MAIN: right[MAIN].replace(" and `serve`", "")},
         "doesn't say where name acts": {SITE: right[SITE].replace(" 12 `a/Held.antt`: `name` |", " none that can be read |")},
         "packaging/alarm-server.8: it doesn't have": {"packaging/alarm-server.8": "\"alarm-server 1.2.2\"\n"},

@@ -1,3 +1,5 @@
+//! How a request to acknowledge is judged: object, state, time stamp, in the order of the errors.
+
 ghost use Rattle.std.specs.Prelude.{◌≡◌};
 ghost use Rattle.event_machine.specs.Finding.{as_finding};
 ghost use Rattle.ack_alarm.specs.Verdicts.{AcceptsAllowed, acknowledgement_verdict, error_of, is_stamp, transition_named, verdict_on, verdict_with};

@@ -1,3 +1,5 @@
+//! What a request to acknowledge comes to.
+
 use bac_values::{EventState, Transition};
 
 /// What a request to acknowledge an alarm comes to.

@@ -1,3 +1,5 @@
+//! Which events may come next, and what the members of other classes leave of the outbox.
+
 ghost use Rattle.std.specs.Prelude.{◌≡◌, ◌==◌, ◌↔◌, ◌+◌, ◌^◌, ◌-◌, ◌≤◌, IsSome, IsTrue, Ok, min, not, map, filter, fold};
 ghost use Rattle.bac_values.specs.Limits.{most_outbox};
 ghost use Rattle.bac_values.specs.Moments.{IsMoment};

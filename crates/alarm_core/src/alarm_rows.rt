@@ -1,3 +1,5 @@
+//! What summaries are told of the objects and the enrollments.
+
 ghost use Rattle.std.specs.Prelude.{◌≡◌, ◌<◌, ◌^◌, length, slice_get};
 ghost use Rattle.std.specs.Option.{option_copied};
 ghost use Rattle.alarm_core.specs.AlarmRows.{alarm_row_of, alarm_rows, class_number_of};

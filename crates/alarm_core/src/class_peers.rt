@@ -1,3 +1,5 @@
+//! The peers to which classes send.
+
 ghost use Rattle.std.specs.Prelude.{◌≡◌, ◌++◌, IfOk, OnOk};
 ghost use Rattle.notify_class.specs.Edits.{recipient_peers};
 ghost use Rattle.alarm_core.specs.Classes.{peers_in};

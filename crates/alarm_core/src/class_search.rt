@@ -1,3 +1,5 @@
+//! Classes and bindings, found by their instance.
+
 ghost use Rattle.std.specs.Prelude.{◌≡◌, ◌==◌, ◌<◌, AllPairs, IfOk, None, OnErr, Some, length, slice_index_or};
 ghost use Rattle.std.specs.Option.{option_copied};
 ghost use Rattle.notify_class.specs.declared.binding.Binding.{Binding as Bound};

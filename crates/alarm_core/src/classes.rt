@@ -1,3 +1,5 @@
+//! The classes of a site as edits leave them.
+
 ghost use Rattle.std.specs.Prelude.{◌≡◌, IfOk, map};
 ghost use Rattle.notify_class.specs.declared.class_site.ClassSite.{ClassSite as Named};
 ghost use Rattle.alarm_core.specs.Classes.{edited};

@@ -1,3 +1,5 @@
+//! The event detection of one object: its algorithm, and its alarm.
+
 ghost use Rattle.std.specs.Prelude.{◌≡◌, ◌≤◌, ◌↔◌, ◌⊎◌, [], None, IfOk, IfSome, IsFalse, IsTrue, OnErr, length, suc};
 ghost use Rattle.bac_values.specs.Limits.{most_listed_values};
 ghost use Rattle.std.specs.Option.{option_map};

@@ -1,3 +1,5 @@
+//! The event detection of all objects of a site, with what is due.
+
 ghost use Rattle.std.specs.Prelude.{◌≡◌, ◌↔◌, ◌<◌, ◌≤◌, ◌+◌, ◌^◌, [], if◌then◌else◌, IfOk, IsFalse, IsTrue, OnErr, OnOk, length, map};
 ghost use Rattle.std.specs.List.{flat_map};
 ghost use Rattle.enrollment.specs.Objects.{IsTaken, written};

@@ -1,3 +1,5 @@
+//! The evaluations of an event: of what is due at a moment, and of what a change touches.
+
 ghost use Rattle.std.specs.Prelude.{◌≡◌, ◌↔◌, ◌<◌, ◌≤◌, ◌∷◌, ◌+◌, ◌++◌, ◌^◌, [], suc, if◌then◌else◌, IsFalse, IsTrue, OnErr, OnOk, length, map, slice_set, ℕ};
 ghost use Rattle.std.specs.List.{flat_map};
 ghost use Rattle.alarm_core.specs.CoreSteps.{evaluated, evaluated_all, transitions_by};

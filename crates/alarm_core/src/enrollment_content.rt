@@ -1,3 +1,5 @@
+//! The properties of event enrollments, as they are read.
+
 ghost use Rattle.std.specs.Prelude.{◌≡◌, IfOk};
 ghost use Rattle.enrollment.specs.Properties.{property_of};
 ghost use Rattle.alarm_core.specs.EnrollmentProperties.{enrollment_property, enrollment_status, known_enrollment_content};

@@ -1,3 +1,5 @@
+//! Events, and what comes of one.
+
 use bac_values::{EventState, Items, Moved, NoMemory, ObjectId, Peer, Send, Transition};
 use notify_class::Destination;
 use object_table::Change;

@@ -1,3 +1,5 @@
+//! What GetEventInformation is told of active objects.
+
 ghost use Rattle.std.specs.Prelude.{◌≡◌, ◌≤◌, IfOk, drop, filter, length};
 ghost use Rattle.std.specs.Option.{option_and_then, option_copied, option_map};
 ghost use Rattle.alarm_core.specs.DueSteps.{AscendByObject};

@@ -1,3 +1,5 @@
+//! The identifiers of all objects of a site, in their order.
+
 ghost use Rattle.std.specs.Prelude.{◌≡◌, ◌++◌, All, IfOk, None, OnOk, Some, length, map};
 ghost use Rattle.bac_tags.specs.Writing.{written_object, written_unsigned};
 ghost use Rattle.property_values.specs.DeviceProperties.{device_content, device_property, object_list};

@@ -1,3 +1,5 @@
+//! The properties and the alarms with which a site begins.
+
 ghost use Rattle.std.specs.Prelude.{◌≡◌, ◌==◌, ◌++◌, ◌∷◌, [], IfOk, OnOk, filter, find, if◌then◌else◌, map};
 ghost use Rattle.std.specs.Option.{option_copied};
 ghost use Rattle.notify_class.specs.declared.class_site.ClassSite.{ClassSite as Listed};

@@ -1,3 +1,5 @@
+//! The laws of the core's definitions, each the contract of a call that does nothing.
+
 ghost use Rattle.alarm_core.specs.LastLists.{ReadsTheLastList};
 ghost use Rattle.alarm_core.specs.Laws.{AllowsWhatChecksAccept, ClassesAreThere, CountsTheLongerHistory, KeepsToItsSite, KnowsListedPeers, ObjectListAscends, StandsForItsHistory, StandsOverEvents};
 ghost use Rattle.alarm_core.specs.Parts.{RestoresWhatItTells};

@@ -1,3 +1,5 @@
+//! What an edit of a class's recipients is decided by.
+
 ghost use Rattle.std.specs.Prelude.{◌≡◌};
 ghost use Rattle.std.specs.Option.{option_copied, option_map};
 ghost use Rattle.notify_class.specs.declared.class.Class.{Class as Listed};

@@ -1,3 +1,5 @@
+//! The event logs of a site, and what an event brings to them.
+
 ghost use Rattle.std.specs.Prelude.{◌≡◌, ◌==◌, ◌∷◌, ◌++◌, All, List, IfOk, IsSome, IsTrue, OnOk, map, Vec as Records};
 ghost use Rattle.std.specs.declared.alloc.Global.{Global};
 ghost use Rattle.std.specs.List.{flat_map, list_any};

@@ -1,3 +1,5 @@
+//! How many objects have each class, and whether the outbox has room for the notifications of all.
+
 ghost use Rattle.std.specs.Prelude.{◌≡◌, ◌↔◌, ◌+◌, ◌-◌, ◌^◌, IfOk, IsTrue, fold, map, min};
 ghost use Rattle.notify_class.specs.declared.class.Class.{Class as Listed};
 ghost use Rattle.alarm_core.specs.Classes.{is_member};

@@ -1,3 +1,5 @@
+//! The notes of an event enter the outbox, all of them or none.
+
 ghost use Rattle.std.specs.Prelude.{◌≡◌, All, List, OnErr, OnOk, length};
 ghost use Rattle.bac_values.specs.declared.note.Note.{Note as Notification};
 ghost use Rattle.outbox.specs.Outboxes.{AreKnown, peers_of, queued};

@@ -1,3 +1,5 @@
+//! What is told of transitions and acknowledgements, and to whom.
+
 ghost use Rattle.std.specs.Prelude.{◌≡◌, ◌+◌, ◌++◌, All, IfOk, None, OnOk, if◌then◌else◌, length, map};
 ghost use Rattle.std.specs.List.{flat_map};
 ghost use Rattle.std.specs.Option.{option_copied, option_to_list};

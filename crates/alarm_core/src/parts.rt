@@ -1,3 +1,5 @@
+//! The parts of which a core is made.
+
 use bac_values::Items;
 use enrollment::Enrollments;
 use event_log::EventLog;

@@ -1,3 +1,5 @@
+//! Properties are read.
+
 ghost use Rattle.std.specs.Prelude.{◌≡◌, IsTrue, None, Ok, map};
 ghost use Rattle.bac_tags.specs.Writing.{written_object};
 ghost use Rattle.enrollment.specs.Subjects.{is_inhibited};

@@ -1,3 +1,5 @@
+//! A core is made of parts that were told.
+
 ghost use Rattle.std.specs.Prelude.{◌≡◌, ◌≤◌, ◌++◌, ◌∷◌, [], All, IfOk, List, OnOk, filter, flat_map, if◌then◌else◌, length, map, zip};
 ghost use Rattle.bac_values.specs.Limits.{most_peers};
 ghost use Rattle.bac_values.specs.Orders.{IsAscending};

@@ -1,3 +1,5 @@
+//! A site, as its file says it, and copies of it.
+
 ghost use Rattle.std.specs.Prelude.{◌≡◌, ◌==◌, All, IfOk, IfSome, None, OnErr, find};
 ghost use Rattle.std.specs.List.{list_any};
 ghost use Rattle.std.specs.Option.{option_copied};

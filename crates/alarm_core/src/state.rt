@@ -1,3 +1,5 @@
+//! The core itself: what it keeps, how it starts, and what may be asked of it.
+
 ghost use Rattle.std.specs.Prelude.{◌≡◌, ◌↔◌, ◌<◌, ◌^◌, length, [], All, IfOk, IsTrue, max};
 ghost use Rattle.std.specs.Option.{option_copied};
 ghost use Rattle.bac_values.specs.Moments.{IsMoment};

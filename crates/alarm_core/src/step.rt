@@ -1,3 +1,5 @@
+//! One event enters the core: what is due and what it touches is evaluated, told, logged and queued, or nothing changes.
+
 ghost use Rattle.std.specs.Prelude.{◌≡◌, ◌↔◌, ◌<◌, ◌≤◌, ◌∷◌, ◌+◌, ◌++◌, [], All, List, None, Ok, length, max, map, IfOk, IfSome, IsFalse, IsTrue, OnErr, OnOk};
 ghost use Rattle.std.specs.List.{flat_map};
 ghost use Rattle.bac_values.specs.Limits.{most_events};

@@ -1,3 +1,5 @@
+//! A transition of an object.
+
 ghost use Rattle.std.specs.Prelude.{◌≡◌, ◌++◌, OnOk, map};
 ghost use Rattle.std.specs.Option.{option_to_list};
 ghost use Rattle.alarm_core.specs.History.{object_transition};

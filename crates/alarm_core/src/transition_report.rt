@@ -1,3 +1,5 @@
+//! What is told of the transitions of one point.
+
 ghost use Rattle.std.specs.Prelude.{◌≡◌, ◌++◌, All, IfOk, OnOk, map};
 ghost use Rattle.alarm_core.specs.History.{moved_by};
 ghost use Rattle.alarm_core.specs.Logs.{records_of, SiteLogState};

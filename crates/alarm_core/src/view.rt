@@ -1,3 +1,5 @@
+//! What transitions are told with: the site, its classes and the properties.
+
 use crate::Site;
 use crate::detection::DetectedObject;
 use bac_values::Transition;

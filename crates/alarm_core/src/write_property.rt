@@ -1,3 +1,5 @@
+//! Writes of properties are checked.
+
 ghost use Rattle.std.specs.Prelude.{IfOk, IsErr};
 ghost use Rattle.alarm_core.specs.Contents.{other_content};
 ghost use Rattle.alarm_core.specs.Reading.{AnswersSize, AnswersWrite, denied, size_in, write_of};

@@ -1,3 +1,5 @@
+//! An area of a journal is read: its snapshot, and then batch by batch.
+
 ghost use Rattle.std.specs.Prelude.{◌≡◌, ◌<◌, ◌≤◌, ◌+◌, ◌^◌, ◌-◌, [], IfOk, IfErr, IfSome, IsFalse, IsTrue, MatchOption, OnOk, Err, false};
 ghost use Rattle.ground_io.specs.Counts.{HasCause};
 ghost use Rattle.ground_io.specs.Disk.{octets_at};

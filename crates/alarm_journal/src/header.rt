@@ -1,3 +1,5 @@
+//! The header by which a device is known as the journal of its site.
+
 ghost use Rattle.std.specs.Prelude.{◌≡◌, ◌+◌, ◌<◌, ◌≤◌, ◌^◌, length, IfOk, IfErr};
 ghost use Rattle.bac_values.specs.Limits.{most_site_octets};
 ghost use Rattle.alarm_journal.specs.Press.{IsSmall};

@@ -1,3 +1,5 @@
+//! What is to be written in one commit, in the octets in which it stands.
+
 ghost use Rattle.std.specs.Prelude.{◌≡◌, ◌<◌, ◌≤◌, ◌+◌, length, IfOk};
 ghost use Rattle.bac_values.specs.Limits.{most_batch_octets, snapshot_octets_limit};
 ghost use Rattle.alarm_journal.specs.Journal.{framed};

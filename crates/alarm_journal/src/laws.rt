@@ -1,3 +1,5 @@
+//! The laws of what an image opens to.
+
 ghost use Rattle.alarm_journal.specs.Laws.{IsComputed, OpensOnce};
 
 /// For each site each image opens to one content, or is refused for one fault.

@@ -1,3 +1,5 @@
+//! Where on its device a journal stands.
+
 ghost use Rattle.std.specs.Prelude.{◌≡◌, ◌+◌, ◌<◌, ◌≤◌, ◌^◌};
 ghost use Rattle.alarm_journal.specs.Press.{behind_batch, behind_snapshot, end_of, other_of, room_of, selector_of, start_of};
 

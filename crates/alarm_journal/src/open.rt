@@ -1,3 +1,5 @@
+//! A device is opened as a journal, or formatted where it is blank.
+
 ghost use Rattle.std.specs.Prelude.{◌≡◌, ◌⊎◌, ◌+◌, ◌-◌, ◌/◌, ◌%◌, ◌≤◌, ◌<◌, if◌then◌else◌, slice_index, [], ◌∷◌, ℕ, length, IfOk, IfErr, OnOk, OnErr, MatchResult, IsFalse, IsTrue, ◌↔◌, Ok, Err, false};
 ghost use Rattle.bac_values.specs.Limits.{most_site_octets};
 ghost use Rattle.ground_io.specs.Counts.{HasCause};

@@ -1,3 +1,5 @@
+//! Why a device isn't opened.
+
 ghost use Rattle.std.specs.Prelude.{◌≡◌};
 
 use ground_io::Failed;

@@ -1,3 +1,5 @@
+//! What an opened journal hands up.
+
 use crate::Body;
 use bac_values::Items;
 

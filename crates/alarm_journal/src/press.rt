@@ -1,3 +1,5 @@
+//! The press: it opens, commits, and sends what rests on what was committed.
+
 ghost use Rattle.std.specs.Prelude.{◌≡◌, ◌⊎◌, ◌<◌, ◌≤◌, ◌+◌, ◌-◌, ◌/◌, All, List, [], ◌∷◌, ℕ, length, IfOk, IfErr, IsFalse, IsTrue, MatchResult, Ok, Err, map, ⊤};
 ghost use Rattle.bac_values.specs.Limits.{most_site_octets};
 ghost use Rattle.ground_io.specs.Counts.{HasCause};

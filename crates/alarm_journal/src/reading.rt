@@ -1,3 +1,5 @@
+//! Pieces, gates and words of a journal are read.
+
 ghost use Rattle.std.specs.Prelude.{◌≡◌, ◌⊎◌, ◌+◌, ◌≤◌, ◌↔◌, [], length, slice_index, IfOk, IfErr, IsErr, IsTrue, OnOk, Err};
 ghost use Rattle.byteorder.specs.Endian.{big_number};
 ghost use Rattle.ground_io.specs.Counts.{HasCause};

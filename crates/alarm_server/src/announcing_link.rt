@@ -1,3 +1,5 @@
+//! A link that says where it listens.
+
 ghost use Rattle.std.specs.Prelude.{◌≡◌, IfOk, IsErr, OnOk};
 ghost use Rattle.ground_io.specs.Counts.{HasCause};
 ghost use Rattle.ground_io.specs.Link.{FitsInto, Receives};

@@ -1,3 +1,5 @@
+//! The words of a program, and the command that they are.
+
 ghost use Rattle.std.specs.Prelude.{◌≡◌, ◌-◌, ◌^◌, map, string_bytes};
 ghost use Rattle.alarm_server.specs.Commands.{command_of, is_session, workload_of};
 ghost use Rattle.alarm_server.specs.ServeWords.{count_in};

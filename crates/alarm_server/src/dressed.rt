@@ -1,3 +1,5 @@
+//! A server's ground and link, with what wraps them.
+
 ghost use Rattle.std.specs.Prelude.{◌≡◌, ◌↔◌, ◌<◌, None, IfSome, map, string_bytes};
 ghost use Rattle.bac_values.specs.Moments.{IsMoment};
 ghost use Rattle.ending_link.specs.declared.flag.SharedFlag.{SharedFlag as Raised};

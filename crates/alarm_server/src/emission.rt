@@ -1,3 +1,5 @@
+//! Lines go out to the console.
+
 ghost use Rattle.std.specs.Prelude.{◌≡◌, ◌∷◌, [], IsErrOf, OnOk};
 ghost use Rattle.script_lines.specs.Report.{report_text};
 ghost use Rattle.ground_io.specs.Counts.{HasCause};

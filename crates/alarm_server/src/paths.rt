@@ -1,3 +1,5 @@
+//! Which of the words name files.
+
 ghost use Rattle.std.specs.Prelude.{◌≡◌, map, string_bytes};
 ghost use Rattle.alarm_server.specs.Paths.{paths_for};
 

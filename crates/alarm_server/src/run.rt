@@ -1,3 +1,5 @@
+//! The top call of all commands but `serve`.
+
 ghost use Rattle.std.specs.Prelude.{◌≡◌, ◌≢◌, ◌↔◌, ℕ, map, None, OnOk, IfErr, IsErrOf, string_bytes};
 ghost use Rattle.ground_io.specs.Counts.{HasCause, Rose};
 ghost use Rattle.alarm_journal.specs.declared.open_fault.OpenFault.{OpenFault as Refusal};

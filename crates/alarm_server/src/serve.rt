@@ -1,3 +1,5 @@
+//! The top call of `serve`.
+
 ghost use Rattle.std.specs.Prelude.{◌≡◌, ◌↔◌, ◌<◌, ◌≤◌, None, IfSome, length, map, string_bytes};
 ghost use Rattle.ground_io.specs.Counts.{HasCause, Rose};
 ghost use Rattle.alarm_core.specs.Sites.{IsSite};

@@ -1,3 +1,5 @@
+//! A session, line by line: each event is kept in the journal before its piece goes out.
+
 ghost use Rattle.std.specs.Prelude.{◌≡◌, ℕ, ◌≤◌, ◌∷◌, [], List, None, IfErr, IfOk, IfSome, IsErrOf, MatchResult, OnOk};
 ghost use Rattle.std.specs.Io.KnownBytes.{IsAtEnd};
 ghost use Rattle.bac_values.specs.Moments.{IsMoment};

@@ -1,3 +1,5 @@
+//! The object on trial, as the words set it.
+
 ghost use Rattle.std.specs.Prelude.{◌≡◌, [], ◌-◌, ◌^◌, map, string_bytes};
 ghost use Rattle.algorithm_rules.specs.Facts.{facts_of};
 ghost use Rattle.script_lines.specs.Number.{signed_of, unsigned_of};

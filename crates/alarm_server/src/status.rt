@@ -1,3 +1,5 @@
+//! The statuses with which a program ends, their numbers and their texts.
+
 ghost use Rattle.std.specs.Prelude.{◌≡◌};
 ghost use Rattle.alarm_server.specs.Status.{code_of, of_keep_fault, of_line_fault, of_open_fault, of_site_fault, of_unsent, open_fault_text, status_text};
 

@@ -1,3 +1,5 @@
+//! One line of a session is taken: what it comes to, and the piece of the report that tells of it.
+
 ghost use Rattle.std.specs.Prelude.{◌≡◌, ◌<◌, ◌^◌, ◌∷◌, ◌++◌, [], List, None, max, IfOk, IfSome, OnErr, OnOk, map};
 ghost use Rattle.bac_values.specs.Moments.{IsMoment};
 ghost use Rattle.state_codec.specs.Records.{HasRecord};

@@ -1,3 +1,5 @@
+//! How many lines of each kind a report has.
+
 ghost use Rattle.std.specs.Prelude.{◌≡◌, ◌+◌, ◌∷◌, [], OnOk};
 ghost use Rattle.alarm_server.specs.Tallies.{no_tally, tally_with};
 

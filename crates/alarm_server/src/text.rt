@@ -1,3 +1,5 @@
+//! The text of a site is read from its source.
+
 ghost use Rattle.std.specs.Prelude.{◌≡◌, ◌<◌, ◌≤◌, ◌+◌, IfErr, IfOk, IfSome, IsErrOf, MatchBool, OnOk, length, take};
 ghost use Rattle.std.specs.Io.KnownBytes.{IsAtEnd, Keeps, prepend_known};
 ghost use Rattle.ground_io.specs.Counts.{HasCause};

@@ -1,3 +1,5 @@
+//! A gate at which a server rests until a datagram comes.
+
 use ground_io::{Gate, Worker};
 use std::sync::Wait;
 use std::sync::atomic::{AtomicU64, Ordering};

@@ -1,3 +1,5 @@
+//! The object on trial, and its detection.
+
 ghost use Rattle.std.specs.Prelude.{◌≡◌, ◌≤◌, ◌<◌, ◌∷◌, [], List, length, false, replicate};
 ghost use Rattle.bac_values.specs.Limits.{most_listed_values};
 ghost use Rattle.bac_values.specs.Moments.{IsMoment};

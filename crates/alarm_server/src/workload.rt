@@ -1,3 +1,5 @@
+//! A workload: the generated session is played, and its report is counted.
+
 ghost use Rattle.std.specs.Prelude.{◌≡◌, ◌≢◌, ◌≤◌, ◌∷◌, length, ℕ, [], OnOk, IfErr, IfOk, IsErrOf};
 ghost use Rattle.ground_io.specs.Counts.{HasCause};
 ghost use Rattle.ground_io.specs.Trace.{Adds};

@@ -1,3 +1,5 @@
+//! Whether the condition of a rule holds, and for which case.
+
 ghost use Rattle.std.specs.Prelude.{◌≡◌, ◌≤◌, ◌↔◌, IsTrue, length, ◌+ℤ◌, ◌-ℤ◌, ℤ};
 ghost use Rattle.bac_values.specs.Limits.{most_listed_values};
 ghost use Rattle.algorithm_rules.specs.Conditions.{is_above, is_below, is_met, is_within, key_of, number_in};

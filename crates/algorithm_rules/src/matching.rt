@@ -1,3 +1,5 @@
+//! Whether a value matches an alarm value.
+
 ghost use Rattle.std.specs.Prelude.{◌≡◌, ◌<◌, ◌≤◌, IfSome, length, position};
 ghost use Rattle.bac_values.specs.Limits.{most_listed_values};
 ghost use Rattle.algorithm_rules.specs.Facts.{facts_of};

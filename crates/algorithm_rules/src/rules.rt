@@ -1,3 +1,5 @@
+//! The rules of each algorithm, in the order in which they are tried.
+
 ghost use Rattle.std.specs.Prelude.{◌≡◌, slice_get};
 ghost use Rattle.algorithm_rules.specs.Rules.{rules_of, match_rules, command_rules, limit_rules, range_rules};
 

@@ -1,3 +1,5 @@
+//! What a rule looks at.
+
 use crate::Algorithm;
 use bac_values::{Bits, Value};
 

@@ -1,3 +1,5 @@
+//! The columns of the table of rules: algorithms, conditions and delays.
+
 ghost use Rattle.std.specs.Prelude.{◌≡◌};
 ghost use Rattle.algorithm_rules.specs.EventTypes.{event_type_of};
 

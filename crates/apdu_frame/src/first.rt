@@ -1,3 +1,5 @@
+//! The first octet of an APDU.
+
 ghost use Rattle.std.specs.Prelude.{◌≡◌, ◌<◌};
 ghost use Rattle.apdu_frame.specs.Writing.{first_octet};
 

@@ -1,3 +1,5 @@
+//! The headers of APDUs are read (20.1).
+
 ghost use Rattle.std.specs.Prelude.{◌≡◌, ◌≢◌, ◌∷◌};
 ghost use Rattle.apdu_frame.specs.declared.apdu.Apdu.{Apdu};
 ghost use Rattle.apdu_frame.specs.Headers.{BeginsWithin, IsApdu, max_apdu_of};

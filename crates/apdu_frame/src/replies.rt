@@ -1,3 +1,5 @@
+//! Short answers are written: SimpleACK, Error, Reject, Abort (20.1).
+
 ghost use Rattle.std.specs.Prelude.{◌≡◌, ◌≤◌, IfOk, length};
 ghost use Rattle.apdu_frame.specs.declared.apdu.Apdu.{Apdu};
 ghost use Rattle.apdu_frame.specs.ReadingSteps.{apdu_of};

@@ -1,3 +1,5 @@
+//! APDUs with a body are written: requests and ComplexACK (20.1).
+
 ghost use Rattle.std.specs.Prelude.{◌≡◌, ◌++◌, IfOk};
 ghost use Rattle.bac_values.specs.Services.{longest_apdu};
 ghost use Rattle.apdu_frame.specs.declared.apdu.Apdu.{Apdu};

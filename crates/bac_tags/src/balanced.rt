@@ -1,3 +1,5 @@
+//! Elements of any kind are read over, between an opening and a closing tag.
+
 ghost use Rattle.std.specs.Prelude.{◌≡◌, ℕ, ◌+◌, ◌<◌, ◌≤◌, List, length, slice_range, IfSome, IfOk, IsOkAnd};
 ghost use Rattle.bac_tags.specs.Places.{IsSpelledAt};
 ghost use Rattle.bac_tags.specs.EnclosingTags.{SpellsEnclosed};

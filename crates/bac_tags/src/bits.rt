@@ -1,3 +1,5 @@
+//! BitStrings (20.2.10).
+
 ghost use Rattle.std.specs.Prelude.{◌≡◌, ◌↔◌, ◌⊎◌, ℕ, ◌*◌, ◌<◌, ◌≤◌, ◌^◌, ◌++◌, None, Option, length, drop, IfOk, OnOk, OnErr};
 ghost use Rattle.bac_values.specs.BitString.{BitsData};
 ghost use Rattle.bac_values.specs.ApplicationTags.{bit_string_tag};

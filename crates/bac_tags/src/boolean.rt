@@ -1,3 +1,5 @@
+//! Booleans (20.2.3).
+
 ghost use Rattle.std.specs.Prelude.{◌≡◌, ◌↔◌, ℕ, ◌<◌, ◌≤◌, Bool, ◌++◌, length, drop, IfOk, OnOk, OnErr};
 ghost use Rattle.std.specs.Option.{ok_or};
 ghost use Rattle.bac_values.specs.ApplicationTags.{boolean_tag};

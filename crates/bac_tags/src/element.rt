@@ -1,3 +1,5 @@
+//! What all elements share: the types of an application, and whether a tag has a number in a context.
+
 ghost use Rattle.std.specs.Prelude.{◌≡◌, ◌+◌, ◌<◌, ◌≤◌, ◌^◌, ◌++◌, length, IfOk, OnOk, OnErr};
 ghost use Rattle.bac_tags.specs.Elements.{element_tag};
 ghost use Rattle.bac_tags.specs.ReadingSteps.{Gives, header_at, content_at};

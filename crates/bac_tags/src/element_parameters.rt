@@ -1,3 +1,5 @@
+//! Parameters of one element, required and optional.
+
 ghost use Rattle.std.specs.Prelude.{◌≡◌, ◌↔◌, ℕ, ◌<◌, ◌≤◌, Option, Some, length, drop, IfOk};
 ghost use Rattle.bac_values.specs.Identifier.{ObjectIdData};
 ghost use Rattle.bac_tags.specs.Places.{IsSpelledAt};

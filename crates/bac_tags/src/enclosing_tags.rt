@@ -1,3 +1,5 @@
+//! Tags that open and close, and elements of plain octets.
+
 ghost use Rattle.std.specs.Prelude.{◌≡◌, ◌↔◌, ℕ, ◌<◌, ◌≤◌, ◌++◌, Some, length, drop, IfOk, OnOk, OnErr};
 ghost use Rattle.bac_tags.specs.Places.{IsSpelledAt};
 ghost use Rattle.bac_tags.specs.Tags.{EndsInTag};

@@ -1,3 +1,5 @@
+//! Why an element isn't read.
+
 use thiserror::Error;
 
 /// Why octets aren't an element that a reader takes.

@@ -1,3 +1,5 @@
+//! Why parameters aren't read, as a Reject says it (clause 18).
+
 ghost use Rattle.std.specs.Prelude.{◌≡◌};
 ghost use Rattle.bac_tags.specs.Refusals.{invalid_tag, missing_parameter, too_many_arguments};
 

@@ -1,3 +1,5 @@
+//! ObjectIdentifiers (20.2.14).
+
 ghost use Rattle.std.specs.Prelude.{◌≡◌, ◌↔◌, ℕ, ◌<◌, ◌≤◌, ◌++◌, length, drop, IfOk, OnOk, OnErr};
 ghost use Rattle.bac_values.specs.Identifier.{ObjectIdData};
 ghost use Rattle.bac_values.specs.ApplicationTags.{object_identifier_tag};

@@ -1,3 +1,5 @@
+//! OctetStrings (20.2.8).
+
 ghost use Rattle.std.specs.Prelude.{◌≡◌, ◌↔◌, ◌⊎◌, ℕ, ◌<◌, ◌≤◌, ◌^◌, ◌++◌, None, List, length, drop, slice_range, IfErr, IfOk, IsOkAnd, OnOk, OnErr};
 ghost use Rattle.bac_values.specs.ApplicationTags.{octet_string_tag};
 ghost use Rattle.bac_tags.specs.Places.{IsSpelledAt};

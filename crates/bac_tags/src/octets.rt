@@ -1,3 +1,5 @@
+//! Octets at a place.
+
 ghost use Rattle.std.specs.Prelude.{◌≡◌, ◌+◌, ◌<◌, ◌≤◌, length, OnOk, IfOk};
 ghost use Rattle.bac_tags.specs.ReadingSteps.{Gives, octet_at, octets_at};
 

@@ -1,3 +1,5 @@
+//! From what a reader of an element answers to what a parameter is.
+
 ghost use Rattle.std.specs.Prelude.{◌≡◌};
 ghost use Rattle.bac_tags.specs.ParameterReadingSteps.{or_invalid, required, optional, nothing_follows};
 

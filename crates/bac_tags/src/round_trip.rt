@@ -1,3 +1,5 @@
+//! The law that what is written is read back.
+
 ghost use Rattle.std.specs.Prelude.{◌≡◌, ℕ, ℤ, ◌+◌, ◌-◌, ◌/◌, ◌%◌, ◌^◌, ◌<◌, ◌∷◌, ◌++◌, Bool, Option, List, length, slice_index, FitsSigned};
 ghost use Rattle.std.specs.Int.{w32, bit_at};
 ghost use Rattle.bac_values.specs.Identifier.{IsIdentifier, ObjectIdData};

@@ -1,3 +1,5 @@
+//! Signed numbers (20.2.5).
+
 ghost use Rattle.std.specs.Prelude.{◌≡◌, ◌↔◌, ℕ, ℤ, ◌<◌, ◌≤◌, ◌++◌, length, drop, IfOk, OnOk, OnErr};
 ghost use Rattle.bac_values.specs.ApplicationTags.{signed_tag};
 ghost use Rattle.bac_tags.specs.Places.{IsSpelledAt};

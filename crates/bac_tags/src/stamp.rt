@@ -1,3 +1,5 @@
+//! A Date and a Time, one behind the other (20.2.12, 20.2.13).
+
 ghost use Rattle.std.specs.Prelude.{◌≡◌, ◌↔◌, ◌⊎◌, ℕ, ◌<◌, ◌≤◌, ◌++◌, None, length, drop, IfOk, OnOk, OnErr};
 ghost use Rattle.bac_values.specs.declared.stamp.Stamp.{Stamp};
 ghost use Rattle.bac_values.specs.ApplicationTags.{date_tag, time_tag};

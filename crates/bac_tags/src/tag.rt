@@ -1,3 +1,5 @@
+//! Tags (20.2.1).
+
 ghost use Rattle.std.specs.Prelude.{◌≡◌, ◌↔◌, ℕ, ◌<◌, ◌≤◌, ◌++◌, length, drop, IfErr, IfOk, OnOk, OnErr};
 ghost use Rattle.bac_tags.specs.Places.{IsSpelledAt};
 ghost use Rattle.bac_tags.specs.Tags.{SpellsTag, EndsInTag};

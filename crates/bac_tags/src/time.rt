@@ -1,3 +1,5 @@
+//! Times (20.2.13).
+
 ghost use Rattle.std.specs.Prelude.{◌≡◌, ◌↔◌, ℕ, ◌<◌, ◌≤◌, ◌++◌, None, List, length, drop, IfOk, OnOk, OnErr};
 ghost use Rattle.bac_values.specs.ApplicationTags.{time_tag};
 ghost use Rattle.bac_tags.specs.Places.{IsSpelledAt};

@@ -1,3 +1,5 @@
+//! Unsigned and Enumerated numbers (20.2.4, 20.2.11).
+
 ghost use Rattle.std.specs.Prelude.{◌≡◌, ◌↔◌, ℕ, ◌<◌, ◌≤◌, ◌++◌, length, drop, IfOk, OnOk, OnErr, None};
 ghost use Rattle.bac_values.specs.ApplicationTags.{unsigned_tag};
 ghost use Rattle.bac_tags.specs.Places.{IsSpelledAt};

@@ -1,3 +1,5 @@
+//! One application value of any type.
+
 ghost use Rattle.std.specs.Prelude.{◌≡◌, ◌↔◌, ◌⊎◌, ℕ, ◌<◌, ◌≤◌, List, IsTrue, ◌++◌, length, drop, IfOk, OnOk, OnErr};
 ghost use Rattle.bac_values.specs.ApplicationTags.{character_string_tag};
 ghost use Rattle.bac_values.specs.declared.value.Value.{Value};

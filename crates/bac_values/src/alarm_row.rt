@@ -1,3 +1,5 @@
+//! What summaries tell of an object.
+
 use crate::{EventState, ObjectId};
 
 /// What a summary tells of an object or an enrollment whose event detection is enabled (ANSI/ASHRAE 135-2020, 13.10 and

@@ -1,3 +1,5 @@
+//! Strings of bits.
+
 ghost use Rattle.std.specs.Prelude.{◌≡◌, ◌^◌, ◌<◌, ◌≤◌, ◌↔◌, OkIff, length};
 ghost use Rattle.bac_values.specs.BitString.{IsBitString, flags_number, four_flags, string_of_flags, three_flags, two_flags};
 ghost use Rattle.bac_values.specs.Limits.{most_bits};

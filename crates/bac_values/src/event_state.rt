@@ -1,3 +1,5 @@
+//! The states of event detection.
+
 ghost use Rattle.std.specs.Prelude.{◌≡◌};
 ghost use Rattle.bac_values.specs.EventStates.{number_of_state, state_of_number, transition_to};
 

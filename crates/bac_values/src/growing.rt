@@ -1,3 +1,5 @@
+//! Vectors grow by an item.
+
 ghost use Rattle.std.specs.Prelude.{◌≡◌, ◌++◌, ◌∷◌, [], IfOk, OnErr, OnOk};
 
 use crate::NoMemory;

@@ -1,3 +1,5 @@
+//! What comes in, and why the field's part of it isn't taken.
+
 use crate::{Items, ObjectId, Peer, Value};
 
 /// What comes in at a moment.

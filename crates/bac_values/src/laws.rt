@@ -1,3 +1,5 @@
+//! The laws of the orders of identifiers, stations and peers.
+
 ghost use Rattle.std.specs.Prelude.{◌≡◌, ◌↔◌, ℕ, List, IsTrue};
 ghost use Rattle.bac_values.specs.Address.{PeerData};
 ghost use Rattle.bac_values.specs.Identifier.{ObjectIdData};

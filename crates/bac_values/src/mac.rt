@@ -1,3 +1,5 @@
+//! Addresses of stations behind a router.
+
 ghost use Rattle.std.specs.Prelude.{◌≡◌, ◌≤◌, [], length, SomeIff};
 
 use std::marker::Model;

@@ -1,3 +1,5 @@
+//! A change of an object's event state, as it is reported.
+
 use crate::{EventState, ObjectId};
 
 /// An object's event state has changed.

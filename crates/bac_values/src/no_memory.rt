@@ -1,3 +1,5 @@
+//! Want of memory.
+
 use std::alloc::AllocError;
 
 /// Memory was refused, and nothing has changed.

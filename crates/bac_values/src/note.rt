@@ -1,3 +1,5 @@
+//! Notifications and datagrams on their way.
+
 use crate::{Items, Peer};
 
 /// A notification on its way to a recipient.

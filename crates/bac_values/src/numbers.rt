@@ -1,3 +1,5 @@
+//! The laws that the numbers in code are those of the definitions.
+
 ghost use Rattle.std.specs.Prelude.{◌≡◌};
 ghost use Rattle.bac_values.specs.ApplicationTags.{null_tag, boolean_tag, unsigned_tag, signed_tag, real_tag, double_tag, octet_string_tag, character_string_tag, bit_string_tag, enumerated_tag, date_tag, time_tag, object_identifier_tag};
 ghost use Rattle.bac_values.specs.Pdus.{confirmed_request_pdu, unconfirmed_request_pdu, simple_ack_pdu, complex_ack_pdu, error_pdu, reject_pdu, abort_pdu};

@@ -1,3 +1,5 @@
+//! Object identifiers.
+
 ghost use Rattle.std.specs.Prelude.{◌≡◌, ◌↔◌, OkIff};
 ghost use Rattle.bac_values.specs.Identifier.{IsIdentifier, kind_of, number_of_kind};
 

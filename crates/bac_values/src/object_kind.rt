@@ -1,3 +1,5 @@
+//! The types of objects.
+
 ghost use Rattle.std.specs.Prelude.{◌≡◌};
 ghost use Rattle.bac_values.specs.Identifier.{number_of_kind, kind_of};
 

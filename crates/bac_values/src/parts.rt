@@ -1,3 +1,5 @@
+//! How many parts an array has.
+
 ghost use Rattle.std.specs.Prelude.{◌≡◌, ◌≤◌, ℕ, ◌^◌, IfOk, IsErr};
 
 use crate::NoMemory;

@@ -1,3 +1,5 @@
+//! Peers on the network.
+
 ghost use Rattle.std.specs.Prelude.{◌≡◌, []};
 ghost use Rattle.bac_values.specs.Address.{console};
 ghost use Rattle.bac_values.specs.Orders.{is_same};

@@ -1,3 +1,5 @@
+//! Peers in their order, each once.
+
 ghost use Rattle.std.specs.Prelude.{◌≡◌, ◌+◌, ◌<◌, ◌≤◌, [], IfOk, OkIff, OnErr, OnOk, length, vec_capacity, vec_len};
 ghost use Rattle.bac_values.specs.Orders.{IsAscending, is_among, peer_with, peers_with};
 

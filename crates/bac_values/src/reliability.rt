@@ -1,3 +1,5 @@
+//! Reliabilities.
+
 ghost use Rattle.std.specs.Prelude.{◌≡◌};
 ghost use Rattle.bac_values.specs.Reliabilities.{number_of_reliability, reliability_of_number};
 

@@ -1,3 +1,5 @@
+//! The lines of a report.
+
 use crate::{EventState, Items, Moved, Send, SetFault};
 
 /// A line of a program's report. A `line` is the number of the script's line, from 1.

@@ -1,3 +1,5 @@
+//! Texts of UTF-8.
+
 ghost use Rattle.std.specs.Prelude.{◌≡◌, ℕ, ◌<◌, ◌≤◌, ◌↔◌, length, IfOk, IfErr, IsErrOf, IsUtf8};
 ghost use Rattle.bac_values.specs.Limits.{most_text_octets};
 ghost use Rattle.bac_values.specs.declared.text.TextFault.TheVariants.{NoMemory, TooLong};

@@ -1,3 +1,5 @@
+//! The kinds of transitions.
+
 ghost use Rattle.std.specs.Prelude.{◌≡◌, ◌<◌};
 ghost use Rattle.bac_values.specs.EventStates.{place_of_transition};
 

@@ -1,3 +1,5 @@
+//! Values of properties.
+
 use crate::{Bits, ObjectId, Stamp, Text};
 
 /// A property's value.

@@ -1,3 +1,5 @@
+//! The message and the NPDU are read, down to the APDU and to whom it is answered (clause 6, annex J).
+
 ghost use Rattle.std.specs.Prelude.{◌≡◌, ◌≢◌, ◌≤◌, List, ℕ, drop, length, IfSome, IsSomeAnd};
 ghost use Rattle.bac_values.specs.Address.{PeerData};
 ghost use Rattle.bvlc_npdu.specs.Frame.{IsFrame};

@@ -1,3 +1,5 @@
+//! The message and the NPDU are written round an APDU (clause 6, annex J).
+
 ghost use Rattle.std.specs.Prelude.{◌≡◌, ◌+◌, ◌≤◌, ◌<◌, ◌++◌, length, IfOk, OnOk};
 ghost use Rattle.bac_values.specs.Address.{PeerData};
 ghost use Rattle.bac_values.specs.Services.{longest_apdu};

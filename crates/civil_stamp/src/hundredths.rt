@@ -1,3 +1,5 @@
+//! When a clock showed a stamp.
+
 ghost use Rattle.std.specs.Prelude.{◌≡◌, ◌↔◌, ℕ, ℤ, ◌≤ℤ◌, ◌/◌, ◌<◌, ◌^◌, pos, slice_index, Some, IsSome, IfSome, IsSomeAnd};
 ghost use Rattle.civil_stamp.specs.CivilStamp.{IsNearer};
 ghost use Rattle.civil_stamp.specs.LocalTime.{IsCivilTime, IsLocalStamp, IsShownAt, IsTimeOf, fixed_zone, hundredths_in, shown_hundredths};

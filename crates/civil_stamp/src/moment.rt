@@ -1,3 +1,5 @@
+//! A moment, with what the clock shows at it.
+
 ghost use Rattle.std.specs.Prelude.{◌≡◌, ◌<◌, ◌≤◌};
 ghost use Rattle.bac_values.specs.Moments.{IsMoment};
 ghost use Rattle.civil_stamp.specs.LocalTime.{IsLocalStamp, local_stamp, stamp_time, stamp_weekday};

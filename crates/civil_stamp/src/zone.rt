@@ -1,3 +1,5 @@
+//! How a local clock stands to UTC.
+
 ghost use Rattle.std.specs.Prelude.{◌≡◌, ◌*ℤ◌, pos, OkIff, IfOk, ok_or};
 ghost use Rattle.bac_values.specs.Moments.{IsMoment};
 ghost use Rattle.jiff.specs.Placed.{IsPosixZone};

@@ -1,3 +1,5 @@
+//! Which events are admitted.
+
 use crate::alarm_core_plant::{HIGH_LIMIT, Play, play_at_tanks, pump, rise};
 use crate::comparing::holds;
 use crate::sites::{START, guard, operator, told};

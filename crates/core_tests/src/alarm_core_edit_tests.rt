@@ -1,3 +1,5 @@
+//! Edits of a class's recipients.
+
 ghost use Rattle.std.specs.Prelude.{◌≡◌, IsSome, IsTrue};
 ghost use Rattle.alarm_core.specs.Allowed.{members_of, room_beside};
 ghost use Rattle.alarm_core.specs.Classes.{class_in};

@@ -1,3 +1,5 @@
+//! Sites whose core is played to.
+
 ghost use Rattle.bac_values.specs.Moments.{IsMoment};
 ghost use Rattle.alarm_core.specs.Allowed.{IsAllowed};
 ghost use Rattle.alarm_core.specs.Sites.{IsSite};

@@ -1,3 +1,5 @@
+//! Cores that are made of parts.
+
 ghost use Rattle.std.specs.Prelude.{◌≡◌, [], IfOk, None, length, pos};
 ghost use Rattle.outbox.specs.Outboxes.{IsOutbox};
 ghost use Rattle.alarm_core.specs.Sites.{IsSite};

@@ -1,3 +1,5 @@
+//! What journals lead to.
+
 ghost use Rattle.std.specs.Prelude.{◌≡◌, ◌<◌, ◌≤◌, All, length};
 ghost use Rattle.alarm_core.specs.Sites.{IsSite};
 ghost use Rattle.alarm_journal.specs.Opened.{EndsOnDevice, sum_of};

@@ -1,3 +1,5 @@
+//! What stands in snapshots.
+
 use crate::alarm_core_plant::{Play, play_on, set};
 use crate::comparing::holds;
 use crate::sites::{START, site_of};

@@ -1,3 +1,5 @@
+//! Records, octet by octet.
+
 use crate::comparing::holds;
 use alarm_core::Act;
 use bac_values::{PropertyId, Value};

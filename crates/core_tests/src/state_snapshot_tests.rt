@@ -1,3 +1,5 @@
+//! Snapshots, octet by octet, and damaged ones.
+
 ghost use Rattle.alarm_core.specs.Sites.{IsSite};
 
 use crate::alarm_core_plant::{Play, play_on, play_to};

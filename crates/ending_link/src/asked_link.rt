@@ -1,3 +1,5 @@
+//! Links that tell that they were asked.
+
 ghost use Rattle.std.specs.Prelude.{◌≡◌, IfOk, IsErr, OnErr, OnOk};
 ghost use Rattle.ground_io.specs.Counts.{HasCause};
 ghost use Rattle.ground_io.specs.Link.{FitsInto, Receives};

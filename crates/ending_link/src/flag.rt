@@ -1,3 +1,5 @@
+//! A flag that threads share.
+
 ghost use Rattle.std.specs.Prelude.{Bool};
 
 use std::sync::atomic::{AtomicBool, Ordering};

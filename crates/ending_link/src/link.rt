@@ -1,3 +1,5 @@
+//! A link that fails once a flag is raised.
+
 ghost use Rattle.std.specs.Prelude.{◌≡◌, IfOk, IsErr, OnOk};
 ghost use Rattle.ending_link.specs.Ending.{IsCallOrEnd, faults_with};
 ghost use Rattle.ground_io.specs.Counts.{HasCause};

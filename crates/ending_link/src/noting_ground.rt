@@ -1,3 +1,5 @@
+//! A ground that raises a flag where its device fails.
+
 ghost use Rattle.std.specs.Prelude.{◌≡◌, ◌+◌, ◌≤◌, [], ◌∷◌, length, IfOk, IsErr, OnOk, OnErr};
 ghost use Rattle.ground_io.specs.Counts.{HasCause, next_count};
 ghost use Rattle.ground_io.specs.Trace.{Adds, AddsBroken, Reads, emission};

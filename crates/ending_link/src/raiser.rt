@@ -1,3 +1,5 @@
+//! How a ground raises its flag.
+
 ghost use Rattle.std.specs.Prelude.{◌≡◌};
 ghost use Rattle.ground_io.specs.Counts.{next_count};
 

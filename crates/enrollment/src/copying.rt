@@ -1,3 +1,5 @@
+//! Enrollments are copied.
+
 ghost use Rattle.std.specs.Prelude.{◌≡◌, IfOk};
 
 use crate::EnrollmentSite;

@@ -1,3 +1,5 @@
+//! The properties that an enrollment has.
+
 ghost use Rattle.std.specs.Prelude.{◌≡◌};
 ghost use Rattle.enrollment.specs.Properties.{has, length_of, property_of};
 

@@ -1,3 +1,5 @@
+//! An enrollment as a site describes it.
+
 use algorithm_rules::Algorithm;
 use bac_values::{Items, ObjectId, Text};
 

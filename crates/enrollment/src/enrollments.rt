@@ -1,3 +1,5 @@
+//! The enrollments of a site, as writes leave them.
+
 ghost use Rattle.std.specs.Prelude.{◌≡◌, ◌↔◌, ◌≤◌, All, IfErr, IfOk, IfSome, IsNone, IsTrue, None, OnErr, length};
 ghost use Rattle.bac_values.specs.Limits.{most_listed_values};
 ghost use Rattle.std.specs.Option.{option_copied, option_map};

@@ -1,3 +1,5 @@
+//! The laws of what is taken, and of who sees a change.
+
 ghost use Rattle.enrollment.specs.Laws.{TakesWhatWritesMake, WatchersAreAllThatRefer};
 
 /// Enrollments take a property's value exactly where a write of it, without an index, is answered with no error.

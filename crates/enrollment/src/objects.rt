@@ -1,3 +1,5 @@
+//! Value objects and enrollments as one: what each is set to, what it sees, and what a change does to it.
+
 ghost use Rattle.std.specs.Prelude.{◌≡◌, ◌↔◌, ◌≤◌, IfSome, IsFalse, IsTrue, None, length};
 ghost use Rattle.bac_values.specs.Limits.{most_listed_values};
 ghost use Rattle.std.specs.Option.{option_copied, option_map};

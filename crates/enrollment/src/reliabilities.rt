@@ -1,3 +1,5 @@
+//! The reliability of an enrollment.
+
 ghost use Rattle.std.specs.Prelude.{◌≡◌};
 ghost use Rattle.enrollment.specs.Reliabilities.{feedback_has_fault, has_fault, reliability_of_enrollment};
 

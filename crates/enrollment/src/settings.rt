@@ -1,3 +1,5 @@
+//! Changes of enrollments are made, and taken back.
+
 ghost use Rattle.std.specs.Prelude.{◌≡◌, IsTrue, Some};
 ghost use Rattle.enrollment.specs.Enrollments.{IsEnrollment};
 ghost use Rattle.enrollment.specs.Writes.{changed, property_set, set_known, takes, takes_known, takes_value};

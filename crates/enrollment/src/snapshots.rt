@@ -1,3 +1,5 @@
+//! What algorithms look at, of value objects and of enrollments.
+
 ghost use Rattle.std.specs.Prelude.{◌≡◌, ◌≤◌, [], IfSome, length};
 ghost use Rattle.bac_values.specs.Limits.{most_listed_values};
 ghost use Rattle.std.specs.Option.{option_and_then, option_copied, option_map};

@@ -1,3 +1,5 @@
+//! What event detection is set to.
+
 ghost use Rattle.std.specs.Prelude.{◌≡◌};
 ghost use Rattle.enrollment.specs.Subjects.{is_detecting, is_enabled};
 

@@ -1,3 +1,5 @@
+//! What the event detection of each object is set to, in the order of identifiers.
+
 ghost use Rattle.std.specs.Prelude.{◌≡◌, ◌++◌, ◌∷◌, [], All, IfOk, OnOk, filter, if◌then◌else◌, map};
 ghost use Rattle.object_table.specs.Objects.{IsObject};
 ghost use Rattle.object_table.specs.Rows.{Ascends, AscendsById};

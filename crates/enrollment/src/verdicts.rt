@@ -1,3 +1,5 @@
+//! Writes of enrollments are checked.
+
 ghost use Rattle.std.specs.Prelude.{◌≡◌, ◌||◌, IfErr, IsTrue};
 ghost use Rattle.object_table.specs.Values.{are_flags, is_truth};
 ghost use Rattle.enrollment.specs.Verdicts.{IsError, can_be, write_verdict, writable_tag};

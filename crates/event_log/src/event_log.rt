@@ -1,3 +1,5 @@
+//! One log: records come in, and ranges of them are found.
+
 ghost use Rattle.std.specs.Prelude.{◌≡◌, ℕ, List, [], ◌∷◌, IfOk, option_copied, slice_get, length, ◌≤◌, ◌<◌, IfSome};
 ghost use Rattle.circular_buffer.specs.Buffer.{buffer};
 ghost use Rattle.event_log.specs.Log.{IsLog, LoggedEvent, new_log, is_taken, recorded, with_entry, cleared, switched, EventLogState};

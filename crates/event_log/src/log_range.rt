@@ -1,3 +1,5 @@
+//! Stretches of records.
+
 ghost use Rattle.std.specs.Prelude.{◌≡◌, ◌≤◌, ◌<◌, IfSome};
 ghost use Rattle.event_log.specs.Ranges.{range_at, range_from, range_of};
 

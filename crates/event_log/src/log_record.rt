@@ -1,3 +1,5 @@
+//! A record of a log.
+
 use bac_values::{Items, Stamp};
 
 /// A record of a log.

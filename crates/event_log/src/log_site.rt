@@ -1,3 +1,5 @@
+//! A log as a site describes it.
+
 ghost use Rattle.std.specs.Prelude.{◌≡◌, IfOk};
 
 use bac_values::{Items, NoMemory, ObjectId, Text, push};

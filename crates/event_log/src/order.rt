@@ -1,3 +1,5 @@
+//! Which of two stamps is the earlier one.
+
 ghost use Rattle.std.specs.Prelude.{◌≡◌};
 ghost use Rattle.event_log.specs.Ranges.{is_before};
 

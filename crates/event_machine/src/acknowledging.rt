@@ -1,3 +1,5 @@
+//! Whether a transition may be acknowledged.
+
 ghost use Rattle.std.specs.Prelude.{◌≡◌, ◌↔◌, IsTrue};
 ghost use Rattle.event_machine.specs.Finding.{IsUnacknowledged, MayAcknowledge, as_finding, names_last, names_state};
 

@@ -1,3 +1,5 @@
+//! The alarm of one object: what it keeps, and how it is acknowledged.
+
 ghost use Rattle.std.specs.Prelude.{◌≡◌, ◌≤◌, ◌∷◌, List, length};
 ghost use Rattle.bac_values.specs.Limits.{most_listed_values};
 ghost use Rattle.bac_values.specs.Moments.{IsMoment};

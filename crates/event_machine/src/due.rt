@@ -1,3 +1,5 @@
+//! When an object is next to be evaluated.
+
 ghost use Rattle.std.specs.Prelude.{◌≡◌, ◌≤◌, List, is_some, length};
 ghost use Rattle.bac_values.specs.Limits.{most_listed_values};
 ghost use Rattle.std.specs.Option.{IfSome};

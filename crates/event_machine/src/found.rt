@@ -1,3 +1,5 @@
+//! What is found under an identifier.
+
 use crate::Alarm;
 
 /// What is known of the alarm of an object that somebody names.

@@ -1,3 +1,5 @@
+//! The keys of a state's rules at a point.
+
 ghost use Rattle.std.specs.Prelude.{◌≡◌, ◌≤◌, length};
 ghost use Rattle.bac_values.specs.Limits.{most_listed_values};
 ghost use Rattle.algorithm_rules.specs.Facts.{facts_of};

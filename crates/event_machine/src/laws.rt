@@ -1,3 +1,5 @@
+//! The laws that going on from point to point is looking back, and that what isn't evaluated stays.
+
 ghost use Rattle.event_machine.specs.Laws.{KeepsCourse, LooksAreSkipped, RunStartTellsHeld, RunsGoOn, TellsHeld};
 ghost use Rattle.event_machine.specs.Since.{HoldsSinceEntry, KeepsPointsSince};
 

@@ -1,3 +1,5 @@
+//! An object is evaluated at a point: fault, inhibition, rules.
+
 ghost use Rattle.std.specs.Prelude.{◌≡◌, ◌≤◌, ◌∷◌, [], List, length, suc};
 ghost use Rattle.bac_values.specs.Limits.{most_listed_values};
 ghost use Rattle.std.specs.Option.{option_to_list};

@@ -1,3 +1,5 @@
+//! What moves at a point.
+
 use bac_values::EventState;
 
 /// An event-state transition of an object (ANSI/ASHRAE 135-2020, 13.2.2).

@@ -1,3 +1,5 @@
+//! The parts of which an alarm is made.
+
 use crate::Run;
 use bac_values::{EventState, Reliability, Stamp};
 

@@ -1,3 +1,5 @@
+//! What is seen of an object at a point.
+
 use bac_values::{Reliability, Stamp};
 
 /// What is seen of an object at a point beside what its event algorithm sees.

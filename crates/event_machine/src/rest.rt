@@ -1,3 +1,5 @@
+//! Whether an object would stay as it is at one more point.
+
 ghost use Rattle.std.specs.Prelude.{◌≡◌, ◌≤◌, ◌↔◌, ◌∷◌, [], List, IsTrue, length};
 ghost use Rattle.bac_values.specs.Limits.{most_listed_values};
 ghost use Rattle.event_machine.specs.Detection.{moves_at};

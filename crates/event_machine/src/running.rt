@@ -1,3 +1,5 @@
+//! Since when the rules of a state have had their keys.
+
 ghost use Rattle.std.specs.Prelude.{◌≡◌, ◌≤◌, length};
 ghost use Rattle.bac_values.specs.Limits.{most_listed_values};
 ghost use Rattle.event_machine.specs.Given.{point_of};

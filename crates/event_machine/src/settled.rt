@@ -1,3 +1,5 @@
+//! Whether an object needs no evaluation before it is due.
+
 ghost use Rattle.std.specs.Prelude.{◌≡◌, ◌≤◌, length};
 ghost use Rattle.bac_values.specs.Limits.{most_listed_values};
 ghost use Rattle.event_machine.specs.Given.{point_of};

@@ -1,3 +1,5 @@
+//! Evaluations are counted.
+
 ghost use Rattle.std.specs.Prelude.{◌≡◌, suc, ◌<◌};
 
 use std::marker::Model;

@@ -1,3 +1,5 @@
+//! The parameters of AcknowledgeAlarm are read (13.5).
+
 ghost use Rattle.std.specs.Prelude.{◌≡◌, ◌↔◌, ◌⊎◌, ℕ, ◌<◌, ◌≤◌, Some, length, IfOk, IfErr};
 ghost use Rattle.bac_tags.specs.ReadingSteps.{content_at};
 ghost use Rattle.bac_tags.specs.Refusals.{invalid_tag, missing_parameter, too_many_arguments};

@@ -1,3 +1,5 @@
+//! GetEventInformation: its parameters are read, and its answer is written (13.12).
+
 ghost use Rattle.std.specs.Prelude.{◌≡◌, ◌↔◌, ◌⊎◌, ℕ, ◌+◌, ◌*◌, ◌<◌, ◌≤◌, Option, Some, None, List, ◌++◌, length, flat_map, drop, IfOk, OnOk, IfErr};
 ghost use Rattle.bac_values.specs.Identifier.{ObjectIdData};
 ghost use Rattle.bac_tags.specs.Contents.{SpellsObject};

@@ -1,3 +1,5 @@
+//! A notification, as it is told (13.8, 13.9).
+
 use bac_values::{Bits, EventState, ObjectId, Reliability, Stamp, StatusFlags, Text, Value};
 
 /// A notification of an event (ANSI/ASHRAE 135-2020, 13.8 and 13.9).

@@ -1,3 +1,5 @@
+//! Elements that only notifications have are read.
+
 ghost use Rattle.std.specs.Prelude.{◌≡◌, ◌<◌, ◌≤◌, length, IfOk, IfSome, MatchOption};
 ghost use Rattle.bac_values.specs.Limits.{most_text_octets};
 ghost use Rattle.event_services.specs.NoteTexts.{IsText};

@@ -1,3 +1,5 @@
+//! Notifications are read (13.8, 13.9).
+
 ghost use Rattle.std.specs.Prelude.{◌≡◌, ◌↔◌, ◌⊎◌, ℕ, ◌<◌, ◌≤◌, length, IfOk};
 ghost use Rattle.bac_values.specs.Reasons.{missing_required_parameter_reason};
 ghost use Rattle.event_services.specs.declared.read_note.NoteFault.TheVariants as faults;

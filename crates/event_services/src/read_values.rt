@@ -1,3 +1,5 @@
+//! The event values of a notification are read, by the event's type.
+
 ghost use Rattle.std.specs.Prelude.{◌≡◌, ◌<◌, ◌≤◌, length, IfOk};
 ghost use Rattle.bac_tags.specs.ReadingSteps.{value_at};
 ghost use Rattle.bac_tags.specs.EnclosingSteps.{enclosed_at};

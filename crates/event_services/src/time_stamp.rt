@@ -1,3 +1,5 @@
+//! Time stamps in their three forms are read.
+
 ghost use Rattle.std.specs.Prelude.{◌≡◌, ◌<◌, ◌≤◌, length, IfOk};
 ghost use Rattle.bac_tags.specs.ReadingSteps.{stamp_at};
 ghost use Rattle.bac_tags.specs.EnclosingSteps.{enclosed_at};

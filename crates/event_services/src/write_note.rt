@@ -1,3 +1,5 @@
+//! Notifications are written (13.8, 13.9).
+
 ghost use Rattle.std.specs.Prelude.{◌≡◌, ◌++◌, List, ◌<◌, ◌≤◌, ◌^◌, length, OnOk, IfOk, MatchOption};
 ghost use Rattle.bac_values.specs.Limits.{most_note_octets, most_text_octets};
 ghost use Rattle.bac_tags.specs.Writing.{written_unsigned, written_boolean, written_stamp, written_value};

@@ -1,3 +1,5 @@
+//! A notification whose octets serve all whom it tells.
+
 ghost use Rattle.std.specs.Prelude.{◌≡◌, ◌≤◌, length, IfOk};
 ghost use Rattle.bac_values.specs.Limits.{most_note_octets};
 ghost use Rattle.event_services.specs.Notifications.{IsTold, told_to, written_notification};

@@ -1,3 +1,5 @@
+//! A desk, call by call.
+
 ghost use Rattle.std.specs.Prelude.{◌≡◌, ◌≤◌, IfOk};
 ghost use Rattle.turnstile.specs.Passes.{IsOf};
 ghost use Rattle.alarm_core.specs.Sites.{IsSite};

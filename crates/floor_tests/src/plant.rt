@@ -1,3 +1,5 @@
+//! The site of these tests.
+
 ghost use Rattle.std.specs.Prelude.{IfOk};
 ghost use Rattle.alarm_core.specs.Sites.{IsSite};
 

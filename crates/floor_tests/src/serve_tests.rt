@@ -1,3 +1,5 @@
+//! Servers over grounds and links in memory.
+
 ghost use Rattle.alarm_core.specs.Sites.{IsSite};
 
 use crate::comparing::{holds, same};

@@ -1,3 +1,5 @@
+//! Callers of a desk in threads of their own.
+
 ghost use Rattle.std.specs.Prelude.{◌<◌};
 ghost use Rattle.std.specs.Thread.{IsSync};
 ghost use Rattle.turnstile.specs.Passes.{IsOf};

@@ -1,3 +1,5 @@
+//! What a clock is.
+
 ghost use Rattle.std.specs.Prelude.{ℕ};
 ghost use Rattle.bac_values.specs.Moments.{IsMoment};
 

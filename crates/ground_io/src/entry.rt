@@ -1,3 +1,5 @@
+//! What a ground tells of what happened to it.
+
 use bac_values::{Items, Peer};
 
 /// What has happened to a ground.

@@ -1,3 +1,5 @@
+//! Whether a call of something in memory is one that is to fail.
+
 ghost use Rattle.std.specs.Prelude.{◌≡◌, ◌↔◌, Contains, IsTrue};
 ghost use Rattle.ground_io.specs.Counts.{next_count};
 

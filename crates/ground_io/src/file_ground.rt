@@ -1,3 +1,5 @@
+//! The real ground.
+
 ghost use Rattle.std.specs.Prelude.{◌≡◌, ◌+◌, ◌≤◌, length, IfOk, IsErr, IsNone, OnOk};
 ghost use Rattle.ground_io.specs.Counts.{HasCause};
 

@@ -1,3 +1,5 @@
+//! Octets are copied to the front of a slice.
+
 ghost use Rattle.std.specs.Prelude.{◌≡◌, drop, take, min, length};
 
 /// Copies as many octets as fit to the front of a slice, and says how many. Behind them the slice is as it was.

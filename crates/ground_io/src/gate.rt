@@ -1,3 +1,5 @@
+//! What a gate is, and one that holds nobody.
+
 ghost use Rattle.std.specs.Prelude.{ℕ};
 ghost use Rattle.ground_io.specs.declared.gate.Worker.{Worker};
 

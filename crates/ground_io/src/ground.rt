@@ -1,3 +1,5 @@
+//! What a ground is.
+
 ghost use Rattle.std.specs.Prelude.{◌≡◌, ◌+◌, ◌≤◌, List, [], ◌∷◌, ℕ, Option, IsErr, OnOk, OnErr, IfOk, length};
 ghost use Rattle.ground_io.specs.Counts.{HasCause};
 ghost use Rattle.ground_io.specs.Trace.{Told, Adds, AddsBroken, Reads, HasSize, emission};

@@ -1,3 +1,5 @@
+//! A ground in memory that waits at a gate before each sync.
+
 ghost use Rattle.std.specs.Prelude.{◌≡◌, ◌+◌, ◌≤◌, [], ◌∷◌, length, Contains, IfOk, IsErr, IsSome, OnOk, OnErr};
 ghost use Rattle.ground_io.specs.Counts.{HasCause, next_count};
 ghost use Rattle.ground_io.specs.Disk.{with_octets};

@@ -1,3 +1,5 @@
+//! Images that a crash may leave.
+
 ghost use Rattle.std.specs.Prelude.{◌≡◌, ◌+◌, ◌≤◌, length, replicate, All, IfOk};
 ghost use Rattle.ground_io.specs.Disk.{IsInside, MayLeave, with_octets};
 ghost use Rattle.ground_io.specs.Image.{contents_with, filled, image_after, image_with};

@@ -1,3 +1,5 @@
+//! What a link is.
+
 ghost use Rattle.std.specs.Prelude.{◌≡◌, List, ℕ, Option, IfOk, IsErr, OnOk};
 ghost use Rattle.bac_values.specs.declared.note.Send.{Send};
 ghost use Rattle.ground_io.specs.Counts.{HasCause};

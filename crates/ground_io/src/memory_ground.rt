@@ -1,3 +1,5 @@
+//! A ground in memory.
+
 ghost use Rattle.std.specs.Prelude.{◌≡◌, ◌+◌, ◌≤◌, [], ◌∷◌, ℕ, length, take, IfOk, IfSome, IsErr, IsNone, IsSome, OnOk, OnErr, Some, Err, Contains, option_map};
 ghost use Rattle.std.specs.Option.{option_copied};
 ghost use Rattle.ground_io.specs.Counts.{HasCause, next_count};

@@ -1,3 +1,5 @@
+//! A link in memory.
+
 ghost use Rattle.std.specs.Prelude.{◌≡◌, ◌↔◌, [], Contains, IfOk, IsErr, OnOk, OnErr, Some};
 ghost use Rattle.ground_io.specs.Counts.{HasCause, next_count};
 ghost use Rattle.ground_io.specs.Link.{FitsInto, Receives};

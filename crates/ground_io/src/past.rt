@@ -1,3 +1,5 @@
+//! What a ground in memory remembers, while there is memory for it.
+
 ghost use Rattle.std.specs.Prelude.{◌≡◌, ◌+◌, ◌≤◌, [], ◌∷◌, ◌++◌, List, ℕ, length, IfOk, Some, unwrap_or};
 ghost use Rattle.ground_io.specs.Disk.{octets_at, with_octets};
 ghost use Rattle.ground_io.specs.Past.{GoesOn};

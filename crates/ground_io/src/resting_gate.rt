@@ -1,3 +1,5 @@
+//! A gate at which a server without work rests.
+
 use crate::{Gate, Worker};
 use std::thread;
 use std::time::{Clock, Duration};

@@ -1,3 +1,5 @@
+//! What a source is, and that a call to the outside failed.
+
 ghost use Rattle.std.specs.Prelude.{◌≡◌, List, ℕ, Option, IsErr, OnOk};
 ghost use Rattle.std.specs.Io.{ReadsAtMost};
 ghost use Rattle.std.specs.Io.KnownBytes.{ReadConsumes};

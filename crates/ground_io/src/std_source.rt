@@ -1,3 +1,5 @@
+//! A source over any reader of the standard library.
+
 ghost use Rattle.std.specs.Prelude.{◌≡◌};
 
 use crate::{Failed, Source};

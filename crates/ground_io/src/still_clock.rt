@@ -1,3 +1,5 @@
+//! A clock that stands still.
+
 ghost use Rattle.std.specs.Prelude.{◌≡◌};
 ghost use Rattle.bac_values.specs.Moments.{IsMoment};
 

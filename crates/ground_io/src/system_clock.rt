@@ -1,3 +1,5 @@
+//! The clock of the system.
+
 use crate::Clock;
 use bac_values::{FIRST_MOMENT, LAST_MOMENT};
 use std::time::SystemTime;

@@ -1,3 +1,5 @@
+//! The real link.
+
 ghost use Rattle.std.specs.Prelude.{◌≡◌, IfOk};
 
 use crate::{Failed, Link, Received};

@@ -1,3 +1,5 @@
+//! The law of the least moment.
+
 ghost use Rattle.held_timers.specs.Laws.{LeastTellsWhetherDue};
 
 /// The least due moment tells whether some index is due at a moment.

@@ -1,3 +1,5 @@
+//! The moments at which indices are due, as callers see them.
+
 ghost use Rattle.std.specs.Prelude.{◌≡◌, ◌<◌, ◌≤◌, IfOk, None, length, replicate, slice_set};
 ghost use Rattle.held_timers.specs.Dues.{least_due, first_due_from};
 

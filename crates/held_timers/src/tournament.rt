@@ -1,3 +1,5 @@
+//! The tournament in which the least of them stands on top.
+
 ghost use Rattle.std.specs.Prelude.{◌≡◌, ◌<◌, ◌*◌, IsTrue, None, Some, ℕ, length, drop, slice_index_or, slice_set};
 ghost use Rattle.std.specs.Int.{IsPowerOfTwo};
 ghost use Rattle.held_timers.specs.Dues.{earlier, first_due_from, is_due};

@@ -1,3 +1,5 @@
+//! Elements are added to a list (15.1).
+
 ghost use Rattle.std.specs.Prelude.{◌≡◌, ◌<◌, ◌^◌, IfOk, length};
 ghost use Rattle.bac_values.specs.Orders.{IsAscending};
 ghost use Rattle.list_binding.specs.Edits.{Tells, limits_of};

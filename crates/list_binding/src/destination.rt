@@ -1,3 +1,5 @@
+//! The destination for which an element stands.
+
 ghost use Rattle.std.specs.Prelude.{◌≡◌, ◌<◌, IfSome};
 ghost use Rattle.std.specs.Option.{option_and_then};
 ghost use Rattle.recipients.specs.Recipients.{StandsWithin, recipient_in};

@@ -1,3 +1,5 @@
+//! A list is edited, or it is said which element fails, and why.
+
 ghost use Rattle.std.specs.Prelude.{◌≡◌, ◌≢◌, ◌<◌, ◌^◌, length, Ok, IfOk, true, false, All, Contains};
 ghost use Rattle.bac_values.specs.Orders.{IsAscending};
 ghost use Rattle.notify_class.specs.Edits.{edit_verdict};

@@ -1,3 +1,5 @@
+//! One element of a request is read.
+
 ghost use Rattle.std.specs.Prelude.{◌≡◌, ◌<◌, ◌≤◌, length, IfOk};
 ghost use Rattle.bac_tags.specs.ReadingSteps.{Gives};
 ghost use Rattle.recipients.specs.Recipients.{StandsWithin};

@@ -1,3 +1,5 @@
+//! All elements of a request are read.
+
 ghost use Rattle.std.specs.Prelude.{◌≡◌, ◌<◌, ◌≤◌, ◌^◌, ℕ, length, IfOk};
 ghost use Rattle.list_binding.specs.Edits.{Tells};
 ghost use Rattle.list_binding.specs.EditSteps.{destination_at, destinations_of};

@@ -1,3 +1,5 @@
+//! Which destinations are equal.
+
 ghost use Rattle.std.specs.Prelude.{◌≡◌, ◌==◌, ◌&&◌, ◌↔◌, IsTrue};
 ghost use Rattle.std.specs.List.{list_all, zip};
 ghost use Rattle.std.specs.Bool.{beq};

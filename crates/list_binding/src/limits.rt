@@ -1,3 +1,5 @@
+//! What limits a list.
+
 use bac_values::Peer;
 
 /// What limits the list of a class, as `check_edit` of notify_class asks for it.

@@ -1,3 +1,5 @@
+//! Why a list isn't edited.
+
 ghost use Rattle.std.specs.Prelude.{◌≡◌};
 
 use bac_values::{NoMemory, ServiceError};

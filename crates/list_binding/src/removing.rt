@@ -1,3 +1,5 @@
+//! Elements are removed from a list (15.2).
+
 ghost use Rattle.std.specs.Prelude.{◌≡◌, ◌<◌, ◌^◌, IfOk, length, not, position};
 ghost use Rattle.list_binding.specs.Edits.{Tells, is_in, list_without};
 ghost use Rattle.list_binding.specs.EditSteps.{removed_of};

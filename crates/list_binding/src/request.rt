@@ -1,3 +1,5 @@
+//! The parameters of AddListElement and RemoveListElement are read (15.1, 15.2).
+
 ghost use Rattle.std.specs.Prelude.{◌≡◌, ◌≤◌, ◌↔◌, Err, length, slice_range, IfOk, IsOkAnd};
 ghost use Rattle.bac_tags.specs.declared.malformed.Malformed.{Malformed as Refusal};
 ghost use Rattle.bac_tags.specs.ParameterReadingSteps.{whole};

@@ -1,3 +1,5 @@
+//! A notification becomes a note to each recipient that it tells.
+
 ghost use Rattle.std.specs.Prelude.{◌≡◌, ◌≤◌, length, All, Contains, IfOk};
 ghost use Rattle.bac_values.specs.Limits.{most_note_octets};
 ghost use Rattle.bac_values.specs.declared.note.Note.{Note};

@@ -1,3 +1,5 @@
+//! What the notification of a transition or of an acknowledgement says.
+
 ghost use Rattle.std.specs.Prelude.{◌≡◌};
 ghost use Rattle.event_services.specs.Notifications.{IsTold};
 ghost use Rattle.note_maker.specs.EventTypes.{acknowledgement_type, transition_type};

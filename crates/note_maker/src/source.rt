@@ -1,3 +1,5 @@
+//! The object whose events are told.
+
 use algorithm_rules::Algorithm;
 use bac_values::ObjectId;
 

@@ -1,3 +1,5 @@
+//! The event values of a notification, by the event's type (13.3).
+
 ghost use Rattle.std.specs.Prelude.{◌≡◌, ◌≤◌, ℤ, Some, List, length, IfOk, IfSome, option_and_then};
 ghost use Rattle.bac_values.specs.Limits.{most_listed_values};
 ghost use Rattle.std.specs.Option.{option_copied};

@@ -1,3 +1,5 @@
+//! Where a device is that may be a recipient.
+
 use bac_values::Peer;
 
 /// Where a device is that may be a recipient (ANSI/ASHRAE 135-2020, clause 21, BACnetRecipient): the peer of its instance.

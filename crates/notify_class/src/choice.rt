@@ -1,3 +1,5 @@
+//! Which destinations are told at a moment.
+
 ghost use Rattle.std.specs.Prelude.{◌≡◌, ◌↔◌, ◌+◌, ◌<◌, ◌≤◌, IsTrue, IfSome, length, drop, position};
 ghost use Rattle.std.specs.Option.{option_map};
 ghost use Rattle.bac_values.specs.Moments.{IsMoment};

@@ -1,3 +1,5 @@
+//! A notification class.
+
 use crate::Destination;
 use bac_values::Items;
 

@@ -1,3 +1,5 @@
+//! A notification class as a site describes it.
+
 ghost use Rattle.std.specs.Prelude.{◌≡◌, IfOk};
 
 use crate::Class;

@@ -1,3 +1,5 @@
+//! A destination of a class.
+
 use bac_values::Peer;
 use std::marker::Model;
 

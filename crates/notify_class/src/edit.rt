@@ -1,3 +1,5 @@
+//! Whether a list may take the place of a class's.
+
 ghost use Rattle.std.specs.Prelude.{◌≡◌, ◌↔◌, ◌+◌, ◌<◌, ◌≤◌, ◌^◌, IsTrue, length, not, ◌&&◌};
 ghost use Rattle.bac_values.specs.Address.{PeerData};
 ghost use Rattle.bac_values.specs.Orders.{IsAscending, is_among};

@@ -1,3 +1,5 @@
+//! Changes of objects.
+
 use bac_values::{ObjectId, PropertyId, Value};
 
 /// A change of one object.

@@ -1,3 +1,5 @@
+//! Value objects and changes are copied.
+
 ghost use Rattle.std.specs.Prelude.{◌≡◌, IfOk};
 
 use crate::{Change, ObjectSite};

@@ -1,3 +1,5 @@
+//! Why a write isn't taken.
+
 use bac_values::ServiceError;
 use std::alloc::AllocError;
 

@@ -1,3 +1,5 @@
+//! The properties that value objects have.
+
 ghost use Rattle.std.specs.Prelude.{◌≡◌};
 ghost use Rattle.object_table.specs.Properties.{property_of};
 

@@ -1,3 +1,5 @@
+//! A value object as a site describes it.
+
 use bac_values::{Bits, Items, ObjectId, Text, Value};
 
 /// A value object as a site describes it. A key that its kind doesn't have, or that only an object with a class has, is

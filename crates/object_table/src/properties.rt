@@ -1,3 +1,5 @@
+//! Which properties an object of a kind has.
+
 ghost use Rattle.std.specs.Prelude.{◌≡◌, ◌≤◌, length};
 ghost use Rattle.object_table.specs.Objects.{IsObject, IsObjectOf};
 ghost use Rattle.object_table.specs.Properties.{array_length, array_of_values, has, has_limits, has_property, is_binary, is_given, is_multi_state, length_of};

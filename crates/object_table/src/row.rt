@@ -1,3 +1,5 @@
+//! A value object as writes leave it.
+
 use crate::ObjectSite;
 
 /// A value object as the writes have left it.

@@ -1,3 +1,5 @@
+//! Changes of value objects are made, and taken back.
+
 ghost use Rattle.std.specs.Prelude.{◌≡◌, IsTrue, IsSome, Some, length};
 ghost use Rattle.bac_values.specs.declared.value.Value.TheVariants.{Bool as Truth, Unsigned};
 ghost use Rattle.bac_values.specs.BitString.{string_of_flags, three_flags, two_flags};

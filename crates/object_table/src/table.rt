@@ -1,3 +1,5 @@
+//! The value objects of a site.
+
 ghost use Rattle.std.specs.Prelude.{◌≡◌, ◌↔◌, All, IfOk, IfSome, IsTrue, None, OnErr};
 ghost use Rattle.std.specs.Option.{option_copied, option_map};
 ghost use Rattle.object_table.specs.Objects.{IsObject, IsRow};

@@ -1,3 +1,5 @@
+//! Which values a property can be.
+
 ghost use Rattle.std.specs.Prelude.{◌≡◌, ℕ};
 ghost use Rattle.object_table.specs.Values.{are_flags, can_be, has_length_of, is_binary_value, is_field_fault, is_number, is_present_value, is_state, is_text, is_truth, is_unsigned, takes_value};
 ghost use Rattle.object_table.specs.Writes.{takes};

@@ -1,3 +1,5 @@
+//! Writes of value objects, and what comes from the field, are checked in the order of the errors.
+
 ghost use Rattle.std.specs.Prelude.{◌≡◌, Ok, Err, if◌then◌else◌};
 ghost use Rattle.object_table.specs.Objects.{IsObject};
 ghost use Rattle.object_table.specs.Properties.{kind_in};

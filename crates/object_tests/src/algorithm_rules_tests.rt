@@ -1,3 +1,5 @@
+//! The rules of the algorithms.
+
 ghost use Rattle.std.specs.Prelude.{◌≡◌, ◌≤◌, length, []};
 
 use crate::comparing::{holds, same};

@@ -1,3 +1,5 @@
+//! Plain values.
+
 use crate::comparing::{counts, holds, same};
 use bac_values::*;
 use std::alloc::Global;

@@ -1,3 +1,5 @@
+//! Enrollments, and objects that refer to others.
+
 ghost use Rattle.std.specs.Prelude.{◌≡◌, ◌≤◌, All};
 ghost use Rattle.std.specs.declared.cmp.Ordering.TheVariants.{Less};
 ghost use Rattle.bac_values.specs.Orders.{identifier_order};

@@ -1,3 +1,5 @@
+//! Event logs, and ranges of them.
+
 use crate::comparing::{holds, same};
 use bac_values::{Items, Stamp};
 use event_log::*;

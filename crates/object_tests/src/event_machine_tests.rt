@@ -1,3 +1,5 @@
+//! The detection of one object.
+
 ghost use Rattle.std.specs.Prelude.{◌≡◌, ◌<◌, ◌≤◌, length};
 ghost use Rattle.bac_values.specs.Moments.{IsMoment};
 

@@ -1,3 +1,5 @@
+//! Timers.
+
 ghost use Rattle.std.specs.Prelude.{◌≡◌, ◌≤◌, length, IfOk};
 
 use crate::comparing::same;

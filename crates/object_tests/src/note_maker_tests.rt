@@ -1,3 +1,5 @@
+//! What notifications say, and whom they tell.
+
 ghost use Rattle.std.specs.Prelude.{◌≡◌, IfOk};
 ghost use Rattle.bac_values.specs.Moments.{IsMoment};
 ghost use Rattle.algorithm_rules.specs.declared.table.Algorithm.TheVariants.{SignedOutOfRange};

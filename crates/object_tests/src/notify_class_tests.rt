@@ -1,3 +1,5 @@
+//! Windows of the week, and edits of a list.
+
 ghost use Rattle.notify_class.specs.Recipients.{IsListedRecipient};
 
 // Each wanted answer at a moment was computed by Python's datetime.

@@ -1,3 +1,5 @@
+//! Tables of value objects.
+
 ghost use Rattle.std.specs.Prelude.{IfOk};
 ghost use Rattle.object_table.specs.Writes.{IsTaken};
 

@@ -1,3 +1,5 @@
+//! Notes on their way.
+
 ghost use Rattle.std.specs.Prelude.{◌≤◌, length};
 
 use crate::comparing::{counts, holds, same};

@@ -1,3 +1,5 @@
+//! Reliabilities of values.
+
 use crate::comparing::same;
 use bac_values::{Items, ObjectId, ObjectKind, Reliability, Text, Value};
 use object_table::{ObjectSite, Row, Table};

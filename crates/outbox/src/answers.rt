@@ -1,3 +1,5 @@
+//! What the calls of an outbox come to.
+
 use bac_values::{Items, Note};
 
 /// Why notes are not queued. They come back, and nothing has changed.

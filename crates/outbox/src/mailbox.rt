@@ -1,3 +1,5 @@
+//! The notes of one recipient, and how they go out.
+
 ghost use Rattle.std.specs.List.{position_or_len};
 ghost use Rattle.std.specs.Prelude.{◌≡◌, ℕ, List, ◌-◌, take, ◌+◌, ◌<◌, ◌≤◌, ◌∷◌, [], ◌++◌, IfOk, OnOk, OnErr, IfErr, All, length, option_copied, slice_get, drop};
 ghost use Rattle.bac_values.specs.Limits.{most_note_octets};

@@ -1,3 +1,5 @@
+//! The law of the order in which notes are sent and finished.
+
 ghost use Rattle.outbox.specs.Finishing.{FinishesInOrder, SendsSeldom, SendsThesePlaces};
 
 /// The notes of a recipient are finished in their order and for good, each by what may finish it: one that is to be

@@ -1,3 +1,5 @@
+//! The notes of all recipients: they enter, go out, are answered and given up.
+
 ghost use Rattle.std.specs.Prelude.{◌≡◌, ◌&&◌, nat_lt, ℕ, ◌+◌, ◌-◌, ◌<◌, ◌≤◌, ◌^◌, ◌↔◌, IsTrue, List, [], map, All, IfOk, IfErr, IsErrOf, OnOk, OnErr, OnSome, option_map, option_and_then, option_copied, slice_get, length, if◌then◌else◌};
 ghost use Rattle.bac_values.specs.Limits.{most_note_octets};
 ghost use Rattle.bac_values.specs.Address.{PeerData};

@@ -1,3 +1,5 @@
+//! What is told of one recipient.
+
 use bac_values::Peer;
 
 /// What there is of one recipient.

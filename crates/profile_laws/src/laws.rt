@@ -1,3 +1,5 @@
+//! The laws of services in the words of the standard's tables, each the contract of a call that does nothing.
+
 ghost use Rattle.profile_laws.specs.Laws.{AnswersAcknowledgementsInTurn, AnswersListsInTurn, AnswersRangesInTurn, AnswersReadsInTurn, AnswersWritesInTurn};
 ghost use Rattle.profile_laws.specs.ListBack.{ReadsBackEdits, UndoesWhatWasAdded};
 ghost use Rattle.profile_laws.specs.ManyLaws.{EachCanBeRead, EachPartIsARead, SummariesAscend, SummariesHaveNoErrors};

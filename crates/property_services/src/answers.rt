@@ -1,3 +1,5 @@
+//! Answers of the services on properties are written, and I-Am.
+
 ghost use Rattle.std.specs.Prelude.{◌≡◌, ◌++◌, ◌∷◌, [], Some, IfOk, OnOk};
 ghost use Rattle.property_services.specs.Writing.{written_reference, written_read_ack, written_range_ack, written_i_am};
 ghost use Rattle.bac_tags.specs.Writing.{written_unsigned};

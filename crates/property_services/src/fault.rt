@@ -1,3 +1,5 @@
+//! Why a request isn't read.
+
 use bac_tags::Malformed;
 use bac_values::NoMemory;
 

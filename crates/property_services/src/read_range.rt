@@ -1,3 +1,5 @@
+//! The parameters of ReadRange are read (15.8).
+
 ghost use Rattle.std.specs.Prelude.{◌≡◌, ◌≤◌, ◌↔◌, length, IfOk};
 ghost use Rattle.bac_tags.specs.declared.malformed.Malformed.{Malformed};
 ghost use Rattle.bac_tags.specs.Refusals.{missing_parameter};

@@ -1,3 +1,5 @@
+//! The parameters of ReadProperty are read, and those with which others begin (15.5).
+
 ghost use Rattle.std.specs.Prelude.{◌≡◌, ◌≤◌, ◌↔◌, length, IfOk};
 ghost use Rattle.bac_tags.specs.declared.malformed.Malformed.{Malformed};
 ghost use Rattle.bac_tags.specs.Refusals.{missing_parameter};

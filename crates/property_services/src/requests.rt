@@ -1,3 +1,5 @@
+//! What the requests on properties ask for.
+
 use bac_values::{ObjectId, PropertyId, Stamp, Value};
 
 /// What is to be read.

@@ -1,3 +1,5 @@
+//! The parameters of Who-Is are read (16.10).
+
 ghost use Rattle.std.specs.Prelude.{◌≡◌, ◌≤◌, ◌↔◌, ℕ, Option, length, IfOk};
 ghost use Rattle.bac_tags.specs.declared.malformed.Malformed.{Malformed};
 ghost use Rattle.bac_tags.specs.Refusals.{missing_parameter};

@@ -1,3 +1,5 @@
+//! The parameters of WriteProperty are read (15.9).
+
 ghost use Rattle.std.specs.Prelude.{◌≡◌, ◌≤◌, ◌↔◌, ◌⊎◌, ℕ, List, length, IfOk, OnErr};
 ghost use Rattle.bac_values.specs.Reasons.{missing_required_parameter_reason};
 ghost use Rattle.bac_values.specs.declared.value.Value.{Value};

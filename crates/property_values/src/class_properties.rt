@@ -1,3 +1,5 @@
+//! The properties that classes have.
+
 ghost use Rattle.std.specs.Prelude.{◌≡◌};
 ghost use Rattle.property_values.specs.ClassProperties.{property_of};
 

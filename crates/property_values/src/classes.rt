@@ -1,3 +1,5 @@
+//! The properties of classes, as they are read.
+
 ghost use Rattle.std.specs.Prelude.{◌≡◌, ◌<◌, ◌++◌, IfOk, None, OnOk};
 ghost use Rattle.bac_tags.specs.Writing.{written_unsigned};
 ghost use Rattle.property_values.specs.ClassProperties.{array_of_numbers, class_content, class_property, clock_of, days_of, list_of_recipients, written_clock, written_recipient};

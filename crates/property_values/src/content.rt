@@ -1,3 +1,5 @@
+//! What a property is on the wire, and why none is read.
+
 use bac_values::{Items, NoMemory, ServiceError};
 use object_table::WriteFault;
 use std::alloc::AllocError;

@@ -1,3 +1,5 @@
+//! The properties that devices have.
+
 ghost use Rattle.std.specs.Prelude.{◌≡◌};
 ghost use Rattle.property_values.specs.DeviceProperties.{property_of};
 

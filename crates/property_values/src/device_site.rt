@@ -1,3 +1,5 @@
+//! The device as a site describes it.
+
 use bac_values::Text;
 
 /// The device of a site (ANSI/ASHRAE 135-2020, 12.11), and how it keeps time and sends notifications.

@@ -1,3 +1,5 @@
+//! The properties of devices, as they are read.
+
 ghost use Rattle.std.specs.Prelude.{◌≡◌, ◌≤◌, ◌==◌, ◌++◌, IfOk, OnOk, filter};
 ghost use Rattle.std.specs.List.{flat_map};
 ghost use Rattle.bac_values.specs.Identifier.{number_of_kind, ObjectIdData};

@@ -1,3 +1,5 @@
+//! Values become octets.
+
 ghost use Rattle.std.specs.Prelude.{◌≡◌, All, IfOk, Some, map};
 ghost use Rattle.bac_values.specs.BitString.{IsBitString};
 ghost use Rattle.bac_values.specs.declared.value.Value.TheVariants as values;

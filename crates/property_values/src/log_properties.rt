@@ -1,3 +1,5 @@
+//! The properties that logs have.
+
 ghost use Rattle.std.specs.Prelude.{◌≡◌};
 ghost use Rattle.property_values.specs.LogProperties.{property_of};
 

@@ -1,3 +1,5 @@
+//! The properties of logs, as they are read, and writes of them, as they are checked.
+
 ghost use Rattle.std.specs.Prelude.{◌≡◌, IfOk, IsTrue, OnOk};
 ghost use Rattle.event_log.specs.Log.{EventLogState};
 ghost use Rattle.event_log.specs.declared.log_site.LogSite.{LogSite as Site};

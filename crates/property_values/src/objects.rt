@@ -1,3 +1,5 @@
+//! The properties of value objects, as they are read.
+
 ghost use Rattle.std.specs.Prelude.{◌≡◌, All, IfOk, IsTrue, None};
 ghost use Rattle.std.specs.Option.{option_copied};
 ghost use Rattle.bac_values.specs.declared.value.Value.TheVariants as values;

@@ -1,3 +1,5 @@
+//! Which part of a property is read.
+
 ghost use Rattle.std.specs.Prelude.{◌≡◌, IfErr, IfOk, None};
 ghost use Rattle.std.specs.List.{flat_map};
 ghost use Rattle.bac_tags.specs.Writing.{written_unsigned};

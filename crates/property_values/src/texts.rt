@@ -1,3 +1,5 @@
+//! Message texts, as they are read.
+
 ghost use Rattle.std.specs.Prelude.{◌≡◌, [], IfOk};
 ghost use Rattle.std.specs.Option.{option_copied};
 ghost use Rattle.property_values.specs.Texts.{array_of_texts, or_empty, text_for, text_if_came, texts_that_came, written_text};

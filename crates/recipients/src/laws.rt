@@ -1,3 +1,5 @@
+//! The law that what is written is read back.
+
 ghost use Rattle.std.specs.Prelude.{◌≡◌, ◌+◌, ◌++◌, List, ℕ, Some, Ok, length};
 ghost use Rattle.bac_values.specs.Address.{PeerData};
 ghost use Rattle.recipients.specs.Recipients.{OfAddress, SpellsRecipient, IsWrittenPeer, IsLocalPeer, address_of, peer_at, written_peer};

@@ -1,3 +1,5 @@
+//! A recipient, as a request names it.
+
 use bac_values::ObjectId;
 
 /// An address among the octets that it was read from.

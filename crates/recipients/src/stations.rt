@@ -1,3 +1,5 @@
+//! The peer at an address.
+
 ghost use Rattle.std.specs.Prelude.{◌≡◌, ◌≤◌, length};
 ghost use Rattle.recipients.specs.Recipients.{address_in, peer_at};
 

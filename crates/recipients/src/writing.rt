@@ -1,3 +1,5 @@
+//! Recipients are written.
+
 ghost use Rattle.std.specs.Prelude.{◌≡◌, ◌++◌, OnOk};
 ghost use Rattle.recipients.specs.Recipients.{written_address, written_peer, written_station};
 

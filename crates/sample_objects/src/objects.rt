@@ -1,3 +1,5 @@
+//! Value objects with which tests begin.
+
 ghost use Rattle.std.specs.Prelude.{◌≡◌, ◌≤◌, [], IfOk, None, Some};
 ghost use Rattle.bac_values.specs.Identifier.{number_of_kind};
 ghost use Rattle.bac_values.specs.declared.object_kind.ObjectKind.TheVariants.{BinaryValue, IntegerValue, PositiveIntegerValue};

@@ -1,3 +1,5 @@
+//! A desk and its callers, each call made again where memory was refused.
+
 ghost use Rattle.std.specs.Prelude.{IfErr, IfOk};
 ghost use Rattle.turnstile.specs.Passes.{IsOf};
 ghost use Rattle.alarm_core.specs.Sites.{IsSite};

@@ -1,3 +1,5 @@
+//! A leader and a follower whose calls are made again.
+
 ghost use Rattle.alarm_core.specs.Sites.{IsSite};
 
 use crate::missed::Missed;
@@ -76,20 +78,34 @@ fn leader_at(alloc: Global, site: &Site) -> Result<Leader, Missed>
     }
 }
 
+// A follower on a ground, or the ground and why its journal isn't opened.
+fn opened(
+    alloc: Global,
+    site: &Site,
+    device: MemoryGround,
+) -> Result<Standby, (MemoryGround, OpenFault)>
+    requires site { IsSite site.now }
+{
+    match open_journal(alloc, site, TEXT, device) {
+        Ok((press, core, read)) => {
+            drop(read);
+            Ok(Follower::open(site, press, core))
+        }
+        Err(refused) => Err(refused),
+    }
+}
+
 // A follower on these octets; none where the disk failed. One whose opening was refused memory is opened again.
 fn follower_on(alloc: Global, site: &Site, contents: Vec<u8>) -> Result<Option<Standby>, Missed>
     requires site { IsSite site.now }
 {
     let device = MemoryGround::new(alloc, contents, Vec::new(alloc));
-    let opened = match open_journal(alloc, site, TEXT, device) {
-        Err((device, OpenFault::NoMemory)) => open_journal(alloc, site, TEXT, device),
-        opened => opened,
+    let first = match opened(alloc, site, device) {
+        Err((device, OpenFault::NoMemory)) => opened(alloc, site, device),
+        first => first,
     };
-    match opened {
-        Ok((press, core, read)) => {
-            drop(read);
-            Ok(Some(Follower::open(site, press, core)))
-        }
+    match first {
+        Ok(follower) => Ok(Some(follower)),
         Err((_, OpenFault::DiskFault)) => Ok(None),
         Err((_, OpenFault::NoMemory)) => Err(Missed::Twice),
         Err(_) => Err(Missed::Other),

@@ -1,3 +1,5 @@
+//! A journal on a ground in memory, each call made again where memory was refused.
+
 ghost use Rattle.std.specs.Prelude.{◌≡◌, ◌≤◌, ◌<◌, All, IfOk, length};
 ghost use Rattle.bac_values.specs.Limits.{most_batch_octets};
 ghost use Rattle.alarm_core.specs.Sites.{IsSite};

@@ -1,3 +1,5 @@
+//! Why a part has nothing to print.
+
 use bac_values::NoMemory;
 use std::alloc::{AllocError, AllocFailed};
 

@@ -1,3 +1,5 @@
+//! Sessions, each decision and each event made again where memory was refused.
+
 ghost use Rattle.std.specs.Prelude.{◌≡◌, IfOk};
 ghost use Rattle.bac_values.specs.Moments.{IsMoment};
 ghost use Rattle.alarm_core.specs.Allowed.{IsAllowed};

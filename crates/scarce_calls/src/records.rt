@@ -1,3 +1,5 @@
+//! Records and snapshots of a core, each made again where memory was refused.
+
 ghost use Rattle.alarm_core.specs.Sites.{IsSite};
 ghost use Rattle.state_codec.specs.Records.{HasRecord};
 

@@ -1,3 +1,5 @@
+//! What the parts print.
+
 use crate::missed::Missed;
 use bac_values::ReportLine;
 use script_lines::write_report;

@@ -1,3 +1,5 @@
+//! The scripts of the parts, and a reader of their lines.
+
 use crate::missed::Missed;
 use ground_io::{Failed, Source};
 use script_lines::{Line, LineFault, Lines};

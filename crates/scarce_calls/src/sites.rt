@@ -1,3 +1,5 @@
+//! The sites of the parts.
+
 ghost use Rattle.std.specs.Prelude.{IfOk};
 ghost use Rattle.alarm_core.specs.Sites.{IsSite};
 

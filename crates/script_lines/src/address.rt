@@ -1,3 +1,5 @@
+//! Peers in text, `A.B.C.D:PORT`.
+
 ghost use Rattle.std.specs.Prelude.{◌≡◌, ◌↔◌, ◌≤◌, IfSome};
 ghost use Rattle.bac_values.specs.Address.{PeerData};
 ghost use Rattle.script_lines.specs.Number.{unsigned_of};

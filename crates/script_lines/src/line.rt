@@ -1,3 +1,5 @@
+//! What a line of a script may say.
+
 ghost use Rattle.std.specs.Prelude.{◌≡◌};
 ghost use Rattle.script_lines.specs.Line.{trial_object, is_skipped};
 

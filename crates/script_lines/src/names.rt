@@ -1,3 +1,5 @@
+//! The names of states, of types of objects, and of refusals.
+
 ghost use Rattle.std.specs.Prelude.{◌≡◌};
 ghost use Rattle.script_lines.specs.Report.{state_name, kind_name, refusal_word};
 

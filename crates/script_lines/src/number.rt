@@ -1,3 +1,5 @@
+//! Decimal numbers.
+
 ghost use Rattle.std.specs.Prelude.{◌≡◌, ◌↔◌, ℕ, ℤ, ◌≤◌, ◌^◌, ◌-◌, IfSome};
 ghost use Rattle.std.specs.Fmt.{decimal, signed_decimal};
 ghost use Rattle.script_lines.specs.Number.{digits_after, number_of, up_to, unsigned_of, below_zero, signed_of, IsSigned};

@@ -1,3 +1,5 @@
+//! Objects in text, `KIND:INSTANCE`.
+
 ghost use Rattle.std.specs.Prelude.{◌≡◌, ◌↔◌};
 ghost use Rattle.bac_values.specs.Identifier.{ObjectIdData};
 ghost use Rattle.script_lines.specs.Report.{object_text};

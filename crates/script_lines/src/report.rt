@@ -1,3 +1,5 @@
+//! The lines of a report in text.
+
 ghost use Rattle.std.specs.Prelude.{◌≡◌, IfOk, string_bytes};
 ghost use Rattle.script_lines.specs.Report.{object_text, address_text, counts_text, number_text, report_text, word_text};
 

@@ -1,3 +1,5 @@
+//! The lines of a session.
+
 ghost use Rattle.std.specs.Prelude.{◌≡◌, IfOk, IsErr, IsSomeAnd};
 ghost use Rattle.script_lines.specs.SessionLine.{IsOfOctets, moment_line, value_line, fault_line, datagram_line, session_line_of};
 

@@ -1,3 +1,5 @@
+//! Values and datagrams in text.
+
 ghost use Rattle.std.specs.Prelude.{◌≡◌, ◌/◌, ◌≤◌, true, false, Some, None, IfOk, IsErr, IsSome, IsSomeAnd, MatchBool, MatchOption, length};
 ghost use Rattle.bac_values.specs.Limits.{most_datagram_octets};
 ghost use Rattle.std.specs.Str.{is_utf8};

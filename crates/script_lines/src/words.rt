@@ -1,3 +1,5 @@
+//! Words of a line, and moments.
+
 ghost use Rattle.std.specs.Prelude.{◌≡◌, ◌==◌, position, IfSome};
 ghost use Rattle.std.specs.List.{before_first, after_first};
 ghost use Rattle.bac_values.specs.Moments.{IsMoment};

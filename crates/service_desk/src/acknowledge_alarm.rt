@@ -1,3 +1,5 @@
+//! What becomes of AcknowledgeAlarm (13.5).
+
 ghost use Rattle.std.specs.Prelude.{◌≡◌, IfOk};
 ghost use Rattle.ack_alarm.specs.Verdicts.{AcceptsAllowed};
 ghost use Rattle.alarm_core.specs.Found.{found_in};

@@ -1,3 +1,5 @@
+//! What becomes of a datagram: its APDU, and the service that it asks for.
+
 ghost use Rattle.std.specs.Prelude.{◌≡◌, ◌<◌, ◌^◌, ℕ, IfOk, drop, length};
 ghost use Rattle.apdu_frame.specs.ReadingSteps.{apdu_of};
 ghost use Rattle.service_desk.specs.Decisions.{EntersAllowed, apdu_decision, incoming_decision, request_decision, unconfirmed_decision};

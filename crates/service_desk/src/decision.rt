@@ -1,3 +1,5 @@
+//! What an input may come to.
+
 use alarm_core::Event;
 use bac_values::{Send, SetFault};
 

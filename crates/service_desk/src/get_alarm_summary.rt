@@ -1,3 +1,5 @@
+//! What becomes of GetAlarmSummary (13.10).
+
 ghost use Rattle.std.specs.Prelude.{◌≡◌, IfOk};
 ghost use Rattle.alarm_core.specs.AlarmRows.{alarm_rows};
 ghost use Rattle.summaries.specs.Summaries.{alarm_summary_of};

@@ -1,3 +1,5 @@
+//! What becomes of GetEnrollmentSummary (13.11).
+
 ghost use Rattle.std.specs.Prelude.{◌≡◌, IfOk};
 ghost use Rattle.alarm_core.specs.AlarmRows.{alarm_rows};
 ghost use Rattle.summaries.specs.Summaries.{enrollment_summary_of};

@@ -1,3 +1,5 @@
+//! What becomes of GetEventInformation (13.12).
+
 ghost use Rattle.std.specs.Prelude.{◌≡◌, IfOk};
 ghost use Rattle.alarm_core.specs.Information.{has_more, summaries_of};
 ghost use Rattle.service_desk.specs.Information.{information_decision, information_reply, information_room};

@@ -1,3 +1,5 @@
+//! What becomes of an input of any kind.
+
 ghost use Rattle.std.specs.Prelude.{◌≡◌, IfOk, List, Result};
 ghost use Rattle.bac_values.specs.Moments.{IsMoment};
 ghost use Rattle.bac_values.specs.declared.input.Input.TheVariants.{Tick};

@@ -1,3 +1,5 @@
+//! The laws of replies.
+
 ghost use Rattle.service_desk.specs.Laws.{EachReplyFits, EachRequestIsAnswered};
 
 /// No reply to a confirmed request has an APDU that is longer than the request says that its sender takes.

@@ -1,3 +1,5 @@
+//! What an edit of a list comes to, by its object, its property and its elements.
+
 ghost use Rattle.std.specs.Prelude.{◌≡◌, ◌<◌, ◌^◌, length};
 ghost use Rattle.list_binding.specs.Edits.{Tells};
 ghost use Rattle.alarm_core.specs.Classes.{class_in};

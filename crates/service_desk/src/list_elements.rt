@@ -1,3 +1,5 @@
+//! What becomes of AddListElement and RemoveListElement (15.1, 15.2).
+
 ghost use Rattle.std.specs.Prelude.{◌≡◌, ◌<◌, ◌^◌, ◌↔◌, IfOk, IsTrue, Ok, Some, length};
 ghost use Rattle.bac_values.specs.Reasons.{other_reason};
 ghost use Rattle.list_binding.specs.Edits.{EditAnswer, Tells};

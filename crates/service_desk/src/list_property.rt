@@ -1,3 +1,5 @@
+//! Why the elements of a property aren't edited.
+
 ghost use Rattle.std.specs.Prelude.{◌≡◌, IfOk};
 ghost use Rattle.service_desk.specs.ListDecisions.{any_index, is_list_of_values, list_verdict, property_error};
 

@@ -1,3 +1,5 @@
+//! What becomes of an answer to a notification (5.4.4).
+
 ghost use Rattle.std.specs.Prelude.{◌≡◌};
 ghost use Rattle.alarm_core.specs.Allowed.{IsAnswer};
 ghost use Rattle.service_desk.specs.NotificationAnswers.{answer_decision, named_answer_decision};

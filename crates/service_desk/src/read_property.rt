@@ -1,3 +1,5 @@
+//! What becomes of ReadProperty (15.5).
+
 ghost use Rattle.std.specs.Prelude.{◌≡◌, IfOk};
 ghost use Rattle.alarm_core.specs.Reading.{read_of};
 ghost use Rattle.service_desk.specs.ReadProperty.{read_decision, read_reply};

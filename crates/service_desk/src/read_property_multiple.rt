@@ -1,3 +1,5 @@
+//! What becomes of ReadPropertyMultiple (15.7).
+
 ghost use Rattle.std.specs.Prelude.{◌≡◌, List, IfOk};
 ghost use Rattle.summaries.specs.Many.{properties_of};
 ghost use Rattle.summaries.specs.ManyRequests.{ObjectAsked, SpellsReadMany};

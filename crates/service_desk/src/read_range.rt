@@ -1,3 +1,5 @@
+//! What becomes of ReadRange (15.8).
+
 ghost use Rattle.std.specs.Prelude.{◌≡◌, ◌≤◌, ◌+◌, ◌-◌, ◌∷◌, ◌++◌, [], false, IfOk, OnOk, length, flat_map, nat_le, slice_get, Option};
 ghost use Rattle.std.specs.Option.{option_copied};
 ghost use Rattle.bac_tags.specs.Writing.{unsigned_size};

@@ -1,3 +1,5 @@
+//! Who asks, and how it is answered.
+
 ghost use Rattle.std.specs.Prelude.{◌≡◌, ◌≤◌, IfOk, length};
 ghost use Rattle.bac_values.specs.Services.{longest_apdu};
 ghost use Rattle.service_desk.specs.Requesters.{requester_of};

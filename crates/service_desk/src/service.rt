@@ -1,3 +1,5 @@
+//! The services that are carried out.
+
 ghost use Rattle.std.specs.Prelude.{◌≡◌};
 ghost use Rattle.service_desk.specs.Services.{service_of};
 

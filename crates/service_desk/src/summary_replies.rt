@@ -1,3 +1,5 @@
+//! How results of many objects are answered.
+
 ghost use Rattle.std.specs.Prelude.{◌≡◌, List, ℕ, IfOk, option_map};
 ghost use Rattle.summaries.specs.Summaries.{within_room};
 ghost use Rattle.service_desk.specs.Replies.{complex_ack};

@@ -1,3 +1,5 @@
+//! What summaries see of a core.
+
 ghost use Rattle.std.specs.Prelude.{◌≡◌};
 
 use alarm_core::Core;

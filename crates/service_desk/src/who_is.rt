@@ -1,3 +1,5 @@
+//! What becomes of Who-Is (16.10).
+
 ghost use Rattle.std.specs.Prelude.{◌≡◌, IfOk, Option, Result};
 ghost use Rattle.bac_tags.specs.declared.malformed.Malformed.{Malformed};
 ghost use Rattle.service_desk.specs.WhoIs.{names_device, i_am, who_is_decision};

@@ -1,3 +1,5 @@
+//! What becomes of WriteProperty (15.9).
+
 ghost use Rattle.std.specs.Prelude.{◌≡◌, IfOk};
 ghost use Rattle.alarm_core.specs.declared.event.Act.TheVariants.{Write};
 ghost use Rattle.alarm_core.specs.Allowed.{IsAllowed};

@@ -1,3 +1,5 @@
+//! An item of the section `binding`.
+
 ghost use Rattle.toml.specs.View.{table_view};
 ghost use Rattle.toml_items.specs.Answers.{Gives};
 ghost use Rattle.site_config.specs.Bindings.{binding_of};

@@ -1,3 +1,5 @@
+//! An item of the section `class`.
+
 ghost use Rattle.std.specs.Prelude.{false, [], ◌∷◌, codes};
 ghost use Rattle.toml.specs.Data.{as_bool};
 ghost use Rattle.toml.specs.View.{table_view};

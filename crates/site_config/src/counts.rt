@@ -1,3 +1,5 @@
+//! How many destinations name each class.
+
 ghost use Rattle.std.specs.Prelude.{◌≡◌, ◌+◌, ◌==◌, ◌<◌, ◌^◌, ℕ, if◌then◌else◌, IfOk, OnOk};
 ghost use Rattle.site_config.specs.Limits.{count_in, count_of};
 

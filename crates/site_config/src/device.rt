@@ -1,3 +1,5 @@
+//! The section `device`.
+
 ghost use Rattle.toml.specs.View.{table_view, view};
 ghost use Rattle.std.specs.Prelude.{◌≡◌, IfOk, pos, neg_ℤ, codes, option_map};
 ghost use Rattle.std.specs.Char.{is_ascii};

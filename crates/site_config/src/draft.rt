@@ -1,3 +1,5 @@
+//! What all sections say, before it is looked at together.
+
 ghost use Rattle.toml.specs.View.{table_view};
 ghost use Rattle.toml_items.specs.Answers.{Gives};
 ghost use Rattle.site_config.specs.Drafts.{draft_of};

@@ -1,3 +1,5 @@
+//! An item of the section `enrollment`.
+
 ghost use Rattle.std.specs.Prelude.{◌≡◌, codes};
 ghost use Rattle.toml.specs.View.{table_view};
 ghost use Rattle.toml_items.specs.Answers.{Gives};

@@ -1,3 +1,5 @@
+//! Why a text is no site.
+
 use bac_values::{NoMemory, ObjectId, Text};
 
 /// A section of a site's text.

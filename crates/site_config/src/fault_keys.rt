@@ -1,3 +1,5 @@
+//! The keys of an object's faults.
+
 ghost use Rattle.std.specs.Prelude.{◌≡◌, ◌≤◌, [], IfOk, codes};
 ghost use Rattle.bac_values.specs.Limits.{most_listed_values};
 ghost use Rattle.toml.specs.View.{table_view};

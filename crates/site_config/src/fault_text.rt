@@ -1,3 +1,5 @@
+//! Faults in text.
+
 use crate::fault::{Counted, SiteFault, SitePlace};
 use crate::sections::section_name;
 use bac_values::ObjectId;

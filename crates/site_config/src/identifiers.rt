@@ -1,3 +1,5 @@
+//! Identifiers that are given twice.
+
 ghost use Rattle.std.specs.Prelude.{◌≡◌, ◌++◌, map, IfOk, OnOk};
 ghost use Rattle.site_config.specs.Identifiers.{identifiers, lesser, is_twice, least_twice};
 

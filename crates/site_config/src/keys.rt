@@ -1,3 +1,5 @@
+//! The names of the keys, in their order.
+
 ghost use Rattle.std.specs.Prelude.{◌≡◌};
 ghost use Rattle.toml_items.specs.Members.{is_among};
 ghost use Rattle.site_config.specs.Keys.{has_key, keys_of_kind, alarm_keys_of_kind, keys_of_algorithm};

@@ -1,3 +1,5 @@
+//! The alarm keys that only some kinds have.
+
 ghost use Rattle.std.specs.Prelude.{◌≡◌, ◌≤◌, [], IfOk, OnOk, All, Some, codes, length};
 ghost use Rattle.bac_values.specs.Limits.{most_listed_values};
 ghost use Rattle.toml.specs.View.{table_view};

@@ -1,3 +1,5 @@
+//! Whether there is too much of something.
+
 ghost use Rattle.std.specs.Prelude.{◌≡◌, ◌≤◌, nat_lt, length, sum_by, IfOk};
 ghost use Rattle.bac_values.specs.Limits.{most_logs, most_records};
 ghost use Rattle.toml_items.specs.Answers.{Gives};

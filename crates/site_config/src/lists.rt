@@ -1,3 +1,5 @@
+//! Values of a kind, and arrays of values and of texts.
+
 ghost use Rattle.std.specs.Prelude.{◌≡◌, IfOk};
 ghost use Rattle.toml.specs.View.{view, array_view};
 ghost use Rattle.site_config.specs.Values.{present_in, value_in};

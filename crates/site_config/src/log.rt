@@ -1,3 +1,5 @@
+//! An item of the section `log`.
+
 ghost use Rattle.std.specs.Prelude.{codes};
 ghost use Rattle.bac_values.specs.Limits.{most_classes};
 ghost use Rattle.toml.specs.View.{table_view};

@@ -1,3 +1,5 @@
+//! Keys that several sections have.
+
 ghost use Rattle.std.specs.Prelude.{◌≡◌, ◌<◌, codes, IfOk};
 ghost use Rattle.toml.specs.View.{table_view};
 ghost use Rattle.script_lines.specs.Report.{object_text};

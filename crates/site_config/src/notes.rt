@@ -1,3 +1,5 @@
+//! Whether the notifications of a tick fit the outbox.
+
 ghost use Rattle.std.specs.Prelude.{◌≡◌, ◌++◌, map, nat_lt, IfOk, OnOk};
 ghost use Rattle.std.specs.List.{filter_map};
 ghost use Rattle.site_config.specs.Notes.{class_of_object, class_of_enrollment, members_of, notes_of};

@@ -1,3 +1,5 @@
+//! An item of the section `object`.
+
 ghost use Rattle.std.specs.Prelude.{◌≡◌, ◌≤◌, IfOk, codes};
 ghost use Rattle.toml.specs.View.{table_view};
 ghost use Rattle.object_table.specs.Objects.{IsObject};

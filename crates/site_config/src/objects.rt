@@ -1,3 +1,5 @@
+//! The identifier of an object.
+
 ghost use Rattle.std.specs.Prelude.{◌≡◌, ◌≤◌};
 ghost use Rattle.site_config.specs.Devices.{object_with};
 

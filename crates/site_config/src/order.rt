@@ -1,3 +1,5 @@
+//! Items in the order of their identifiers.
+
 ghost use Rattle.std.specs.Prelude.{◌≡◌, [], fold, IfOk};
 ghost use Rattle.site_config.specs.Sites.{put, in_order};
 

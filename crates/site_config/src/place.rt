@@ -1,3 +1,5 @@
+//! A fault gets its place.
+
 ghost use Rattle.std.specs.Prelude.{◌≡◌};
 ghost use Rattle.site_config.specs.Sections.{at_place};
 

@@ -1,3 +1,5 @@
+//! Whether what an item refers to is there.
+
 ghost use Rattle.std.specs.Prelude.{◌≡◌, None, map, filter};
 ghost use Rattle.site_config.specs.Identifiers.{id_of_object, id_of_enrollment, id_of_log, least_with};
 ghost use Rattle.site_config.specs.References.{has_class, destination_dangles, lacks_class, object_dangles, is_there, reference_dangles, can_monitor, feedback_dangles, enrollment_dangles, log_dangles, least_dangling, id_of_destination};

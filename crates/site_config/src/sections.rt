@@ -1,3 +1,5 @@
+//! The sections of a document are read.
+
 ghost use Rattle.std.specs.Prelude.{◌≡◌, ◌⊎◌, ◌∷◌, option_map, string_bytes, Some, None};
 ghost use Rattle.toml.specs.View.{array_view, table_view};
 ghost use Rattle.toml_items.specs.Answers.{Gives};

@@ -1,3 +1,5 @@
+//! A text becomes a site.
+
 ghost use Rattle.std.specs.Prelude.{◌≡◌, ◌⊎◌, Some, None, map, IfOk, IfErr};
 ghost use Rattle.toml.specs.View.{table_view};
 ghost use Rattle.alarm_core.specs.Sites.{IsSite};

@@ -1,3 +1,5 @@
+//! What the texts of a document spell: objects, peers, days, bits, names.
+
 ghost use Rattle.std.specs.Prelude.{◌≡◌, ◌≤◌, ◌<◌, IfSome};
 ghost use Rattle.toml.specs.View.{view};
 ghost use Rattle.site_config.specs.Values.{bits_in, days_in, peer_in, object_in, binary_value_in, notify_in, algorithm_in, value_kind, kind_in, binary_in, limit_in};

@@ -1,3 +1,5 @@
+//! Journals, and what a crash leaves of them.
+
 ghost use Rattle.std.specs.Prelude.{◌≤◌, length};
 
 use crate::comparing::{holds, same};

@@ -1,3 +1,5 @@
+//! Links that end behind a failed disk.
+
 use crate::comparing::{holds, same};
 use bac_values::{Items, Peer, Send as Message};
 use ending_link::{EndingLink, Flag, NotingGround, SharedFlag};

@@ -1,3 +1,5 @@
+//! Sources and grounds.
+
 use crate::comparing::{holds, same};
 use bac_values::Peer;
 use ground_io::*;

@@ -1,3 +1,5 @@
+//! Lines of scripts, and readers of them.
+
 ghost use Rattle.std.specs.Prelude.{None};
 
 use crate::comparing::{holds, same};

@@ -1,3 +1,5 @@
+//! Generated sites and scripts.
+
 use crate::comparing::{holds, same};
 use crate::script_lines_tests::{Pieces, expect_end};
 use script_lines::Lines;

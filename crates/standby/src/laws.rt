@@ -1,3 +1,5 @@
+//! What is so of packets, of the table, and of all runs of a leader and its follower.
+
 ghost use Rattle.standby.specs.Once.{AnswersOnce, OnePacket};
 ghost use Rattle.standby.specs.Reaches.{ReachesAll};
 ghost use Rattle.standby.specs.Runs.{FollowsItsLeader, NeverMalformed};

@@ -1,3 +1,5 @@
+//! Leaders of a history.
+
 ghost use Rattle.std.specs.Prelude.{◌≡◌, IfOk};
 
 use alarm_core::Core;

@@ -1,3 +1,5 @@
+//! Packets octet for octet, offered and taken.
+
 ghost use Rattle.alarm_core.specs.Sites.{IsSite};
 
 use crate::comparing::{counts, same};

@@ -1,3 +1,5 @@
+//! Sites that followers are of.
+
 ghost use Rattle.std.specs.Prelude.{IfOk};
 ghost use Rattle.alarm_core.specs.Sites.{IsSite};
 

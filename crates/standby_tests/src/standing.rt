@@ -1,3 +1,5 @@
+//! Followers on grounds in memory.
+
 ghost use Rattle.alarm_core.specs.Sites.{IsSite};
 
 use crate::comparing::same;

@@ -1,3 +1,5 @@
+//! What an event does, in octets.
+
 ghost use Rattle.std.specs.Prelude.{◌≡◌, ◌++◌, OnOk};
 ghost use Rattle.bac_values.specs.EventStates.{number_of_state, place_of_transition};
 ghost use Rattle.alarm_core.specs.declared.event.Act.TheVariants.{Ack, Answer, Edit, Write};

@@ -1,3 +1,5 @@
+//! Recipients of a class in octets are read.
+
 ghost use Rattle.std.specs.Prelude.{◌≡◌};
 ghost use Rattle.state_codec.specs.ReadingSteps.{Gives, destination_at, destinations_at, list_at};
 

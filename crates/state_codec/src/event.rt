@@ -1,3 +1,5 @@
+//! Events in octets: records.
+
 ghost use Rattle.std.specs.Prelude.{◌≡◌, ◌≤◌, ◌⊎◌, ℕ, drop, length, IfOk};
 ghost use Rattle.bac_tags.specs.Places.{IsSpelledAt};
 ghost use Rattle.alarm_core.specs.declared.event.Event.{Event};

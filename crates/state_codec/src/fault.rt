@@ -1,3 +1,5 @@
+//! Why octets aren't read.
+
 use thiserror::Error;
 
 /// Why octets aren't read.

@@ -1,3 +1,5 @@
+//! The laws of records and snapshots.
+
 ghost use Rattle.std.specs.Prelude.{◌≡◌, IfErr, IfOk};
 ghost use Rattle.alarm_core.specs.SiteStates.{IsStateOf};
 ghost use Rattle.alarm_core.specs.Sites.{IsSite};

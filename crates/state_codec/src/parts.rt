@@ -1,3 +1,5 @@
+//! Numbers, flags, identifiers and peers are read from the front of octets.
+
 ghost use Rattle.std.specs.Prelude.{◌≡◌, ◌==◌, length, IfOk};
 ghost use Rattle.std.specs.Int.{w16, w32, w64};
 ghost use Rattle.std.specs.List.{list_all};

@@ -1,3 +1,5 @@
+//! Why a reader of the front answers nothing.
+
 use bac_values::NoMemory;
 
 /// Why a reader of the front of octets answers nothing.

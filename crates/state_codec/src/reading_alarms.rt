@@ -1,3 +1,5 @@
+//! The alarms of a snapshot are read.
+
 ghost use Rattle.std.specs.Prelude.{◌≡◌, ◌<◌, ◌≤◌, nat_lt, length, IfOk, IfSome};
 ghost use Rattle.bac_values.specs.Moments.{IsMoment};
 ghost use Rattle.algorithm_rules.specs.Rules.{rules_of};

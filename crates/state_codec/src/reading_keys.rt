@@ -1,3 +1,5 @@
+//! What only some kinds of objects have is read.
+
 ghost use Rattle.std.specs.Prelude.{◌≡◌, ◌==◌, not};
 ghost use Rattle.std.specs.Int.{w32};
 ghost use Rattle.state_codec.specs.ReadingSteps.{Gives, flag_at, flags_at, last_at, number_at};

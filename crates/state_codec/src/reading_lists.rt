@@ -1,3 +1,5 @@
+//! The lists of a snapshot are read, of objects, classes, notifications and records.
+
 ghost use Rattle.state_codec.specs.ReadingSteps.{Gives};
 ghost use Rattle.state_codec.specs.SnapshotSteps.{classes_at, each_at, entry_at, note_at, numbers_up_to, row_at, times_at};
 

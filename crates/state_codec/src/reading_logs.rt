@@ -1,3 +1,5 @@
+//! The logs of a snapshot are read.
+
 ghost use Rattle.std.specs.Prelude.{◌≡◌, IfOk, Some, length, true};
 ghost use Rattle.std.specs.Int.{w32};
 ghost use Rattle.event_log.specs.Log.{AreNumbered};

@@ -1,3 +1,5 @@
+//! The outbox of a snapshot is read.
+
 ghost use Rattle.std.specs.Prelude.{◌≡◌, ◌↔◌, IfOk, IsTrue, Some, length, map};
 ghost use Rattle.std.specs.List.{list_all};
 ghost use Rattle.bac_values.specs.Orders.{IsAscending, is_among};

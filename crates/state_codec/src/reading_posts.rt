@@ -1,3 +1,5 @@
+//! The posts of an outbox are read, with their notifications.
+
 ghost use Rattle.std.specs.Prelude.{◌≡◌, ◌++◌, IfOk, OnOk, length};
 ghost use Rattle.outbox.specs.Outboxes.{notes_told, restored_post, restored_posts};
 ghost use Rattle.state_codec.specs.ReadingSteps.{Gives};

@@ -1,3 +1,5 @@
+//! Enrollments, classes and records of logs are read.
+
 ghost use Rattle.std.specs.Prelude.{◌≡◌, Some};
 ghost use Rattle.state_codec.specs.ReadingSteps.{Gives};
 ghost use Rattle.state_codec.specs.SnapshotSteps.{body_at, class_at, enrollment_at, entry_at, hundredths_at, may_hold, note_at};

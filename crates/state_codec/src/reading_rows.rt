@@ -1,3 +1,5 @@
+//! The rows of value objects are read.
+
 ghost use Rattle.state_codec.specs.ReadingSteps.{Gives, octet_at};
 ghost use Rattle.object_table.specs.Values.{is_field_fault};
 ghost use Rattle.std.specs.Prelude.{◌≡◌};

@@ -1,3 +1,5 @@
+//! The alarms of a site are read, in the order of identifiers, and what its logs hold.
+
 ghost use Rattle.std.specs.Prelude.{◌≡◌, IfOk, filter, length, nat_lt, zip};
 ghost use Rattle.bac_values.specs.Identifier.{number_of_kind};
 ghost use Rattle.bac_values.specs.declared.object_kind.ObjectKind.TheVariants.{EventEnrollment};

@@ -1,3 +1,5 @@
+//! A snapshot is read, and a core made of it.
+
 ghost use Rattle.std.specs.Prelude.{◌≡◌, ◌++◌, ◌⊎◌, ℕ, All, IfErr, IfOk, IsOkAnd, OnOk, Some};
 ghost use Rattle.std.specs.List.{AllZip};
 ghost use Rattle.object_table.specs.Objects.{IsRow};

@@ -1,3 +1,5 @@
+//! The alarm of one object is read.
+
 ghost use Rattle.std.specs.Prelude.{◌≡◌, ◌≤◌, length};
 ghost use Rattle.alarm_core.specs.SiteStates.{alarm_values_in};
 ghost use Rattle.state_codec.specs.ReadingSteps.{Gives};

@@ -1,3 +1,5 @@
+//! Values in octets.
+
 ghost use Rattle.state_codec.specs.ReadingSteps.{Gives, bits_at, content_at, text_at, text_of, value_at};
 
 use crate::parts::{take_flag, take_octet, take_octets, take_u16, take_u32, take_u64};

@@ -1,3 +1,5 @@
+//! Numbers, flags, identifiers, peers and lists of recipients are written.
+
 ghost use Rattle.std.specs.Prelude.{◌≡◌, ◌≤◌, ◌++◌, ◌∷◌, [], length, OnOk};
 ghost use Rattle.bac_values.specs.Limits.{most_destinations};
 ghost use Rattle.std.specs.Int.{to_be_bytes, w8, w16, w32, w64};

@@ -1,3 +1,5 @@
+//! The answer of GetAlarmSummary is written (13.10).
+
 ghost use Rattle.std.specs.Prelude.{◌≡◌, ◌++◌, IfOk, OnOk, option_map};
 ghost use Rattle.summaries.specs.Summaries.{alarm_summary_of, is_in_alarm, within_room, written_alarm, written_if_in_alarm};
 

@@ -1,3 +1,5 @@
+//! The answer of GetEnrollmentSummary is written, through its filters (13.11).
+
 ghost use Rattle.std.specs.Prelude.{◌≡◌, ◌++◌, IfOk, OnOk, option_map};
 ghost use Rattle.std.specs.List.{list_any};
 ghost use Rattle.std.specs.Option.{option_copied};

@@ -1,3 +1,5 @@
+//! The answer of ReadPropertyMultiple is written (15.7).
+
 ghost use Rattle.std.specs.Prelude.{◌≡◌, ◌++◌, ◌<◌, ◌≤◌, ℕ, List, None, Ok, Some, IfOk, OnOk, length, option_map};
 ghost use Rattle.std.specs.List.{flat_map};
 ghost use Rattle.bac_values.specs.Properties.{object_identifier_property};

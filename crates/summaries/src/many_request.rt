@@ -1,3 +1,5 @@
+//! The parameters of ReadPropertyMultiple are read (15.7).
+
 ghost use Rattle.std.specs.Prelude.{◌≡◌, ◌<◌, ◌≤◌, ◌↔◌, Some, List, length, option_map, slice_get, IfOk, IfSome};
 ghost use Rattle.bac_tags.specs.declared.malformed.Malformed.{Malformed as Refusal};
 ghost use Rattle.bac_tags.specs.ReadingSteps.{object_at};

@@ -1,3 +1,5 @@
+//! The parameters of GetEnrollmentSummary are read (13.11).
+
 ghost use Rattle.std.specs.Prelude.{◌≡◌, ◌≤◌, ◌↔◌, length, IfOk};
 ghost use Rattle.bac_tags.specs.declared.malformed.Malformed.{Malformed as Refusal};
 ghost use Rattle.recipients.specs.Recipients.{StandsWithin, recipient_in};

@@ -1,3 +1,5 @@
+//! What a ReadPropertyMultiple asks for.
+
 use bac_values::{ObjectId, PropertyId};
 
 /// A property of which is asked.

@@ -1,3 +1,5 @@
+//! What a state shows to whoever sums it up.
+
 use crate::Part;
 use bac_values::{AlarmRow, NoMemory, ObjectId, PropertyId};
 use notify_class::Class;

@@ -1,3 +1,5 @@
+//! Why an item isn't read.
+
 ghost use Rattle.std.specs.Prelude.{◌≡◌, ◌⊎◌, IfOk};
 ghost use Rattle.toml_items.specs.Members.{named};
 

@@ -1,3 +1,5 @@
+//! Keys that an item doesn't have.
+
 ghost use Rattle.std.specs.Prelude.{◌≡◌, not, find, option_copied, string_bytes};
 ghost use Rattle.std.specs.List.{list_any};
 ghost use Rattle.std.specs.Map.{keys_of};

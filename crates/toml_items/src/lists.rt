@@ -1,3 +1,5 @@
+//! Values that are arrays.
+
 ghost use Rattle.std.specs.Prelude.{◌≡◌, option_map, option_and_then, is_some, IfOk};
 ghost use Rattle.std.specs.List.{list_all};
 ghost use Rattle.toml.specs.Data.{as_array, as_bool, as_table};

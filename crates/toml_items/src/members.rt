@@ -1,3 +1,5 @@
+//! Values at a key, needed or with a default.
+
 ghost use Rattle.std.specs.Prelude.{◌≡◌, ◌≤◌, ◌<◌, ◌≤ℤ◌, pos, true, [], ◌∷◌, Some, option_map, IfOk};
 ghost use Rattle.toml.specs.Data.{get_member, as_bool};
 ghost use Rattle.toml.specs.View.{table_view, view};

@@ -1,3 +1,5 @@
+//! Values that are numbers, texts and truths.
+
 ghost use Rattle.std.specs.Prelude.{◌≡◌, ◌≤◌, ◌<◌, ◌≤ℤ◌, IfSome, IfOk, length};
 ghost use Rattle.toml.specs.View.{view};
 ghost use Rattle.bac_values.specs.Moments.{IsMoment};

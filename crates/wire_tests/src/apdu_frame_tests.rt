@@ -1,3 +1,5 @@
+//! Headers of APDUs.
+
 use crate::comparing::same;
 use apdu_frame::*;
 use std::test::Fail;

@@ -1,3 +1,5 @@
+//! Tags and values.
+
 ghost use Rattle.bac_tags.specs.Values.{IsWritable};
 
 use crate::comparing::{counts, holds, same};

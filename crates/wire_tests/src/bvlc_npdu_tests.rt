@@ -1,3 +1,5 @@
+//! Frames.
+
 use crate::comparing::{counts, holds, same};
 use bac_values::{Mac, Peer};
 use bvlc_npdu::*;

@@ -1,3 +1,5 @@
+//! Services on events.
+
 ghost use Rattle.std.specs.Prelude.{◌≡◌, IfOk};
 ghost use Rattle.event_services.specs.Notifications.{IsTold};
 

@@ -1,3 +1,5 @@
+//! Event values of notifications, by their type.
+
 ghost use Rattle.std.specs.Prelude.{Some};
 ghost use Rattle.event_services.specs.Notifications.{IsOneOrNone, IsTold};
 

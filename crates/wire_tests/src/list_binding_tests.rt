@@ -1,3 +1,5 @@
+//! Edits of lists.
+
 ghost use Rattle.std.specs.Prelude.{◌<◌, ◌^◌, length};
 
 use crate::comparing::same;

@@ -1,3 +1,5 @@
+//! Elements of any length.
+
 use crate::comparing::same;
 use bac_tags::*;
 use bac_values::Bits;

@@ -1,3 +1,5 @@
+//! Parameters, required and optional.
+
 use crate::comparing::{holds, same};
 use bac_tags::*;
 use bac_values::ObjectId;

@@ -1,3 +1,5 @@
+//! Services on properties.
+
 use crate::comparing::{holds, same};
 use bac_tags::{invalid_tag, missing_parameter, too_many_arguments};
 use bac_values::{Foreign, ObjectId, PropertyId, Stamp, Text, Value};

@@ -1,3 +1,5 @@
+//! Recipients of notifications.
+
 ghost use Rattle.std.specs.Prelude.{◌≤◌};
 
 use crate::comparing::same;

@@ -1,3 +1,5 @@
+//! A text is put behind octets.
+
 ghost use Rattle.std.specs.Prelude.{◌≡◌, ◌++◌, OnOk};
 
 use bac_values::NoMemory;

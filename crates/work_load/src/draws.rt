@@ -1,3 +1,5 @@
+//! Numbers are drawn from a seed.
+
 ghost use Rattle.std.specs.Prelude.{◌≡◌, ◌<◌};
 ghost use Rattle.work_load.specs.Draws.{drawn, next_seed};
 

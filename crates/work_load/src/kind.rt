@@ -1,3 +1,5 @@
+//! The kinds of value objects of a generated site.
+
 ghost use Rattle.std.specs.Prelude.{◌≡◌, string_bytes};
 ghost use Rattle.work_load.specs.Kinds.{kind_at, kind_name};
 

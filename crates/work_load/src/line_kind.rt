@@ -1,3 +1,5 @@
+//! What the lines of a generated script do.
+
 ghost use Rattle.std.specs.Prelude.{◌≡◌};
 ghost use Rattle.work_load.specs.Lines.{line_kind_at};
 

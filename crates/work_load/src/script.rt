@@ -1,3 +1,5 @@
+//! The generated script.
+
 ghost use Rattle.std.specs.Prelude.{◌≡◌, ◌<◌, ◌≤◌, ◌^◌, IfOk, string_bytes};
 ghost use Rattle.work_load.specs.Draws.{drawn, next_seed};
 ghost use Rattle.work_load.specs.Kinds.{kind_at, kind_name};

@@ -1,3 +1,5 @@
+//! The text of a generated site.
+
 ghost use Rattle.std.specs.Prelude.{◌≡◌, ◌≤◌, IfOk, string_bytes};
 ghost use Rattle.work_load.specs.Site.{class_text, classes_text, destination_text, destinations_text, object_text, objects_text, settings_text, workload_site};
 

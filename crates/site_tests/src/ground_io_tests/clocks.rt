@@ -1,3 +1,5 @@
+//! Clocks.
+
 use crate::comparing::{holds, same};
 use bac_values::{FIRST_MOMENT, LAST_MOMENT};
 use ground_io::{Clock, StillClock, SystemClock};

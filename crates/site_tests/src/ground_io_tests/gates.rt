@@ -1,3 +1,5 @@
+//! Gates.
+
 use super::{expect_image, read_within, write_within};
 use crate::comparing::{holds, same};
 use bac_values::Peer;

@@ -1,3 +1,5 @@
+//! Links.
+
 use crate::comparing::same;
 use bac_values::{Items, Peer, Send};
 use ground_io::{Failed, Link, MemoryLink, Received, UdpLink};
