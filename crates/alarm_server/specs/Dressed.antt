@@ -9,7 +9,7 @@ use Rattle.alarm_server.specs.ServedSites.{LeavesLink}
 use Rattle.alarm_server.specs.Serving.{ServesFile}
 
 module _ {G L : Type 0} (F : Type 0) (told : G → Option Told) (size disk_faults emit_faults : G → ℕ) (left : L → Option (List Send)) (faults : L → ℕ) where
-  -- The ground and the link that were given are the inner ones of those that the server began with, and those that came back of those that it left; the flag that the one raises is the one that the other looks at. It tells what it did over them; all that they tell and count is what their inner ones do, but that such a link counts each call, too, that found the flag raised.
+  -- The ground and the link that were given are the inner ones of those that the server began with, and those that came back of those that it left; the flag that the one raises and the one that the other looks at tell the same at first; that they are one flag isn't said. It tells what it did over them; all that they tell and count is what their inner ones do, but that such a link counts each call, too, that found the flag raised.
   pub record ServesDressed (shows : ℕ → Type 0) (file : Option (List ℕ)) (count : ℕ) (link rest : L) (before after : G) (served : Served) : Type 0 where
     pub raised : Bor F
     pub seen : Bor F
