@@ -1,6 +1,6 @@
 //! What is written of a core in one commit: nothing, some records, or its state.
 
-ghost use Rattle.std.specs.Prelude.{◌≡◌, ◌≤◌, IfOk, MatchResult, [], length, ⊤};
+ghost use Rattle.std.specs.Prelude.{◌≡◌, ◌≤◌, IfOk, MatchResult, Ok, [], length, ⊤};
 ghost use Rattle.bac_values.specs.Limits.{most_batch_octets};
 ghost use Rattle.ground_io.specs.Counts.{HasCause};
 ghost use Rattle.alarm_journal.specs.Journal.{Content};
@@ -48,9 +48,10 @@ pub fn work_of<G: Ground>(
     Ok(Work::Snapshot(snapshot_of(alloc, core, press.area())?))
 }
 
-/// Writes, and gives the press back; or the ground, where the disk failed.
+/// Writes, and gives the press back; or the ground, where the disk failed. Where nothing is to be written nothing is done.
 pub fn write_work<G: Ground>(press: Press<G>, work: Work) -> Result<Press<G>, G>
     requires fits { FitsPress (room_of press.layout) press.layout.half work }
+    ensures nothing { work ≡ Work.Nothing → result ≡ Ok press }
     ensures rests { (journal : Journal) (content : Content) → Rests journal press.layout (G.told press.device) content
         → IfOk result (λ kept. Rests journal kept.layout (G.told kept.device) (content_with work content)) }
     ensures any_moment { (journal : Journal) (content : Content) → Rests journal press.layout (G.told press.device) content
