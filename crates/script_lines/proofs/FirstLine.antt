@@ -1,13 +1,13 @@
 -- The first line of a text, by the place of the first line feed, and what it makes of what comes next.
-use Rattle.std.proofs.Common.{◌≡◌, ◌⊎◌, inl, inr, ℕ, ◌+◌, ◌<◌, ◌≤◌, false, List, [], ◌∷◌, ◌++◌, suc, append-nil, length, take, drop, refl, ap, ◌∙◌, sym, arith}
+use Rattle.std.proofs.Common.{◌≡◌, ◌⊎◌, inl, inr, ℕ, ◌+◌, ◌<◌, ◌≤◌, false, Option, List, [], ◌∷◌, ◌++◌, suc, append-nil, length, take, drop, refl, ap, ◌∙◌, sym, arith}
 use Rattle.std.specs.List.{position_or_len, before_first, after_first, onto_first}
 use Rattle.std.proofs.lemmas.Bool.{cases_Bool, cases_lt}
 use Rattle.std.proofs.lemmas.Bool.Decides.{nat_tests}
 use Rattle.std.proofs.lemmas.Grind.{common_steps}
 use Rattle.std.proofs.lemmas.List.{take_all, drop_all}
-use Rattle.script_lines.specs.declared.line.Grammar.{Grammar}
-use Rattle.script_lines.specs.declared.line.LineSays.TheVariants.{Outside}
-use Rattle.script_lines.specs.Line.{line_says}
+use Rattle.script_lines.specs.declared.line.Says.{Says}
+use Rattle.script_lines.specs.declared.line.Says.TheVariants.{Outside}
+use Rattle.script_lines.specs.Line.{says_by}
 use Rattle.script_lines.specs.Script.{is_line_feed, lines_of, next_by, next_in}
 
 -- one element more, in front
@@ -56,27 +56,30 @@ lines_of-first (c ∷ cs) ys h =
     ]
 
 -- a text that is too long says nothing of the grammar
-pub long_says : (grammar : Grammar) (number : ℕ) (text : List ℕ) → 4096 < length text → line_says grammar number text ≡ Outside
-long_says grammar number text long = grind (arith, nat_tests)
+abbrev pub RefusesLong : {L : Type 0} → (ℕ → List ℕ → Says L) → Type 0
+RefusesLong says = (number : ℕ) (text : List ℕ) → 4096 < length text → says number text ≡ Outside
+
+pub long_says : {L : Type 0} (found : ℕ → List ℕ → Option L) → RefusesLong (says_by found)
+long_says found number text long = grind (arith, nat_tests)
 
 -- what comes next, by a first line that has nothing behind it or is too long
-next_front : (grammar : Grammar) (number : ℕ) (xs ys : List ℕ) → 0 < length xs → length xs ≤ position_or_len is_line_feed xs → (4096 < length xs) ⊎ (ys ≡ [])
-    → next_in grammar number (lines_of (xs ++ ys)) ≡ next_by (line_says grammar (number + 1) xs) (number + 1) (lines_of ys) (next_in grammar (number + 1) (lines_of ys))
-next_front grammar number xs ys some none (inl long) =
+next_front : {L : Type 0} (says : ℕ → List ℕ → Says L) → RefusesLong says → (number : ℕ) (xs ys : List ℕ) → 0 < length xs → length xs ≤ position_or_len is_line_feed xs → (4096 < length xs) ⊎ (ys ≡ [])
+    → next_in says number (lines_of (xs ++ ys)) ≡ next_by (says (number + 1) xs) (number + 1) (lines_of ys) (next_in says (number + 1) (lines_of ys))
+next_front says refuses number xs ys some none (inl long) =
     let parts = onto_line_is xs (lines_of ys) in
     let longer : 4096 < length (xs ++ parts.0) = grind (arith, common_steps) in
-    ap (next_in grammar number) (lines_of-front xs ys some none ∙ parts.2) ∙ rw (long_says grammar (number + 1) (xs ++ parts.0) longer, long_says grammar (number + 1) xs long) refl
-next_front grammar number xs ys some none (inr ended) = ap (next_in grammar number) (lines_of-front xs ys some none) ∙ rw ended refl
+    ap (next_in says number) (lines_of-front xs ys some none ∙ parts.2) ∙ rw (refuses (number + 1) (xs ++ parts.0) longer, refuses (number + 1) xs long) refl
+next_front says refuses number xs ys some none (inr ended) = ap (next_in says number) (lines_of-front xs ys some none) ∙ rw ended refl
 
 -- what comes next, by what is pending of the first line
-pub next_first : (grammar : Grammar) (number : ℕ) (xs ys : List ℕ) → 0 < length xs → (position_or_len is_line_feed xs < length xs) ⊎ ((4096 < length xs) ⊎ (ys ≡ []))
-    → next_in grammar number (lines_of (xs ++ ys))
-    ≡ next_by (line_says grammar (number + 1) (before_first is_line_feed xs)) (number + 1) (lines_of (after_first is_line_feed xs ++ ys)) (next_in grammar (number + 1) (lines_of (after_first is_line_feed xs ++ ys)))
-next_first grammar number xs ys some why =
+pub next_first : {L : Type 0} (says : ℕ → List ℕ → Says L) → RefusesLong says → (number : ℕ) (xs ys : List ℕ) → 0 < length xs → (position_or_len is_line_feed xs < length xs) ⊎ ((4096 < length xs) ⊎ (ys ≡ []))
+    → next_in says number (lines_of (xs ++ ys))
+    ≡ next_by (says (number + 1) (before_first is_line_feed xs)) (number + 1) (lines_of (after_first is_line_feed xs ++ ys)) (next_in says (number + 1) (lines_of (after_first is_line_feed xs ++ ys)))
+next_first says refuses number xs ys some why =
     elim (cases_lt (position_or_len is_line_feed xs) (length xs)) [
-      | inl found ↦ ap (next_in grammar number) (lines_of-first xs ys found)
+      | inl found ↦ ap (next_in says number) (lines_of-first xs ys found)
       | inr none ↦ rw (take_all (position_or_len is_line_feed xs) xs none, drop_all (position_or_len is_line_feed xs + 1) xs (omega arith))
-          (next_front grammar number xs ys some none (elim why as (λ _. (4096 < length xs) ⊎ (ys ≡ [])) [ inl found ↦ absurd (omega arith) | inr rest ↦ rest ]))
+          (next_front says refuses number xs ys some none (elim why as (λ _. (4096 < length xs) ⊎ (ys ≡ [])) [ inl found ↦ absurd (omega arith) | inr rest ↦ rest ]))
     ]
 
 -- a line and its line feed

@@ -9,6 +9,7 @@ pub mod Utf8
 pub mod Parts
 pub mod BitDigits
 pub mod Octets
+pub mod Packets
 pub mod SpelledSession
 pub mod Marks
 pub mod ObjectText

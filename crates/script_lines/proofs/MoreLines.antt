@@ -3,7 +3,7 @@ use Rattle.std.proofs.Common.{◌≡◌, inl, inr, ℕ, false, Option, Some, Non
 use Rattle.std.specs.List.{onto_first}
 use Rattle.std.proofs.lemmas.Bool.{cases_Bool}
 use Rattle.ground_io.specs.Trace.{WhereTold}
-use Rattle.script_lines.specs.declared.line.Grammar.{Grammar}
+use Rattle.script_lines.specs.declared.line.Says.{Says}
 use Rattle.script_lines.specs.Reading.{octets_to_come, LinesState}
 use Rattle.script_lines.specs.Script.{is_line_feed, lines_of, next_in, TakesLines, IsWholeLines}
 
@@ -68,13 +68,13 @@ whole_then r0 r1 r2 left0 left1 left2 first earlier more goes_on =
     (takes_then r0.number r1.number r2.number) (first (earlier goes_on)) (more goes_on)
 
 -- what comes next stays the same
-pub next_then : (grammar : Grammar) (r0 r1 r2 : LinesState) (left0 left1 left2 : Option (List ℕ))
-    → WhereTold (octets_to_come r0 left0) (octets_to_come r1 left1) (λ old new. next_in grammar r1.number (lines_of new) ≡ next_in grammar r0.number (lines_of old))
-    → WhereTold (octets_to_come r1 left1) (octets_to_come r2 left2) (λ old new. next_in grammar r2.number (lines_of new) ≡ next_in grammar r1.number (lines_of old))
-    → WhereTold (octets_to_come r0 left0) (octets_to_come r2 left2) (λ old new. next_in grammar r2.number (lines_of new) ≡ next_in grammar r0.number (lines_of old))
-next_then grammar r0 r1 r2 left0 left1 left2 first more =
+pub next_then : {L : Type 0} (says : ℕ → List ℕ → Says L) (r0 r1 r2 : LinesState) (left0 left1 left2 : Option (List ℕ))
+    → WhereTold (octets_to_come r0 left0) (octets_to_come r1 left1) (λ old new. next_in says r1.number (lines_of new) ≡ next_in says r0.number (lines_of old))
+    → WhereTold (octets_to_come r1 left1) (octets_to_come r2 left2) (λ old new. next_in says r2.number (lines_of new) ≡ next_in says r1.number (lines_of old))
+    → WhereTold (octets_to_come r0 left0) (octets_to_come r2 left2) (λ old new. next_in says r2.number (lines_of new) ≡ next_in says r0.number (lines_of old))
+next_then says r0 r1 r2 left0 left1 left2 first more =
     told_then (octets_to_come r0 left0) (octets_to_come r1 left1) (octets_to_come r2 left2)
-    (λ old new. next_in grammar r1.number (lines_of new) ≡ next_in grammar r0.number (lines_of old))
-    (λ old new. next_in grammar r2.number (lines_of new) ≡ next_in grammar r1.number (lines_of old))
-    (λ old new. next_in grammar r2.number (lines_of new) ≡ next_in grammar r0.number (lines_of old))
+    (λ old new. next_in says r1.number (lines_of new) ≡ next_in says r0.number (lines_of old))
+    (λ old new. next_in says r2.number (lines_of new) ≡ next_in says r1.number (lines_of old))
+    (λ old new. next_in says r2.number (lines_of new) ≡ next_in says r0.number (lines_of old))
     (λ x y z p q. q ∙ p) first more

@@ -2,6 +2,7 @@ pub mod Number
 pub mod Words
 pub mod SessionLine
 pub mod Line
+pub mod PacketLine
 pub mod Reading
 pub mod Script
 pub mod TakingSteps

@@ -9,10 +9,10 @@ use Rattle.bac_values.specs.declared.input.Input.TheVariants.{Tick, Pump, Set, F
 use Rattle.bac_values.specs.declared.object_kind.ObjectKind.TheVariants.{IntegerValue}
 use Rattle.bac_values.specs.declared.value.Value.TheVariants.{Signed}
 use Rattle.script_lines.specs.declared.line.Grammar.{Grammar}
-use Rattle.script_lines.specs.declared.line.Grammar.TheVariants.{Trial, Session}
+use Rattle.script_lines.specs.declared.line.Grammar.TheVariants.{Trial, Session, Packets}
 use Rattle.script_lines.specs.declared.line.Line.{Line}
-use Rattle.script_lines.specs.declared.line.LineSays.{LineSays}
-use Rattle.script_lines.specs.declared.line.LineSays.TheVariants.{Skipped, Outside, Spells}
+use Rattle.script_lines.specs.declared.line.Says.{Says}
+use Rattle.script_lines.specs.declared.line.Says.TheVariants.{Skipped, Outside, Spells}
 use Rattle.script_lines.specs.Number.{signed_of}
 use Rattle.script_lines.specs.Words.{first_word, other_words, moment_of}
 use Rattle.script_lines.specs.SessionLine.{session_line_of, IsOfOctets, IsSessionLine}
@@ -64,35 +64,47 @@ most_lines = 1000000
 abbrev pub longest_line : ℕ
 longest_line = 4096
 
--- an answer of the grammar
-abbrev pub spells : Option Line → LineSays
+-- an answer of a grammar
+abbrev pub spells : {L : Type 0} → Option L → Says L
 spells None = Outside
 spells (Some line) = Spells line
 
--- the line with this number that a text spells in a grammar
+-- the line with this number that a text spells in a grammar; a line of packets is none that names a moment
 abbrev pub line_of : Grammar → ℕ → List ℕ → Option Line
 line_of Trial number text = line_by_word number text
 line_of Session number text = session_line_of number text
+line_of Packets number text = None
 
--- what the octets of the line with this number say; what is longer than a line or a script may be is outside each grammar, also where it would be skipped
-abbrev pub line_says : Grammar → ℕ → List ℕ → LineSays
-line_says grammar number text =
+-- what the octets of the line with this number say, in the grammar whose lines are those that this finds; what is longer than a line or a script may be is outside each grammar, also where it would be skipped
+abbrev pub says_by : {L : Type 0} → (ℕ → List ℕ → Option L) → ℕ → List ℕ → Says L
+says_by found number text =
     if nat_lt most_lines number || nat_lt longest_line (length text) then Outside else
-    (if is_skipped text then Skipped else spells (line_of grammar number text))
+    (if is_skipped text then Skipped else spells (found number text))
+
+-- what the octets of the line with this number say of a trial's or a session's script
+abbrev pub line_says : Grammar → ℕ → List ℕ → Says Line
+line_says grammar number text = says_by (line_of grammar) number text
 
 -- a line of a grammar
 abbrev pub IsLineOf : Grammar → Line → Type 0
 IsLineOf Trial line = IsTrialLine line
 IsLineOf Session line = IsSessionLine line
+IsLineOf Packets line = ⊥
 
--- a line that is spelled has this number, and is one of the grammar
-abbrev pub SpellsLine : Grammar → ℕ → LineSays → Type 0
-SpellsLine grammar number Skipped = Unit {0}
-SpellsLine grammar number Outside = Unit {0}
-SpellsLine grammar number (Spells line) = (line.number ≡ number) × IsLineOf grammar line
+-- this holds of a line that is spelled
+abbrev pub IfSpells : {L : Type 0} → Says L → (L → Type 0) → Type 0
+IfSpells Skipped P = Unit {0}
+IfSpells Outside P = Unit {0}
+IfSpells (Spells line) P = P line
+
+-- a line of the grammar
+abbrev pub IsSpelled : {L : Type 0} → Says L → Type 0
+IsSpelled Skipped = ⊥
+IsSpelled Outside = ⊥
+IsSpelled (Spells line) = Unit {0}
 
 -- a line of the grammar that sets an object to a text, or brings a datagram: holding its octets takes memory, as no other line does
-abbrev pub HoldsOctets : LineSays → Type 0
+abbrev pub HoldsOctets : Says Line → Type 0
 HoldsOctets Skipped = ⊥
 HoldsOctets Outside = ⊥
 HoldsOctets (Spells line) = IsOfOctets line

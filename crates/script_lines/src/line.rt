@@ -1,7 +1,7 @@
 //! What a line of a script may say.
 
-ghost use Rattle.std.specs.Prelude.{◌≡◌};
-ghost use Rattle.script_lines.specs.Line.{trial_object, is_skipped};
+ghost use Rattle.std.specs.Prelude.{◌≡◌, ◌||◌, nat_lt, length};
+ghost use Rattle.script_lines.specs.Line.{is_skipped, longest_line, most_lines, trial_object};
 
 use crate::number::signed;
 use crate::session_line::session_line;
@@ -27,17 +27,19 @@ pub enum Grammar {
     Trial,
     /// Those of a session: `tick`, `pump`, `set` with an object, `fault` and `from`.
     Session,
+    /// Those of packets: `packet HEX`. None of them is a [`Line`].
+    Packets,
 }
 
-/// What the octets of a line say.
+/// What the octets of a line say, in a grammar of lines of one type.
 #[derive(Debug, Drop)]
-pub enum LineSays {
+pub enum Says<L> {
     /// Nothing: the line is blank or a comment.
     Skipped,
     /// Nothing of the grammar.
     Outside,
     /// A line.
-    Spells(Line),
+    Spells(L),
 }
 
 const MOST_LINES: u64 = 1_000_000;
@@ -52,8 +54,15 @@ fn object_on_trial() -> ObjectId
     ObjectId::of_kind(ObjectKind::IntegerValue, 1).unwrap()
 }
 
-// Whether a line is blank or a comment.
-fn is_skipped(text: &[u8]) -> bool
+/// Whether a line with this number is beyond what a line or a script may be.
+pub fn is_beyond(number: u64, text: &[u8]) -> bool
+    ensures beyond { result ≡ (nat_lt most_lines number || nat_lt longest_line (length text.now)) }
+{
+    number > MOST_LINES || text.len() > LONGEST_LINE
+}
+
+/// Whether a line is blank or a comment.
+pub fn is_skipped(text: &[u8]) -> bool
     ensures skipped { result ≡ is_skipped text.now }
 {
     matches!(text, [] | [b'#', ..])
@@ -61,7 +70,7 @@ fn is_skipped(text: &[u8]) -> bool
 
 impl Line {
     ghost use Rattle.std.specs.Prelude.{◌≡◌, IfOk, IfSome, IsErr, IsOk, IsSomeAnd};
-    ghost use Rattle.script_lines.specs.Line.{line_by_word, line_of, IsLineOf, IsTrialLine};
+    ghost use Rattle.script_lines.specs.Line.{line_by_word, line_of, line_says, HoldsOctets, IfSpells, IsLineOf, IsTrialLine};
     ghost use Rattle.script_lines.specs.SessionLine.{IsOfOctets};
     ghost use Rattle.script_lines.specs.declared.line.Grammar.TheVariants.{Trial};
 
@@ -110,38 +119,34 @@ impl Line {
         match grammar {
             Grammar::Trial => Ok(Line::of_trial(number, text)),
             Grammar::Session => Ok(session_line(alloc, number, text)?),
+            Grammar::Packets => Ok(None),
         }
     }
-}
-
-impl LineSays {
-    ghost use Rattle.std.specs.Prelude.{◌≡◌, IfOk, IsErr, IsOk};
-    ghost use Rattle.script_lines.specs.Line.{line_says, HoldsOctets, SpellsLine};
-    ghost use Rattle.script_lines.specs.declared.line.Grammar.TheVariants.{Trial};
 
     /// What the octets of a line say in a grammar; its number counts blank lines and comments. A line has no line feed,
     /// at most 4,096 octets, and a number up to 1,000,000: what is beyond that is outside each grammar. Memory is wanted only
     /// by a line of the grammar that sets an object to a text or brings a datagram.
-    pub fn read(
+    pub fn says(
         alloc: Global,
         grammar: Grammar,
         number: u64,
         text: &[u8],
-    ) -> Result<LineSays, NoMemory>
+    ) -> Result<Says<Line>, NoMemory>
         ensures says { IfOk result (λ says. says ≡ line_says grammar number text.now) }
-        ensures of_grammar { IfOk result (SpellsLine grammar number) }
+        ensures number { IfOk result (λ says. IfSpells says (λ line. line.number ≡ number)) }
+        ensures of_grammar { IfOk result (λ says. IfSpells says (IsLineOf grammar)) }
         ensures wants { IsErr result → HoldsOctets (line_says grammar number text.now) }
         ensures trial { grammar ≡ Trial → IsOk result }
     {
-        if number > MOST_LINES || text.len() > LONGEST_LINE {
-            return Ok(LineSays::Outside);
+        if is_beyond(number, text) {
+            return Ok(Says::Outside);
         }
         if is_skipped(text) {
-            return Ok(LineSays::Skipped);
+            return Ok(Says::Skipped);
         }
         match Line::read(alloc, grammar, number, text)? {
-            Some(line) => Ok(LineSays::Spells(line)),
-            None => Ok(LineSays::Outside),
+            Some(line) => Ok(Says::Spells(line)),
+            None => Ok(Says::Outside),
         }
     }
 }

@@ -6,12 +6,13 @@ ghost use Rattle.std.specs.Io.KnownBytes.{Keeps, prepend_known, IsAtEnd};
 ghost use Rattle.ground_io.specs.Counts.{HasCause};
 ghost use Rattle.script_lines.specs.Script.{is_line_feed};
 ghost use Rattle.script_lines.specs.TakingSteps.{taken_of};
-ghost use Rattle.script_lines.specs.declared.line.Grammar.TheVariants.{Trial, Session};
+ghost use Rattle.script_lines.specs.declared.line.Grammar.TheVariants.{Packets, Session, Trial};
+ghost use Rattle.script_lines.specs.declared.line.Says.TheVariants.{Skipped};
 ghost use Rattle.script_lines.specs.declared.lines.LineFault.TheVariants.{Read, NoMemory as WantsMemory};
 
 use crate::line::LONGEST_LINE;
 use crate::pending::Pending;
-use crate::{Grammar, Line, LineSays};
+use crate::{Grammar, Line, PacketLine, Says};
 use bac_values::NoMemory;
 use ground_io::{Failed, Source};
 use std::alloc::Global;
@@ -100,23 +101,23 @@ fn find_end<S: Source>(
 
 // What one line gave.
 #[derive(Drop)]
-enum Taken {
+enum Taken<L> {
     // There is none.
     End,
     // It says nothing.
     Passed,
     // It says this.
-    Took(Line),
+    Took(L),
 }
 
 // What a line with this number gave, which says this.
-fn taken_of(number: u64, says: LineSays) -> Result<Taken, LineFault>
+fn taken_of<L>(number: u64, says: Says<L>) -> Result<Taken<L>, LineFault>
     ensures taken { result ≡ taken_of number says }
 {
     match says {
-        LineSays::Outside => Err(LineFault::Grammar { line: number }),
-        LineSays::Skipped => Ok(Taken::Passed),
-        LineSays::Spells(line) => Ok(Taken::Took(line)),
+        Says::Outside => Err(LineFault::Grammar { line: number }),
+        Says::Skipped => Ok(Taken::Passed),
+        Says::Spells(line) => Ok(Taken::Took(line)),
     }
 }
 
@@ -144,12 +145,13 @@ impl Model for Lines {
 impl Lines {
     ghost use Rattle.std.specs.Prelude.{◌≢◌, ◌+◌, ◌<◌, ◌≤◌, [], true, false, position, IfSome, IsOk, OnSome};
     ghost use Rattle.std.specs.List.{before_first, position_or_len};
-    ghost use Rattle.script_lines.specs.Line.{HoldsOctets, IsLineOf, SpellsLine, line_says};
+    ghost use Rattle.script_lines.specs.Line.{HoldsOctets, IfSpells, IsLineOf, IsSpelled, line_says};
+    ghost use Rattle.script_lines.specs.PacketLine.{packet_says};
     ghost use Rattle.script_lines.specs.Reading.{octets_to_come};
     ghost use Rattle.ground_io.specs.Trace.{WhereTold};
     ghost use Rattle.script_lines.specs.Script.{is_line_feed, ReadsLine, TakesLines};
     ghost use Rattle.script_lines.specs.Front.{front_says};
-    ghost use Rattle.script_lines.specs.TakingSteps.{CountsLine, TakesLine, TakesLineOf, behind_line};
+    ghost use Rattle.script_lines.specs.TakingSteps.{CountsLine, IfTook, TakesLine, behind_line};
 
     // A reader of a script in a grammar, at its first line.
     fn of(alloc: Global, grammar: Grammar) -> Result<Lines, NoMemory>
@@ -179,6 +181,13 @@ impl Lines {
         Lines::of(alloc, Grammar::Trial)
     }
 
+    /// A reader of a script of packets, at its first line.
+    pub fn packets(alloc: Global) -> Result<Lines, NoMemory>
+        ensures start { IfOk result (λ lines. lines ≡ record { grammar = Packets; pending = []; number = 0; ended = false }) }
+    {
+        Lines::of(alloc, Grammar::Packets)
+    }
+
     /// How many lines were read. Blank lines and comments count, a line that is refused doesn't.
     pub fn count(&self) -> u64
         ensures number { result ≡ self.now.number }
@@ -186,46 +195,75 @@ impl Lines {
         self.number
     }
 
-    // Takes what is pending of the line at the front, which is up to the first line feed, and says what it says. A line
-    // outside the grammar stays, and so does one that wants memory.
-    fn judge(&mut self, end: usize) -> Result<LineSays, NoMemory>
+    // Gives out the line at the front, which is up to the first line feed, and counts it. One outside the grammar stays.
+    #[tactic(auto, using(crate::proofs::First::first_within))]
+    fn leave<L>(&mut self, end: usize, says: &Says<L>)
         requires end { end ≡ position_or_len is_line_feed self.old.pending }
-        ensures says { IfOk result (λ says. says ≡ line_says self.old.grammar (self.old.number + 1) (before_first is_line_feed self.old.pending)) }
-        ensures rest { IfOk result (λ says. self.new ≡ behind_line says self.old) }
-        ensures of_grammar { IfOk result (SpellsLine self.old.grammar (self.old.number + 1)) }
-        ensures limit { self.new.number ≤ 1000000 }
-        ensures same { OnErr result (self.new ≡ self.old) }
-        ensures wants { IsErr result → HoldsOctets (front_says self.new) }
-        ensures trial { self.old.grammar ≡ Trial → IsOk result }
+        requires few { IfSpells says.now (λ _. self.old.number + 1 ≤ 1000000) × (says.now ≡ Skipped → self.old.number + 1 ≤ 1000000) }
+        ensures rest { self.new ≡ behind_line says.now self.old }
     {
-        let octets = self.pending.octets();
-        let says = LineSays::read(self.alloc, self.grammar, self.number + 1, &octets[..end])?;
-        if !matches!(&says, LineSays::Outside) {
+        if !matches!(says, Says::Outside) {
+            let octets = self.pending.octets();
             let width = octets.len().min(end + 1);
             self.pending.take(width);
             self.number += 1;
         }
+    }
+
+    // Takes what is pending of the line at the front, and says what it says. A line outside the grammar stays, and so does
+    // one that wants memory.
+    fn judge(&mut self, end: usize) -> Result<Says<Line>, NoMemory>
+        requires end { end ≡ position_or_len is_line_feed self.old.pending }
+        ensures says { IfOk result (λ says. says ≡ line_says self.old.grammar (self.old.number + 1) (before_first is_line_feed self.old.pending)) }
+        ensures rest { IfOk result (λ says. self.new ≡ behind_line says self.old) }
+        ensures number { IfOk result (λ says. IfSpells says (λ line. line.number ≡ self.old.number + 1)) }
+        ensures of_grammar { IfOk result (λ says. IfSpells says (IsLineOf self.old.grammar)) }
+        ensures limit { self.new.number ≤ 1000000 }
+        ensures same { OnErr result (self.new ≡ self.old) }
+        ensures wants { IsErr result → HoldsOctets (front_says (line_says self.old.grammar) self.new) }
+        ensures trial { self.old.grammar ≡ Trial → IsOk result }
+    {
+        let octets = self.pending.octets();
+        let says = Line::says(self.alloc, self.grammar, self.number + 1, &octets[..end])?;
+        self.leave(end, &says);
+        Ok(says)
+    }
+
+    // The same of a line of packets.
+    fn judge_packet(&mut self, end: usize) -> Result<Says<PacketLine>, NoMemory>
+        requires end { end ≡ position_or_len is_line_feed self.old.pending }
+        ensures says { IfOk result (λ says. says ≡ packet_says (self.old.number + 1) (before_first is_line_feed self.old.pending)) }
+        ensures rest { IfOk result (λ says. self.new ≡ behind_line says self.old) }
+        ensures number { IfOk result (λ says. IfSpells says (λ line. line.number ≡ self.old.number + 1)) }
+        ensures limit { self.new.number ≤ 1000000 }
+        ensures same { OnErr result (self.new ≡ self.old) }
+        ensures wants { IsErr result → IsSpelled (front_says packet_says self.new) }
+    {
+        let octets = self.pending.octets();
+        let says = PacketLine::says(self.alloc, self.number + 1, &octets[..end])?;
+        self.leave(end, &says);
         Ok(says)
     }
 
     // Takes one line.
-    fn take_line<S: Source>(&mut self, source: &mut S) -> Result<Taken, LineFault>
+    fn take_line<S: Source>(&mut self, source: &mut S) -> Result<Taken<Line>, LineFault>
         requires source { self.old.ended ≡ true → IsAtEnd (S.left source.old) }
         ensures source { self.new.ended ≡ true → IsAtEnd (S.left source.new) }
         ensures line { WhereTold (octets_to_come self.old (S.left source.old)) (octets_to_come self.new (S.left source.new))
-            (TakesLine self.old.grammar self.old.number self.new.number result) }
+            (TakesLine (line_says self.old.grammar) self.old.number self.new.number result) }
         ensures whole_lines { self.new.ended ≡ false → WhereTold (octets_to_come self.old (S.left source.old)) (octets_to_come self.new (S.left source.new))
             (TakesLines self.old.number self.new.number) }
         ensures at_end { result ≡ Ok Taken.End → IsAtEnd (S.left source.new) }
         ensures counts { IfOk result (CountsLine self.old.number self.new.number) }
-        ensures of_grammar { IfOk result (TakesLineOf self.old.grammar) }
+        ensures number { IfOk result (λ taken. IfTook taken (λ line. line.number ≡ self.new.number)) }
+        ensures of_grammar { IfOk result (λ taken. IfTook taken (IsLineOf self.old.grammar)) }
         ensures grammar { self.new.grammar ≡ self.old.grammar }
         ensures limit { self.new.number ≤ 1000000 }
         ensures ended { self.new.ended ≡ false → self.old.ended ≡ false }
         ensures waits { result ≡ Err LineFault.Read → (self.new.ended ≡ false) × (position is_line_feed self.new.pending ≡ None) }
         ensures cause { HasCause (S.faults source.old) (S.faults source.new) (IsErrOf result LineFault.Read) }
         ensures uncounted { OnOk result (S.faults source.new ≡ S.faults source.old) }
-        ensures wants { result ≡ Err LineFault.NoMemory → HoldsOctets (front_says self.new) }
+        ensures wants { result ≡ Err LineFault.NoMemory → HoldsOctets (front_says (line_says self.old.grammar) self.new) }
         ensures trial { self.old.grammar ≡ Trial → result ≢ Err LineFault.NoMemory }
     {
         let end = find_end(source, &mut self.pending, &mut self.ended)?;
@@ -237,21 +275,53 @@ impl Lines {
         taken_of(number, says)
     }
 
+    // Takes one line of packets.
+    fn take_packet<S: Source>(&mut self, source: &mut S) -> Result<Taken<PacketLine>, LineFault>
+        requires source { self.old.ended ≡ true → IsAtEnd (S.left source.old) }
+        ensures source { self.new.ended ≡ true → IsAtEnd (S.left source.new) }
+        ensures line { WhereTold (octets_to_come self.old (S.left source.old)) (octets_to_come self.new (S.left source.new))
+            (TakesLine packet_says self.old.number self.new.number result) }
+        ensures whole_lines { self.new.ended ≡ false → WhereTold (octets_to_come self.old (S.left source.old)) (octets_to_come self.new (S.left source.new))
+            (TakesLines self.old.number self.new.number) }
+        ensures at_end { result ≡ Ok Taken.End → IsAtEnd (S.left source.new) }
+        ensures counts { IfOk result (CountsLine self.old.number self.new.number) }
+        ensures number { IfOk result (λ taken. IfTook taken (λ line. line.number ≡ self.new.number)) }
+        ensures grammar { self.new.grammar ≡ self.old.grammar }
+        ensures limit { self.new.number ≤ 1000000 }
+        ensures ended { self.new.ended ≡ false → self.old.ended ≡ false }
+        ensures waits { result ≡ Err LineFault.Read → (self.new.ended ≡ false) × (position is_line_feed self.new.pending ≡ None) }
+        ensures cause { HasCause (S.faults source.old) (S.faults source.new) (IsErrOf result LineFault.Read) }
+        ensures uncounted { OnOk result (S.faults source.new ≡ S.faults source.old) }
+        ensures wants { result ≡ Err LineFault.NoMemory → IsSpelled (front_says packet_says self.new) }
+    {
+        let width = find_end(source, &mut self.pending, &mut self.ended)?;
+        let octets = self.pending.octets();
+        if octets.is_empty() {
+            return Ok(Taken::End);
+        }
+        let number = self.number + 1;
+        let says = self.judge_packet(width)?;
+        taken_of(number, says)
+    }
+
     /// The next line of the script, or none at its end. Blank lines and comments are passed over and counted.
     ///
     /// `Grammar` comes at a line outside the grammar, which stays the next one. `NoMemory` comes only at a line that sets an
     /// object to a text or brings a datagram, which is still to come; so a trial's lines want none. After the source's end it
     /// is never read again.
     pub fn next_line<S: Source>(&mut self, source: &mut S) -> Result<Option<Line>, LineFault>
+        requires inputs { self.old.grammar ≢ Packets }
+
         // The same source is handed to each call: where its end was seen, it is at its end.
         requires source { self.old.ended ≡ true → IsAtEnd (S.left source.old) }
         ensures source { self.new.ended ≡ true → IsAtEnd (S.left source.new) }
 
         ensures line { WhereTold (octets_to_come self.old (S.left source.old)) (octets_to_come self.new (S.left source.new))
-            (ReadsLine self.old.grammar self.old.number self.new.number result) }
+            (ReadsLine (line_says self.old.grammar) self.old.number self.new.number result) }
         ensures whole_lines { self.new.ended ≡ false → WhereTold (octets_to_come self.old (S.left source.old)) (octets_to_come self.new (S.left source.new))
             (TakesLines self.old.number self.new.number) }
         ensures at_end { result ≡ Ok None → IsAtEnd (S.left source.new) }
+        ensures number { IfOk result (λ found. IfSome found (λ line. line.number ≡ self.new.number)) }
         ensures of_grammar { IfOk result (λ found. IfSome found (IsLineOf self.old.grammar)) }
         ensures grammar { self.new.grammar ≡ self.old.grammar }
         ensures grows { IfOk result (λ found. OnSome found (self.old.number < self.new.number)) }
@@ -261,11 +331,50 @@ impl Lines {
         ensures waits { result ≡ Err LineFault.Read → (self.new.ended ≡ false) × (position is_line_feed self.new.pending ≡ None) }
         ensures cause { HasCause (S.faults source.old) (S.faults source.new) (IsErrOf result LineFault.Read) }
         ensures uncounted { OnOk result (S.faults source.new ≡ S.faults source.old) }
-        ensures wants { result ≡ Err LineFault.NoMemory → HoldsOctets (front_says self.new) }
+        ensures wants { result ≡ Err LineFault.NoMemory → HoldsOctets (front_says (line_says self.old.grammar) self.new) }
         ensures trial { self.old.grammar ≡ Trial → result ≢ Err LineFault.NoMemory }
     {
         loop {
             match self.take_line(source)? {
+                Taken::End => return Ok(None),
+                Taken::Passed => {}
+                Taken::Took(line) => return Ok(Some(line)),
+            }
+        }
+    }
+
+    /// The next line of a script of packets, or none at its end. Blank lines and comments are passed over and counted.
+    ///
+    /// `Grammar` comes at a line outside the grammar, which stays the next one. `NoMemory` comes only at a line of a packet,
+    /// which is still to come. After the source's end it is never read again.
+    pub fn next_packet<S: Source>(
+        &mut self,
+        source: &mut S,
+    ) -> Result<Option<PacketLine>, LineFault>
+        requires packets { self.old.grammar ≡ Packets }
+
+        // The same source is handed to each call: where its end was seen, it is at its end.
+        requires source { self.old.ended ≡ true → IsAtEnd (S.left source.old) }
+        ensures source { self.new.ended ≡ true → IsAtEnd (S.left source.new) }
+
+        ensures line { WhereTold (octets_to_come self.old (S.left source.old)) (octets_to_come self.new (S.left source.new))
+            (ReadsLine packet_says self.old.number self.new.number result) }
+        ensures whole_lines { self.new.ended ≡ false → WhereTold (octets_to_come self.old (S.left source.old)) (octets_to_come self.new (S.left source.new))
+            (TakesLines self.old.number self.new.number) }
+        ensures at_end { result ≡ Ok None → IsAtEnd (S.left source.new) }
+        ensures number { IfOk result (λ found. IfSome found (λ line. line.number ≡ self.new.number)) }
+        ensures grammar { self.new.grammar ≡ self.old.grammar }
+        ensures grows { IfOk result (λ found. OnSome found (self.old.number < self.new.number)) }
+        ensures limit { self.new.number ≤ 1000000 }
+
+        ensures ended { self.new.ended ≡ false → self.old.ended ≡ false }
+        ensures waits { result ≡ Err LineFault.Read → (self.new.ended ≡ false) × (position is_line_feed self.new.pending ≡ None) }
+        ensures cause { HasCause (S.faults source.old) (S.faults source.new) (IsErrOf result LineFault.Read) }
+        ensures uncounted { OnOk result (S.faults source.new ≡ S.faults source.old) }
+        ensures wants { result ≡ Err LineFault.NoMemory → IsSpelled (front_says packet_says self.new) }
+    {
+        loop {
+            match self.take_packet(source)? {
                 Taken::End => return Ok(None),
                 Taken::Passed => {}
                 Taken::Took(line) => return Ok(Some(line)),

@@ -44,9 +44,9 @@ pub fn read_bits(digits: &[u8]) -> Option<Bits>
     Bits::new(digits.len() as u8, number).ok()
 }
 
-// Puts the octets that pairs of hexadecimal digits spell into a room for just so many. `false` if none are spelled.
+/// Puts the octets that pairs of hexadecimal digits spell into a room for just so many. `false` if none are spelled.
 #[tactic(auto, using(crate::proofs::Octets::sized_halves))]
-fn fill(digits: &[u8], room: &mut [u8]) -> bool
+pub fn fill(digits: &[u8], room: &mut [u8]) -> bool
     requires half { length room.old ≡ length digits.now / 2 }
     ensures octets { MatchBool result (octets_of digits.now ≡ Some room.new) (octets_of digits.now ≡ None) }
     ensures size { length room.new ≡ length room.old }
@@ -97,6 +97,15 @@ fn text(alloc: Global, digits: &[u8]) -> Result<Option<Text>, NoMemory>
     text_from(alloc, octets)
 }
 
+/// The same octets, in memory of their own.
+pub fn copied(alloc: Global, octets: &[u8]) -> Result<Items<u8>, NoMemory>
+    ensures same { IfOk result (λ items. items ≡ octets.now) }
+{
+    let mut bytes = Vec::new(alloc);
+    bytes.extend_from_slice(octets)?;
+    Ok(Items::of(bytes))
+}
+
 // A datagram of these octets.
 fn datagram_from(alloc: Global, octets: &[u8]) -> Result<Option<Items<u8>>, NoMemory>
     requires size { length octets.now ≤ most_datagram_octets }
@@ -106,9 +115,7 @@ fn datagram_from(alloc: Global, octets: &[u8]) -> Result<Option<Items<u8>>, NoMe
     if octets.is_empty() {
         return Ok(None);
     }
-    let mut bytes = Vec::new(alloc);
-    bytes.extend_from_slice(octets)?;
-    Ok(Some(Items::of(bytes)))
+    Ok(Some(copied(alloc, octets)?))
 }
 
 /// The datagram whose octets pairs of hexadecimal digits spell. It has 1 to 1,497 octets.

@@ -1,4 +1,5 @@
 use Rattle.std.proofs.Common.{arith, rules, ◌∙◌}
+use Rattle.script_lines.specs.Line.{line_says}
 use Rattle.script_lines.proofs.MoreLines.{whole_then, next_then}
 use Rattle.script_lines.proofs.lines.Lines.next_line.Goals as goal
 
@@ -13,7 +14,7 @@ returns-in-Took-clause-whole_lines g c = search (rules, whole_then)
 
 pub loop-line-preserved : goal.loop-line-preserved
 loop-line-preserved g c = record {
-  next = next_then c.args.self.now.grammar c.args.self.now c.loop-line.self c.take_line.new.self (g.S.Source.left c.args.source.now) (g.S.Source.left c.loop-line.source) (g.S.Source.left c.take_line.new.source)
+  next = next_then (line_says c.args.self.now.grammar) c.args.self.now c.loop-line.self c.take_line.new.self (g.S.Source.left c.args.source.now) (g.S.Source.left c.loop-line.source) (g.S.Source.left c.take_line.new.source)
       c.loop-line.invariant.next (rw (c.in-Passed.is, c.loop-line.invariant.grammar) at c.in_ok-take_line.ensures.line);
   whole = whole_then c.args.self.now c.loop-line.self c.take_line.new.self (g.S.Source.left c.args.source.now) (g.S.Source.left c.loop-line.source) (g.S.Source.left c.take_line.new.source)
       c.loop-line.invariant.whole c.take_line.ensures.ended c.take_line.ensures.whole_lines;

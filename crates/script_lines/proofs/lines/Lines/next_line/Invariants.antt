@@ -1,6 +1,7 @@
 use Rattle.std.proofs.Common.{◌≡◌, ◌-◌, ◌≤◌, true, false}
 use Rattle.std.specs.Io.KnownBytes.{IsAtEnd}
 use Rattle.ground_io.specs.Trace.{WhereTold}
+use Rattle.script_lines.specs.Line.{line_says}
 use Rattle.script_lines.specs.Reading.{octets_to_come}
 use Rattle.script_lines.specs.Script.{lines_of, next_in, TakesLines}
 use Rattle.script_lines.proofs.lines.Lines.next_line.Given as goal
@@ -9,7 +10,7 @@ use Rattle.script_lines.proofs.lines.Lines.next_line.Given as goal
 abbrev pub invariant-loop-line : goal.invariant-loop-line
 invariant-loop-line g l = record {
   next : WhereTold (octets_to_come l.initial.self (g.S.Source.left l.initial.source)) (octets_to_come l.self (g.S.Source.left l.source))
-      (λ old new. next_in l.initial.self.grammar l.self.number (lines_of new) ≡ next_in l.initial.self.grammar l.initial.self.number (lines_of old));
+      (λ old new. next_in (line_says l.initial.self.grammar) l.self.number (lines_of new) ≡ next_in (line_says l.initial.self.grammar) l.initial.self.number (lines_of old));
   grammar : l.self.grammar ≡ l.initial.self.grammar;
   whole : l.self.ended ≡ false → WhereTold (octets_to_come l.initial.self (g.S.Source.left l.initial.source)) (octets_to_come l.self (g.S.Source.left l.source))
       (TakesLines l.initial.self.number l.self.number);
