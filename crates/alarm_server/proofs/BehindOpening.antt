@@ -3,6 +3,7 @@ use Rattle.std.proofs.Common.{◌≡◌, ℕ, Option, Some, None, Ok, List, [], 
 use Rattle.ground_io.specs.declared.entry.Entry.{Entry}
 use Rattle.ground_io.specs.Trace.{Told, WhereTold}
 use Rattle.script_lines.specs.declared.line.Grammar.TheVariants.{Session}
+use Rattle.script_lines.specs.Line.{line_says}
 use Rattle.script_lines.specs.Script.{lines_of}
 use Rattle.alarm_journal.specs.Journal.{Site as Journal}
 use Rattle.alarm_journal.specs.Press.{ReopensSynced}
@@ -123,7 +124,7 @@ module _ (journal : Journal) (site : Site) (is : IsSite site) (core : CoreState)
       let stands = represents (tells_ended piece_text journal site history ended (session_over core (lines_of t)) old mid new ends stood) in
       ends_behind piece_text ended (report_of site history t) old mid new quiet (subst (λ ps. Ends Emits piece_text ended ps mid new) (reports site is history core stands own t) ends)
 
-  pub stops_session : (text left : Option (List ℕ)) → WhereTold text left (λ t rest. StopsReading Emits piece_text (state_front core) Session t rest mid new) → WhereTold text left (λ t rest. StopsReading Emits piece_text (front_pieces site history) Session t rest old new)
+  pub stops_session : (text left : Option (List ℕ)) → WhereTold text left (λ t rest. StopsReading Emits piece_text (state_front core) (line_says Session) t rest mid new) → WhereTold text left (λ t rest. StopsReading Emits piece_text (front_pieces site history) (line_says Session) t rest old new)
   stops_session None left stops = tt
   stops_session (Some t) None stops = absurd stops
   stops_session (Some t) (Some rest) stops =
@@ -141,16 +142,16 @@ module _ (journal : Journal) (site : Site) (is : IsSite site) (core : CoreState)
 
   -- and it keeps the history and the events of some lines
   pub keeps_session : (text : Option (List ℕ)) → ReopensSynced journal old mid → (StoodFor journal site history old mid → HoldsHistory journal site history layout mid) → IfSome text (λ t. Ends Emits piece_text ended (session_over core (lines_of t)) mid new)
-      → (Represents core history → HoldsHistory journal core.site history layout mid → IfSome text (λ t. KeepsReport journal core.site history (spelled_in Session 0 (lines_of t)) 1 mid new))
-      → IfSome text (λ t. KeepsOpened journal site history (spelled_in Session 0 (lines_of t)) 1 old new)
+      → (Represents core history → HoldsHistory journal core.site history layout mid → IfSome text (λ t. KeepsReport journal core.site history (spelled_in (line_says Session) 0 (lines_of t)) 1 mid new))
+      → IfSome text (λ t. KeepsOpened journal site history (spelled_in (line_says Session) 0 (lines_of t)) 1 old new)
   keeps_session None synced holds ends keeps = tt
   keeps_session (Some t) synced holds ends keeps =
       let stood_mid = tells_ended piece_text journal site history ended (session_over core (lines_of t)) old mid new ends stood in
       let held = subst (λ (s : Site). HoldsHistory journal s history layout mid) (sym own) (holds stood_mid) in
-      let kept = subst (λ (s : Site). KeepsReport journal s history (spelled_in Session 0 (lines_of t)) 1 mid new) own (keeps (represents stood_mid) held) in
+      let kept = subst (λ (s : Site). KeepsReport journal s history (spelled_in (line_says Session) 0 (lines_of t)) 1 mid new) own (keeps (represents stood_mid) held) in
       behind old mid new synced stood_mid kept
     where
-      behind : (old mid new : Option Told) → ReopensSynced journal old mid → StoodFor journal site history old mid → KeepsReport journal site history (spelled_in Session 0 (lines_of t)) 1 mid new → KeepsOpened journal site history (spelled_in Session 0 (lines_of t)) 1 old new
+      behind : (old mid new : Option Told) → ReopensSynced journal old mid → StoodFor journal site history old mid → KeepsReport journal site history (spelled_in (line_says Session) 0 (lines_of t)) 1 mid new → KeepsOpened journal site history (spelled_in (line_says Session) 0 (lines_of t)) 1 old new
       behind None mid new synced stood kept = absurd stood
       behind (Some old) None new synced stood kept = absurd stood
-      behind (Some old) (Some mid) new synced stood kept = session_kept journal site history (spelled_in Session 0 (lines_of t)) 1 old mid new stood synced kept
+      behind (Some old) (Some mid) new synced stood kept = session_kept journal site history (spelled_in (line_says Session) 0 (lines_of t)) 1 old mid new stood synced kept

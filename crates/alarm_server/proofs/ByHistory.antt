@@ -2,6 +2,7 @@
 use Rattle.std.proofs.Common.{◌≡◌, ℕ, Option, List, ap, ◌∙◌, subst}
 use Rattle.ground_io.specs.Trace.{Told}
 use Rattle.script_lines.specs.declared.line.Grammar.TheVariants.{Session}
+use Rattle.script_lines.specs.Line.{line_says}
 use Rattle.script_lines.specs.Script.{lines_of}
 use Rattle.alarm_core.specs.declared.event.Event.{Event}
 use Rattle.alarm_core.specs.declared.site.Site.{Site}
@@ -29,7 +30,7 @@ module _ (site : Site) (is : IsSite site) (history : List Event) (core : CoreSta
   fronts : (whole : List ℕ) → state_front core whole ≡ front_pieces site history whole
   fronts whole = ap (λ (s : CoreState). state_front s whole) shows ∙ front_is site is history is_history whole
 
-  pub stops_by_history : (Goes : Going) (script rest : List ℕ) (old new : Option Told) → StopsReading Goes piece_text (state_front core) Session script rest old new → StopsReading Goes piece_text (front_pieces site history) Session script rest old new
+  pub stops_by_history : (Goes : Going) (script rest : List ℕ) (old new : Option Told) → StopsReading Goes piece_text (state_front core) (line_says Session) script rest old new → StopsReading Goes piece_text (front_pieces site history) (line_says Session) script rest old new
   stops_by_history Goes script rest old new h = record {
     whole = h.whole;
     begun = h.begun;

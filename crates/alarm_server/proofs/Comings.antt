@@ -5,8 +5,8 @@ use Rattle.bac_values.specs.Moments.{IsMoment}
 use Rattle.bac_values.specs.declared.note.Send.{Send}
 use Rattle.script_lines.specs.declared.line.Grammar.TheVariants.{Session}
 use Rattle.script_lines.specs.declared.line.Line.{Line}
-use Rattle.script_lines.specs.declared.line.LineSays.{LineSays}
-use Rattle.script_lines.specs.declared.line.LineSays.TheVariants.{Skipped, Outside, Spells}
+use Rattle.script_lines.specs.declared.line.Says.{Says}
+use Rattle.script_lines.specs.declared.line.Says.TheVariants.{Skipped, Outside, Spells}
 use Rattle.script_lines.specs.Line.{is_skipped, line_of, line_says, longest_line, most_lines, spells}
 use Rattle.script_lines.proofs.SpelledSession.{IsLineAt, spelled_session}
 use Rattle.alarm_core.specs.declared.event.Event.{Event}
@@ -35,12 +35,12 @@ abbrev pub InRange : List Line → Type 0
 InRange [] = Unit {0}
 InRange (line ∷ lines) = IsMoment line.moment × InRange lines
 
-abbrev SaysInRange : LineSays → Type 0
+abbrev SaysInRange : Says Line → Type 0
 SaysInRange Skipped = Unit {0}
 SaysInRange Outside = Unit {0}
 SaysInRange (Spells line) = IsMoment line.moment
 
-either_says : (b : Bool) (x y : LineSays) → SaysInRange x → SaysInRange y → SaysInRange (cond b x y)
+either_says : (b : Bool) (x y : Says Line) → SaysInRange x → SaysInRange y → SaysInRange (cond b x y)
 either_says true x y first second = first
 either_says false x y first second = second
 
@@ -53,16 +53,16 @@ says_in_range number text =
     either_says (nat_lt most_lines number || nat_lt longest_line (length text)) Outside _ tt
     (either_says (is_skipped text) Skipped (spells (line_of Session number text)) tt (spells_in_range number (line_of Session number text) (spelled_session number text)))
 
-one_more_in_range : (says : LineSays) (behind : List Line) → SaysInRange says → InRange behind → InRange (spelled_by says behind)
+one_more_in_range : (says : Says Line) (behind : List Line) → SaysInRange says → InRange behind → InRange (spelled_by says behind)
 one_more_in_range Skipped behind here others = others
 one_more_in_range Outside behind here others = tt
 one_more_in_range (Spells line) behind here others = (here, others)
 
-pub spelled_in_range : (texts : List (List ℕ)) (number : ℕ) → InRange (spelled_in Session number texts)
-spelled_in_range [] number = subst InRange (sym (spelled-none Session number)) tt
+pub spelled_in_range : (texts : List (List ℕ)) (number : ℕ) → InRange (spelled_in (line_says Session) number texts)
+spelled_in_range [] number = subst InRange (sym (spelled-none (line_says Session) number)) tt
 spelled_in_range (text ∷ behind) number =
-    subst InRange (sym (spelled-first Session number text behind))
-    (one_more_in_range (line_says Session (number + 1) text) (spelled_in Session (number + 1) behind) (says_in_range (number + 1) text) (spelled_in_range behind (number + 1)))
+    subst InRange (sym (spelled-first (line_says Session) number text behind))
+    (one_more_in_range (line_says Session (number + 1) text) (spelled_in (line_says Session) (number + 1) behind) (says_in_range (number + 1) text) (spelled_in_range behind (number + 1)))
 
 -- ---- an event
 

@@ -3,96 +3,93 @@ use Rattle.std.proofs.Common.{◌≡◌, inl, inr, ℕ, ◌+◌, ◌<◌, ◌≤
 use Rattle.std.specs.List.{onto_first}
 use Rattle.std.proofs.lemmas.Bool.{cases_Bool}
 use Rattle.std.proofs.lemmas.List.{append_cancel_right, append-nil, length-append}
-use Rattle.script_lines.specs.declared.line.Grammar.{Grammar}
-use Rattle.script_lines.specs.declared.line.Line.{Line}
-use Rattle.script_lines.specs.declared.line.LineSays.{LineSays}
-use Rattle.script_lines.specs.declared.line.LineSays.TheVariants.{Skipped, Outside, Spells}
-use Rattle.script_lines.specs.Line.{line_says}
+use Rattle.script_lines.specs.declared.line.Says.{Says}
+use Rattle.script_lines.specs.declared.line.Says.TheVariants.{Skipped, Outside, Spells}
 use Rattle.script_lines.specs.Script.{lines_of, IsWholeLines, TakesLines}
 use Rattle.alarm_server.specs.Script.{spelled_by, spelled_in, refused_by, refused_in}
 use Rattle.alarm_server.proofs.Spelled.{spelled-first, spelled-none, refused-first, refused-none}
 
 -- behind a front without a refusal, the texts spell what they do by themselves
-front_with : (grammar : Grammar) (says : LineSays) (number : ℕ) (text : List ℕ) (front behind : List (List ℕ)) → refused_by says (number + 1) (refused_in grammar (number + 1) front) ≡ None → (refused_in grammar (number + 1) front ≡ None → spelled_in grammar (number + 1) (front ++ behind) ≡ spelled_in grammar (number + 1) front ++ spelled_in grammar (number + 1 + length front) behind) → spelled_by says (spelled_in grammar (number + 1) (front ++ behind)) ≡ spelled_by says (spelled_in grammar (number + 1) front) ++ spelled_in grammar (number + length (text ∷ front)) behind
-front_with grammar Skipped number text front behind e more =
+front_with : {L : Type 0} (reads : ℕ → List ℕ → Says L) (says : Says L) (number : ℕ) (text : List ℕ) (front behind : List (List ℕ)) → refused_by says (number + 1) (refused_in reads (number + 1) front) ≡ None → (refused_in reads (number + 1) front ≡ None → spelled_in reads (number + 1) (front ++ behind) ≡ spelled_in reads (number + 1) front ++ spelled_in reads (number + 1 + length front) behind) → spelled_by says (spelled_in reads (number + 1) (front ++ behind)) ≡ spelled_by says (spelled_in reads (number + 1) front) ++ spelled_in reads (number + length (text ∷ front)) behind
+front_with reads Skipped number text front behind e more =
     let place : number + 1 + length front ≡ number + length (text ∷ front) = omega arith in
-    more e ∙ ap (λ n. spelled_in grammar (number + 1) front ++ spelled_in grammar n behind) place
-front_with grammar Outside number text front behind e more = absurd cc
-front_with grammar (Spells line) number text front behind e more =
+    more e ∙ ap (λ n. spelled_in reads (number + 1) front ++ spelled_in reads n behind) place
+front_with reads Outside number text front behind e more = absurd cc
+front_with reads (Spells line) number text front behind e more =
     let place : number + 1 + length front ≡ number + length (text ∷ front) = omega arith in
-    ap (λ lines. line ∷ lines) (more e ∙ ap (λ n. spelled_in grammar (number + 1) front ++ spelled_in grammar n behind) place)
+    ap (λ lines. line ∷ lines) (more e ∙ ap (λ n. spelled_in reads (number + 1) front ++ spelled_in reads n behind) place)
 
-front_spelled : (grammar : Grammar) (front behind : List (List ℕ)) (number : ℕ) → refused_in grammar number front ≡ None → spelled_in grammar number (front ++ behind) ≡ spelled_in grammar number front ++ spelled_in grammar (number + length front) behind
-front_spelled grammar [] behind number e =
+front_spelled : {L : Type 0} (reads : ℕ → List ℕ → Says L) (front behind : List (List ℕ)) (number : ℕ) → refused_in reads number front ≡ None → spelled_in reads number (front ++ behind) ≡ spelled_in reads number front ++ spelled_in reads (number + length front) behind
+front_spelled reads [] behind number e =
     let place : number ≡ number + 0 = omega arith in
-    ap (λ n. spelled_in grammar n behind) place ∙ ap (λ lines. lines ++ spelled_in grammar (number + 0) behind) (sym (spelled-none grammar number))
-front_spelled grammar (text ∷ front) behind number e =
-    let says = line_says grammar (number + 1) text in
-    spelled-first grammar number text (front ++ behind)
-    ∙ (front_with grammar says number text front behind (sym (refused-first grammar number text front) ∙ e) (λ h. front_spelled grammar front behind (number + 1) h)
-    ∙ ap (λ lines. lines ++ spelled_in grammar (number + length (text ∷ front)) behind) (sym (spelled-first grammar number text front)))
+    ap (λ n. spelled_in reads n behind) place ∙ ap (λ lines. lines ++ spelled_in reads (number + 0) behind) (sym (spelled-none reads number))
+front_spelled reads (text ∷ front) behind number e =
+    let says = reads (number + 1) text in
+    spelled-first reads number text (front ++ behind)
+    ∙ (front_with reads says number text front behind (sym (refused-first reads number text front) ∙ e) (λ h. front_spelled reads front behind (number + 1) h)
+    ∙ ap (λ lines. lines ++ spelled_in reads (number + length (text ∷ front)) behind) (sym (spelled-first reads number text front)))
 
 -- a front with a refusal decides all
-record Decides (grammar : Grammar) (number : ℕ) (front behind : List (List ℕ)) (line : ℕ) : Type 0 where
-  spelled : spelled_in grammar number (front ++ behind) ≡ spelled_in grammar number front
-  refused : refused_in grammar number (front ++ behind) ≡ Some line
+record Decides {L : Type 0} (reads : ℕ → List ℕ → Says L) (number : ℕ) (front behind : List (List ℕ)) (line : ℕ) : Type 0 where
+  spelled : spelled_in reads number (front ++ behind) ≡ spelled_in reads number front
+  refused : refused_in reads number (front ++ behind) ≡ Some line
   within : line ≤ number + length front
 
-decides_with : (grammar : Grammar) (says : LineSays) (number : ℕ) (text : List ℕ) (front behind : List (List ℕ)) (line : ℕ) → line_says grammar (number + 1) text ≡ says → refused_by says (number + 1) (refused_in grammar (number + 1) front) ≡ Some line → (refused_in grammar (number + 1) front ≡ Some line → Decides grammar (number + 1) front behind line) → Decides grammar number (text ∷ front) behind line
-decides_with grammar Skipped number text front behind line is e more =
+decides_with : {L : Type 0} (reads : ℕ → List ℕ → Says L) (says : Says L) (number : ℕ) (text : List ℕ) (front behind : List (List ℕ)) (line : ℕ) → reads (number + 1) text ≡ says → refused_by says (number + 1) (refused_in reads (number + 1) front) ≡ Some line → (refused_in reads (number + 1) front ≡ Some line → Decides reads (number + 1) front behind line) → Decides reads number (text ∷ front) behind line
+decides_with reads Skipped number text front behind line is e more =
     let d = more e in
     record {
-      spelled = spelled-first grammar number text (front ++ behind) ∙ (ap (λ says. spelled_by says (spelled_in grammar (number + 1) (front ++ behind))) is ∙ (d.spelled ∙ sym (spelled-first grammar number text front ∙ ap (λ says. spelled_by says (spelled_in grammar (number + 1) front)) is)));
-      refused = refused-first grammar number text (front ++ behind) ∙ (ap (λ says. refused_by says (number + 1) (refused_in grammar (number + 1) (front ++ behind))) is ∙ d.refused);
+      spelled = spelled-first reads number text (front ++ behind) ∙ (ap (λ says. spelled_by says (spelled_in reads (number + 1) (front ++ behind))) is ∙ (d.spelled ∙ sym (spelled-first reads number text front ∙ ap (λ says. spelled_by says (spelled_in reads (number + 1) front)) is)));
+      refused = refused-first reads number text (front ++ behind) ∙ (ap (λ says. refused_by says (number + 1) (refused_in reads (number + 1) (front ++ behind))) is ∙ d.refused);
       within = omega (arith, d.within);
     }
-decides_with grammar Outside number text front behind line is e more =
+decides_with reads Outside number text front behind line is e more =
     let here : number + 1 ≡ line = cc in
     record {
-      spelled = spelled-first grammar number text (front ++ behind) ∙ (ap (λ says. spelled_by says (spelled_in grammar (number + 1) (front ++ behind))) is ∙ sym (spelled-first grammar number text front ∙ ap (λ says. spelled_by says (spelled_in grammar (number + 1) front)) is));
-      refused = refused-first grammar number text (front ++ behind) ∙ (ap (λ says. refused_by says (number + 1) (refused_in grammar (number + 1) (front ++ behind))) is ∙ ap Some here);
+      spelled = spelled-first reads number text (front ++ behind) ∙ (ap (λ says. spelled_by says (spelled_in reads (number + 1) (front ++ behind))) is ∙ sym (spelled-first reads number text front ∙ ap (λ says. spelled_by says (spelled_in reads (number + 1) front)) is));
+      refused = refused-first reads number text (front ++ behind) ∙ (ap (λ says. refused_by says (number + 1) (refused_in reads (number + 1) (front ++ behind))) is ∙ ap Some here);
       within = omega arith;
     }
-decides_with grammar (Spells found) number text front behind line is e more =
+decides_with reads (Spells found) number text front behind line is e more =
     let d = more e in
     record {
-      spelled = spelled-first grammar number text (front ++ behind) ∙ (ap (λ says. spelled_by says (spelled_in grammar (number + 1) (front ++ behind))) is ∙ (ap (λ lines. found ∷ lines) d.spelled ∙ sym (spelled-first grammar number text front ∙ ap (λ says. spelled_by says (spelled_in grammar (number + 1) front)) is)));
-      refused = refused-first grammar number text (front ++ behind) ∙ (ap (λ says. refused_by says (number + 1) (refused_in grammar (number + 1) (front ++ behind))) is ∙ d.refused);
+      spelled = spelled-first reads number text (front ++ behind) ∙ (ap (λ says. spelled_by says (spelled_in reads (number + 1) (front ++ behind))) is ∙ (ap (λ lines. found ∷ lines) d.spelled ∙ sym (spelled-first reads number text front ∙ ap (λ says. spelled_by says (spelled_in reads (number + 1) front)) is)));
+      refused = refused-first reads number text (front ++ behind) ∙ (ap (λ says. refused_by says (number + 1) (refused_in reads (number + 1) (front ++ behind))) is ∙ d.refused);
       within = omega (arith, d.within);
     }
 
-front_decides : (grammar : Grammar) (front behind : List (List ℕ)) (number line : ℕ) → refused_in grammar number front ≡ Some line → Decides grammar number front behind line
-front_decides grammar [] behind number line e = let none = refused-none grammar number in absurd cc
-front_decides grammar (text ∷ front) behind number line e =
-    decides_with grammar (line_says grammar (number + 1) text) number text front behind line refl (sym (refused-first grammar number text front) ∙ e) (λ h. front_decides grammar front behind (number + 1) line h)
+front_decides : {L : Type 0} (reads : ℕ → List ℕ → Says L) (front behind : List (List ℕ)) (number line : ℕ) → refused_in reads number front ≡ Some line → Decides reads number front behind line
+front_decides reads [] behind number line e = let none = refused-none reads number in absurd cc
+front_decides reads (text ∷ front) behind number line e =
+    decides_with reads (reads (number + 1) text) number text front behind line refl (sym (refused-first reads number text front) ∙ e) (λ h. front_decides reads front behind (number + 1) line h)
 
 -- a refused line stands behind the lines before it
-above_with : (grammar : Grammar) (says : LineSays) (number : ℕ) (text : List ℕ) (behind : List (List ℕ)) (line : ℕ) → refused_by says (number + 1) (refused_in grammar (number + 1) behind) ≡ Some line → (refused_in grammar (number + 1) behind ≡ Some line → number + 1 < line) → number < line
-above_with grammar Skipped number text behind line e more = omega (arith, more e)
-above_with grammar Outside number text behind line e more = let here : number + 1 ≡ line = cc in omega arith
-above_with grammar (Spells found) number text behind line e more = omega (arith, more e)
+above_with : {L : Type 0} (reads : ℕ → List ℕ → Says L) (says : Says L) (number : ℕ) (text : List ℕ) (behind : List (List ℕ)) (line : ℕ) → refused_by says (number + 1) (refused_in reads (number + 1) behind) ≡ Some line → (refused_in reads (number + 1) behind ≡ Some line → number + 1 < line) → number < line
+above_with reads Skipped number text behind line e more = omega (arith, more e)
+above_with reads Outside number text behind line e more = let here : number + 1 ≡ line = cc in omega arith
+above_with reads (Spells found) number text behind line e more = omega (arith, more e)
 
-refused_above : (grammar : Grammar) (texts : List (List ℕ)) (number line : ℕ) → refused_in grammar number texts ≡ Some line → number < line
-refused_above grammar [] number line e = let none = refused-none grammar number in absurd cc
-refused_above grammar (text ∷ behind) number line e = above_with grammar (line_says grammar (number + 1) text) number text behind line (sym (refused-first grammar number text behind) ∙ e) (λ h. refused_above grammar behind (number + 1) line h)
+refused_above : {L : Type 0} (reads : ℕ → List ℕ → Says L) (texts : List (List ℕ)) (number line : ℕ) → refused_in reads number texts ≡ Some line → number < line
+refused_above reads [] number line e = let none = refused-none reads number in absurd cc
+refused_above reads (text ∷ behind) number line e = above_with reads (reads (number + 1) text) number text behind line (sym (refused-first reads number text behind) ∙ e) (λ h. refused_above reads behind (number + 1) line h)
 
 -- no text that was taken is outside the grammar
-accepted_by : (grammar : Grammar) (found : Option ℕ) (front behind : List (List ℕ)) (number : ℕ) → refused_in grammar 0 front ≡ found → refused_in grammar 0 (front ++ behind) ≡ refused_in grammar number behind → length front ≡ number → refused_in grammar 0 front ≡ None
-accepted_by grammar None front behind number is refused count = is
-accepted_by grammar (Some line) front behind number is refused count =
-    let d = front_decides grammar front behind 0 line is in
-    let above = refused_above grammar behind number line (sym refused ∙ d.refused) in
+accepted_by : {L : Type 0} (reads : ℕ → List ℕ → Says L) (found : Option ℕ) (front behind : List (List ℕ)) (number : ℕ) → refused_in reads 0 front ≡ found → refused_in reads 0 (front ++ behind) ≡ refused_in reads number behind → length front ≡ number → refused_in reads 0 front ≡ None
+accepted_by reads None front behind number is refused count = is
+accepted_by reads (Some line) front behind number is refused count =
+    let d = front_decides reads front behind 0 line is in
+    let above = refused_above reads behind number line (sym refused ∙ d.refused) in
     absurd (omega (arith, d.within, above))
 
-pub front_accepted : (grammar : Grammar) (front behind : List (List ℕ)) (number : ℕ) → refused_in grammar 0 (front ++ behind) ≡ refused_in grammar number behind → length front ≡ number → refused_in grammar 0 front ≡ None
-front_accepted grammar front behind number refused count = accepted_by grammar (refused_in grammar 0 front) front behind number refl refused count
+pub front_accepted : {L : Type 0} (reads : ℕ → List ℕ → Says L) (front behind : List (List ℕ)) (number : ℕ) → refused_in reads 0 (front ++ behind) ≡ refused_in reads number behind → length front ≡ number → refused_in reads 0 front ≡ None
+front_accepted reads front behind number refused count = accepted_by reads (refused_in reads 0 front) front behind number refl refused count
 
 -- the lines that were taken are those that the taken texts spell
-pub front_lines : (grammar : Grammar) (front behind : List (List ℕ)) (lines : List Line) (number : ℕ) → spelled_in grammar 0 (front ++ behind) ≡ lines ++ spelled_in grammar number behind → refused_in grammar 0 (front ++ behind) ≡ refused_in grammar number behind → length front ≡ number → lines ≡ spelled_in grammar 0 front
-front_lines grammar front behind lines number spelled refused count =
+pub front_lines : {L : Type 0} (reads : ℕ → List ℕ → Says L) (front behind : List (List ℕ)) (lines : List L) (number : ℕ) → spelled_in reads 0 (front ++ behind) ≡ lines ++ spelled_in reads number behind → refused_in reads 0 (front ++ behind) ≡ refused_in reads number behind → length front ≡ number → lines ≡ spelled_in reads 0 front
+front_lines reads front behind lines number spelled refused count =
     let place : number ≡ 0 + length front = omega arith in
-    append_cancel_right lines (spelled_in grammar 0 front) (spelled_in grammar number behind)
-    (sym spelled ∙ (front_spelled grammar front behind 0 (front_accepted grammar front behind number refused count) ∙ ap (λ n. spelled_in grammar 0 front ++ spelled_in grammar n behind) (sym place)))
+    append_cancel_right lines (spelled_in reads 0 front) (spelled_in reads number behind)
+    (sym spelled ∙ (front_spelled reads front behind 0 (front_accepted reads front behind number refused count) ∙ ap (λ n. spelled_in reads 0 front ++ spelled_in reads n behind) (sym place)))
 
 -- the lines of a text that begins with whole ones
 onto_first-append : (c : ℕ) (line : List ℕ) (lines others : List (List ℕ)) → onto_first c ((line ∷ lines) ++ others) ≡ onto_first c (line ∷ lines) ++ others

@@ -3,6 +3,7 @@ use Rattle.std.proofs.Common.{◌≡◌, ℕ, None, List, [], ◌∷◌, ap, ◌
 use Rattle.std.specs.Prelude.{Result, Ok, Err, IfOk, OnOk}
 use Rattle.bac_values.specs.declared.report.ReportLine.{ReportLine}
 use Rattle.script_lines.specs.declared.line.Grammar.TheVariants.{Session}
+use Rattle.script_lines.specs.Line.{line_says}
 use Rattle.script_lines.specs.Script.{lines_of}
 use Rattle.alarm_core.specs.Allowed.{Represents}
 use Rattle.alarm_core.specs.Sites.{IsSite}
@@ -28,10 +29,10 @@ pub reported : (site : Site) (core : CoreState) (script : List ℕ) (tally : Tal
 reported site core script tally is stands own counted = counted ∙ ap (λ (r : List (List ReportLine)). tally_of r) (reports site is [] core stands own script)
 
 summarised_one : (seed count : ℕ) (site : Site) (script : List ℕ) (tally : Tally) → site ≡ generated_site → script ≡ workload_script seed count
-    → refused_line Session script ≡ None → tally ≡ tally_of (report_of site [] script) → summary_of seed count ≡ summary_line seed count tally ∷ []
+    → refused_line (line_says Session) script ≡ None → tally ≡ tally_of (report_of site [] script) → summary_of seed count ≡ summary_line seed count tally ∷ []
 summarised_one seed count site script tally made drawn accepted counted =
     let all = workload_script seed count in
-    let none : refused_line Session all ≡ None = subst (λ (s : List ℕ). refused_line Session s ≡ None) drawn accepted in
+    let none : refused_line (line_says Session) all ≡ None = subst (λ (s : List ℕ). refused_line (line_says Session) s ≡ None) drawn accepted in
     let by_history : tally ≡ tally_of (report_of generated_site [] all) =
     counted
     ∙ (ap (λ (s : Site). tally_of (report_of s [] script)) made
@@ -40,7 +41,7 @@ summarised_one seed count site script tally made drawn accepted counted =
 
 -- the summary of a workload whose session is played to its end
 pub summarised : (seed count : ℕ) (site : Site) (script : List ℕ) (answer : Result Tally Status) → site ≡ generated_site → script ≡ workload_script seed count
-    → OnOk answer (refused_line Session script ≡ None) → IfOk answer (λ tally. tally ≡ tally_of (report_of site [] script))
+    → OnOk answer (refused_line (line_says Session) script ≡ None) → IfOk answer (λ tally. tally ≡ tally_of (report_of site [] script))
     → IfOk answer (λ tally. summary_of seed count ≡ summary_line seed count tally ∷ [])
 summarised seed count site script (Ok tally) made drawn accepted counted = summarised_one seed count site script tally made drawn accepted counted
 summarised seed count site script (Err status) made drawn accepted counted = tt

@@ -3,6 +3,7 @@ use Rattle.std.proofs.Common.{◌≡◌, ◌≢◌, ◌⊎◌, ℕ, Option, Some
 use Rattle.ground_io.specs.Trace.{Told, WhereTold}
 use Rattle.ground_io.proofs.Crashes.{adds_none}
 use Rattle.script_lines.specs.declared.line.Grammar.TheVariants.{Session}
+use Rattle.script_lines.specs.Line.{line_says}
 use Rattle.script_lines.specs.Script.{lines_of}
 use Rattle.alarm_core.specs.declared.event.Event.{Event}
 use Rattle.alarm_core.specs.declared.site.Site.{Site}
@@ -63,7 +64,7 @@ ends_unopened Goes composes (Some octets) None ended told fault refused = tt
 ends_unopened Goes composes (Some octets) (Some text) ended told fault refused = ends_by Goes composes octets text ended told (site_of octets) refl fault refused
 
 keeps_by : (octets script : List ℕ) (told : Option Told) (says : Result Site SiteFault) → KeepsOnSite octets says script told told
-keeps_by octets script told (Ok site) = λ history stood. untouched_at_once (journal_of site octets) site history (spelled_in Session 0 (lines_of script)) 1 told
+keeps_by octets script told (Ok site) = λ history stood. untouched_at_once (journal_of site octets) site history (spelled_in (line_says Session) 0 (lines_of script)) 1 told
 keeps_by octets script told (Err f) = adds_none told
 
 pub keeps_unopened : (site script : Option (List ℕ)) (told : Option Told) → KeepsOnFile site script told told

@@ -1,6 +1,7 @@
 -- The pieces and the states of lines, one after the other; and the report by the history.
 use Rattle.std.proofs.Common.{◌≡◌, ℕ, IfSome, List, [], ◌∷◌, ◌++◌, length, refl, ap, ◌∙◌, sym}
 use Rattle.script_lines.specs.declared.line.Grammar.TheVariants.{Session}
+use Rattle.script_lines.specs.Line.{line_says}
 use Rattle.script_lines.specs.declared.line.Line.{Line}
 use Rattle.script_lines.specs.Script.{lines_of}
 use Rattle.alarm_core.specs.declared.event.Event.{Event}
@@ -90,14 +91,14 @@ pieces_are site is (line ∷ lines) (here, others) history is_history =
 -- the report by the history is the one by the state
 pub report_is : (site : Site) → IsSite site → (history : List Event) → IsHistory site history → (script : List ℕ) → session_over (state_of site history) (lines_of script) ≡ report_of site history script
 report_is site is history is_history script =
-    let lines = spelled_in Session 0 (lines_of script) in
+    let lines = spelled_in (line_says Session) 0 (lines_of script) in
     let range = spelled_in_range (lines_of script) 0 in
     let state = state_of site history in
-    let end = session_end (refused_in Session 0 (lines_of script)) (length (lines_of script)) in
+    let end = session_end (refused_in (line_says Session) 0 (lines_of script)) (length (lines_of script)) in
     ap (λ ps. (open_piece state ∷ ps) ++ end (state_over state lines)) (pieces_are site is lines range history is_history)
     ∙ ap (λ s. (open_piece state ∷ pieces_of site history lines) ++ end s) (states_are site is lines range history is_history)
 
 pub front_is : (site : Site) → IsSite site → (history : List Event) → IsHistory site history → (front : List ℕ) →
-    open_piece (state_of site history) ∷ pieces_over (state_of site history) (spelled_in Session 0 (lines_of front)) ≡ front_pieces site history front
+    open_piece (state_of site history) ∷ pieces_over (state_of site history) (spelled_in (line_says Session) 0 (lines_of front)) ≡ front_pieces site history front
 front_is site is history is_history front =
-    ap (λ ps. open_piece (state_of site history) ∷ ps) (pieces_are site is (spelled_in Session 0 (lines_of front)) (spelled_in_range (lines_of front) 0) history is_history)
+    ap (λ ps. open_piece (state_of site history) ∷ ps) (pieces_are site is (spelled_in (line_says Session) 0 (lines_of front)) (spelled_in_range (lines_of front) 0) history is_history)

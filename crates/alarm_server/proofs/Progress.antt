@@ -9,6 +9,7 @@ use Rattle.bac_values.specs.declared.report.ReportLine.{ReportLine}
 use Rattle.bac_values.specs.declared.report.ReportLine.TheVariants.{TrialEnd}
 use Rattle.ground_io.specs.Trace.{Told, Adds, WhereTold}
 use Rattle.script_lines.specs.declared.line.Grammar.TheVariants.{Trial}
+use Rattle.script_lines.specs.Line.{line_says}
 use Rattle.script_lines.specs.declared.line.Line.{Line}
 use Rattle.script_lines.specs.declared.lines.LineFault.{LineFault}
 use Rattle.script_lines.specs.declared.lines.LineFault.TheVariants.{Grammar, Read, NoMemory}
@@ -31,8 +32,8 @@ use Rattle.alarm_server.proofs.Course.{transitions_of-none, looks_over-none, loo
 
 -- these lines and those of the octets to come are those of the script
 pub record Remains (lines : List Line) (number : ℕ) (script octets : List ℕ) : Type 0 where
-  pub spelled : spelled_in Trial 0 (lines_of script) ≡ lines ++ spelled_in Trial number (lines_of octets)
-  pub refused : refused_in Trial 0 (lines_of script) ≡ refused_in Trial number (lines_of octets)
+  pub spelled : spelled_in (line_says Trial) 0 (lines_of script) ≡ lines ++ spelled_in (line_says Trial) number (lines_of octets)
+  pub refused : refused_in (line_says Trial) 0 (lines_of script) ≡ refused_in (line_says Trial) number (lines_of octets)
   pub count : length (lines_of script) ≡ number + length (lines_of octets)
 
 -- these lines were taken, the object is at their last point, and the moves over them went out
@@ -73,30 +74,30 @@ begins settings text told watched first = record {
 }
 
 -- what is left to report behind these lines
-after : (settings : Settings) (lines : List Line) (number : ℕ) (script octets : List ℕ) (later : List Incident) → later ≡ looks_over (first_point settings) [] lines → Remains lines number script octets → report_over settings (lines_of script) ≡ transitions_of (first_point settings) (looks_over (first_point settings) later (spelled_in Trial number (lines_of octets))) ++ end_by (refused_in Trial number (lines_of octets)) (number + length (lines_of octets))
+after : (settings : Settings) (lines : List Line) (number : ℕ) (script octets : List ℕ) (later : List Incident) → later ≡ looks_over (first_point settings) [] lines → Remains lines number script octets → report_over settings (lines_of script) ≡ transitions_of (first_point settings) (looks_over (first_point settings) later (spelled_in (line_says Trial) number (lines_of octets))) ++ end_by (refused_in (line_says Trial) number (lines_of octets)) (number + length (lines_of octets))
 after settings lines number script octets later points r =
     let first = first_point settings in
-    let behind = spelled_in Trial number (lines_of octets) in
+    let behind = spelled_in (line_says Trial) number (lines_of octets) in
     let moves = λ (ps : List Incident). transitions_of first ps in
-    let spelled : looks_over first [] (spelled_in Trial 0 (lines_of script)) ≡ looks_over first later behind =
+    let spelled : looks_over first [] (spelled_in (line_says Trial) 0 (lines_of script)) ≡ looks_over first later behind =
     ap (looks_over first []) r.spelled ∙ (looks_over-append lines behind first [] ∙ ap (λ ps. looks_over first ps behind) (sym points)) in
-    ap (λ ps. moves ps ++ end_by (refused_in Trial 0 (lines_of script)) (length (lines_of script))) spelled
+    ap (λ ps. moves ps ++ end_by (refused_in (line_says Trial) 0 (lines_of script)) (length (lines_of script))) spelled
     ∙ (ap (λ o. moves (looks_over first later behind) ++ end_by o (length (lines_of script))) r.refused
-    ∙ ap (λ n. moves (looks_over first later behind) ++ end_by (refused_in Trial number (lines_of octets)) n) r.count)
+    ∙ ap (λ n. moves (looks_over first later behind) ++ end_by (refused_in (line_says Trial) number (lines_of octets)) n) r.count)
 
 -- the moves so far are a front of the report
 report_front : (settings : Settings) (lines : List Line) (number : ℕ) (script octets : List ℕ) (later : List Incident) → later ≡ looks_over (first_point settings) [] lines → Remains lines number script octets → (back : List ReportLine) × (report_over settings (lines_of script) ≡ transitions_of (first_point settings) later ++ back)
 report_front settings lines number script octets later points r =
     let first = first_point settings in
-    let end = end_by (refused_in Trial number (lines_of octets)) (number + length (lines_of octets)) in
-    let more = transitions_over_more (spelled_in Trial number (lines_of octets)) first later in
+    let end = end_by (refused_in (line_says Trial) number (lines_of octets)) (number + length (lines_of octets)) in
+    let more = transitions_over_more (spelled_in (line_says Trial) number (lines_of octets)) first later in
     (more.0 ++ end, after settings lines number script octets later points r ∙ (ap (λ l. l ++ end) more.1 ∙ append_assoc (transitions_of first later) more.0 end))
 
 -- behind the last line nothing but the end is left
-report_all : (settings : Settings) (lines : List Line) (number : ℕ) (script octets : List ℕ) (later : List Incident) → later ≡ looks_over (first_point settings) [] lines → Remains lines number script octets → spelled_in Trial number (lines_of octets) ≡ [] → report_over settings (lines_of script) ≡ transitions_of (first_point settings) later ++ end_by (refused_in Trial number (lines_of octets)) (number + length (lines_of octets))
+report_all : (settings : Settings) (lines : List Line) (number : ℕ) (script octets : List ℕ) (later : List Incident) → later ≡ looks_over (first_point settings) [] lines → Remains lines number script octets → spelled_in (line_says Trial) number (lines_of octets) ≡ [] → report_over settings (lines_of script) ≡ transitions_of (first_point settings) later ++ end_by (refused_in (line_says Trial) number (lines_of octets)) (number + length (lines_of octets))
 report_all settings lines number script octets later points r none =
     let first = first_point settings in
-    let end = end_by (refused_in Trial number (lines_of octets)) (number + length (lines_of octets)) in
+    let end = end_by (refused_in (line_says Trial) number (lines_of octets)) (number + length (lines_of octets)) in
     after settings lines number script octets later points r
     ∙ ap (λ ps. transitions_of first ps ++ end) (ap (looks_over first later) none ∙ looks_over-none first later)
 
@@ -106,12 +107,12 @@ ends_at_once settings None told = tt
 ends_at_once settings (Some script) told = ([], report_over settings (lines_of script), refl, adds.nothing told)
 
 -- a fault while a line is read
-pub ends_at_line : (settings : Settings) (text come come' : Option (List ℕ)) (old new : Option Told) (number number' : ℕ) (ended : Bool) (watched : WatchState) (fault : LineFault) → Progress settings text come old new number ended watched → WhereTold come come' (ReadsLine Trial number number' (Err fault)) → IfSome text (λ t. Ends Adds report_text (of_line_fault fault) (report_over settings (lines_of t)) old new)
+pub ends_at_line : (settings : Settings) (text come come' : Option (List ℕ)) (old new : Option Told) (number number' : ℕ) (ended : Bool) (watched : WatchState) (fault : LineFault) → Progress settings text come old new number ended watched → WhereTold come come' (ReadsLine (line_says Trial) number number' (Err fault)) → IfSome text (λ t. Ends Adds report_text (of_line_fault fault) (report_over settings (lines_of t)) old new)
 ends_at_line settings None come come' old new number number' ended watched fault p read = tt
 ends_at_line settings (Some t) None come' old new number number' ended watched fault p read = absurd p.remains
 ends_at_line settings (Some t) (Some octets) None old new number number' ended watched fault p read = absurd read
 ends_at_line settings (Some t) (Some octets) (Some rest) old new number number' ended watched (Grammar line) p read =
-    let h = spells_refused Trial (lines_of octets) number line read.0 in
+    let h = spells_refused (line_says Trial) (lines_of octets) number line read.0 in
     let moves = transitions_of (first_point settings) p.later in
     let all = report_all settings p.lines number t octets p.later p.points p.remains h.spelled
     ∙ (ap (λ o. moves ++ end_by o (number + length (lines_of octets))) h.refused ∙ append-nil moves) in
@@ -124,12 +125,12 @@ ends_at_line settings (Some t) (Some octets) (Some rest) old new number number' 
     (transitions_of (first_point settings) p.later, front.0, front.1, p.out)
 
 -- the line that is refused is the first outside the grammar
-pub refused_first : (settings : Settings) (text come come' : Option (List ℕ)) (old new : Option Told) (number number' : ℕ) (ended : Bool) (watched : WatchState) (line : ℕ) → Progress settings text come old new number ended watched → WhereTold come come' (ReadsLine Trial number number' (Err (Grammar line))) → IfSome text (λ t. refused_line Trial t ≡ Some line)
+pub refused_first : (settings : Settings) (text come come' : Option (List ℕ)) (old new : Option Told) (number number' : ℕ) (ended : Bool) (watched : WatchState) (line : ℕ) → Progress settings text come old new number ended watched → WhereTold come come' (ReadsLine (line_says Trial) number number' (Err (Grammar line))) → IfSome text (λ t. refused_line (line_says Trial) t ≡ Some line)
 refused_first settings None come come' old new number number' ended watched line p read = tt
 refused_first settings (Some t) None come' old new number number' ended watched line p read = absurd p.remains
 refused_first settings (Some t) (Some octets) None old new number number' ended watched line p read = absurd read
 refused_first settings (Some t) (Some octets) (Some rest) old new number number' ended watched line p read =
-    p.remains.refused ∙ (spells_refused Trial (lines_of octets) number line read.0).refused
+    p.remains.refused ∙ (spells_refused (line_says Trial) (lines_of octets) number line read.0).refused
 
 pub grammar_fault : (fault : LineFault) (line : ℕ) → of_line_fault fault ≡ status.ScriptRefused line → fault ≡ Grammar line
 grammar_fault (Grammar n) line e = cc
@@ -146,18 +147,17 @@ ends_front unsent.Lost lines old new h = h
 ends_front unsent.NoMemory lines old new h = h
 
 -- one more line was taken
-remains_next : (lines : List Line) (number number' : ℕ) (line : Line) (script octets rest : List ℕ) → Remains lines number script octets → ReadsLine Trial number number' (Ok (Some line)) octets rest → Remains (lines ++ line ∷ []) number' script rest
-remains_next lines number number' line script octets rest r (next, is) =
-    let h = spelled_gives Trial (lines_of octets) number line (lines_of rest) next in
-    let behind = spelled_in Trial line.number (lines_of rest) in
+remains_next : (lines : List Line) (number number' : ℕ) (line : Line) (script octets rest : List ℕ) → Remains lines number script octets → ReadsLine (line_says Trial) number number' (Ok (Some line)) octets rest → Remains (lines ++ line ∷ []) number' script rest
+remains_next lines number number' line script octets rest r next =
+    let h = spelled_gives (line_says Trial) (lines_of octets) number number' line (lines_of rest) next in
     record {
-      spelled = r.spelled ∙ (ap (λ l. lines ++ l) h.spelled ∙ (sym (append_assoc lines (line ∷ []) behind) ∙ ap (λ n. (lines ++ line ∷ []) ++ spelled_in Trial n (lines_of rest)) is));
-      refused = r.refused ∙ (h.refused ∙ ap (λ n. refused_in Trial n (lines_of rest)) is);
+      spelled = r.spelled ∙ (ap (λ l. lines ++ l) h.spelled ∙ sym (append_assoc lines (line ∷ []) (spelled_in (line_says Trial) number' (lines_of rest))));
+      refused = r.refused ∙ h.refused;
       count = omega (arith, r.count, h.count);
     }
 
 -- a fault while the moves of a line go out
-pub ends_at_event : (settings : Settings) (text come come' : Option (List ℕ)) (old new new' : Option Told) (number number' : ℕ) (ended : Bool) (watched : WatchState) (line : Line) (fault : Unsent) → Progress settings text come old new number ended watched → WhereTold come come' (ReadsLine Trial number number' (Ok (Some line))) → ((later : List Incident) → HasSeen (first_point settings) later watched → SendsTransitions {A = Unit {0}} Adds (Err fault) (first_point settings) later (looks_after line.moment line.input (first_point settings) later) new new') → IfSome text (λ t. Ends Adds report_text (of_unsent fault) (report_over settings (lines_of t)) old new')
+pub ends_at_event : (settings : Settings) (text come come' : Option (List ℕ)) (old new new' : Option Told) (number number' : ℕ) (ended : Bool) (watched : WatchState) (line : Line) (fault : Unsent) → Progress settings text come old new number ended watched → WhereTold come come' (ReadsLine (line_says Trial) number number' (Ok (Some line))) → ((later : List Incident) → HasSeen (first_point settings) later watched → SendsTransitions {A = Unit {0}} Adds (Err fault) (first_point settings) later (looks_after line.moment line.input (first_point settings) later) new new') → IfSome text (λ t. Ends Adds report_text (of_unsent fault) (report_over settings (lines_of t)) old new')
 ends_at_event settings None come come' old new new' number number' ended watched line fault p read sends = tt
 ends_at_event settings (Some t) None come' old new new' number number' ended watched line fault p read sends = absurd p.remains
 ends_at_event settings (Some t) (Some octets) None old new new' number number' ended watched line fault p read sends = absurd read
@@ -174,7 +174,7 @@ ends_at_event settings (Some t) (Some octets) (Some rest) old new new' number nu
     (front_more Adds report_text fault old new' (before ++ event.0) front.0 (front_then Adds adds report_text fault old new new' before event.0 p.out event.2)))
 
 -- one more line
-pub goes_on : (settings : Settings) (text come come' : Option (List ℕ)) (old new new' : Option Told) (number number' : ℕ) (ended ended' : Bool) (watched watched' : WatchState) (line : Line) → Progress settings text come old new number ended watched → WhereTold come come' (ReadsLine Trial number number' (Ok (Some line))) → (ended' ≡ false → ended ≡ false) → (ended' ≡ false → WhereTold come come' (TakesLines number number')) → ((later : List Incident) → HasSeen (first_point settings) later watched → HasSeen (first_point settings) (looks_after line.moment line.input (first_point settings) later) watched') → ((later : List Incident) → HasSeen (first_point settings) later watched → SendsTransitions {A = Unit {0}} Adds (Ok tt) (first_point settings) later (looks_after line.moment line.input (first_point settings) later) new new') → Progress settings text come' old new' number' ended' watched'
+pub goes_on : (settings : Settings) (text come come' : Option (List ℕ)) (old new new' : Option Told) (number number' : ℕ) (ended ended' : Bool) (watched watched' : WatchState) (line : Line) → Progress settings text come old new number ended watched → WhereTold come come' (ReadsLine (line_says Trial) number number' (Ok (Some line))) → (ended' ≡ false → ended ≡ false) → (ended' ≡ false → WhereTold come come' (TakesLines number number')) → ((later : List Incident) → HasSeen (first_point settings) later watched → HasSeen (first_point settings) (looks_after line.moment line.input (first_point settings) later) watched') → ((later : List Incident) → HasSeen (first_point settings) later watched → SendsTransitions {A = Unit {0}} Adds (Ok tt) (first_point settings) later (looks_after line.moment line.input (first_point settings) later) new new') → Progress settings text come' old new' number' ended' watched'
 goes_on settings text come come' old new new' number number' ended ended' watched watched' line p read stays taken seen sends =
     let first = first_point settings in
     let event = sends p.later p.seen in
@@ -185,22 +185,22 @@ goes_on settings text come come' old new new' number number' ended ended' watche
       points = looks_over-next first [] p.later p.lines line p.points;
       seen = seen p.later p.seen;
       out = subst (λ lines. Adds old new' (sent report_text lines)) (sym event.1) (sent_then Adds adds report_text old new new' before event.0 p.out event.2);
-      remains = where_then text come come' (Remains p.lines number) (ReadsLine Trial number number' (Ok (Some line))) (Remains (p.lines ++ line ∷ []) number')
+      remains = where_then text come come' (Remains p.lines number) (ReadsLine (line_says Trial) number number' (Ok (Some line))) (Remains (p.lines ++ line ∷ []) number')
           (λ script octets rest r q. remains_next p.lines number number' line script octets rest r q) p.remains read;
       whole = λ e. where_then text come come' (TakesLines 0 number) (TakesLines number number') (TakesLines 0 number')
           (λ script octets rest first_lines more. takes_then 0 number number' script octets rest first_lines more) (p.whole (stays e)) (taken e);
     }
 
 -- behind the last line, the end is all that is left to report
-report_end : (settings : Settings) (octets script : List ℕ) (number number' : ℕ) (lines : List Line) (later : List Incident) → later ≡ looks_over (first_point settings) [] lines → Remains lines number script octets → next_in Trial number (lines_of octets) ≡ AtEnd number' → report_over settings (lines_of script) ≡ transitions_of (first_point settings) later ++ TrialEnd number' ∷ []
+report_end : (settings : Settings) (octets script : List ℕ) (number number' : ℕ) (lines : List Line) (later : List Incident) → later ≡ looks_over (first_point settings) [] lines → Remains lines number script octets → next_in (line_says Trial) number (lines_of octets) ≡ AtEnd number' → report_over settings (lines_of script) ≡ transitions_of (first_point settings) later ++ TrialEnd number' ∷ []
 report_end settings octets script number number' lines later points r next =
-    let h = spells_none Trial (lines_of octets) number number' next in
+    let h = spells_none (line_says Trial) (lines_of octets) number number' next in
     let moves = transitions_of (first_point settings) later in
     report_all settings lines number script octets later points r h.spelled
     ∙ (ap (λ o. moves ++ end_by o (number + length (lines_of octets))) h.refused ∙ ap (λ n. moves ++ TrialEnd n ∷ []) h.count)
 
 -- the script's end
-pub ends : (settings : Settings) (text come come' : Option (List ℕ)) (old new new' : Option Told) (number number' : ℕ) (ended : Bool) (watched : WatchState) → Progress settings text come old new number ended watched → WhereTold come come' (ReadsLine Trial number number' (Ok None)) → Adds new new' (sent report_text (TrialEnd number' ∷ [])) → IfSome text (λ t. Ends Adds report_text status.Done (report_over settings (lines_of t)) old new')
+pub ends : (settings : Settings) (text come come' : Option (List ℕ)) (old new new' : Option Told) (number number' : ℕ) (ended : Bool) (watched : WatchState) → Progress settings text come old new number ended watched → WhereTold come come' (ReadsLine (line_says Trial) number number' (Ok None)) → Adds new new' (sent report_text (TrialEnd number' ∷ [])) → IfSome text (λ t. Ends Adds report_text status.Done (report_over settings (lines_of t)) old new')
 ends settings None come come' old new new' number number' ended watched p read last = tt
 ends settings (Some t) None come' old new new' number number' ended watched p read last = absurd p.remains
 ends settings (Some t) (Some octets) None old new new' number number' ended watched p read last = absurd read
@@ -209,15 +209,15 @@ ends settings (Some t) (Some octets) (Some rest) old new new' number number' end
     subst (λ lines. Adds old new' (sent report_text lines)) (sym all) (sent_then Adds adds report_text old new new' (transitions_of (first_point settings) p.later) (TrialEnd number' ∷ []) p.out last)
 
 -- at its end, every line of the script is in the grammar
-pub accepts : (settings : Settings) (text come come' : Option (List ℕ)) (old new : Option Told) (number number' : ℕ) (ended : Bool) (watched : WatchState) → Progress settings text come old new number ended watched → WhereTold come come' (ReadsLine Trial number number' (Ok None)) → IfSome text (λ t. refused_line Trial t ≡ None)
+pub accepts : (settings : Settings) (text come come' : Option (List ℕ)) (old new : Option Told) (number number' : ℕ) (ended : Bool) (watched : WatchState) → Progress settings text come old new number ended watched → WhereTold come come' (ReadsLine (line_says Trial) number number' (Ok None)) → IfSome text (λ t. refused_line (line_says Trial) t ≡ None)
 accepts settings None come come' old new number number' ended watched p read = tt
 accepts settings (Some t) None come' old new number number' ended watched p read = absurd p.remains
 accepts settings (Some t) (Some octets) None old new number number' ended watched p read = absurd read
 accepts settings (Some t) (Some octets) (Some rest) old new number number' ended watched p read =
-    p.remains.refused ∙ (spells_none Trial (lines_of octets) number number' read.0).refused
+    p.remains.refused ∙ (spells_none (line_says Trial) (lines_of octets) number number' read.0).refused
 
 -- a fault while the last line goes out
-pub ends_at_end : (settings : Settings) (text come come' : Option (List ℕ)) (old new new' : Option Told) (number number' : ℕ) (ended : Bool) (watched : WatchState) (fault : Unsent) → Progress settings text come old new number ended watched → WhereTold come come' (ReadsLine Trial number number' (Ok None)) → SendsUpTo Adds report_text fault (TrialEnd number' ∷ []) new new' → IfSome text (λ t. Ends Adds report_text (of_unsent fault) (report_over settings (lines_of t)) old new')
+pub ends_at_end : (settings : Settings) (text come come' : Option (List ℕ)) (old new new' : Option Told) (number number' : ℕ) (ended : Bool) (watched : WatchState) (fault : Unsent) → Progress settings text come old new number ended watched → WhereTold come come' (ReadsLine (line_says Trial) number number' (Ok None)) → SendsUpTo Adds report_text fault (TrialEnd number' ∷ []) new new' → IfSome text (λ t. Ends Adds report_text (of_unsent fault) (report_over settings (lines_of t)) old new')
 ends_at_end settings None come come' old new new' number number' ended watched fault p read last = tt
 ends_at_end settings (Some t) None come' old new new' number number' ended watched fault p read last = absurd p.remains
 ends_at_end settings (Some t) (Some octets) None old new new' number number' ended watched fault p read last = absurd read
@@ -227,15 +227,15 @@ ends_at_end settings (Some t) (Some octets) (Some rest) old new new' number numb
     (subst (λ lines. SendsUpTo Adds report_text fault lines old new') (sym all) (front_then Adds adds report_text fault old new new' (transitions_of (first_point settings) p.later) (TrialEnd number' ∷ []) p.out last))
 
 -- the source failed: the lines that were taken are those of the whole lines that were read
-stops_where : (settings : Settings) (t octets rest pending : List ℕ) (old new : Option Told) (number number' : ℕ) (lines : List Line) (later : List Incident) → later ≡ looks_over (first_point settings) [] lines → Adds old new (sent report_text (transitions_of (first_point settings) later)) → Remains lines number t octets → next_in Trial number' (lines_of (pending ++ rest)) ≡ next_in Trial number (lines_of octets) → TakesLines 0 number' t (pending ++ rest) → position is_line_feed pending ≡ None → StopsReading Adds report_text (front_transitions settings) Trial t rest old new
+stops_where : (settings : Settings) (t octets rest pending : List ℕ) (old new : Option Told) (number number' : ℕ) (lines : List Line) (later : List Incident) → later ≡ looks_over (first_point settings) [] lines → Adds old new (sent report_text (transitions_of (first_point settings) later)) → Remains lines number t octets → next_in (line_says Trial) number' (lines_of (pending ++ rest)) ≡ next_in (line_says Trial) number (lines_of octets) → TakesLines 0 number' t (pending ++ rest) → position is_line_feed pending ≡ None → StopsReading Adds report_text (front_transitions settings) (line_says Trial) t rest old new
 stops_where settings t octets rest pending old new number number' lines later points out r next taken no_feed =
-    let h = spells_same Trial number' number (lines_of (pending ++ rest)) (lines_of octets) next in
+    let h = spells_same (line_says Trial) number' number (lines_of (pending ++ rest)) (lines_of octets) next in
     let parts : lines_of t ≡ lines_of taken.taken ++ lines_of (pending ++ rest) = ap lines_of taken.front ∙ lines_of-whole taken.taken (pending ++ rest) taken.whole in
-    let spelled = ap (spelled_in Trial 0) (sym parts) ∙ (r.spelled ∙ ap (λ l. lines ++ l) (sym h.spelled)) in
-    let refused = ap (refused_in Trial 0) (sym parts) ∙ (r.refused ∙ sym h.refused) in
+    let spelled = ap (spelled_in (line_says Trial) 0) (sym parts) ∙ (r.spelled ∙ ap (λ l. lines ++ l) (sym h.spelled)) in
+    let refused = ap (refused_in (line_says Trial) 0) (sym parts) ∙ (r.refused ∙ sym h.refused) in
     let count : length (lines_of taken.taken) ≡ number' = omega (arith, taken.count) in
-    let accepted = front_accepted Trial (lines_of taken.taken) (lines_of (pending ++ rest)) number' refused count in
-    let same = front_lines Trial (lines_of taken.taken) (lines_of (pending ++ rest)) lines number' spelled refused count in
+    let accepted = front_accepted (line_says Trial) (lines_of taken.taken) (lines_of (pending ++ rest)) number' refused count in
+    let same = front_lines (line_says Trial) (lines_of taken.taken) (lines_of (pending ++ rest)) lines number' spelled refused count in
     let moves = ap (transitions_of (first_point settings)) (points ∙ ap (looks_over (first_point settings) []) same) in
     record {
       whole = taken.taken;
@@ -247,7 +247,7 @@ stops_where settings t octets rest pending old new number number' lines later po
       emitted = subst (λ lines. Adds old new (sent report_text lines)) moves out;
     }
 
-pub stops_reading : (settings : Settings) (text come left : Option (List ℕ)) (pending : List ℕ) (old new : Option Told) (number number' : ℕ) (ended ended' : Bool) (watched : WatchState) → Progress settings text come old new number ended watched → WhereTold come (prepend_known pending left) (ReadsLine Trial number number' (Err Read)) → (ended' ≡ false → ended ≡ false) → (ended' ≡ false → WhereTold come (prepend_known pending left) (TakesLines number number')) → (ended' ≡ false) × (position is_line_feed pending ≡ None) → WhereTold text left (λ t rest. StopsReading Adds report_text (front_transitions settings) Trial t rest old new)
+pub stops_reading : (settings : Settings) (text come left : Option (List ℕ)) (pending : List ℕ) (old new : Option Told) (number number' : ℕ) (ended ended' : Bool) (watched : WatchState) → Progress settings text come old new number ended watched → WhereTold come (prepend_known pending left) (ReadsLine (line_says Trial) number number' (Err Read)) → (ended' ≡ false → ended ≡ false) → (ended' ≡ false → WhereTold come (prepend_known pending left) (TakesLines number number')) → (ended' ≡ false) × (position is_line_feed pending ≡ None) → WhereTold text left (λ t rest. StopsReading Adds report_text (front_transitions settings) (line_says Trial) t rest old new)
 stops_reading settings None come left pending old new number number' ended ended' watched p read stays taken waits = tt
 stops_reading settings (Some t) None left pending old new number number' ended ended' watched p read stays taken waits = absurd p.remains
 stops_reading settings (Some t) (Some octets) None pending old new number number' ended ended' watched p read stays taken waits = absurd read

@@ -3,6 +3,7 @@ use Rattle.std.specs.Prelude.{◌≡◌, ◌≢◌, ◌⊎◌, ℕ, Option, None
 use Rattle.ground_io.specs.Trace.{Told, Adds, WhereTold}
 use Rattle.alarm_core.specs.declared.event.Event.{Event}
 use Rattle.script_lines.specs.declared.line.Grammar.TheVariants as grammar
+use Rattle.script_lines.specs.Line.{line_says}
 use Rattle.alarm_core.specs.declared.site.Site.{Site}
 use Rattle.site_config.specs.declared.fault.SiteFault.{SiteFault}
 use Rattle.site_config.specs.declared.fault.SiteFault.TheVariants as site_fault
@@ -30,7 +31,7 @@ EndsOnFile Goes ended site script old new = IfSome site (λ octets. IfSome scrip
 
 -- the file's text is a site, and every line of the script is in the grammar
 abbrev pub AcceptsOnFile : Option (List ℕ) → Option (List ℕ) → Type 0
-AcceptsOnFile site script = IfSome site (λ octets. IsOk (site_of octets)) × IfSome script (λ text. refused_line grammar.Session text ≡ None)
+AcceptsOnFile site script = IfSome site (λ octets. IsOk (site_of octets)) × IfSome script (λ text. refused_line (line_says grammar.Session) text ≡ None)
 
 -- the file's text has this fault, which isn't want of memory
 abbrev pub RefusesFile : Option (List ℕ) → SiteFault → Type 0
@@ -39,7 +40,7 @@ RefusesFile site fault = (fault ≢ site_fault.NoMemory) × IfSome site (λ octe
 -- the script of a session of this site stopped being read, and what its whole lines give went out; there is no session where the text is no site
 abbrev pub StopsInScript : Going → List ℕ → Result Site SiteFault → List ℕ → List ℕ → Option Told → Option Told → Type 0
 StopsInScript Goes text (Ok site) script rest old new =
-    (history : List Event) → StoodFor (journal_of site text) site history old new → StopsReading Goes piece_text (front_pieces site history) grammar.Session script rest old new
+    (history : List Event) → StoodFor (journal_of site text) site history old new → StopsReading Goes piece_text (front_pieces site history) (line_says grammar.Session) script rest old new
 StopsInScript Goes text (Err fault) script rest old new = ⊥
 
 -- either the file failed, and nothing was done; or the script did
@@ -51,7 +52,7 @@ StopsOnFile Goes FileFailed ScriptFailed site script rest old new =
 -- of each history that the journal holds, a crash at any moment leaves it and the events of some lines
 abbrev pub KeepsOnSite : List ℕ → Result Site SiteFault → List ℕ → Option Told → Option Told → Type 0
 KeepsOnSite text (Ok site) script old new =
-    (history : List Event) → StoodFor (journal_of site text) site history old new → KeepsOpened (journal_of site text) site history (spelled_in grammar.Session 0 (lines_of script)) 1 old new
+    (history : List Event) → StoodFor (journal_of site text) site history old new → KeepsOpened (journal_of site text) site history (spelled_in (line_says grammar.Session) 0 (lines_of script)) 1 old new
 KeepsOnSite text (Err fault) script old new = Adds old new []
 
 abbrev pub KeepsOnFile : Option (List ℕ) → Option (List ℕ) → Option Told → Option Told → Type 0

@@ -3,6 +3,7 @@ use Rattle.std.specs.Prelude.{◌≡◌, ℕ, ⊤, Option, Some, None, List, [],
 use Rattle.std.specs.Io.KnownBytes.{IsAtEnd}
 use Rattle.ground_io.specs.Trace.{Told, Adds, WhereTold}
 use Rattle.script_lines.specs.declared.line.Grammar.TheVariants as grammar
+use Rattle.script_lines.specs.Line.{line_says}
 use Rattle.script_lines.specs.Report.{report_text}
 use Rattle.script_lines.specs.Script.{lines_of}
 use Rattle.site_config.specs.declared.fault.SiteFault.{SiteFault}
@@ -35,15 +36,15 @@ ReadsToEnd None left = ⊥
 
 -- what is played is accepted: a site's text is a site, and every line is in the grammar
 abbrev pub AcceptsAs : Option Command → Option (List ℕ) → Option (List ℕ) → Type 0
-AcceptsAs (Some (Trial settings)) site script = IfSome script (λ text. refused_line grammar.Trial text ≡ None)
+AcceptsAs (Some (Trial settings)) site script = IfSome script (λ text. refused_line (line_says grammar.Trial) text ≡ None)
 AcceptsAs (Some Session) site script = AcceptsOnFile site script
 AcceptsAs (Some (Workload seed count)) site script = AcceptsGenerated seed count
 AcceptsAs None site script = ⊥
 
 -- a line is the first outside the grammar
 abbrev pub RefusesAs : Option Command → Option (List ℕ) → ℕ → Type 0
-RefusesAs (Some (Trial settings)) script line = IfSome script (λ text. refused_line grammar.Trial text ≡ Some line)
-RefusesAs (Some Session) script line = IfSome script (λ text. refused_line grammar.Session text ≡ Some line)
+RefusesAs (Some (Trial settings)) script line = IfSome script (λ text. refused_line (line_says grammar.Trial) text ≡ Some line)
+RefusesAs (Some Session) script line = IfSome script (λ text. refused_line (line_says grammar.Session) text ≡ Some line)
 RefusesAs (Some (Workload seed count)) script line = RefusesGenerated seed count line
 RefusesAs None script line = ⊥
 
@@ -57,7 +58,7 @@ RefusesSiteAs None site fault = ⊥
 -- where a source failed: what the lines give went out whose line feeds were read
 abbrev pub StopsAs : Option Command → Type 0 → Type 0 → Option (List ℕ) → Option (List ℕ) → Option (List ℕ) → Option Told → Option Told → Type 0
 StopsAs (Some (Trial settings)) SiteFailed ScriptFailed site script rest old new =
-    ScriptFailed × WhereTold script rest (λ text rest. StopsReading Adds report_text (front_transitions settings) grammar.Trial text rest old new)
+    ScriptFailed × WhereTold script rest (λ text rest. StopsReading Adds report_text (front_transitions settings) (line_says grammar.Trial) text rest old new)
 StopsAs (Some Session) SiteFailed ScriptFailed site script rest old new = StopsOnFile Emits SiteFailed ScriptFailed site script rest old new
 StopsAs (Some (Workload seed count)) SiteFailed ScriptFailed site script rest old new = ⊥
 StopsAs None SiteFailed ScriptFailed site script rest old new = ⊥

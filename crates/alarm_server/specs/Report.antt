@@ -2,6 +2,7 @@
 use Rattle.std.specs.Prelude.{ℕ, Option, Some, None, List, [], ◌∷◌, ◌++◌, length}
 use Rattle.bac_values.specs.declared.report.ReportLine.{ReportLine}
 use Rattle.script_lines.specs.declared.line.Grammar.TheVariants.{Session}
+use Rattle.script_lines.specs.Line.{line_says}
 use Rattle.script_lines.specs.declared.line.Line.{Line}
 use Rattle.script_lines.specs.Script.{lines_of}
 use Rattle.alarm_core.specs.declared.event.Event.{Event}
@@ -32,9 +33,9 @@ pieces_of site history (line ∷ lines) = piece_of (state_of site history) line 
 -- The report of a session of a site that begins at a history: how many events there are, a piece for each line of the script that isn't skipped, and the end. Where a line is outside the grammar, it ends before that line.
 abbrev pub report_of : Site → List Event → List ℕ → List (List ReportLine)
 report_of site history script =
-    (open_piece (state_of site history) ∷ pieces_of site history (spelled_in Session 0 (lines_of script)))
-    ++ session_end (refused_in Session 0 (lines_of script)) (length (lines_of script)) (state_of site (history_over site history (spelled_in Session 0 (lines_of script))))
+    (open_piece (state_of site history) ∷ pieces_of site history (spelled_in (line_says Session) 0 (lines_of script)))
+    ++ session_end (refused_in (line_says Session) 0 (lines_of script)) (length (lines_of script)) (state_of site (history_over site history (spelled_in (line_says Session) 0 (lines_of script))))
 
 -- the pieces over a front of a script, without an end
 abbrev pub front_pieces : Site → List Event → List ℕ → List (List ReportLine)
-front_pieces site history front = open_piece (state_of site history) ∷ pieces_of site history (spelled_in Session 0 (lines_of front))
+front_pieces site history front = open_piece (state_of site history) ∷ pieces_of site history (spelled_in (line_says Session) 0 (lines_of front))

@@ -2,6 +2,7 @@
 use Rattle.std.specs.Prelude.{ℕ, List, [], ◌∷◌, ◌++◌, length}
 use Rattle.bac_values.specs.declared.report.ReportLine.{ReportLine}
 use Rattle.script_lines.specs.declared.line.Grammar.TheVariants.{Session}
+use Rattle.script_lines.specs.Line.{line_says}
 use Rattle.script_lines.specs.declared.line.Line.{Line}
 use Rattle.script_lines.specs.Script.{lines_of}
 use Rattle.alarm_core.specs.State.{CoreState}
@@ -25,9 +26,9 @@ pieces_over state (line ∷ lines) = piece_of state line ∷ pieces_over (state_
 -- the report of a session that begins in a state, over the texts of a script's lines
 abbrev pub session_over : CoreState → List (List ℕ) → List (List ReportLine)
 session_over state texts =
-    (open_piece state ∷ pieces_over state (spelled_in Session 0 texts))
-    ++ session_end (refused_in Session 0 texts) (length texts) (state_over state (spelled_in Session 0 texts))
+    (open_piece state ∷ pieces_over state (spelled_in (line_says Session) 0 texts))
+    ++ session_end (refused_in (line_says Session) 0 texts) (length texts) (state_over state (spelled_in (line_says Session) 0 texts))
 
 -- the pieces of a session that begins in a state, over a front of its script, without an end
 abbrev pub state_front : CoreState → List ℕ → List (List ReportLine)
-state_front state front = open_piece state ∷ pieces_over state (spelled_in Session 0 (lines_of front))
+state_front state front = open_piece state ∷ pieces_over state (spelled_in (line_says Session) 0 (lines_of front))

@@ -1,6 +1,7 @@
 -- A trial: what its script does to the object, and the lines of its report.
 use Rattle.std.specs.Prelude.{◌≡◌, ℕ, Option, Some, None, List, [], ◌∷◌, ◌++◌, length, map, Result}
 use Rattle.script_lines.specs.declared.line.Grammar.TheVariants.{Trial}
+use Rattle.script_lines.specs.Line.{line_says}
 use Rattle.script_lines.specs.Report.{report_text}
 use Rattle.bac_values.specs.Moments.{first_moment}
 use Rattle.bac_values.specs.declared.value.Value.TheVariants.{Signed}
@@ -52,11 +53,11 @@ end_by (Some refused) lines = []
 
 -- the report of a trial of the object over the texts of a script's lines: the transitions, and the end
 abbrev pub report_over : Settings → List (List ℕ) → List ReportLine
-report_over settings texts = transitions_over settings (spelled_in Trial 0 texts) ++ end_by (refused_in Trial 0 texts) (length texts)
+report_over settings texts = transitions_over settings (spelled_in (line_says Trial) 0 texts) ++ end_by (refused_in (line_says Trial) 0 texts) (length texts)
 
 -- the transitions over a front of a script
 abbrev pub front_transitions : Settings → List ℕ → List ReportLine
-front_transitions settings front = transitions_over settings (spelled_in Trial 0 (lines_of front))
+front_transitions settings front = transitions_over settings (spelled_in (line_says Trial) 0 (lines_of front))
 
 -- The transitions at the points that are new in a longer course were to go out, and they did, or something was in the way.
 abbrev pub SendsTransitions : {A : Type 0} → Going → Result A Unsent → Point → List Incident → List Incident → Option Told → Option Told → Type 0

@@ -3,6 +3,7 @@ use Rattle.std.specs.Prelude.{◌≡◌, ℕ, Option, Some, None, Ok, List, [], 
 use Rattle.bac_values.specs.declared.report.ReportLine.{ReportLine}
 use Rattle.bac_values.specs.declared.report.ReportLine.TheVariants.{Summary}
 use Rattle.script_lines.specs.declared.line.Grammar.TheVariants.{Session}
+use Rattle.script_lines.specs.Line.{line_says}
 use Rattle.site_config.specs.Sites.{site_of}
 use Rattle.work_load.specs.Script.{workload_script}
 use Rattle.work_load.specs.Site.{workload_site}
@@ -25,15 +26,15 @@ summary_by seed count script (Some line) = []
 abbrev pub summary_of : ℕ → ℕ → List ReportLine
 summary_of seed count =
     let script = workload_script seed count in
-    summary_by seed count script (refused_line Session script)
+    summary_by seed count script (refused_line (line_says Session) script)
 
 -- every generated line is in the grammar
 abbrev pub AcceptsGenerated : ℕ → ℕ → Type 0
-AcceptsGenerated seed count = refused_line Session (workload_script seed count) ≡ None
+AcceptsGenerated seed count = refused_line (line_says Session) (workload_script seed count) ≡ None
 
 -- the generated line with this number is the first outside the grammar
 abbrev pub RefusesGenerated : ℕ → ℕ → ℕ → Type 0
-RefusesGenerated seed count line = refused_line Session (workload_script seed count) ≡ Some line
+RefusesGenerated seed count line = refused_line (line_says Session) (workload_script seed count) ≡ Some line
 
 -- the generated text is the generated site
 abbrev pub ReadsGenerated : Type 0

@@ -6,6 +6,7 @@ ghost use Rattle.ground_io.specs.Counts.{HasCause, Rose};
 ghost use Rattle.ground_io.specs.Trace.{Adds, WhereTold};
 ghost use Rattle.ground_io.specs.declared.entry.Entry.TheVariants.{Synced};
 ghost use Rattle.script_lines.specs.declared.line.Grammar.TheVariants.{Session};
+ghost use Rattle.script_lines.specs.Line.{line_says};
 ghost use Rattle.alarm_journal.specs.declared.open_fault.OpenFault.{OpenFault as Refusal};
 ghost use Rattle.alarm_core.specs.declared.event.Event.{Event as Happening};
 ghost use Rattle.alarm_core.specs.Sites.{IsSite};
@@ -68,9 +69,9 @@ fn play_site<T: Source, G: Ground>(
     ensures ends { (history : List Happening) → StoodFor (journal_of site.now text.now) site.now history (G.told device) (G.told result.0) → IfSome (T.left script.old) (λ text.
         Ends Emits piece_text (status_of result.1) (report_of site.now history text) (G.told device) (G.told result.0)) }
     ensures keeps { (history : List Happening) → StoodFor (journal_of site.now text.now) site.now history (G.told device) (G.told result.0) → IfSome (T.left script.old) (λ script.
-        KeepsOpened (journal_of site.now text.now) site.now history (spelled_in Session 0 (lines_of script)) 1 (G.told device) (G.told result.0)) }
+        KeepsOpened (journal_of site.now text.now) site.now history (spelled_in (line_says Session) 0 (lines_of script)) 1 (G.told device) (G.told result.0)) }
     ensures stops { (history : List Happening) → StoodFor (journal_of site.now text.now) site.now history (G.told device) (G.told result.0) → result.1 ≡ Err Status.ReadFault → WhereTold (T.left script.old) (T.left script.new)
-        (λ text rest. StopsReading Emits piece_text (front_pieces site.now history) Session text rest (G.told device) (G.told result.0)) }
+        (λ text rest. StopsReading Emits piece_text (front_pieces site.now history) (line_says Session) text rest (G.told device) (G.told result.0)) }
     ensures script_told { result.1 ≡ Err Status.ReadFault → WhereTold (T.left script.old) (T.left script.new) (λ text rest. ⊤) }
 
     // The journal's octets opened and lead to a state, from which the report goes on; or nothing went out.
@@ -82,9 +83,9 @@ fn play_site<T: Source, G: Ground>(
     ensures unplayed { (fault : Refusal) → result.1 ≡ Err (Status.JournalRefused fault) → script.new ≡ script.old }
     ensures stands { (history : List Happening) (fault : Refusal) → StoodFor (journal_of site.now text.now) site.now history (G.told device) (G.told result.0) → result.1 ≢ Err (Status.JournalRefused fault) }
     ensures to_end { OnOk result.1 (IsAtEnd (T.left script.new)) }
-    ensures accepted { OnOk result.1 (IfSome (T.left script.old) (λ text. refused_line Session text ≡ None)) }
+    ensures accepted { OnOk result.1 (IfSome (T.left script.old) (λ text. refused_line (line_says Session) text ≡ None)) }
     ensures refused { (line : ℕ) → result.1 ≡ Err (Status.ScriptRefused line) →
-        IfSome (T.left script.old) (λ text. refused_line Session text ≡ Some line) }
+        IfSome (T.left script.old) (λ text. refused_line (line_says Session) text ≡ Some line) }
     ensures fault { IfErr result.1 IsSessionFault }
     ensures size { G.size result.0 ≡ G.size device }
     ensures read_cause { HasCause (T.faults script.old) (T.faults script.new) (IsErrOf result.1 Status.ReadFault) }
@@ -128,7 +129,7 @@ pub fn session<S: Source, T: Source, G: Ground>(
     // The line that is refused is the first outside the grammar; the text that is refused is no site; and the journal is
     // refused for what its octets are.
     ensures refused { (line : ℕ) → result.1 ≡ Err (Status.ScriptRefused line) →
-        IfSome (T.left script.old) (λ text. refused_line Session text ≡ Some line) }
+        IfSome (T.left script.old) (λ text. refused_line (line_says Session) text ≡ Some line) }
     ensures refuses_site { (fault : SiteFault) → result.1 ≡ Err (Status.SiteRefused fault) → RefusesFile (S.left site.old) fault }
     ensures refuses_journal { (fault : Refusal) → result.1 ≡ Err (Status.JournalRefused fault) → RefusesJournal (S.left site.old) (G.told device) (G.told result.0) fault }
     ensures unplayed { (fault : Refusal) → result.1 ≡ Err (Status.JournalRefused fault) → script.new ≡ script.old }

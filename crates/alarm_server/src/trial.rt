@@ -9,7 +9,7 @@ ghost use Rattle.alarm_server.specs.Stopping.{StopsReading};
 ghost use Rattle.std.specs.Io.KnownBytes.{IsAtEnd};
 ghost use Rattle.ground_io.specs.Counts.{HasCause};
 ghost use Rattle.ground_io.specs.Trace.{Adds, WhereTold};
-ghost use Rattle.script_lines.specs.Line.{IsTrialLine};
+ghost use Rattle.script_lines.specs.Line.{IsTrialLine, line_says};
 ghost use Rattle.script_lines.specs.Script.{lines_of};
 ghost use Rattle.bac_values.specs.Moments.{IsMoment};
 ghost use Rattle.bac_values.specs.declared.value.Value.TheVariants.{Signed};
@@ -137,11 +137,11 @@ pub fn play<T: Source, G: Ground>(
     ensures ends { IfSome (T.left script.old) (λ text.
         Ends Adds report_text (status_of result) (report_over settings (lines_of text)) (G.told device.old) (G.told device.new)) }
     ensures to_end { OnOk result (IsAtEnd (T.left script.new)) }
-    ensures accepted { OnOk result (IfSome (T.left script.old) (λ text. refused_line Trial text ≡ None)) }
+    ensures accepted { OnOk result (IfSome (T.left script.old) (λ text. refused_line (line_says Trial) text ≡ None)) }
     ensures refused { (line : ℕ) → result ≡ Err (Status.ScriptRefused line) →
-        IfSome (T.left script.old) (λ text. refused_line Trial text ≡ Some line) }
+        IfSome (T.left script.old) (λ text. refused_line (line_says Trial) text ≡ Some line) }
     ensures stops { result ≡ Err Status.ReadFault → WhereTold (T.left script.old) (T.left script.new)
-        (λ text rest. StopsReading Adds report_text (front_transitions settings) Trial text rest (G.told device.old) (G.told device.new)) }
+        (λ text rest. StopsReading Adds report_text (front_transitions settings) (line_says Trial) text rest (G.told device.old) (G.told device.new)) }
     ensures fault { IfErr result IsTrialFault }
     ensures size { G.size device.new ≡ G.size device.old }
     ensures disk { G.disk_faults device.new ≡ G.disk_faults device.old }

@@ -5,6 +5,7 @@ ghost use Rattle.ground_io.specs.Counts.{HasCause};
 ghost use Rattle.ground_io.specs.Trace.{Adds};
 ghost use Rattle.script_lines.specs.Report.{report_text};
 ghost use Rattle.script_lines.specs.declared.line.Grammar.TheVariants.{Session};
+ghost use Rattle.script_lines.specs.Line.{line_says};
 ghost use Rattle.alarm_core.specs.Sites.{IsSite};
 ghost use Rattle.state_codec.specs.Sizes.{most_text};
 ghost use Rattle.site_config.specs.declared.fault.SiteFault.{SiteFault};
@@ -86,8 +87,8 @@ fn tally_on<G: Ground + Drop>(
 ) -> Result<Tally, Status>
     requires site { IsSite site.now }
     ensures tally { IfOk result (λ tally. tally ≡ tally_over (report_of site.now [] script.old.left)) }
-    ensures accepted { OnOk result (refused_line Session script.old.left ≡ None) }
-    ensures refused { (line : ℕ) → result ≡ Err (Status.ScriptRefused line) → refused_line Session script.old.left ≡ Some line }
+    ensures accepted { OnOk result (refused_line (line_says Session) script.old.left ≡ None) }
+    ensures refused { (line : ℕ) → result ≡ Err (Status.ScriptRefused line) → refused_line (line_says Session) script.old.left ≡ Some line }
     ensures takes_site { (fault : SiteFault) → result ≢ Err (Status.SiteRefused fault) }
     ensures fault { IfErr result IsInnerFault }
 {
@@ -111,8 +112,8 @@ fn tally_by(
     requires site { IsSite site.now }
     requires short { length text.now ≤ most_text }
     ensures tally { IfOk result (λ tally. tally ≡ tally_over (report_of site.now [] script.old.left)) }
-    ensures accepted { OnOk result (refused_line Session script.old.left ≡ None) }
-    ensures refused { (line : ℕ) → result ≡ Err (Status.ScriptRefused line) → refused_line Session script.old.left ≡ Some line }
+    ensures accepted { OnOk result (refused_line (line_says Session) script.old.left ≡ None) }
+    ensures refused { (line : ℕ) → result ≡ Err (Status.ScriptRefused line) → refused_line (line_says Session) script.old.left ≡ Some line }
     ensures takes_site { (fault : SiteFault) → result ≢ Err (Status.SiteRefused fault) }
     ensures fault { IfErr result IsInnerFault }
 {

@@ -1,5 +1,8 @@
 //! The scripts of the parts, and a reader of their lines.
 
+ghost use Rattle.std.specs.Prelude.{◌≡◌, IfOk};
+ghost use Rattle.script_lines.specs.declared.line.Grammar.TheVariants.{Session};
+
 use crate::missed::Missed;
 use ground_io::{Failed, Source};
 use script_lines::{Line, LineFault, Lines};
@@ -33,7 +36,9 @@ impl Source for Script<'_> {
 }
 
 /// A reader of lines.
-pub(crate) fn lines_of(alloc: Global) -> Result<Lines, Missed> {
+pub(crate) fn lines_of(alloc: Global) -> Result<Lines, Missed>
+    ensures grammar { IfOk result (λ lines. lines.grammar ≡ Session) }
+{
     match Lines::new(alloc) {
         Ok(lines) => Ok(lines),
         Err(_) => Ok(Lines::new(alloc)?),
@@ -41,10 +46,10 @@ pub(crate) fn lines_of(alloc: Global) -> Result<Lines, Missed> {
 }
 
 /// The next line of a script, if it has one.
-pub(crate) fn next_line(
-    lines: &mut Lines,
-    script: &mut Script<'_>,
-) -> Result<Option<Line>, Missed> {
+pub(crate) fn next_line(lines: &mut Lines, script: &mut Script<'_>) -> Result<Option<Line>, Missed>
+    requires grammar { lines.old.grammar ≡ Session }
+    ensures grammar { lines.new.grammar ≡ Session }
+{
     let found = match lines.next_line(script) {
         Err(LineFault::NoMemory) => lines.next_line(script),
         found => found,

@@ -12,6 +12,8 @@ mod ending_link_tests;
 #[cfg(test)]
 mod ground_io_tests;
 #[cfg(test)]
+mod packet_lines_tests;
+#[cfg(test)]
 mod script_lines_tests;
 #[cfg(test)]
 mod work_load_tests;

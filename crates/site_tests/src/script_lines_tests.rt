@@ -1,6 +1,7 @@
 //! Lines of scripts, and readers of them.
 
-ghost use Rattle.std.specs.Prelude.{None};
+ghost use Rattle.std.specs.Prelude.{◌≡◌, ◌≢◌, None};
+ghost use Rattle.script_lines.specs.declared.line.Grammar.TheVariants.{Packets};
 
 use crate::comparing::{holds, same};
 use bac_values::*;
@@ -29,6 +30,22 @@ impl<'a> Pieces<'a> {
             failing: 0,
             faults: 0,
         }
+    }
+
+    /// The same, where the call with this number fails.
+    pub(crate) fn failing_at(octets: &'a [u8], size: usize, failing: u64) -> Pieces<'a> {
+        Pieces {
+            octets,
+            size,
+            calls: 0,
+            failing,
+            faults: 0,
+        }
+    }
+
+    /// The next call fails.
+    pub(crate) fn fail_next(&mut self) {
+        self.failing = self.calls.saturating_add(1);
     }
 }
 
@@ -68,7 +85,10 @@ fn expect_set(
     lines: &mut Lines,
     source: &mut Pieces<'_>,
     wanted: (u64, u64, i32),
-) -> Result<(), Fail> {
+) -> Result<(), Fail>
+    requires inputs { lines.old.grammar ≢ Packets }
+    ensures grammar { lines.new.grammar ≡ lines.old.grammar }
+{
     let line = lines.next_line(source)?.ok_or("no line")?;
     same(rt, &set_of(&line), &Some(wanted));
     same(rt, &lines.count(), &wanted.0);
@@ -80,13 +100,18 @@ pub(crate) fn expect_end(
     rt: &impl Abort,
     lines: &mut Lines,
     source: &mut Pieces<'_>,
-) -> Result<(), Fail> {
+) -> Result<(), Fail>
+    requires inputs { lines.old.grammar ≢ Packets }
+    ensures grammar { lines.new.grammar ≡ lines.old.grammar }
+{
     holds(rt, lines.next_line(source)?.is_none());
     Ok(())
 }
 
 /// There are two lines that set in this script, however large the pieces are in which it comes.
-fn expect_two(rt: &impl Abort, lines: &mut Lines, size: usize) -> Result<(), Fail> {
+fn expect_two(rt: &impl Abort, lines: &mut Lines, size: usize) -> Result<(), Fail>
+    requires inputs { lines.old.grammar ≢ Packets }
+{
     let script = b"# a comment\n\nset 946684800000 -7\n#\nset 946684801000 0";
     let mut source = Pieces::of(script, size);
     expect_set(rt, lines, &mut source, (3, 946_684_800_000, -7))?;
@@ -110,18 +135,12 @@ fn skipped_lines_count_and_the_last_may_lack_its_line_feed(rt: HostRuntime) -> R
 
 /// Whether an empty line with a number is skipped.
 fn is_skipped(alloc: Global, grammar: Grammar, number: u64) -> bool {
-    matches!(
-        &LineSays::read(alloc, grammar, number, b""),
-        Ok(LineSays::Skipped)
-    )
+    matches!(&Line::says(alloc, grammar, number, b""), Ok(Says::Skipped))
 }
 
 /// Whether it is refused.
 fn is_outside(alloc: Global, grammar: Grammar, number: u64) -> bool {
-    matches!(
-        &LineSays::read(alloc, grammar, number, b""),
-        Ok(LineSays::Outside)
-    )
+    matches!(&Line::says(alloc, grammar, number, b""), Ok(Says::Outside))
 }
 
 #[test]
@@ -133,7 +152,10 @@ fn a_line_beyond_the_last_is_refused_also_where_it_would_be_skipped(rt: HostRunt
 }
 
 /// Reading fails where the source does, and one line was read then.
-fn expect_failed_read(rt: &impl Abort, lines: &mut Lines, source: &mut Pieces<'_>) {
+fn expect_failed_read(rt: &impl Abort, lines: &mut Lines, source: &mut Pieces<'_>)
+    requires inputs { lines.old.grammar ≢ Packets }
+    ensures grammar { lines.new.grammar ≡ lines.old.grammar }
+{
     holds(rt, matches!(&lines.next_line(source), Err(LineFault::Read)));
     same(rt, &lines.count(), &1);
 }
@@ -144,7 +166,10 @@ fn expect_tick(
     lines: &mut Lines,
     source: &mut Pieces<'_>,
     moment: u64,
-) -> Result<(), Fail> {
+) -> Result<(), Fail>
+    requires inputs { lines.old.grammar ≢ Packets }
+    ensures grammar { lines.new.grammar ≡ lines.old.grammar }
+{
     let line = lines.next_line(source)?.ok_or("no line")?;
     holds(rt, matches!(&line.input, Input::Tick));
     same(rt, &line.moment, &moment);
@@ -152,13 +177,14 @@ fn expect_tick(
 }
 
 /// A line that sets, and a tick, come after a failed read, and behind them nothing is read.
-fn expect_after_failed_read(rt: &impl Abort, lines: &mut Lines) -> Result<(), Fail> {
-    let mut source = Pieces::of(b"#\nset 946684800000 12\ntick 946684800001", 9);
-    source.failing = 3;
+fn expect_after_failed_read(rt: &impl Abort, lines: &mut Lines) -> Result<(), Fail>
+    requires inputs { lines.old.grammar ≢ Packets }
+{
+    let mut source = Pieces::failing_at(b"#\nset 946684800000 12\ntick 946684800001", 9, 3);
     expect_failed_read(rt, lines, &mut source);
     expect_set(rt, lines, &mut source, (2, 946_684_800_000, 12))?;
     expect_tick(rt, lines, &mut source, 946_684_800_001)?;
-    source.failing = source.calls.saturating_add(1);
+    source.fail_next();
     expect_end(rt, lines, &mut source)
 }
 

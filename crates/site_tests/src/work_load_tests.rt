@@ -1,5 +1,8 @@
 //! Generated sites and scripts.
 
+ghost use Rattle.std.specs.Prelude.{◌≢◌};
+ghost use Rattle.script_lines.specs.declared.line.Grammar.TheVariants.{Packets};
+
 use crate::comparing::{holds, same};
 use crate::script_lines_tests::{Pieces, expect_end};
 use script_lines::Lines;
@@ -36,7 +39,9 @@ fn a_script_is_drawn_from_its_seed(rt: HostRuntime) -> Result<(), Fail> {
 }
 
 /// A script has 400 lines.
-fn expect_400_lines(rt: &impl Abort, lines: &mut Lines, script: &[u8]) -> Result<(), Fail> {
+fn expect_400_lines(rt: &impl Abort, lines: &mut Lines, script: &[u8]) -> Result<(), Fail>
+    requires inputs { lines.old.grammar ≢ Packets }
+{
     let mut source = Pieces::of(script, 8192);
     for _ in 0..400 {
         lines.next_line(&mut source)?;

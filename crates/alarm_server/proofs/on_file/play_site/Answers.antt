@@ -1,5 +1,6 @@
 use Rattle.std.proofs.Common.{◌≡◌, ◌∙◌, Err, ap, subst}
 use Rattle.script_lines.specs.declared.line.Grammar.TheVariants.{Session}
+use Rattle.script_lines.specs.Line.{line_says}
 use Rattle.script_lines.specs.Script.{lines_of}
 use Rattle.alarm_server.specs.declared.status.Status.TheVariants.{Done, JournalRefused, ReadFault}
 use Rattle.state_codec.specs.Emission.{Emits}
@@ -35,8 +36,8 @@ returns-in-Err-clause-keeps g c = λ history stood.
     let old = g.G.Ground.told c.args.device in
     let new = g.G.Ground.told c.in-Err.device in
     let journal = journal_of c.args.site.now c.args.text.now in
-    in_any (λ t. KeepsOpened journal c.args.site.now history (spelled_in Session 0 (lines_of t)) 1 old new) (g.T.Source.left c.args.script.now)
-    (λ t. opening_kept journal c.args.site.now history (spelled_in Session 0 (lines_of t)) 1 old new stood c.in-Err.ensures.reopens)
+    in_any (λ t. KeepsOpened journal c.args.site.now history (spelled_in (line_says Session) 0 (lines_of t)) 1 old new) (g.T.Source.left c.args.script.now)
+    (λ t. opening_kept journal c.args.site.now history (spelled_in (line_says Session) 0 (lines_of t)) 1 old new stood c.in-Err.ensures.reopens)
 
 pub returns-in-Err-clause-stands : goal.returns-in-Err-clause-stands
 returns-in-Err-clause-stands g c = λ history fault stood same.
@@ -111,7 +112,7 @@ returns-clause-script_told g c = λ e.
     let same : c.in-Err-played.status ≡ ReadFault = cc in
     let old = g.G.Ground.told c.in-Ok.opened.0.device in
     let new = g.G.Ground.told c.play_session-device.result.0 in
-    told_more (λ t rest. StopsReading Emits piece_text (state_front c.in-Ok.opened.1) Session t rest old new) (g.T.Source.left c.args.script.now) (g.T.Source.left c.play_session-device.new.script) (c.play_session-device.ensures.stops (c.in-Err-played.is ∙ ap Err same))
+    told_more (λ t rest. StopsReading Emits piece_text (state_front c.in-Ok.opened.1) (line_says Session) t rest old new) (g.T.Source.left c.args.script.now) (g.T.Source.left c.play_session-device.new.script) (c.play_session-device.ensures.stops (c.in-Err-played.is ∙ ap Err same))
 
 pub returns-in-Err-clause-opened : goal.returns-in-Err-clause-opened
 returns-in-Err-clause-opened g c =

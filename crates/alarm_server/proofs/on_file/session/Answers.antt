@@ -1,6 +1,7 @@
 use Rattle.std.proofs.Common.{◌≡◌, ◌∙◌, Err, None, IfSome, IsOk, OnErr, ap, refl, inr}
 use Rattle.ground_io.specs.Trace.{WhereTold}
 use Rattle.script_lines.specs.declared.line.Grammar.TheVariants.{Session}
+use Rattle.script_lines.specs.Line.{line_says}
 use Rattle.script_lines.specs.Script.{lines_of}
 use Rattle.site_config.specs.Sites.{site_of}
 use Rattle.alarm_server.specs.declared.status.Status.TheVariants.{SiteRefused}
@@ -51,14 +52,14 @@ returns-clause-keeps g c =
     let new = g.G.Ground.told c.play_site.result.0 in
     let script = g.T.Source.left c.args.script.now in
     on_read (λ octets says. IfSome script (λ t. KeepsOnSite octets says t old new)) (g.S.Source.left c.args.site.now) site c.in-Ok.read.1.items text c.as_slice.ensures.value c.in-Ok.ensures.site
-    (each_script (λ history. StoodFor (journal_of site text) site history old new) (λ t history. KeepsOpened (journal_of site text) site history (spelled_in Session 0 (lines_of t)) 1 old new) script c.play_site.ensures.keeps)
+    (each_script (λ history. StoodFor (journal_of site text) site history old new) (λ t history. KeepsOpened (journal_of site text) site history (spelled_in (line_says Session) 0 (lines_of t)) 1 old new) script c.play_site.ensures.keeps)
 
 pub returns-clause-accepted : goal.returns-clause-accepted
 returns-clause-accepted g c =
     let left = g.S.Source.left c.args.site.now in
     let script = g.T.Source.left c.args.script.now in
     let taken : IfSome left (λ octets. IsOk (site_of octets)) = on_read (λ octets says. IsOk says) left c.in-Ok.read.0 c.in-Ok.read.1.items c.as_slice.result.now c.as_slice.ensures.value c.in-Ok.ensures.site refl in
-    on_ok_more (IfSome script (λ t. refused_line Session t ≡ None)) (AcceptsOnFile left script) c.play_site.result.1 (λ lines. (taken, lines)) c.play_site.ensures.accepted
+    on_ok_more (IfSome script (λ t. refused_line (line_says Session) t ≡ None)) (AcceptsOnFile left script) c.play_site.result.1 (λ lines. (taken, lines)) c.play_site.ensures.accepted
 
 pub returns-clause-refuses_journal : goal.returns-clause-refuses_journal
 returns-clause-refuses_journal g c = λ fault e.
@@ -79,7 +80,7 @@ returns-clause-stops g c = λ e.
     let script = g.T.Source.left c.args.script.now in
     let rest = g.T.Source.left c.play_site.new.script in
     let stood : IfSome (g.S.Source.left c.args.site.now) (λ octets. WhereTold script rest (λ t left. StopsInScript Emits octets (site_of octets) t left old new)) = on_read (λ octets says. WhereTold script rest (λ t left. StopsInScript Emits octets says t left old new)) (g.S.Source.left c.args.site.now) site c.in-Ok.read.1.items text c.as_slice.ensures.value c.in-Ok.ensures.site
-    (each_told (λ history. StoodFor (journal_of site text) site history old new) (λ t left history. StopsReading Emits piece_text (front_pieces site history) Session t left old new) script rest (c.play_site.ensures.script_told e) (λ history before. c.play_site.ensures.stops history before e)) in
+    (each_told (λ history. StoodFor (journal_of site text) site history old new) (λ t left history. StopsReading Emits piece_text (front_pieces site history) (line_says Session) t left old new) script rest (c.play_site.ensures.script_told e) (λ history before. c.play_site.ensures.stops history before e)) in
     inr (c.play_site.ensures.read_cause.rose e, stood)
 
 pub returns-in-Err-clause-opened : goal.returns-in-Err-clause-opened

@@ -1,6 +1,7 @@
 use Rattle.std.proofs.Common.{◌≡◌, ◌∷◌, [], List, Err, ap, subst, ◌∙◌, refl}
 use Rattle.ground_io.specs.Trace.{WhereTold}
 use Rattle.script_lines.specs.declared.line.Grammar.TheVariants.{Session}
+use Rattle.script_lines.specs.Line.{line_says}
 use Rattle.script_lines.specs.Reading.{octets_to_come}
 use Rattle.script_lines.specs.Script.{lines_of, ReadsLine}
 use Rattle.alarm_server.specs.declared.status.Status.TheVariants.{ScriptRefused, ReadFault}
@@ -25,8 +26,8 @@ use Rattle.alarm_server.proofs.session.play_session.Goals as goal
 pub returns-in-Err-clause-keeps : goal.returns-in-Err-clause-keeps
 returns-in-Err-clause-keeps g c = λ journal history stands holds.
     rw c.into_ground.ensures.same
-    (in_any (λ t. KeepsReport journal c.args.core.now.site history (spelled_in Session 0 (lines_of t)) 1 (g.G.Ground.told c.args.press.device) (g.G.Ground.told c.args.press.device)) (g.T.Source.left c.args.script.now)
-    (λ t. kept_at_once journal c.args.core.now.site history c.args.press.layout (g.G.Ground.told c.args.press.device) (spelled_in Session 0 (lines_of t)) holds))
+    (in_any (λ t. KeepsReport journal c.args.core.now.site history (spelled_in (line_says Session) 0 (lines_of t)) 1 (g.G.Ground.told c.args.press.device) (g.G.Ground.told c.args.press.device)) (g.T.Source.left c.args.script.now)
+    (λ t. kept_at_once journal c.args.core.now.site history c.args.press.layout (g.G.Ground.told c.args.press.device) (spelled_in (line_says Session) 0 (lines_of t)) holds))
 
 pub returns-in-Err-begin-clause-ends : goal.returns-in-Err-begin-clause-ends
 returns-in-Err-begin-clause-ends g c =
@@ -41,8 +42,8 @@ returns-in-Err-begin-clause-keeps g c = λ journal history stands holds.
     let old = g.G.Ground.told c.args.press.device in
     let new = g.G.Ground.told c.begin.new.press.device in
     rw c.into_ground-in-Err-begin.ensures.same
-    (in_any (λ t. KeepsReport journal c.args.core.now.site history (spelled_in Session 0 (lines_of t)) 1 old new) (g.T.Source.left c.args.script.now)
-    (λ t. kept_at_first journal c.args.core.now.site history c.args.press.layout old new (spelled_in Session 0 (lines_of t)) c.in-Err-begin.unsent (open_piece c.args.core.now) holds (c.begin.ensures.any_moment journal) c.in-Err-begin.ensures.sends))
+    (in_any (λ t. KeepsReport journal c.args.core.now.site history (spelled_in (line_says Session) 0 (lines_of t)) 1 old new) (g.T.Source.left c.args.script.now)
+    (λ t. kept_at_first journal c.args.core.now.site history c.args.press.layout old new (spelled_in (line_says Session) 0 (lines_of t)) c.in-Err-begin.unsent (open_piece c.args.core.now) holds (c.begin.ensures.any_moment journal) c.in-Err-begin.ensures.sends))
 
 pub loop-line-init : goal.loop-line-init
 loop-line-init g c =
@@ -80,7 +81,7 @@ returns-in-Err-next_line-clause-refused g c = λ line e.
     let next = c.next_line.new in
     let come = octets_to_come here.lines (g.T.Source.left here.script) in
     let come' = octets_to_come next.self (g.T.Source.left next.source) in
-    let read = subst (λ f. WhereTold come come' (ReadsLine Session here.lines.number next.self.number (Err f))) fault (rw here.invariant.grammar at c.in-Err-next_line.ensures.line) in
+    let read = subst (λ f. WhereTold come come' (ReadsLine (line_says Session) here.lines.number next.self.number (Err f))) fault (rw here.invariant.grammar at c.in-Err-next_line.ensures.line) in
     refused_first Emits emits c.args.core.now (g.T.Source.left c.args.script.now) come come' (g.G.Ground.told c.args.press.device) (g.G.Ground.told here.press.device) here.lines.number next.self.number here.lines.ended here.core here.tally line here.invariant.plays.progress read
 
 pub returns-in-Err-next_line-clause-stops : goal.returns-in-Err-next_line-clause-stops
@@ -94,7 +95,7 @@ returns-in-Err-next_line-clause-stops g c = λ e.
     let come' = octets_to_come next.self (g.T.Source.left next.source) in
     let old = g.G.Ground.told c.args.press.device in
     let mid = g.G.Ground.told here.press.device in
-    let read = subst (λ f. WhereTold come come' (ReadsLine Session here.lines.number next.self.number (Err f))) fault (rw here.invariant.grammar at c.in-Err-next_line.ensures.line) in
+    let read = subst (λ f. WhereTold come come' (ReadsLine (line_says Session) here.lines.number next.self.number (Err f))) fault (rw here.invariant.grammar at c.in-Err-next_line.ensures.line) in
     rw c.into_ground-in-Err-next_line.ensures.same
     (stops_reading Emits emits c.args.core.now text come (g.T.Source.left next.source) next.self.pending old mid here.lines.number next.self.number here.lines.ended next.self.ended here.core here.tally here.invariant.plays.progress read c.next_line.ensures.ended c.next_line.ensures.whole_lines (c.next_line.ensures.waits (c.in-Err-next_line.is ∙ ap Err fault)))
 

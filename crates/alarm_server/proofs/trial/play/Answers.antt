@@ -4,6 +4,7 @@ use Rattle.std.proofs.lemmas.Result.{err_from_is_err_and}
 use Rattle.bac_values.specs.declared.report.ReportLine.TheVariants.{TrialEnd}
 use Rattle.ground_io.specs.Trace.{Adds, WhereTold}
 use Rattle.script_lines.specs.declared.line.Grammar.TheVariants.{Trial}
+use Rattle.script_lines.specs.Line.{line_says}
 use Rattle.script_lines.specs.Reading.{octets_to_come}
 use Rattle.script_lines.specs.Script.{ReadsLine}
 use Rattle.alarm_server.specs.declared.status.Status.TheVariants.{ScriptRefused, ReadFault}
@@ -44,7 +45,7 @@ returns-in_err-line-clause-refused g c = λ line e.
     let next = c.next_line.new in
     let come = octets_to_come here.lines (g.T.Source.left here.script) in
     let come' = octets_to_come next.self (g.T.Source.left next.source) in
-    let read = subst (λ f. WhereTold come come' (ReadsLine Trial here.lines.number next.self.number (Err f))) fault (rw here.invariant.grammar at c.in_err-line.ensures.line) in
+    let read = subst (λ f. WhereTold come come' (ReadsLine (line_says Trial) here.lines.number next.self.number (Err f))) fault (rw here.invariant.grammar at c.in_err-line.ensures.line) in
     refused_first c.args.settings (g.T.Source.left c.args.script.now) come come' (g.G.Ground.told c.args.device.now) (g.G.Ground.told here.device) here.lines.number next.self.number here.lines.ended here.watch line here.invariant.progress read
 
 pub returns-in_err-line-clause-stops : goal.returns-in_err-line-clause-stops
@@ -56,7 +57,7 @@ returns-in_err-line-clause-stops g c = λ e.
     let next = c.next_line.new in
     let come = octets_to_come here.lines (g.T.Source.left here.script) in
     let come' = octets_to_come next.self (g.T.Source.left next.source) in
-    let read = subst (λ f. WhereTold come come' (ReadsLine Trial here.lines.number next.self.number (Err f))) fault (rw here.invariant.grammar at c.in_err-line.ensures.line) in
+    let read = subst (λ f. WhereTold come come' (ReadsLine (line_says Trial) here.lines.number next.self.number (Err f))) fault (rw here.invariant.grammar at c.in_err-line.ensures.line) in
     stops_reading c.args.settings (g.T.Source.left c.args.script.now) come (g.T.Source.left next.source) next.self.pending (g.G.Ground.told c.args.device.now) (g.G.Ground.told here.device) here.lines.number next.self.number here.lines.ended next.self.ended here.watch here.invariant.progress read c.next_line.ensures.ended c.next_line.ensures.whole_lines (c.next_line.ensures.waits (c.in_err-line.was ∙ ap Err fault))
 
 pub returns-in_err-take-clause-ends : goal.returns-in_err-take-clause-ends
