@@ -184,6 +184,7 @@ pub record Identifies (state : CoreState) (object : ObjectIdData) : Type 0 where
   pub detection : has_event_detection state.site object ≡ is_some (detected_object_in object state.alarms)
   pub there : has_event_detection state.site object ≡ true → list_any (is_object object) (identifiers_of state.site) ≡ true
   pub stamps : length (alarm_in state object).stamps ≡ 3
+  pub valued : list_any (λ (listed : ObjectSite). is_object object listed.object) state.site.objects ≡ is_some (row_of object state.values.rows)
 
 pub identifies : (site : Site) (history : List Event) (object : ObjectIdData) → Identifies (state_of site history) object
 identifies site history object = record {
@@ -193,4 +194,5 @@ identifies site history object = record {
   detection = detection site history object;
   there = there site history object;
   stamps = stamps site history object;
+  valued = sym (any_map (is_object object) object_of site.objects) ∙ rows_known site history object;
 }

@@ -108,7 +108,7 @@ in_turn false true later = refl
 in_turn false false later = refl
 
 -- the device has the object
-has_it : (state : CoreState) (object : ObjectIdData) → Identifies state object → list_any (is_object object) (identifiers_of state.site) ≡ has_object state object
+pub has_it : (state : CoreState) (object : ObjectIdData) → Identifies state object → list_any (is_object object) (identifiers_of state.site) ≡ has_object state object
 has_it state object is =
     let row = is_some (row_of object state.values.rows) in
     is.known

@@ -22,3 +22,11 @@ mod AllTables
 mod ManyReads
 mod CanBeRead
 mod SummaryRows
+mod FieldTables
+mod Headers
+mod Heeding
+mod LongAnswers
+mod StartPoints
+mod LongParts
+mod ToldBack
+mod EnteredStates

@@ -15,12 +15,12 @@ abbrev behind_six : List ℕ → List ℕ
 behind_six (a ∷ b ∷ c ∷ d ∷ e ∷ f ∷ rest) = rest
 behind_six _ = []
 
-abbrev first_of : List ℕ → ℕ
+abbrev pub first_of : List ℕ → ℕ
 first_of [] = 0
 first_of (octet ∷ octets) = octet
 
 -- datagrams to one peer that are the same carry the same APDU
-same_apdu : (peer : PeerData) (a b : List ℕ) → reply_to peer a ≡ reply_to peer b → a ≡ b
+pub same_apdu : (peer : PeerData) (a b : List ℕ) → reply_to peer a ≡ reply_to peer b → a ≡ b
 same_apdu peer a b e =
     let before = written_destination peer in
     let behind : before ++ a ≡ before ++ b = ap (λ (send : Send). behind_six send.bytes) e in

@@ -22,7 +22,7 @@ zero_count (pos zero) = refl
 zero_count (pos (suc n)) = refl
 zero_count (negsuc n) = refl
 
-zero_range : (range : RangeBy) → asks_for_nothing range ≡ has_zero_count range
+pub zero_range : (range : RangeBy) → asks_for_nothing range ≡ has_zero_count range
 zero_range All = refl
 zero_range (Position reference count) = zero_count count
 zero_range (Sequence reference count) = zero_count count

@@ -8,3 +8,8 @@ pub mod Laws
 pub mod ReadBack
 pub mod ListBack
 pub mod ManyLaws
+pub mod FieldRefusals
+pub mod Heeded
+pub mod TooLong
+pub mod RunStarts
+pub mod ToldStates
