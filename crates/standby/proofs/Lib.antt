@@ -1,5 +1,7 @@
+pub mod AllOffered
 pub mod Endings
 pub mod Fronts
+pub mod Journals
 pub mod Judged
 pub mod Offered
 pub mod Once

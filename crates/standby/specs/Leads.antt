@@ -42,3 +42,7 @@ MayLeadOn old octets before after = (took : Took) × (new : Following) × Takes 
 -- events or a snapshot were taken
 abbrev pub IsTaken : Took → Type 0
 IsTaken took = (known : ℕ) × (took ≡ Taken known)
+
+-- the table takes what a packet holds
+abbrev pub MayBeTaken : Following → List ℕ → Type 0
+MayBeTaken old octets = (known : ℕ) × (new : Following) × Takes old octets (Taken known) new

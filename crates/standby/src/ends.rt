@@ -1,13 +1,15 @@
 //! Where records end that stand one behind the other.
-ghost use Rattle.std.specs.Prelude.{◌≡◌, ◌≤◌, ◌<◌, ◌+◌, ◌-◌, ℕ, Err, IfOk, length, slice_index};
+ghost use Rattle.std.specs.Prelude.{◌≡◌, ◌≤◌, ◌<◌, ◌+◌, ◌-◌, ℕ, Err, IfOk, length, min, slice_index};
 ghost use Rattle.bac_tags.specs.Places.{IsSpelledAt};
 ghost use Rattle.ground_io.specs.Disk.{octets_at};
 ghost use Rattle.alarm_core.specs.declared.event.Event.{Event as Happening};
+ghost use Rattle.alarm_journal.specs.Opened.{sum_of};
 ghost use Rattle.state_codec.specs.Records.{IsNowhere, SpellsEvent};
 ghost use Rattle.standby.specs.Offers.{AreEnds, IsCutAt, start_of};
 ghost use Rattle.standby.specs.Packets.{most_packet_octets};
 
 use crate::packet::MOST_PACKET_OCTETS;
+use alarm_journal::Body;
 use bac_values::{NoMemory, push};
 use state_codec::{CodecFault, read_event};
 use std::alloc::Global;
@@ -36,6 +38,17 @@ pub(crate) fn ends_of(alloc: Global, records: &[u8]) -> Result<Vec<usize>, Codec
         }
     }
     Ok(ends)
+}
+
+/// How many of some octets, so many in all, bodies have together that stand in them one behind the other.
+pub(crate) fn length_of(bodies: &[Body], octets: usize) -> usize
+    ensures length { result ≡ min (sum_of bodies.now) octets }
+{
+    let mut length: usize = 0;
+    for body in bodies {
+        length = octets.min(length.saturating_add(body.length as usize));
+    }
+    length
 }
 
 /// Where the record with a number begins, or where all of them end.

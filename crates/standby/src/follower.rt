@@ -1,14 +1,18 @@
 //! A follower: it takes a leader's packets into a journal of its own.
 
-ghost use Rattle.std.specs.Prelude.{◌≡◌, ◌⊎◌, List, [], MatchResult, IfErr, IfOk, None, ⊤};
+ghost use Rattle.std.specs.Prelude.{◌≡◌, ◌<◌, ◌+◌, ◌⊎◌, List, [], length, MatchResult, IfErr, IfOk, None, ⊤};
+ghost use Rattle.ground_io.specs.Counts.{HasCause};
 ghost use Rattle.alarm_core.specs.Allowed.{Represents};
 ghost use Rattle.alarm_core.specs.declared.event.Event.{Event as Happening};
+ghost use Rattle.alarm_journal.specs.Emissions.{EmitsAll};
+ghost use Rattle.alarm_journal.specs.Journal.{Content};
 ghost use Rattle.alarm_journal.specs.Journal.{Site as Journal};
+ghost use Rattle.alarm_journal.specs.Press.{Throughout};
 ghost use Rattle.state_codec.specs.Emission.{Emits};
-ghost use Rattle.state_codec.specs.Keeping.{Commits, HoldsHistory};
+ghost use Rattle.state_codec.specs.Keeping.{Commits, HoldsHistory, Rests};
 ghost use Rattle.standby.specs.Followers.{HasRoomyAreas, following_of};
 ghost use Rattle.standby.specs.Once.{IsAnsweredOnce};
-ghost use Rattle.standby.specs.Leads.{IsTaken, LeadsOn, MayBe, MayLeadOn};
+ghost use Rattle.standby.specs.Leads.{IsTaken, LeadsOn, MayBe, MayBeTaken, MayLeadOn};
 ghost use Rattle.standby.specs.TakeFaults.{Caused, IfDiskFault, KeepsFollower};
 ghost use Rattle.standby.specs.Takes.{Takes};
 
@@ -17,7 +21,7 @@ use crate::judging::{Judged, judge};
 use crate::{Took, answers_once};
 use alarm_core::{Core, Site, site_fits};
 use alarm_journal::Press;
-use bac_values::NoMemory;
+use bac_values::{NoMemory, Send};
 use ground_io::Ground;
 use state_codec::write_work;
 use std::alloc::Global;
@@ -112,6 +116,9 @@ impl<G: Ground> Follower<G> {
             → Represents self.core before → MayBe self.core.site before → MayBe self.core.site after → MayLeadOn (following_of self) packet.now before after
             → IfErr result (λ fault. IfDiskFault fault (λ device. Commits journal self.core.site before after (G.told self.press.device) (G.told device))) }
 
+        // The disk fails only at a packet that the table takes.
+        ensures tried { IfErr result (λ fault. IfDiskFault fault (λ device. MayBeTaken (following_of self) packet.now)) }
+
         // Nothing is written where nothing is taken, and nothing is ever sent.
         ensures unwritten { IfOk result (λ taken. IsTaken taken.1 ⊎ (taken.0.press ≡ self.press)) }
         ensures quiet { MatchResult result
@@ -148,6 +155,28 @@ impl<G: Ground> Follower<G> {
                 follower: Follower::of(core, press, gathering),
             }),
         }
+    }
+
+    /// Emits each of these by the follower's ground, in order. How far the follower has come, and what its journal holds,
+    /// stay as they are.
+    pub fn emit_all(&mut self, sends: &[Send]) -> alarm_journal::Emits
+        ensures core { self.new.core ≡ self.old.core }
+        ensures gathering { self.new.gathering ≡ self.old.gathering }
+        ensures layout { self.new.press.layout ≡ self.old.press.layout }
+        ensures told { EmitsAll sends.now result.sent result.lost (G.told self.old.press.device) (G.told self.new.press.device) }
+        ensures all { result.sent + result.lost ≡ length sends.now }
+        ensures cause { HasCause (G.emit_faults self.old.press.device) (G.emit_faults self.new.press.device) (0 < result.lost) }
+        ensures uncounted { result.lost ≡ 0 → G.emit_faults self.new.press.device ≡ G.emit_faults self.old.press.device }
+        ensures disk { G.disk_faults self.new.press.device ≡ G.disk_faults self.old.press.device }
+        ensures size { G.size self.new.press.device ≡ G.size self.old.press.device }
+
+        // Each image that a crash may leave, now or at any moment of the emissions, opens to what stood before them.
+        ensures rests { (journal : Journal) (content : Content) → Rests journal self.old.press.layout (G.told self.old.press.device) content
+            → Rests journal self.new.press.layout (G.told self.new.press.device) content }
+        ensures any_moment { (journal : Journal) (content : Content) → Rests journal self.old.press.layout (G.told self.old.press.device) content
+            → Throughout journal content (G.told self.old.press.device) (G.told self.new.press.device) }
+    {
+        self.press.emit_all(sends)
     }
 
     /// How many events the follower has, all of them on its disk.

@@ -1,18 +1,27 @@
 //! A leader: it offers what its journal holds, from where a follower has come to.
-ghost use Rattle.std.specs.Prelude.{◌≡◌, ◌≤◌, ◌<◌, ◌+◌, ◌^◌, ◌++◌, ℕ, List, [], Err, IfOk, IfSome, None, OnErr, Some, length, reverse};
+ghost use Rattle.std.specs.Prelude.{◌≡◌, ◌≤◌, ◌<◌, ◌+◌, ◌^◌, ◌++◌, ℕ, List, [], Err, IfErr, IfOk, IfSome, None, OnErr, Some, length, reverse};
 ghost use Rattle.std.specs.Option.{option_map};
 ghost use Rattle.alarm_core.specs.declared.event.Event.{Event as Happening};
 ghost use Rattle.alarm_core.specs.declared.site.Site.{Site};
+ghost use Rattle.alarm_core.specs.Sites.{IsSite};
+ghost use Rattle.alarm_journal.specs.Journal.{batches_of};
+ghost use Rattle.alarm_journal.specs.Opened.{content_in};
 ghost use Rattle.bac_values.specs.Limits.{most_events};
-ghost use Rattle.state_codec.specs.Contents.{IsSnapshotAfter, SpellsEvents};
-ghost use Rattle.standby.specs.Offers.{AreAsManyAsFit, IsCutAt, IsLeaderOf, LeaderState, LeadsFor, OffersNext, behind_piece, heard_by, left_of, piece_from, records_packet};
+ghost use Rattle.state_codec.specs.Contents.{IsSnapshotAfter, SpellsEvents, StandsForHistory};
+ghost use Rattle.state_codec.specs.Damage.{ContentLeadsTo};
+ghost use Rattle.standby.specs.Offers.{AreAsManyAsFit, AreEnds, IsCutAt, IsLeaderOf, LeaderState, LeadsFor, OffersNext, behind_piece, heard_by, left_of, piece_from, records_packet};
 ghost use Rattle.standby.specs.Packets.{written_piece};
+ghost use Rattle.standby.specs.Reaches.{HasPackets};
 ghost use Rattle.standby.specs.Runs.{IsOffered};
 
-use crate::ends::{between, ends_of, first_beyond, start_of};
+use crate::ends::{between, ends_of, first_beyond, length_of, start_of};
 use crate::packet::{MOST_PACKET_OCTETS, PieceFrame, write_piece, write_records};
+use alarm_core::Core;
+use alarm_journal::Opened;
 use bac_values::NoMemory;
-use state_codec::{CodecFault, records_are_short, snapshots_are_short};
+use state_codec::{
+    CodecFault, bounds_are_low, records_are_short, snapshots_are_short, snapshots_have_one_spelling,
+};
 use std::alloc::Global;
 use std::marker::Model;
 
@@ -57,6 +66,20 @@ impl Leader {
             → IfOk result (LeadsFor site (reverse later ++ older)) }
     {
         let ends = ends_of(alloc, records.as_slice())?;
+        Ok(Leader::of_parts(events, snapshot, records, ends))
+    }
+
+    /// A leader of so many events before the records, of the snapshot of the state after these, and of records that end at
+    /// these places.
+    fn of_parts(events: u64, snapshot: Vec<u8>, records: Vec<u8>, ends: Vec<usize>) -> Leader
+        requires ends { AreEnds records.items ends.items }
+        requires none { snapshot.items ≡ [] → events ≡ 0 }
+        requires fit { events + length ends.items < 2 ^ 64 }
+        requires whole { length snapshot.items < 2 ^ 32 }
+        ensures made { IsLeaderOf events snapshot.items records.items result }
+        ensures leads { (site : Site) (older later : List Happening) → events ≡ length older → IsSnapshotAfter site older snapshot.items → SpellsEvents records.items later
+            → LeadsFor site (reverse later ++ older) result }
+    {
         let mut leader = Leader {
             events,
             snapshot,
@@ -66,7 +89,46 @@ impl Leader {
             next: 0,
         };
         leader.hear(0);
-        Ok(leader)
+        leader
+    }
+
+    /// A leader of what was opened and led to a core: of its snapshot, and of the records of its bodies, one behind the other.
+    /// It has heard of no event yet. `Malformed` never comes.
+    pub fn of_journal(alloc: Global, core: &Core, opened: Opened) -> Result<Leader, CodecFault>
+        requires site { IsSite core.now.site }
+        requires leads { ContentLeadsTo core.now.site (content_in opened) core.now }
+        ensures made { (lead : ContentLeadsTo core.now.site (content_in opened) core.now) →
+            IfOk result (IsLeaderOf lead.begun.events opened.snapshot (batches_of (content_in opened))) }
+        ensures memory { IfErr result (λ fault. fault ≡ CodecFault.NoMemory) }
+
+        // It has each history for which what was opened stands.
+        ensures leads { (history : List Happening) → StandsForHistory core.now.site (content_in opened) history → IfOk result (LeadsFor core.now.site history) }
+    {
+        snapshots_have_one_spelling();
+        snapshots_are_short();
+        bounds_are_low();
+        let Opened {
+            snapshot,
+            batches,
+            bodies,
+            ..
+        } = opened;
+        let mut records = batches.into_vec();
+        let whole = length_of(bodies.as_slice(), records.len());
+        records.truncate(whole);
+        let ends = ends_of(alloc, records.as_slice())?;
+        let before = core.events() - ends.len() as u64;
+        Ok(Leader::of_parts(before, snapshot.into_vec(), records, ends))
+    }
+
+    /// All that it offers, one after the other until it has nothing more, is one list of packets. The call does nothing.
+    pub fn offers_all(&self)
+        ensures all { HasPackets self.now }
+        ensures few { left_of self.now < 2 ^ 64 }
+    {
+        records_are_short();
+        snapshots_are_short();
+        let _ends = self.ends.len();
     }
 
     /// Sets where the offers begin: behind so many events, which a follower has. It takes no memory.

@@ -121,3 +121,12 @@ returns-in-Ok-Writes-clause-breaks g c =
 
 pub returns-in-Ok-Writes-clause-quiet : goal.returns-in-Ok-Writes-clause-quiet
 returns-in-Ok-Writes-clause-quiet g c = rw (← c.self.view_is) c.in-Err-write_work.ensures.quiet
+
+pub returns-in-Ok-Writes-clause-tried : goal.returns-in-Ok-Writes-clause-tried
+returns-in-Ok-Writes-clause-tried g c =
+    let core = c.self.inside.core in
+    let left = c.judge.new.gathering in
+    let packet : List ℕ = c.args.packet.now in
+    let comes = subst (λ (j : Judged). ComesTo core packet c.self.inside.gathering left j) c.in-Ok-Writes.field-0-is c.in-Ok-Writes.ensures.comes in
+    let next = c.in-Ok-Writes.core in
+    rw (← c.self.view_is) (next.events, following next left, comes.takes)
