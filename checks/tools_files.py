@@ -1,12 +1,16 @@
 """The parts of checks/tools that read files: octets and clocks, sites, journals with their copies, and reports."""
+import argparse
 import datetime
+import errno
 import json
+import os
 import re
 import socket
 import struct
 import subprocess
 import threading
 import time
+import unittest.mock
 import xml.etree.ElementTree
 import zoneinfo
 
@@ -15,7 +19,7 @@ import serving
 from serving import MANY, START, Server
 from tooling import TOP, lines_of_json, run
 
-from alarm_tools import journal, names, report, site_lint, site_text, week
+from alarm_tools import journal, journal_command, names, report, site_lint, site_text, week, words
 from alarm_tools.zone import Zone
 
 TANK = (bacnet.INTEGER_VALUE, 1)
@@ -386,10 +390,21 @@ def try_copies(told, program, folder):
         load.join()
         told.same("a check of a running journal", run("alarm-journal", "check", kept)[0], 0)
         told.want(run("alarm-journal", "copy", kept, kept)[0] == 1, "a copy onto a file that is there was made")
+        told.want(not is_copied_unsynced(kept, folder / "unsynced"), "a copy was made of a journal whose disk can't be synced")
     see_history(told, kept)
     changes = sum(before != behind for before, behind in zip(areas, areas[1:]))
     told.want(len(areas) >= COPIES and set(areas) == {"A", "B"} and changes, f"{len(areas)} copies, of the areas {''.join(areas)}")
     print(f"{len(areas)} copies while {load.answered} writes were answered, {changes} changes of area seen")
+
+
+def is_copied_unsynced(kept, copy):
+    """Whether a copy is made of a journal whose sync fails: it might have an event that the journal's disk hasn't."""
+    with unittest.mock.patch.object(os, "fdatasync", side_effect=OSError(errno.EIO, "Input/output error")):
+        try:
+            journal_command.copy_journal(argparse.Namespace(journal=str(kept), copy=str(copy), json=True))
+        except words.Ends as fault:
+            return "Input/output error" not in str(fault) or copy.exists()
+    return True
 
 
 class Restless(journal.Journal):

@@ -260,12 +260,21 @@ def copy_journal(given):
         raise Ends(CANNOT_OPEN, f"{made} is there already, and stays as it is")
     with opened(given.journal) as it:
         area = it.settled()
+        sync(it)
         events = journal.events_in(area)
         write_copy(made, journal.copy_octets(it, area))
         size, view = it.header.size, glance.glance(it.header.text)
     told = {"copy": given.copy, "events": events, "octets": size, "area": "AB"[area.number]}
     words.put(words.json_line(told) if given.json else f"{given.copy}: {events:,} events, {words.octets_text(size)}{of_device(view)}")
     return DONE
+
+
+def sync(it):
+    """Waits until what was read is on the journal's disk too: a copy has no event that a crash of the machine may take from the journal."""
+    try:
+        os.fdatasync(it.file.fileno())
+    except OSError as error:
+        raise Ends(CANNOT_OPEN, f"{it.path}: {error.strerror}") from None
 
 
 def of_device(view):
