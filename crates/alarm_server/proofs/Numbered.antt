@@ -14,6 +14,7 @@ use Rattle.alarm_core.specs.CoreSteps.{next_transitions}
 use Rattle.alarm_core.specs.State.{CoreState}
 use Rattle.service_desk.specs.Answers.{Answer, Entered, Full, Refused, Replied, Unchanged, Ignored, dues_of, state_behind}
 use Rattle.script_lines.specs.declared.line.Grammar.TheVariants.{Session as Sessions}
+use Rattle.script_lines.specs.Line.{line_says}
 use Rattle.script_lines.specs.Script.{lines_of}
 use Rattle.site_config.specs.declared.fault.SiteFault.{SiteFault}
 use Rattle.site_config.specs.Sites.{site_of}
@@ -103,14 +104,14 @@ in-append xs ys = ap events_told (flat_map-append (λ (p : List ReportLine). p) 
 -- what stands behind the first piece of a report
 abbrev behind_open : CoreState → List ℕ → List (List ReportLine)
 behind_open state script =
-    pieces_over state (spelled_in Sessions 0 (lines_of script))
-    ++ session_end (refused_in Sessions 0 (lines_of script)) (length (lines_of script)) (state_over state (spelled_in Sessions 0 (lines_of script)))
+    pieces_over state (spelled_in (line_says Sessions) 0 (lines_of script))
+    ++ session_end (refused_in (line_says Sessions) 0 (lines_of script)) (length (lines_of script)) (state_over state (spelled_in (line_says Sessions) 0 (lines_of script)))
 
 behind_follows : (state : CoreState) (script : List ℕ) → FollowOn state.events (events_told (lines_in (behind_open state script)))
 behind_follows state script =
-    let lines = spelled_in Sessions 0 (lines_of script) in
+    let lines = spelled_in (line_says Sessions) 0 (lines_of script) in
     let pieces = pieces_over state lines in
-    let refused = refused_in Sessions 0 (lines_of script) in
+    let refused = refused_in (line_says Sessions) 0 (lines_of script) in
     let last = state_over state lines in
     subst (FollowOn state.events)
     (sym (in-append pieces (session_end refused (length (lines_of script)) last) ∙ (ap (λ ns. events_told (lines_in pieces) ++ ns) (end_tells_none refused (length (lines_of script)) last) ∙ append-nil (events_told (lines_in pieces)))))
