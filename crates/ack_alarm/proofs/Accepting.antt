@@ -1,5 +1,6 @@
 -- What is accepted may be acknowledged.
-use Rattle.std.proofs.Common.{◌≡◌, ℕ, ◌==◌, Bool, true, false, IsTrue, not, if◌then◌else◌, Option, Some, None, refl, ap, ◌∙◌, sym, subst, slice_index_or}
+use Rattle.std.proofs.Common.{◌≡◌, ℕ, ◌==◌, Bool, true, false, not, if◌then◌else◌, Option, Some, None, refl, ap, ◌∙◌, sym, subst, slice_index_or}
+use Rattle.bac_values.specs.Errors.{invalid_event_state_error, invalid_time_stamp_error}
 use Rattle.bac_values.specs.EventStates.{number_of_state, place_of_transition, state_of_number, transition_to}
 use Rattle.bac_values.specs.declared.event_state.EventState.{EventState}
 use Rattle.bac_values.specs.declared.event_state.EventState.TheVariants.{Normal, Fault, Offnormal, HighLimit, LowLimit}
@@ -8,9 +9,8 @@ use Rattle.bac_values.specs.declared.transition.Transition.TheVariants.{ToOffnor
 use Rattle.event_machine.specs.Finding.{IsUnacknowledged, names_last}
 use Rattle.event_machine.specs.Summary.{AlarmState}
 use Rattle.event_services.specs.declared.acknowledge.AckRequest.{AckRequest}
-use Rattle.ack_alarm.specs.declared.verdict.Verdict.{Verdict}
 use Rattle.ack_alarm.specs.declared.verdict.Verdict.TheVariants.{Accept, Already}
-use Rattle.ack_alarm.specs.Verdicts.{invalid_event_state, invalid_time_stamp, is_stamp, transition_named, verdict_on, verdict_with}
+use Rattle.ack_alarm.specs.Verdicts.{error_of, is_stamp, transition_named, verdict_on, verdict_with}
 
 -- the transition that a number names is the one by which the state with that number is entered
 named_by : (normal fault offnormal high low : Bool) (named : EventState) →
@@ -35,7 +35,7 @@ record Accepted (last acked : Bool) (transition accepted : Transition) (state na
   unacknowledged : acked ≡ false
 
 accepting : (last acked : Bool) (transition accepted : Transition) (state named : EventState) →
-    (if not last then invalid_event_state else (if acked then Already else Accept transition state)) ≡ Accept accepted named → Accepted last acked transition accepted state named
+    (if not last then error_of invalid_event_state_error else (if acked then Already else Accept transition state)) ≡ Accept accepted named → Accepted last acked transition accepted state named
 accepting false acked transition accepted state named e = absurd cc
 accepting true true transition accepted state named e = absurd cc
 accepting true false transition accepted state named e = record { transition_is = cc; state_is = cc; last_is = refl; unacknowledged = refl }
@@ -62,7 +62,7 @@ named_accepts alarm number (Some state) is accepted named e =
     }
 
 stamp_accepts : (alarm : AlarmState) (request : AckRequest) (stamped : Bool) (accepted : Transition) (named : EventState) →
-    (if not stamped then invalid_time_stamp
+    (if not stamped then error_of invalid_time_stamp_error
     else verdict_with (last_in alarm (transition_named request.state)) (acked_in alarm (transition_named request.state)) (transition_named request.state) (state_of_number request.state)) ≡ Accept accepted named →
     IsUnacknowledged alarm accepted named
 stamp_accepts alarm request false accepted named e = absurd cc

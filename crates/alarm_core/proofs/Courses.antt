@@ -1,11 +1,11 @@
 -- Over a history each object has a course: its points follow one another, since an inhibition changes only between the two looks of a write, which have one moment.
-use Rattle.std.proofs.Common.{◌≡◌, ℕ, ◌≤◌, Bool, true, false, true≢false, if◌then◌else◌, Option, Some, None, is_some, List, [], ◌∷◌, refl, ◌∙◌, sym, arith}
+use Rattle.std.proofs.Common.{◌≡◌, ℕ, ◌≤◌, Bool, true, false, true≢false, if◌then◌else◌, Option, Some, None, is_some, List, [], ◌∷◌, ◌++◌, refl, ◌∙◌, sym, arith}
 use Rattle.std.specs.List.{All}
-use Rattle.std.specs.Option.{option_map}
+use Rattle.std.specs.Option.{option_map, option_to_list}
 use Rattle.std.proofs.lemmas.List.Elements.{All-weaker}
 use Rattle.bac_values.specs.declared.transition.Transition.{Transition}
 use Rattle.algorithm_rules.specs.Facts.{Facts}
-use Rattle.event_machine.specs.Points.{Point, Incident, Acknowledged, IsCourse, newest_of}
+use Rattle.event_machine.specs.Points.{Point, Incident, Looked, Acknowledged, IsCourse, newest_of}
 use Rattle.object_table.specs.Rows.{is_object}
 use Rattle.object_table.specs.declared.change.Change.{Change}
 use Rattle.enrollment.specs.declared.subject.Subject.{Subject}
@@ -17,7 +17,7 @@ use Rattle.alarm_core.specs.declared.event.Event.{Event}
 use Rattle.alarm_core.specs.declared.site.Site.{Site}
 use Rattle.alarm_core.specs.Subjects.{ack_required_of, detecting_subjects}
 use Rattle.alarm_core.specs.Evaluations.{first_point, point_of, point_with, site_moment}
-use Rattle.alarm_core.specs.History.{Occurrence, AllEvaluated, incidents_of, last_moment_of, looked_with, looks_over, occurrences_of, occurrences_with, values_after, values_with}
+use Rattle.alarm_core.specs.History.{Occurrence, AllEvaluated, incidents_of, last_moment_of, looks_over, occurrences_of, occurrences_with, values_after, values_with}
 use Rattle.alarm_core.specs.Allowed.{Comes, IsHistory}
 use Rattle.alarm_core.proofs.OwnSubjects.{IsOwn, own_detecting}
 use Rattle.alarm_core.proofs.Stays.{facts_after}
@@ -39,7 +39,7 @@ IsAt site subject moment values w = IsUpTo site subject moment (is_inhibited sub
 -- one more look, where there is something to look at
 abbrev looked_by : Site → Subject → ℕ → ObjectsState → Option Facts → List Incident → List Incident
 looked_by site subject moment values facts incidents =
-    looked_with (option_map (point_with (site_moment site moment) (ack_required_of site subject) subject.object values) facts) incidents
+    option_to_list (option_map Looked (option_map (point_with (site_moment site moment) (ack_required_of site subject) subject.object values) facts)) ++ incidents
 
 look_follows : (site : Site) (subject : Subject) (moment : ℕ) (values : ObjectsState) (facts : Option Facts) (incidents : List Incident) → is_some facts ≡ true → IsCourse (first_point site subject) incidents →
     (newest_in site subject incidents).moment ≤ moment → ((newest_in site subject incidents).inhibited ≡ true → is_inhibited subject.object values ≡ false → (newest_in site subject incidents).moment ≡ moment) →
@@ -123,7 +123,7 @@ have_courses site event history comes =
     (λ subject own. (at_more site subject own event history comes.not_before (at_after site subject own history comes.is_history)).course)
     (detecting_subjects site) (own_detecting site comes.is_site)
 
-course_before : (first : Point) (point : Option Point) (older : List Incident) → IsCourse first (looked_with point older) → IsCourse first older
+course_before : (first : Point) (point : Option Point) (older : List Incident) → IsCourse first (option_to_list (option_map Looked point) ++ older) → IsCourse first older
 course_before first None older course = course
 course_before first (Some point) older course = course.1
 

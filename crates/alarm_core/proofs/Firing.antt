@@ -1,6 +1,6 @@
 -- After a history an object that is due moves, so that a look at what is due is one for each move.
 use Rattle.std.proofs.Common.{◌≡◌, ◌≢◌, ◌⊎◌, inl, inr, ℕ, Bool, true, false, true≢false, if◌then◌else◌, Option, Some, None, List, [], ◌∷◌, ◌++◌, map, refl, ap, ◌∙◌, sym, subst}
-use Rattle.std.specs.Option.{option_map}
+use Rattle.std.specs.Option.{option_map, unwrap_or}
 use Rattle.bac_values.specs.declared.transition.Transition.{Transition}
 use Rattle.bac_values.specs.declared.event_state.EventState.{EventState}
 use Rattle.bac_values.specs.declared.event_state.EventState.TheVariants.{Normal}
@@ -25,7 +25,7 @@ use Rattle.alarm_core.specs.declared.event.Act.{Act}
 use Rattle.alarm_core.specs.declared.event.Act.TheVariants.{Tick, Write, Ack, Pump, Answer, Edit}
 use Rattle.alarm_core.specs.declared.event.Event.{Event}
 use Rattle.alarm_core.specs.declared.site.Site.{Site}
-use Rattle.alarm_core.specs.Evaluations.{facts_or_none, point_with, site_moment}
+use Rattle.alarm_core.specs.Evaluations.{no_facts, point_with, site_moment}
 use Rattle.alarm_core.specs.History.{occurrences_of, values_after, values_with}
 use Rattle.alarm_core.specs.Allowed.{Comes, IsHistory}
 use Rattle.alarm_core.specs.Sites.{IsSite}
@@ -170,7 +170,7 @@ start_by false at values detected facts is alarm =
     looks_are_skipped.faulty_start detected.algorithm first point is refl (ap (λ a. (next_look detected.algorithm point a).moves) (sym alarm) ∙ none))
 
 start_with : (at : LocalMomentData) (ack_required : List Bool) (values : ObjectsState) (subject : Subject) (facts : Option Facts) →
-    StandsWith values (record { object = subject.object; algorithm = subject.algorithm; ack_required = ack_required; alarm = begun subject.algorithm (point_with at ack_required subject.object values (facts_or_none facts)) }) facts
+    StandsWith values (record { object = subject.object; algorithm = subject.algorithm; ack_required = ack_required; alarm = begun subject.algorithm (point_with at ack_required subject.object values (unwrap_or facts no_facts)) }) facts
 start_with at ack_required values subject None = inl tt
 start_with at ack_required values subject (Some facts) =
     let first = point_with at ack_required subject.object values facts in

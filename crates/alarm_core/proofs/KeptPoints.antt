@@ -1,7 +1,7 @@
 -- The alarms of a site after a history: each is one that an alarm of its object may be.
-use Rattle.std.proofs.Common.{◌≡◌, ℕ, ◌<◌, ◌≤◌, Bool, true, false, true≢false, cond, if◌then◌else◌, Option, Some, None, IsNone, is_some, List, [], ◌∷◌, length, map, nat_lt, refl, sym, ap, ◌∙◌, subst, arith}
+use Rattle.std.proofs.Common.{◌≡◌, ℕ, ◌<◌, ◌≤◌, Bool, true, false, true≢false, cond, if◌then◌else◌, Option, Some, None, IsNone, is_some, List, [], ◌∷◌, ◌++◌, length, map, nat_lt, refl, sym, ap, ◌∙◌, subst, arith}
 use Rattle.std.specs.List.{All, AllZip, position, position_or_len}
-use Rattle.std.specs.Option.{IfSome, option_and_then, option_map, option_map_or}
+use Rattle.std.specs.Option.{IfSome, option_and_then, option_map, option_map_or, option_to_list, unwrap_or}
 use Rattle.std.proofs.lemmas.Bool.{ltb-true}
 use Rattle.std.proofs.lemmas.List.Elements.{All-head, All-tail}
 use Rattle.bac_values.specs.Identifier.{ObjectIdData, kind_of}
@@ -13,7 +13,7 @@ use Rattle.bac_values.specs.declared.value.Value.{Value}
 use Rattle.algorithm_rules.specs.declared.table.Algorithm.TheVariants.{CommandFailure}
 use Rattle.algorithm_rules.specs.Facts.{Facts}
 use Rattle.algorithm_rules.specs.Matches.{alarms_among, matched_in, matches}
-use Rattle.event_machine.specs.Points.{Incident, Acknowledged}
+use Rattle.event_machine.specs.Points.{Incident, Looked, Acknowledged}
 use Rattle.object_table.specs.declared.object_site.ObjectSite.{ObjectSite}
 use Rattle.object_table.specs.declared.row.Row.{Row}
 use Rattle.object_table.specs.Objects.{IsObject, KeepsAlarmKeys, KeepsAlarmValue}
@@ -30,9 +30,9 @@ use Rattle.alarm_core.specs.declared.event.Act.TheVariants.{Tick, Write, Ack, Pu
 use Rattle.alarm_core.specs.declared.event.Event.{Event}
 use Rattle.alarm_core.specs.declared.site.Site.{Site}
 use Rattle.alarm_core.specs.Allowed.{IsHistory}
-use Rattle.alarm_core.specs.Evaluations.{facts_or_none, first_point, point_with, site_moment}
+use Rattle.alarm_core.specs.Evaluations.{first_point, no_facts, point_with, site_moment}
 use Rattle.alarm_core.specs.Fits.{FitsEvent}
-use Rattle.alarm_core.specs.History.{Occurrence, AllEvaluated, incidents_of, last_moment_of, looked_with, occurrences_of, occurrences_with, values_after, values_with}
+use Rattle.alarm_core.specs.History.{Occurrence, AllEvaluated, incidents_of, last_moment_of, occurrences_of, occurrences_with, values_after, values_with}
 use Rattle.alarm_core.specs.SiteStates.{IsAlarmOf, IsDetectedOf, IsRowOf, alarm_values_in, alarm_values_of}
 use Rattle.alarm_core.specs.Sites.{IsSite}
 use Rattle.alarm_core.specs.State.{alarms_of, detected_object_of, state_of}
@@ -154,7 +154,7 @@ module _ (site : Site) (subject : Subject) (size last : ℕ) where
   Seen incidents = AreSeen size last (first_point site subject) incidents
 
   look_by : (moment : ℕ) (values : ObjectsState) (facts : Option Facts) (incidents : List Incident) → IsMoment moment → moment ≤ last → IfSome facts (Matches size) → Seen incidents →
-      Seen (looked_with (option_map (point_with (site_moment site moment) (ack_required_of site subject) subject.object values) facts) incidents)
+      Seen (option_to_list (option_map Looked (option_map (point_with (site_moment site moment) (ack_required_of site subject) subject.object values) facts)) ++ incidents)
   unfolding Seen
   look_by moment values None incidents range past matched seen = seen
   look_by moment values (Some facts) incidents range past matched seen = (record { range = range; past = past; matched = matched }, seen)
@@ -188,7 +188,7 @@ module _ (site : Site) (is : IsSite site) (object : ObjectIdData) where
   matches_after : (history : List Event) → IsHistory site history → All FitsEvent history → MatchesAt (alarm_values_of object (first_values site)) object (values_after site history)
   matches_after history h fits = subst (λ size. MatchesAt size object (values_after site history)) (size_kept history h fits) (matches_now object (values_after site history))
 
-first_by : (size : ℕ) (facts : Option Facts) → IfSome facts (Matches size) → Matches size (facts_or_none facts)
+first_by : (size : ℕ) (facts : Option Facts) → IfSome facts (Matches size) → Matches size (unwrap_or facts no_facts)
 first_by size None matched = tt
 first_by size (Some facts) matched = matched
 

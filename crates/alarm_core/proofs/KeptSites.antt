@@ -2,11 +2,12 @@
 use Rattle.std.proofs.Common.{◌≡◌, ℕ, ◌/◌, ℤ, Bool, true, false, true≢false, if◌then◌else◌, Option, Some, None, List, [], ◌∷◌, map, refl, sym, ap}
 use Rattle.std.specs.Prelude.{IsNone}
 use Rattle.std.specs.List.{All, AllZip}
+use Rattle.std.specs.Option.{option_and_then, unwrap_or}
 use Rattle.std.proofs.lemmas.List.Elements.{All-nil, All-cons, All-head, All-tail, All-append}
 use Rattle.bac_values.specs.Moments.{IsMoment}
 use Rattle.bac_values.specs.declared.value.Value.{Value}
 use Rattle.bac_values.specs.declared.value.Value.TheVariants.{Bool as Truth, Unsigned, Signed, Bits}
-use Rattle.civil_stamp.specs.LocalTime.{IsZone, local_stamp}
+use Rattle.civil_stamp.specs.LocalTime.{IsZone, fixed_zone, local_stamp, rule_zone}
 use Rattle.event_log.specs.declared.log_site.LogSite.{LogSite}
 use Rattle.object_table.specs.declared.change.Change.{Change}
 use Rattle.object_table.specs.declared.change.What.{What}
@@ -31,7 +32,6 @@ use Rattle.alarm_core.specs.declared.site.Site.{Site}
 use Rattle.alarm_core.specs.Allowed.{IsHistory}
 use Rattle.alarm_core.specs.Classes.{classes_after}
 use Rattle.alarm_core.specs.Deliveries.{event_notes, notifications_of}
-use Rattle.alarm_core.specs.Evaluations.{zone_with}
 use Rattle.alarm_core.specs.Fits.{FitsAct, FitsEnrollment, FitsEvent, FitsObject, FitsSite, FitsValue, FitsWhat}
 use Rattle.alarm_core.specs.History.{event_looks, joined, transition_of, values_after, values_with}
 use Rattle.alarm_core.specs.Laws.{KeepsToItsSite}
@@ -146,7 +146,7 @@ module _ (site : Site) (typed : FitsSite site) where
 
   module _ (is : IsSite site) where
     zone_by : (rule : Option (List ℕ)) (minutes : ℤ) (moment : ℕ) → IsZone minutes → IsMoment moment → IsNone rule →
-        hundredths_shown (zone_with rule minutes) (local_stamp (zone_with rule minutes) moment) ≡ moment / 10
+        hundredths_shown (unwrap_or (option_and_then rule_zone rule) (fixed_zone minutes)) (local_stamp (unwrap_or (option_and_then rule_zone rule) (fixed_zone minutes)) moment) ≡ moment / 10
     zone_by None minutes moment zone range none = ap hundredths_or_none (fixed_hundredths minutes moment zone range)
     zone_by (Some rule) minutes moment zone range none = absurd (true≢false none)
 

@@ -1,10 +1,10 @@
 -- After a history an object is in FAULT only where its reliability shows a fault, so that one more look moves it at most once.
-use Rattle.std.proofs.Common.{◌≡◌, ℕ, ◌≤◌, Bool, true, false, true≢false, if◌then◌else◌, Option, Some, None, is_some, List, [], ◌∷◌, length, sym, arith}
-use Rattle.std.specs.Option.{option_map}
+use Rattle.std.proofs.Common.{◌≡◌, ℕ, ◌≤◌, Bool, true, false, true≢false, if◌then◌else◌, Option, Some, None, is_some, List, [], ◌∷◌, ◌++◌, length, sym, arith}
+use Rattle.std.specs.Option.{option_map, option_to_list}
 use Rattle.bac_values.specs.declared.transition.Transition.{Transition}
 use Rattle.bac_values.specs.declared.reliability.Reliability.{Reliability}
 use Rattle.algorithm_rules.specs.Facts.{Facts}
-use Rattle.event_machine.specs.Points.{Incident, Acknowledged}
+use Rattle.event_machine.specs.Points.{Incident, Looked, Acknowledged}
 use Rattle.event_machine.specs.Detection.{detection_at}
 use Rattle.object_table.specs.Rows.{is_object}
 use Rattle.enrollment.specs.declared.subject.Subject.{Subject}
@@ -17,7 +17,7 @@ use Rattle.alarm_core.specs.Subjects.{ack_required_of}
 use Rattle.alarm_core.specs.Evaluations.{first_point, point_with, site_moment}
 use Rattle.alarm_core.specs.CoreSteps.{change_at, change_by}
 use Rattle.alarm_core.specs.State.{detected_object_of}
-use Rattle.alarm_core.specs.History.{Occurrence, AllEvaluated, detection_of, incidents_of, looked_with, occurrences_of, occurrences_with, values_after, values_with}
+use Rattle.alarm_core.specs.History.{Occurrence, AllEvaluated, detection_of, incidents_of, occurrences_of, occurrences_with, values_after, values_with}
 use Rattle.alarm_core.proofs.MovesOnce.{FaultShows, look_shows, moves_once}
 use Rattle.alarm_core.proofs.OwnSubjects.{IsOwn}
 use Rattle.alarm_core.proofs.Courses.{own_facts}
@@ -30,7 +30,7 @@ abbrev pub IsSettled : Site → Subject → ObjectsState → List Occurrence →
 IsSettled site subject values w = FaultShows (detection_of site subject w).state (reliability_at subject.object values)
 
 settled_by : (site : Site) (subject : Subject) (moment : ℕ) (values : ObjectsState) (incidents : List Incident) (facts : Option Facts) → is_some facts ≡ true →
-    CourseShows site subject (looked_with (option_map (point_with (site_moment site moment) (ack_required_of site subject) subject.object values) facts) incidents) (reliability_at subject.object values)
+    CourseShows site subject (option_to_list (option_map Looked (option_map (point_with (site_moment site moment) (ack_required_of site subject) subject.object values) facts)) ++ incidents) (reliability_at subject.object values)
 unfolding detection_at
 settled_by site subject moment values incidents (Some facts) there =
     look_shows subject.algorithm (point_with (site_moment site moment) (ack_required_of site subject) subject.object values facts)

@@ -3,11 +3,13 @@ use Rattle.std.proofs.Common.{◌≡◌, ℕ, ◌+◌, ◌≤◌, IsTrue, ◌↔
 use Rattle.std.proofs.Math.Path.{fun_ext}
 use Rattle.std.proofs.lemmas.List.{append-nil, length-append}
 use Rattle.std.specs.List.{flat_map}
+use Rattle.std.specs.Option.{option_map, option_map_or, option_to_list}
 use Rattle.std.proofs.lemmas.Simd.{map-map}
 use Rattle.std.proofs.lemmas.List.Folds.{flat_map-map}
 use Rattle.bac_values.specs.Identifier.{ObjectIdData}
 use Rattle.bac_values.specs.declared.transition.Transition.{Transition}
-use Rattle.event_machine.specs.Points.{Incident, Acknowledged, IsCourse, Point}
+use Rattle.event_machine.specs.Detection.{moves_at}
+use Rattle.event_machine.specs.Points.{Incident, Looked, Acknowledged, IsCourse, Point}
 use Rattle.event_machine.specs.Summary.{AlarmState, alarm_of}
 use Rattle.event_machine.specs.AlarmSteps.{acknowledged}
 use Rattle.event_machine.proofs.Keeping.{keeps_course}
@@ -22,7 +24,7 @@ use Rattle.alarm_core.specs.declared.event.Event.{Event}
 use Rattle.alarm_core.specs.declared.site.Site.{Site}
 use Rattle.alarm_core.specs.Subjects.{ack_required_of, detecting_subjects, subjects_of}
 use Rattle.alarm_core.specs.Evaluations.{first_point, point_of, site_moment}
-use Rattle.alarm_core.specs.History.{Occurrence, AllEvaluated, OneAcknowledged, detection_of, event_looks, incidents_of, joined, look_transitions, looked_with, looks_of, looks_over, looks_transitions, moves_with, object_transition, object_transitions, occurrences_of, occurrences_with, states_over, tick_at, transition_of, transitions_of, values_after, values_with}
+use Rattle.alarm_core.specs.History.{Occurrence, AllEvaluated, OneAcknowledged, detection_of, event_looks, incidents_of, joined, look_transitions, looks_of, looks_over, looks_transitions, object_transition, object_transitions, occurrences_of, occurrences_with, states_over, tick_at, transition_of, transitions_of, values_after, values_with}
 use Rattle.outbox.specs.Outboxes.{OutboxState, unfinished_in}
 use Rattle.alarm_core.specs.Classes.{classes_after, classes_with}
 use Rattle.alarm_core.specs.Deliveries.{event_notes, notes_by, notifications_of, outbox_after}
@@ -55,9 +57,9 @@ abbrev detected_after : Site → Subject → List Incident → DetectedObjectSta
 detected_after site subject incidents = detected_as site subject (alarm_of subject.algorithm (first_point site subject) incidents)
 
 -- one more look
-looked_by : (site : Site) (point : Option Point) (subject : Subject) (w : List Occurrence) → IsCourse (first_point site subject) (looked_with point (incidents_of site subject w)) →
+looked_by : (site : Site) (point : Option Point) (subject : Subject) (w : List Occurrence) → IsCourse (first_point site subject) (option_to_list (option_map Looked point) ++ incidents_of site subject w) →
     let detected = detected_object_of site w subject in
-    record detected { alarm = (change_by detected.algorithm point detected.alarm).alarm } ≡ detected_after site subject (looked_with point (incidents_of site subject w))
+    record detected { alarm = (change_by detected.algorithm point detected.alarm).alarm } ≡ detected_after site subject (option_to_list (option_map Looked point) ++ incidents_of site subject w)
 looked_by site None subject w course = refl
 looked_by site (Some point) subject w course =
     ap (detected_as site subject)
@@ -93,9 +95,9 @@ states_after_look : (site : Site) (moment : ℕ) (values : ObjectsState) (w : Li
 states_after_look site moment values w courses = ap states_of (look_stands site moment values w courses) ∙ states_stand site (AllEvaluated moment values ∷ w)
 
 -- the moves of a look
-moves_by_point : (site : Site) (point : Option Point) (subject : Subject) (w : List Occurrence) → IsCourse (first_point site subject) (looked_with point (incidents_of site subject w)) →
+moves_by_point : (site : Site) (point : Option Point) (subject : Subject) (w : List Occurrence) → IsCourse (first_point site subject) (option_to_list (option_map Looked point) ++ incidents_of site subject w) →
     let detected = detected_object_of site w subject in
-    (change_by detected.algorithm point detected.alarm).moves ≡ moves_with site subject point w
+    (change_by detected.algorithm point detected.alarm).moves ≡ option_map_or (λ p. moves_at subject.algorithm (first_point site subject) (Looked p ∷ incidents_of site subject w)) point []
 moves_by_point site None subject w course = refl
 moves_by_point site (Some point) subject w course =
     keeps_course.moves subject.algorithm (first_point site subject) (incidents_of site subject w) point (detected_object_of site w subject).alarm course refl

@@ -2,7 +2,7 @@
 use Rattle.std.proofs.Common.{◌≡◌, ℕ, Bool, true, false, if◌then◌else◌, Option, Some, None, option_and_then, List, [], ◌∷◌, map, refl, sym, ap, ◌∙◌}
 use Rattle.civil_stamp.specs.LocalTime.{ZoneData, LocalMomentData}
 use Rattle.std.specs.List.{find, flat_map}
-use Rattle.std.specs.Option.{option_map, option_to_list}
+use Rattle.std.specs.Option.{option_map, option_map_or, option_to_list}
 use Rattle.std.proofs.lemmas.List.{append-nil}
 use Rattle.std.proofs.lemmas.List.Folds.{flat_map-map}
 use Rattle.std.proofs.Math.Path.{fun_ext}
@@ -35,7 +35,7 @@ use Rattle.alarm_core.specs.declared.site.Site.{Site}
 use Rattle.event_log.specs.declared.log_site.LogSite.{LogSite}
 use Rattle.alarm_core.specs.declared.transition.ObjectTransition.{ObjectTransition}
 use Rattle.alarm_core.specs.Found.{detected_object_in}
-use Rattle.alarm_core.specs.History.{ObjectState, StateTransition, state_found, state_in}
+use Rattle.alarm_core.specs.History.{ObjectState, StateTransition, state_in}
 use Rattle.alarm_core.specs.CoreSteps.{state_of_detected, states_of}
 use Rattle.alarm_core.specs.Notes.{addressed, class_for, move_of, notes_of_acknowledgement, notes_of_transition, notes_of_transitions, notification_of, source_of, told_flags, told_value, values_of, with_class}
 use Rattle.alarm_core.specs.Evaluations.{site_moment, site_stamp, site_zone}
@@ -54,8 +54,8 @@ abbrev pub state_shown : Option DetectedObjectState → EventState
 state_shown (Some detected) = detected.alarm.state
 state_shown None = Normal
 
-either_state : (b : Bool) (detected : DetectedObjectState) (listed : Option ObjectState) (rest : Option DetectedObjectState) → state_found listed ≡ state_shown rest →
-    state_found (if b then Some (state_of_detected detected) else listed) ≡ state_shown (if b then Some detected else rest)
+either_state : (b : Bool) (detected : DetectedObjectState) (listed : Option ObjectState) (rest : Option DetectedObjectState) → option_map_or (λ (found : ObjectState). found.state) listed Normal ≡ state_shown rest →
+    option_map_or (λ (found : ObjectState). found.state) (if b then Some (state_of_detected detected) else listed) Normal ≡ state_shown (if b then Some detected else rest)
 either_state true detected listed rest e = refl
 either_state false detected listed rest e = e
 

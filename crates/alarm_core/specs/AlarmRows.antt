@@ -1,5 +1,6 @@
 -- What summaries tell of the objects of a state (ANSI/ASHRAE 135-2020, 13.10 and 13.11).
-use Rattle.std.specs.Prelude.{ℕ, Option, Some, None, List, map}
+use Rattle.std.specs.Prelude.{Option, List, map}
+use Rattle.std.specs.Option.{option_and_then}
 use Rattle.bac_values.specs.declared.alarm_row.AlarmRow.{AlarmRow}
 use Rattle.algorithm_rules.specs.EventTypes.{event_type_of}
 use Rattle.enrollment.specs.declared.subject.Subject.{Subject}
@@ -7,11 +8,6 @@ use Rattle.enrollment.specs.Subjects.{subject_in}
 use Rattle.property_values.specs.Properties.{or_zero}
 use Rattle.alarm_core.specs.Information.{notify_of}
 use Rattle.alarm_core.specs.State.{CoreState, DetectedObjectState}
-
--- the instance of the notification class of an object, which has one where it has alarms
-abbrev pub class_number_of : Option Subject → ℕ
-class_number_of (Some subject) = or_zero subject.class
-class_number_of None = 0
 
 -- an object whose event detection is enabled, with its settings: its event state, Acked_Transitions and Notify_Type, the event type of its algorithm, and its notification class
 abbrev pub alarm_row_with : DetectedObjectState → Option Subject → AlarmRow
@@ -21,7 +17,7 @@ alarm_row_with detected subject = record {
   acked = detected.alarm.acked;
   notify = notify_of subject;
   event_type = event_type_of detected.algorithm;
-  class = class_number_of subject;
+  class = or_zero (option_and_then (λ (s : Subject). s.class) subject);
 }
 
 abbrev pub alarm_row_of : CoreState → DetectedObjectState → AlarmRow

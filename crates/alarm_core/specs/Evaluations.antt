@@ -1,6 +1,6 @@
 -- What the event-state detection of an object sees (ANSI/ASHRAE 135-2020, 13.2 and 13.3).
-use Rattle.std.specs.Prelude.{ℕ, ℤ, Bool, false, pos, Option, Some, None, List, []}
-use Rattle.std.specs.Option.{option_map, unwrap_or}
+use Rattle.std.specs.Prelude.{ℕ, Bool, false, pos, Option, None, List, []}
+use Rattle.std.specs.Option.{option_and_then, option_map, unwrap_or}
 use Rattle.bac_values.specs.Identifier.{ObjectIdData}
 use Rattle.bac_values.specs.declared.stamp.Stamp.{Stamp}
 use Rattle.bac_values.specs.declared.value.Value.TheVariants.{Null}
@@ -33,14 +33,9 @@ point_with at ack_required object values facts = record {
 abbrev pub point_in : LocalMomentData → List Bool → ObjectIdData → ObjectsState → Option Point
 point_in at ack_required object values = option_map (point_with at ack_required object values) (facts_at object values)
 
--- the zone of a zone rule, if a site has one, and otherwise the one that is so many minutes ahead of UTC all year
-abbrev pub zone_with : Option (List ℕ) → ℤ → ZoneData
-zone_with None minutes = fixed_zone minutes
-zone_with (Some rule) minutes = unwrap_or (rule_zone rule) (fixed_zone minutes)
-
--- the zone of a site
+-- the zone of a site: that of its zone rule, if it has one, and otherwise the one that is so many minutes ahead of UTC all year
 abbrev pub site_zone : Site → ZoneData
-site_zone site = zone_with site.device.zone_rule site.device.zone_minutes
+site_zone site = unwrap_or (option_and_then rule_zone site.device.zone_rule) (fixed_zone site.device.zone_minutes)
 
 -- the local date and time of a moment at a site
 abbrev pub site_stamp : Site → ℕ → Stamp
@@ -71,13 +66,9 @@ no_facts = record {
   time_delay_normal = None;
 }
 
-abbrev pub facts_or_none : Option Facts → Facts
-facts_or_none (Some facts) = facts
-facts_or_none None = no_facts
-
 -- the point of an object at the start
 abbrev pub start_point : LocalMomentData → List Bool → ObjectIdData → ObjectsState → Point
-start_point at ack_required object values = point_with at ack_required object values (facts_or_none (facts_at object values))
+start_point at ack_required object values = point_with at ack_required object values (unwrap_or (facts_at object values) no_facts)
 
 abbrev pub first_point : Site → Subject → Point
 first_point site subject = start_point (site_moment site site.device.start) (ack_required_of site subject) subject.object (first_values site)

@@ -1,13 +1,14 @@
 -- A history is a list of events, the newest first; and what it says of each object.
-use Rattle.std.specs.Prelude.{ℕ, max, Bool, if◌then◌else◌, Option, Some, None, List, [], ◌∷◌, ◌++◌, map, find}
+use Rattle.std.specs.Prelude.{ℕ, max, Bool, if◌then◌else◌, Option, List, [], ◌∷◌, ◌++◌, map, find}
 use Rattle.std.specs.List.{flat_map}
+use Rattle.std.specs.Option.{option_map, option_map_or, option_to_list}
 use Rattle.bac_values.specs.Identifier.{ObjectIdData}
 use Rattle.bac_values.specs.declared.event_state.EventState.{EventState}
 use Rattle.bac_values.specs.declared.event_state.EventState.TheVariants.{Normal}
 use Rattle.bac_values.specs.declared.moved.Moved.{Moved}
 use Rattle.bac_values.specs.declared.transition.Transition.{Transition}
 use Rattle.event_machine.specs.declared.moves.Move.{Move}
-use Rattle.event_machine.specs.Points.{Point, Incident, Looked, Acknowledged}
+use Rattle.event_machine.specs.Points.{Incident, Looked, Acknowledged}
 use Rattle.event_machine.specs.Detection.{Detection, detection_at, moves_at}
 use Rattle.object_table.specs.Rows.{is_object}
 use Rattle.enrollment.specs.declared.subject.Subject.{Subject}
@@ -71,15 +72,10 @@ abbrev pub occurrences_of : Site → List Event → List Occurrence
 occurrences_of site [] = []
 occurrences_of site (event ∷ older) = occurrences_with event.moment event.act (values_after site older) (occurrences_of site older)
 
--- an object is evaluated, if it is there
-abbrev pub looked_with : Option Point → List Incident → List Incident
-looked_with None older = older
-looked_with (Some point) older = Looked point ∷ older
-
--- the course of one object
+-- the course of one object: at each look its point, if it is there
 abbrev pub incidents_of : Site → Subject → List Occurrence → List Incident
 incidents_of site subject [] = []
-incidents_of site subject (AllEvaluated moment values ∷ older) = looked_with (point_of site subject moment values) (incidents_of site subject older)
+incidents_of site subject (AllEvaluated moment values ∷ older) = option_to_list (option_map Looked (point_of site subject moment values)) ++ incidents_of site subject older
 incidents_of site subject (OneAcknowledged object transition ∷ older) =
     if is_object object subject.object then Acknowledged transition ∷ incidents_of site subject older else incidents_of site subject older
 
@@ -99,13 +95,9 @@ state_over site occurrences subject = record { object = subject.object; state = 
 abbrev pub states_over : Site → List Occurrence → List ObjectState
 states_over site occurrences = map (state_over site occurrences) (detecting_subjects site)
 
-abbrev pub state_found : Option ObjectState → EventState
-state_found (Some found) = found.state
-state_found None = Normal
-
 -- the event state of an object, which is NORMAL where its detection isn't enabled
 abbrev pub state_in : ObjectIdData → List ObjectState → EventState
-state_in object states = state_found (find (λ (listed : ObjectState). is_object object listed.object) states)
+state_in object states = option_map_or (λ (found : ObjectState). found.state) (find (λ (listed : ObjectState). is_object object listed.object) states) Normal
 
 -- An event-state transition: when, of which object, from which state to which, whether its reliability made it, the cause of the state that it left, and the properties and event states of all objects after the whole point.
 pub record StateTransition : Type 0 where
@@ -139,15 +131,11 @@ transition_of moment values states transition = record {
 abbrev pub moved_by : StateTransition → Moved
 moved_by transition = record { object = transition.object; from = transition.from; to = transition.to }
 
--- the moves of an object as it is evaluated once more, if it is there
-abbrev pub moves_with : Site → Subject → Option Point → List Occurrence → List Move
-moves_with site subject None older = []
-moves_with site subject (Some point) older = moves_at subject.algorithm (first_point site subject) (Looked point ∷ incidents_of site subject older)
-
--- its transitions then
+-- the transitions of an object as it is evaluated once more, if it is there
 abbrev pub object_transitions : Site → ℕ → ObjectsState → List Occurrence → Subject → List ObjectTransition
 object_transitions site moment values older subject =
-    map (object_transition subject.object (detection_of site subject older).cause) (moves_with site subject (point_of site subject moment values) older)
+    map (object_transition subject.object (detection_of site subject older).cause)
+    (option_map_or (λ point. moves_at subject.algorithm (first_point site subject) (Looked point ∷ incidents_of site subject older)) (point_of site subject moment values) [])
 
 -- those of all objects at one more look
 abbrev pub look_transitions : Site → ℕ → ObjectsState → List Occurrence → List StateTransition

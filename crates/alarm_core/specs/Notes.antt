@@ -1,7 +1,7 @@
 -- What is told of an event-state transition and of an acknowledgement, and to whom (ANSI/ASHRAE 135-2020, 13.2.5 and 13.5).
-use Rattle.std.specs.Prelude.{ℕ, ◌≤◌, length, Bool, false, if◌then◌else◌, Option, Some, None, List}
+use Rattle.std.specs.Prelude.{ℕ, ◌≤◌, length, false, if◌then◌else◌, Option, Some, None, List}
 use Rattle.std.specs.List.{flat_map}
-use Rattle.std.specs.Option.{option_and_then, option_map, option_to_list}
+use Rattle.std.specs.Option.{option_and_then, option_map, option_map_or, option_to_list}
 use Rattle.bac_values.specs.EventStates.{transition_to}
 use Rattle.bac_values.specs.Identifier.{ObjectIdData}
 use Rattle.bac_values.specs.Limits.{most_note_octets}
@@ -50,14 +50,9 @@ source_of site subject = record {
 abbrev pub move_of : StateTransition → Move
 move_of transition = record { from = transition.from; to = transition.to; by_fault = transition.by_fault }
 
--- Out_Of_Service of an object; one that has no such property is in service
-abbrev pub out_of_service_in : Option Row → Bool
-out_of_service_in (Some row) = row.site.out_of_service
-out_of_service_in None = false
-
--- Status_Flags of a value object in an event state
+-- Status_Flags of a value object in an event state; an object that has no Out_Of_Service is in service
 abbrev pub flags_at : EventState → ObjectIdData → List Row → StatusFlags
-flags_at state object rows = flags_in state (reliability_in object rows) (out_of_service_in (row_of object rows))
+flags_at state object rows = flags_in state (reliability_in object rows) (option_map_or (λ (row : Row). row.site.out_of_service) (row_of object rows) false)
 
 -- The flags that are told: of a value object those of the state that it enters. An enrollment tells those of its monitored object after the whole point; where its own reliability made the transition it tells its own.
 abbrev pub told_flags : Option EnrollmentSite → StateTransition → StatusFlags

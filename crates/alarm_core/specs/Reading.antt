@@ -35,12 +35,9 @@ abbrev pub size_in : Result Content ReadFault → Result (Option ℕ) ReadFault
 size_in (Err fault) = Err fault
 size_in (Ok content) = Ok (size_of content)
 
-abbrev pub denied_with : Result (Option ℕ) ReadFault → Option ℕ → Result Change WriteFault
-denied_with (Err fault) index = Err (as_write_fault fault)
-denied_with (Ok size) index = denied_by (index_verdict size index)
-
 abbrev pub denied : Result Content ReadFault → Option ℕ → Result Change WriteFault
-denied content index = denied_with (size_in content) index
+denied (Err fault) index = Err (as_write_fault fault)
+denied (Ok content) index = denied_by (index_verdict (size_of content) index)
 
 abbrev pub write_by : CoreState → Option EnrollmentSite → Option Row → Option SiteLogState → ObjectIdData → ℕ → Option ℕ → Value → Result Change WriteFault
 write_by state (Some site) row kept object number index value = write_by_site (Some site) object number index value

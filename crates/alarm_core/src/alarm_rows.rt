@@ -1,8 +1,10 @@
 //! What summaries are told of the objects and the enrollments.
 
 ghost use Rattle.std.specs.Prelude.{◌≡◌, ◌<◌, ◌^◌, length, slice_get};
-ghost use Rattle.std.specs.Option.{option_copied};
-ghost use Rattle.alarm_core.specs.AlarmRows.{alarm_row_of, alarm_rows, class_number_of};
+ghost use Rattle.std.specs.Option.{option_and_then, option_copied};
+ghost use Rattle.enrollment.specs.declared.subject.Subject.{Subject as AnySubject};
+ghost use Rattle.property_values.specs.Properties.{or_zero};
+ghost use Rattle.alarm_core.specs.AlarmRows.{alarm_row_of, alarm_rows};
 
 use crate::Core;
 use crate::detection::DetectedObject;
@@ -11,7 +13,7 @@ use bac_values::AlarmRow;
 use enrollment::Subject;
 
 fn class_number_of(subject: Option<&Subject>) -> u32
-    ensures class { result ≡ class_number_of (option_copied subject.entry) }
+    ensures class { result ≡ or_zero (option_and_then (λ (s : AnySubject). s.class) (option_copied subject.entry)) }
 {
     match subject {
         Some(subject) => subject.class.unwrap_or(0),

@@ -1,11 +1,12 @@
 //! What is told of transitions and acknowledgements, and to whom.
 
-ghost use Rattle.std.specs.Prelude.{◌≡◌, ◌+◌, ◌++◌, All, IfOk, None, OnOk, if◌then◌else◌, length, map};
+ghost use Rattle.std.specs.Prelude.{◌≡◌, ◌+◌, ◌++◌, All, false, IfOk, None, OnOk, if◌then◌else◌, length, map};
 ghost use Rattle.std.specs.List.{flat_map};
-ghost use Rattle.std.specs.Option.{option_copied, option_to_list};
+ghost use Rattle.std.specs.Option.{option_copied, option_map_or, option_to_list};
 ghost use Rattle.event_services.specs.Notifications.{IsTold};
 ghost use Rattle.note_maker.specs.EventTypes.{transition_type};
 ghost use Rattle.notify_class.specs.Chosen.{chosen_destinations};
+ghost use Rattle.object_table.specs.declared.row.Row.{Row as ValueRow};
 ghost use Rattle.enrollment.specs.Enrollments.{site_of};
 ghost use Rattle.enrollment.specs.Snapshots.{algorithm_with};
 ghost use Rattle.enrollment.specs.Subjects.{is_enabled, subject_in};
@@ -13,7 +14,7 @@ ghost use Rattle.alarm_core.specs.ListLimits.{InstancesAscend};
 ghost use Rattle.alarm_core.specs.History.{state_in};
 ghost use Rattle.alarm_core.specs.CoreSteps.{states_of};
 ghost use Rattle.alarm_core.specs.DueSteps.{AscendByObject};
-ghost use Rattle.alarm_core.specs.Notes.{IsShort, class_for, flags_at, notes_of_acknowledgement, notes_of_transition, notes_of_transitions, notification_of, out_of_service_in, source_of, text_of, told_flags, told_value, values_of};
+ghost use Rattle.alarm_core.specs.Notes.{IsShort, class_for, flags_at, notes_of_acknowledgement, notes_of_transition, notes_of_transitions, notification_of, source_of, text_of, told_flags, told_value, values_of};
 ghost use Rattle.alarm_core.specs.Sites.{IsSite};
 ghost use Rattle.alarm_core.specs.ViewSteps.{addressed_in, notes_to, transition_in};
 
@@ -85,7 +86,7 @@ pub(crate) fn state_of(alarms: &[DetectedObject], object: ObjectId) -> EventStat
 }
 
 fn is_out_of_service(row: Option<&Row>) -> bool
-    ensures out_of_service { result ≡ out_of_service_in (option_copied row.entry) }
+    ensures out_of_service { result ≡ option_map_or (λ (found : ValueRow). found.site.out_of_service) (option_copied row.entry) false }
 {
     match row {
         Some(row) => row.site.out_of_service,

@@ -14,7 +14,7 @@ use Rattle.event_services.specs.declared.time_stamp.AckStamp.{AckStamp}
 use Rattle.event_services.specs.declared.time_stamp.AckStamp.TheVariants.{DateTime}
 use Rattle.ack_alarm.specs.declared.verdict.Verdict.{Verdict}
 use Rattle.ack_alarm.specs.declared.verdict.Verdict.TheVariants.{Accept, Already, Error}
-use Rattle.ack_alarm.specs.Verdicts.{acknowledgement_verdict, error_of, invalid_event_state, invalid_time_stamp, is_stamp, transition_named, verdict_on, verdict_with}
+use Rattle.ack_alarm.specs.Verdicts.{acknowledgement_verdict, error_of, is_stamp, transition_named, verdict_on, verdict_with}
 use Rattle.alarm_core.specs.Found.{alarm_or_new, finding_of}
 use Rattle.alarm_core.specs.State.{DetectedObjectState}
 use Rattle.profile_laws.specs.AcknowledgementErrors.{last_entered, names_entered, names_stamp, transition_of}
@@ -47,7 +47,7 @@ already_or_not false transition named = tt
 -- ---- the state
 
 abbrev named_verdict : Bool → Bool → Transition → EventState → Verdict
-named_verdict last acked transition named = if not last then invalid_event_state else (if acked then Already else Accept transition named)
+named_verdict last acked transition named = if not last then error_of invalid_event_state_error else (if acked then Already else Accept transition named)
 
 named_says : (last acked : Bool) (transition : Transition) (named : EventState) → VerdictSays (if not last then Some invalid_event_state_error else None) (named_verdict last acked transition named)
 named_says true acked transition named = already_or_not acked transition named
@@ -78,7 +78,7 @@ same_stamp alarm transition (DateTime stamp) = refl
 same_stamp alarm transition _ = refl
 
 stamp_says : (stamped : Bool) (state : Option ServiceError) (verdict : Verdict) → VerdictSays state verdict →
-    VerdictSays (if not stamped then Some invalid_time_stamp_error else state) (if not stamped then invalid_time_stamp else verdict)
+    VerdictSays (if not stamped then Some invalid_time_stamp_error else state) (if not stamped then error_of invalid_time_stamp_error else verdict)
 stamp_says true state verdict h = h
 stamp_says false state verdict h = refl
 
@@ -86,7 +86,7 @@ alarm_says : (alarm : AlarmState) (transition : Transition) (request : AckReques
     VerdictSays
     (if not (is_stamp alarm transition request.stamp) then Some invalid_time_stamp_error
     else (if not (names_entered (last_entered alarm transition) (state_of_number request.state)) then Some invalid_event_state_error else None))
-    (if not (is_stamp alarm transition request.stamp) then invalid_time_stamp
+    (if not (is_stamp alarm transition request.stamp) then error_of invalid_time_stamp_error
     else verdict_with (last_entered alarm transition) (get_or alarm.acked (place_of_transition transition) true) transition (state_of_number request.state))
 alarm_says alarm transition request =
     stamp_says (is_stamp alarm transition request.stamp)

@@ -1,6 +1,5 @@
-use Rattle.std.proofs.Common.{◌≡◌, ◌∙◌, sym, ap, rules, subst}
+use Rattle.std.proofs.Common.{◌≡◌, ◌∙◌, sym, rules, subst}
 use Rattle.event_machine.specs.Finding.{MayAcknowledge, as_finding, WithAlarm}
-use Rattle.ack_alarm.specs.declared.verdict.Verdict.TheVariants.{Accept}
 use Rattle.ack_alarm.specs.Verdicts.{transition_named, verdict_on}
 use Rattle.ack_alarm.proofs.Accepting.{accepts}
 use Rattle.ack_alarm.proofs.judging.judge.Goals as goal
