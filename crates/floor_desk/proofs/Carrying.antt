@@ -1,6 +1,6 @@
 -- What a load leaves when it was carried out.
-use Rattle.std.proofs.Common.{◌≡◌, ℕ, ◌+◌, ◌-◌, ◌^◌, ◌≤◌, Option, Some, None, List, ◌++◌, All, length, map, take, drop, reverse, refl, ap, ◌∙◌, sym, subst, arith}
-use Rattle.std.proofs.lemmas.List.{take_all}
+use Rattle.std.proofs.Common.{◌≡◌, ℕ, ◌+◌, ◌-◌, ◌^◌, ◌≤◌, [], Option, Some, None, List, ◌++◌, All, length, map, take, drop, reverse, refl, ap, ◌∙◌, sym, subst, arith}
+use Rattle.std.proofs.lemmas.List.{drop_all, take_all}
 use Rattle.std.proofs.lemmas.List.Elements.{All-append, All-drop}
 use Rattle.ground_io.specs.Trace.{Told, disk_of}
 use Rattle.ground_io.proofs.Crashes.{always_weaker}
@@ -13,17 +13,18 @@ use Rattle.alarm_core.specs.declared.site.Site.{Site}
 use Rattle.alarm_journal.specs.Emissions.{EmitsAll}
 use Rattle.alarm_journal.specs.Journal.{Content, OpensTo, only_snapshot, with_batch}
 use Rattle.alarm_journal.specs.Journal.{Site as Journal}
-use Rattle.alarm_journal.specs.Press.{Between, Lasts, PressState, Settled, Throughout}
-use Rattle.state_codec.specs.Contents.{ImageStands, StandsForHistory}
+use Rattle.alarm_journal.specs.Press.{Between, Lasts, PressState, Settled, Throughout, room_of}
+use Rattle.state_codec.specs.Contents.{ImageStands, StandsForHistory, records_of}
 use Rattle.state_codec.specs.Records.{HasRecord}
 use Rattle.state_codec.proofs.Works.{All-reverse, batch_of_events, content_committed, no_events}
 use Rattle.floor_desk.specs.Accounts.{Account, Due, Front, front_of}
-use Rattle.state_codec.specs.Work.{content_with}
-use Rattle.floor_desk.specs.Carrying.{CountsCarried, IsCarriedOut, IsWorkFor, KeepsLoan, Lends, Stays}
+use Rattle.state_codec.specs.Work.{FitsPress, IsWorkOf, content_with}
+use Rattle.floor_desk.specs.Carrying.{CountsCarried, IsCarriedOut, IsWorkFor, KeepsLoan, Lends, SendsAlone, Stays, WritesEventsAlone}
 use Rattle.floor_desk.specs.Courses.{KeepsCourse}
 use Rattle.state_codec.specs.Keeping.{Commits, HoldsHistory, Rests}
 use Rattle.floor_desk.specs.Prefixes.{HasLost, KeepsOrder, RestsOn, with_first}
 use Rattle.floor_desk.specs.Holding.{HoldsOrder, pending_events}
+use Rattle.floor_desk.specs.declared.load.Carried.{Carried}
 use Rattle.floor_desk.specs.declared.load.Carried.TheVariants.{Home as HomeAgain, Broken as Gone}
 use Rattle.floor_desk.specs.declared.load.Load.{Load}
 use Rattle.state_codec.specs.declared.work.Work.{Work}
@@ -36,6 +37,12 @@ stays_of journal site history content old None stands through = tt
 stays_of journal site history content None (Some new) stands through = absurd through
 stays_of journal site history content (Some old) (Some new) stands (entries, adds, always) =
     (entries, adds, always_weaker (λ image. OpensTo journal image content) (λ image. ImageStands journal site image history) (λ image opens. record { content = content; opens = opens; stands = stands }) (disk_of old) entries always)
+
+-- where there are no records the work is nothing
+pub is_nothing : (state : CoreState) (records : List ℕ) (room area half : ℕ) (work : Work) → records ≡ [] → IsWorkOf state records room work → FitsPress area half work → work ≡ Nothing
+is_nothing state records room area half Nothing none is fits = refl
+is_nothing state records room area half (Batch job) none is fits = absurd (omega (arith, fits.0, ap (λ (l : List ℕ). length l) (is ∙ none)))
+is_nothing state records room area half (Snapshot job) none is fits = absurd (omega (arith, is.1, ap (λ (l : List ℕ). length l) none))
 
 module _ {G : Type 0} (told : G → Option Told) where
   -- the journal with the work stands for the history with the whole order
@@ -78,12 +85,24 @@ module _ {G : Type 0} (told : G → Option Told) where
     upto_count : load.upto - origin.0.events ≡ length a.order
     upto_count = omega (arith, lent.upto, lent.course.events)
 
+    -- where no event waited its work is nothing
+    nothing_new : (area half : ℕ) → FitsPress area half load.work → load.upto ≡ a.durable → load.work ≡ Nothing
+    nothing_new area half fits same =
+        let none : pending_events a ≡ [] = drop_all a.taken.events a.order (omega (arith, same, lent.upto, lent.course.events, home.1)) in
+        is_nothing a.state (records_of (pending_events a)) (room_of load.press.layout) area half load.work (ap records_of none) lent.work fits
+
     -- its datagrams are those that the press hadn't taken
     sends_are : load.sends ≡ map (λ (due : Due). due.send) (drop a.back.dues (take (length a.dues) a.dues))
     sends_are =
         lent.sends
         ∙ (ap (λ (t : Front). map (λ (due : Due). due.send) (drop t.dues a.dues)) (sym home.0)
         ∙ ap (λ (l : List Due). map (λ (due : Due). due.send) (drop a.back.dues l)) (sym (take_all (length a.dues) a.dues (omega arith))))
+
+    -- then just its datagrams went out
+    alone_with : (area half : ℕ) (carried : Carried G) → FitsPress area half load.work → (load.work ≡ Nothing → SendsAlone told load.sends load.press carried) → WritesEventsAlone told a load.upto (front_of a) carried
+    alone_with area half carried fits alone same =
+        subst (λ (p : PressState G). SendsAlone told (map (λ (due : Due). due.send) (drop a.back.dues (take (length a.dues) a.dues))) p carried) lent.press
+        (subst (λ (l : List Send). SendsAlone told l load.press carried) sends_are (alone (nothing_new area half fits same)))
 
     -- on the way each image stands for what was durable, or for that and what is written
     loan_commits : (journal : Journal) (history : List Event) (new : Option Told) → Represents origin.0 history → HoldsHistory journal origin.0.site history origin.1.layout (told origin.1.device)
@@ -178,8 +197,9 @@ module _ {G : Type 0} (told : G → Option Told) where
         → ((journal : Journal) (content : Content) → Settled journal mid.layout (told mid.device) content → Settled journal press.layout (told press.device) content)
         → ((journal : Journal) (content : Content) → Settled journal mid.layout (told mid.device) content → Lasts journal (told press.device) content)
         → ((journal : Journal) (content : Content) → Settled journal mid.layout (told mid.device) content → Throughout journal content (told mid.device) (told press.device))
+        → (area half : ℕ) → FitsPress area half load.work → (load.work ≡ Nothing → SendsAlone told load.sends load.press (HomeAgain press load.upto lost))
         → CountsCarried size disk_faults emit_faults load.press.device (HomeAgain press load.upto lost) → IsCarriedOut told size disk_faults emit_faults origin a load.upto (front_of a) (HomeAgain press load.upto lost)
-    back_home size disk_faults emit_faults mid press gone lost few all rest between quiet emits settled lasts through counted = (
+    back_home size disk_faults emit_faults mid press gone lost few all rest between quiet emits settled lasts through area half fits alone counted = (
       refl,
       subst (λ (p : PressState G). CountsCarried size disk_faults emit_faults p.device (HomeAgain press load.upto lost)) lent.press counted,
       holds_carried mid press gone lost rest between emits settled lasts through,
@@ -187,17 +207,20 @@ module _ {G : Type 0} (told : G → Option Told) where
           (subst (λ (n : ℕ). HasLost n (told load.press.device) (told press.device)) (omega (arith, few))
           (lost_both 0 lost (told load.press.device) (told mid.device) (told press.device) quiet (lost_emitting load.sends gone lost (told mid.device) (told press.device) few emits))),
       keeps_loan mid press gone lost all rest between emits through,
+      alone_with area half (HomeAgain press load.upto lost) fits alone,
     )
 
     -- what is left where the disk failed
     pub back_broken : (size disk_faults emit_faults : G → ℕ) (device : G)
         → ((journal : Journal) (content : Content) → Rests journal load.press.layout (told load.press.device) content → Between journal content (content_with load.work content) (told load.press.device) (told device))
-        → HasLost 0 (told load.press.device) (told device) → CountsCarried size disk_faults emit_faults load.press.device (Gone device load.upto) → IsCarriedOut told size disk_faults emit_faults origin a load.upto (front_of a) (Gone device load.upto)
-    back_broken size disk_faults emit_faults device between quiet counted = (
+        → HasLost 0 (told load.press.device) (told device) → (area half : ℕ) → FitsPress area half load.work → (load.work ≡ Nothing → ⊥)
+        → CountsCarried size disk_faults emit_faults load.press.device (Gone device load.upto) → IsCarriedOut told size disk_faults emit_faults origin a load.upto (front_of a) (Gone device load.upto)
+    back_broken size disk_faults emit_faults device between quiet area half fits some counted = (
       refl,
       subst (λ (p : PressState G). CountsCarried size disk_faults emit_faults p.device (Gone device load.upto)) lent.press counted,
       λ journal history stands first.
           subst (λ (t : Front). KeepsOrder journal origin.0.site history a.order a.dues t.dues (told origin.1.device) (told device)) (sym home.0) (keeps_written journal history (told device) stands first (between journal)),
       subst (λ (p : PressState G). HasLost 0 (told p.device) (told device)) lent.press quiet,
       λ journal history stands first. loan_commits journal history (told device) stands first (between journal),
+      alone_with area half (Gone device load.upto) fits some,
     )

@@ -21,7 +21,8 @@ use Rattle.floor_desk.specs.Accounts.{Account}
 use Rattle.floor_desk.specs.Ending.{AreOfCommit, IsClosed}
 use Rattle.floor_desk.specs.States.{FloorState}
 use Rattle.floor_desk.specs.declared.receiver.Ends.{Ends}
-use Rattle.floor_desk.specs.Serving.{AreLast, AreWorkings, EndsWith, HasAll, HasEnded, Workings, WorkedTogether, calls_of}
+use Rattle.floor_desk.specs.Serving.{AreLast, AreWorkings, EndsWith, HasAll, Workings, calls_of}
+use Rattle.floor_desk.specs.ServingSteps.{HasEnded, WorkedTogether}
 use Rattle.floor_desk.specs.Tries.{Attempt, Try, tried_by, tries_in}
 use Rattle.floor_desk.proofs.Working.{tries_append}
 

@@ -9,7 +9,8 @@ use Rattle.service_desk.specs.Answers.{Answer, answer_to}
 use Rattle.floor_desk.specs.Accounts.{Account, account, account_from, start, step, tried}
 use Rattle.floor_desk.specs.Legal.{IsLegalFrom, MayComeNext}
 use Rattle.floor_desk.specs.Moves.{IsGroundOf}
-use Rattle.floor_desk.specs.Serving.{IsEnd, LeavesDisk}
+use Rattle.floor_desk.specs.Serving.{LeavesDisk}
+use Rattle.floor_desk.specs.ServingSteps.{EndsAccount}
 use Rattle.floor_desk.specs.Standing.{FloorStands, Stands}
 use Rattle.floor_desk.specs.States.{FloorState}
 use Rattle.floor_desk.specs.Tries.{Attempt}
@@ -46,21 +47,21 @@ module _ {G : Type 0} (told : G → Option Told) (size disk_faults emit_faults :
   faults_from a [] legal = refl
   faults_from a (e ∷ es) legal = faults_from (step a e.0 e.1) es legal.1 ∙ faults_step a e.0 e.1 legal.0
 
-  works : (a : Account G) (attempts : List Attempt) (tick pump : Result Ticket EnterFault) (ended : End) → IsEnd a attempts tick pump ended → ended ≢ end.DiskFault → a.failed ≡ None
+  works : (a : Account G) (attempts : List Attempt) (tick pump : Result Ticket EnterFault) (ended : End) → EndsAccount a attempts tick pump ended → ended ≢ end.DiskFault → a.failed ≡ None
   works a attempts tick pump end.DiskFault is not = absurd (not refl)
   works a attempts tick pump end.LinkFault is not = is
   works a attempts tick pump end.NoMemory is not = is
   works a attempts tick pump end.Done is not = is.0
 
-  fails : (a : Account G) (attempts : List Attempt) (tick pump : Result Ticket EnterFault) (ended : End) → IsEnd a attempts tick pump ended → ended ≡ end.DiskFault → (at : ℕ) × (a.failed ≡ Some at)
-  fails a attempts tick pump ended is same = subst (λ (z : End). IsEnd a attempts tick pump z) same is
+  fails : (a : Account G) (attempts : List Attempt) (tick pump : Result Ticket EnterFault) (ended : End) → EndsAccount a attempts tick pump ended → ended ≡ end.DiskFault → (at : ℕ) × (a.failed ≡ Some at)
+  fails a attempts tick pump ended is same = subst (λ (z : End). EndsAccount a attempts tick pump z) same is
 
   no_place : (failed : Option ℕ) (at : ℕ) → failed ≡ None → failed ≡ Some at → ⊥
   no_place failed at none some = cc
 
   -- the ground of a server that has ended
   pub ground_faults : (floor : FloorState G) (h : List (ℕ × Entry G)) (device : G) (attempts : List Attempt) (tick pump : Result Ticket EnterFault) (ended : End) → FloorStands told size disk_faults emit_faults floor h → floor.origin ≡ origin → IsGroundOf floor.spot device
-      → IsEnd (account origin h) attempts tick pump ended → LeavesDisk (disk_faults origin.1.device) (disk_faults device) ended
+      → EndsAccount (account origin h) attempts tick pump ended → LeavesDisk (disk_faults origin.1.device) (disk_faults device) ended
   ground_faults floor h device attempts tick pump ended f from ground is =
       by_spot floor.spot (subst (λ (o : CoreState × PressState G). Stands told size disk_faults emit_faults o (account o h) floor.lost floor.spot) from f.shows.spot) ground
     where

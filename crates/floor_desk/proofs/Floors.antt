@@ -30,7 +30,8 @@ use Rattle.floor_desk.specs.declared.floor.Spot.TheVariants.{Home, Out, Broken}
 use Rattle.floor_desk.specs.Accounts.{Account, Due, IsBehind, IsDenied, IsOpen, IsTicketOf, Loan, accepted, account, account_from, entry_for, front_of, looked, start, step, ticket_for, most_pending_octets}
 use Rattle.state_codec.specs.Work.{IsWorkOf}
 use Rattle.floor_desk.specs.Carrying.{IsCarriedOut, Lends}
-use Rattle.floor_desk.specs.Moves.{Accepts, CameOf, Hinders, NeedsCommit, IsLentBy, IsNotBroken, IsReady, MayEnter, Refuses, lent, with_answer}
+use Rattle.floor_desk.specs.Moves.{Hinders, IsNotBroken}
+use Rattle.floor_desk.specs.MovesSteps.{Accepts, CameOf, NeedsCommit, IsLentBy, IsReady, MayEnter, Refuses, lent, with_answer}
 use Rattle.state_codec.specs.Keeping.{HoldsHistory}
 use Rattle.floor_desk.specs.Prefixes.{CountsLost, HasLost, RestsOn, with_first, capped}
 use Rattle.floor_desk.specs.Holding.{HoldsOrder, pending_events}

@@ -15,10 +15,10 @@ use Rattle.service_desk.specs.Answers.{Answer, Entered, Full, Refused, Replied, 
 use Rattle.state_codec.specs.Contents.{records_of}
 use Rattle.state_codec.specs.Records.{HasRecord, written_event}
 use Rattle.floor_desk.specs.Accounts.{Account, Due, Front, Loan, accepted, due_after, front_of, if_event, looked, step}
-use Rattle.floor_desk.specs.Carrying.{BreaksLoan, CountsCarried, IsCarriedOut, KeepsLoan, Lends, WritesThenSends}
+use Rattle.floor_desk.specs.Carrying.{BreaksLoan, CountsCarried, IsCarriedOut, KeepsLoan, Lends, SendsAlone, WritesEventsAlone, WritesThenSends}
 use Rattle.floor_desk.specs.Courses.{KeepsCourse, KeepsFronts}
 use Rattle.state_codec.specs.Keeping.{Commits, HoldsHistory}
-use Rattle.floor_desk.specs.Moves.{MayEnter, with_answer}
+use Rattle.floor_desk.specs.MovesSteps.{MayEnter, with_answer}
 use Rattle.floor_desk.specs.Prefixes.{HasLost, KeepsOrder, RestsOn, with_first}
 use Rattle.floor_desk.specs.Holding.{KeptOrder, HoldsOrder, pending_sends}
 use Rattle.floor_desk.specs.Standing.{ShowsAccount, Stands}
@@ -159,6 +159,11 @@ module _ {G : Type 0} (origin : CoreState × PressState G) where
         (subst (λ (h : List Event). Commits journal site before h (told b.press.device) (told device)) (sym same)
         (subst (λ (p : PressState G). Commits journal site before after (told p.device) (told device)) (sym s.press) (kept journal history stands first)))
 
+    alone_still : (a b : Account G) (upto : ℕ) (carried : Carried G) → IsStill a b → KeepsFronts origin a → WritesEventsAlone told a upto a.taken carried → WritesEventsAlone told b upto b.taken carried
+    alone_still a b upto carried s f alone same =
+        subst (λ (l : List Send). SendsAlone told l b.press carried) (sym (sends_still a b s f))
+        (subst (λ (p : PressState G). SendsAlone told (map (λ (due : Due). due.send) (drop a.back.dues (take a.taken.dues a.dues))) p carried) (sym s.press) (alone (same ∙ s.durable)))
+
     pub carried_still : (size disk_faults emit_faults : G → ℕ) (a b : Account G) (upto : ℕ) (carried : Carried G) → IsStill a b → KeepsFronts origin a → upto ≡ origin.0.events + a.taken.events → IsCarriedOut told size disk_faults emit_faults origin a upto a.taken carried → IsCarriedOut told size disk_faults emit_faults origin b upto b.taken carried
     carried_still size disk_faults emit_faults a b upto (HomeAgain press event more) s f is c = (
       c.0,
@@ -166,6 +171,7 @@ module _ {G : Type 0} (origin : CoreState × PressState G) where
       subst (λ (t : Front). HoldsOrder told origin b upto t press) (sym s.taken) (holds_more a b upto a.taken press s (omega (arith, is, f.events)) f.dues c.2),
       subst (λ (p : PressState G). HasLost more (told p.device) (told press.device)) (sym s.press) c.3,
       loan_still a b upto more press s f is c.4,
+      alone_still a b upto (HomeAgain press event more) s f c.5,
     )
     carried_still size disk_faults emit_faults a b upto (Gone device event) s f is c = (
       c.0,
@@ -173,6 +179,7 @@ module _ {G : Type 0} (origin : CoreState × PressState G) where
       subst (λ (t : Front). KeptOrder told origin b t device) (sym s.back) (held_more a b a.back device s (omega (arith, f.back, f.dues)) c.2),
       subst (λ (p : PressState G). HasLost 0 (told p.device) (told device)) (sym s.press) c.3,
       break_still a b upto device s f is c.4,
+      alone_still a b upto (Gone device event) s f c.5,
     )
 
     -- what the press took at that entry

@@ -19,7 +19,7 @@ use Rattle.state_codec.specs.Records.{HasRecord, written_event}
 use Rattle.floor_desk.specs.declared.entry.Kind.TheVariants as kinds
 use Rattle.floor_desk.specs.declared.entry.Ticket.{Ticket}
 use Rattle.floor_desk.specs.declared.faults.EnterFault.TheVariants as enters
-use Rattle.floor_desk.specs.Moves.{CameOf}
+use Rattle.floor_desk.specs.MovesSteps.{CameOf}
 use Rattle.floor_desk.specs.States.{FloorState}
 
 -- lists of datagrams, and more of them

@@ -8,16 +8,16 @@ use Rattle.alarm_core.specs.State.{CoreState}
 use Rattle.alarm_journal.specs.Press.{PressState}
 use Rattle.floor_desk.specs.declared.entry.Entry.{Entry}
 use Rattle.floor_desk.specs.declared.receiver.Ends.{Ends}
-use Rattle.floor_desk.specs.Serving.{WorkedTogether}
-use Rattle.floor_desk.specs.Workers.{HasKept, HasReceived, HasTicked, Worked}
+use Rattle.floor_desk.specs.ServingSteps.{WorkedTogether}
+use Rattle.floor_desk.specs.Workers.{HasKept, HasReceived, HasTicked, MadeEntries}
 
 module _ {G : Type 0} where
   -- who worked has the share that it had
-  pub worked_share : (p q : Known (Entry G) (CoreState × PressState G)) (es : List (Entry G)) → Worked p q es → SameShare p q
+  pub worked_share : (p q : Known (Entry G) (CoreState × PressState G)) (es : List (Entry G)) → MadeEntries p q es → SameShare p q
   worked_share p q es w = same_share p q (ap (λ (k : Known (Entry G) (CoreState × PressState G)). k.number) w.same) (ap (λ (k : Known (Entry G) (CoreState × PressState G)). k.carried) w.same) (ap (λ (k : Known (Entry G) (CoreState × PressState G)). k.split_off) w.same)
 
   -- a pass that was new when it began to work carries none, and has made this
-  new_calls : (p a b : Known (Entry G) (CoreState × PressState G)) (es : List (Entry G)) → IsNewFrom p a → Worked a b es → all_calls b ≡ (a.number, es) ∷ []
+  new_calls : (p a b : Known (Entry G) (CoreState × PressState G)) (es : List (Entry G)) → IsNewFrom p a → MadeEntries a b es → all_calls b ≡ (a.number, es) ∷ []
   new_calls p a b es new w =
       let number : b.number ≡ a.number = ap (λ (k : Known (Entry G) (CoreState × PressState G)). k.number) w.same in
       let mine : b.mine ≡ es = ap (λ (k : Known (Entry G) (CoreState × PressState G)). k.mine) w.same ∙ ap (λ (z : List (Entry G)). z ++ es) (ap (λ (k : Known (Entry G) (CoreState × PressState G)). k.mine) new) in

@@ -26,8 +26,9 @@ use Rattle.floor_desk.proofs.Histories.{account_append, legal_after}
 use Rattle.floor_desk.specs.declared.receiver.Ends.{Ends}
 use Rattle.floor_desk.specs.declared.serve.End.{End}
 use Rattle.floor_desk.specs.declared.serve.End.TheVariants as end
-use Rattle.floor_desk.specs.Serving.{HasSettled, WasAnswered, IsEnd, IsEndOf, IsLate, IsUnbroken}
-use Rattle.floor_desk.specs.Tries.{Attempt, IsBehind}
+use Rattle.floor_desk.specs.Serving.{WasAnswered}
+use Rattle.floor_desk.specs.ServingSteps.{AccountIsDone, EndsAccount, IsEndBy, IsLate, IsUnbroken}
+use Rattle.floor_desk.specs.Tries.{Attempt, IsAnsweredBehind}
 
 module _ {G : Type 0} where
   -- ---- where no call is pending, no event and no datagram is
@@ -84,47 +85,47 @@ module _ {G : Type 0} where
   -- what is known behind the last commit
   record IsKnown (b : Account G) (attempts : List Attempt) (tick pump : Result Ticket EnterFault) (ends : Ends) (answered : Bool) : Type 0 where
     works : b.failed ≡ None
-    tried : IsTrue ends.no_memory ⊎ All (λ one. IsBehind one.last → ⊥) attempts
+    tried : IsTrue ends.no_memory ⊎ All (λ one. IsAnsweredBehind one.last → ⊥) attempts
     answers : IsTrue answered → WasAnswered tick × WasAnswered pump
 
-  unbroken : (b : Account G) (attempts : List Attempt) (tick pump : Result Ticket EnterFault) (ends : Ends) (answered : Bool) (ended : End) → IsKnown b attempts tick pump ends answered → HasSettled b → IsUnbroken ends answered ended
-      → (l m a : Bool) → ends.link_fault ≡ l → ends.no_memory ≡ m → answered ≡ a → IsEnd b attempts tick pump ended
-  unbroken b attempts tick pump ends answered ended k s u true m a is_l is_m is_a = subst (λ z. IsEnd b attempts tick pump z) (sym (u.link is_l)) k.works
-  unbroken b attempts tick pump ends answered ended k s u false true a is_l is_m is_a = subst (λ z. IsEnd b attempts tick pump z) (sym (u.short is_l (inl is_m))) k.works
-  unbroken b attempts tick pump ends answered ended k s u false false false is_l is_m is_a = subst (λ z. IsEnd b attempts tick pump z) (sym (u.short is_l (inr is_a))) k.works
+  unbroken : (b : Account G) (attempts : List Attempt) (tick pump : Result Ticket EnterFault) (ends : Ends) (answered : Bool) (ended : End) → IsKnown b attempts tick pump ends answered → AccountIsDone b → IsUnbroken ends answered ended
+      → (l m a : Bool) → ends.link_fault ≡ l → ends.no_memory ≡ m → answered ≡ a → EndsAccount b attempts tick pump ended
+  unbroken b attempts tick pump ends answered ended k s u true m a is_l is_m is_a = subst (λ z. EndsAccount b attempts tick pump z) (sym (u.link is_l)) k.works
+  unbroken b attempts tick pump ends answered ended k s u false true a is_l is_m is_a = subst (λ z. EndsAccount b attempts tick pump z) (sym (u.short is_l (inl is_m))) k.works
+  unbroken b attempts tick pump ends answered ended k s u false false false is_l is_m is_a = subst (λ z. EndsAccount b attempts tick pump z) (sym (u.short is_l (inr is_a))) k.works
   unbroken b attempts tick pump ends answered ended k s u false false true is_l is_m is_a =
       let both = k.answers is_a in
-      let all : All (λ (one : Attempt). IsBehind one.last → ⊥) attempts = ⊎_elim (λ is. absurd (true≢false (sym is ∙ is_m))) (λ all. all) k.tried in
-      subst (λ z. IsEnd b attempts tick pump z) (sym (u.well is_l is_m is_a)) (k.works, all, both.0, both.1, s)
+      let all : All (λ (one : Attempt). IsAnsweredBehind one.last → ⊥) attempts = ⊎_elim (λ is. absurd (true≢false (sym is ∙ is_m))) (λ all. all) k.tried in
+      subst (λ z. EndsAccount b attempts tick pump z) (sym (u.well is_l is_m is_a)) (k.works, all, both.0, both.1, s)
 
-  late : (b : Account G) (attempts : List Attempt) (tick pump : Result Ticket EnterFault) (ends : Ends) (ended : End) → b.failed ≡ None → IsLate ends ended → (l : Bool) → ends.link_fault ≡ l → IsEnd b attempts tick pump ended
-  late b attempts tick pump ends ended works u true is_l = subst (λ z. IsEnd b attempts tick pump z) (sym (u.0 is_l)) works
-  late b attempts tick pump ends ended works u false is_l = subst (λ z. IsEnd b attempts tick pump z) (sym (u.1 is_l)) works
+  late : (b : Account G) (attempts : List Attempt) (tick pump : Result Ticket EnterFault) (ends : Ends) (ended : End) → b.failed ≡ None → IsLate ends ended → (l : Bool) → ends.link_fault ≡ l → EndsAccount b attempts tick pump ended
+  late b attempts tick pump ends ended works u true is_l = subst (λ z. EndsAccount b attempts tick pump z) (sym (u.0 is_l)) works
+  late b attempts tick pump ends ended works u false is_l = subst (λ z. EndsAccount b attempts tick pump z) (sym (u.1 is_l)) works
 
   -- the account behind some entries more
   behind : (origin : CoreState × PressState G) (h es fs : List (ℕ × Entry G)) → es ≡ fs → account origin (h ++ es) ≡ account_from (account origin h) fs
   behind origin h es fs is = account_append (start origin) h es ∙ ap (λ z. account_from (account origin h) z) is
 
   by_answer : (told : G → Option Told) (size disk_faults emit_faults : G → ℕ) (floor : FloorState G) (h es : List (ℕ × Entry G)) (n : ℕ) (answer : Result ℕ CommitFault) (attempts : List Attempt) (tick pump : Result Ticket EnterFault) (ends : Ends) (answered : Bool) (ended : End)
-      → FloorStands told size disk_faults emit_faults floor h → AreOfCommit (account floor.origin h) n es answer → IsLegalFrom told size disk_faults emit_faults floor.origin (account floor.origin h) es → (IsTrue ends.no_memory ⊎ All (λ one. IsBehind one.last → ⊥) attempts) → (IsTrue answered → WasAnswered tick × WasAnswered pump)
-      → IsEndOf ends answered answer ended → IsEnd (account floor.origin (h ++ es)) attempts tick pump ended
+      → FloorStands told size disk_faults emit_faults floor h → AreOfCommit (account floor.origin h) n es answer → IsLegalFrom told size disk_faults emit_faults floor.origin (account floor.origin h) es → (IsTrue ends.no_memory ⊎ All (λ one. IsAnsweredBehind one.last → ⊥) attempts) → (IsTrue answered → WasAnswered tick × WasAnswered pump)
+      → IsEndBy ends answered answer ended → EndsAccount (account floor.origin (h ++ es)) attempts tick pump ended
   by_answer told size disk_faults emit_faults floor h es n (Ok upto) attempts tick pump ends answered ended stands are legal tried answers is =
       let a : Account G = account floor.origin h in
       let fs : List (ℕ × Entry G) = (n, Taken upto) ∷ ((n, Returned upto are.1) ∷ []) in
       let l = (subst (λ z. IsLegalFrom told size disk_faults emit_faults floor.origin a z) are.2 legal).0 in
-      subst (λ (b : Account G). IsEnd b attempts tick pump ended) (sym (behind floor.origin h es fs are.2))
+      subst (λ (b : Account G). EndsAccount b attempts tick pump ended) (sym (behind floor.origin h es fs are.2))
       (unbroken (account_from a fs) attempts tick pump ends answered ended (record { works = l.0; tried = tried; answers = answers }) (record { written = are.0; sent = refl }) is ends.link_fault ends.no_memory answered refl refl refl)
   by_answer told size disk_faults emit_faults floor h es n (Err commits.DiskFault) attempts tick pump ends answered ended stands are legal tried answers is =
       let a : Account G = account floor.origin h in
       let fs : List (ℕ × Entry G) = (n, Taken are.0) ∷ ((n, Failed are.0 are.2) ∷ []) in
-      subst (λ (b : Account G). IsEnd b attempts tick pump ended) (sym (behind floor.origin h es fs are.3))
-      (subst (λ z. IsEnd (account_from a fs) attempts tick pump z) (sym is) ((a.long + 1) + 1, refl))
+      subst (λ (b : Account G). EndsAccount b attempts tick pump ended) (sym (behind floor.origin h es fs are.3))
+      (subst (λ z. EndsAccount (account_from a fs) attempts tick pump z) (sym is) ((a.long + 1) + 1, refl))
   by_answer told size disk_faults emit_faults floor h es n (Err (commits.Stopped at)) attempts tick pump ends answered ended stands are legal tried answers is =
       let a : Account G = account floor.origin h in
       let fs : List (ℕ × Entry G) = (n, Looked (Refused (commits.Stopped at))) ∷ [] in
       let l = (subst (λ z. IsLegalFrom told size disk_faults emit_faults floor.origin a z) are legal).0 in
-      subst (λ (b : Account G). IsEnd b attempts tick pump ended) (sym (behind floor.origin h es fs are))
-      (subst (λ z. IsEnd (account_from a fs) attempts tick pump z) (sym is) (at, l))
+      subst (λ (b : Account G). EndsAccount b attempts tick pump ended) (sym (behind floor.origin h es fs are))
+      (subst (λ z. EndsAccount (account_from a fs) attempts tick pump z) (sym is) (at, l))
   by_answer told size disk_faults emit_faults floor h es n (Err (commits.Busy at upto)) attempts tick pump ends answered ended stands are legal tried answers is = absurd are
   by_answer told size disk_faults emit_faults floor h es n (Err (commits.Nothing upto)) attempts tick pump ends answered ended stands are legal tried answers is =
       let a : Account G = account floor.origin h in
@@ -134,18 +135,18 @@ module _ {G : Type 0} where
       let f = stands.shows.fronts in
       let home = f.home l.1 l.0 in
       let c = stands.shows.course in
-      subst (λ (b : Account G). IsEnd b attempts tick pump ended) (sym (behind floor.origin h es fs are))
+      subst (λ (b : Account G). EndsAccount b attempts tick pump ended) (sym (behind floor.origin h es fs are))
       (unbroken (account_from a fs) attempts tick pump ends answered ended (record { works = l.0; tried = tried; answers = answers })
       (record { written = home.1 ∙ (ap (λ z. floor.origin.0.events + z) all.0 ∙ sym c.events); sent = ap (λ z. z.dues) home.0 ∙ all.1 }) is ends.link_fault ends.no_memory answered refl refl refl)
   by_answer told size disk_faults emit_faults floor h es n (Err commits.NoMemory) attempts tick pump ends answered ended stands are legal tried answers is =
       let a : Account G = account floor.origin h in
       let fs : List (ℕ × Entry G) = (n, Looked (Refused commits.NoMemory)) ∷ [] in
       let l = (subst (λ z. IsLegalFrom told size disk_faults emit_faults floor.origin a z) are legal).0 in
-      subst (λ (b : Account G). IsEnd b attempts tick pump ended) (sym (behind floor.origin h es fs are)) (late (account_from a fs) attempts tick pump ends ended l.0 is ends.link_fault refl)
+      subst (λ (b : Account G). EndsAccount b attempts tick pump ended) (sym (behind floor.origin h es fs are)) (late (account_from a fs) attempts tick pump ends ended l.0 is ends.link_fault refl)
 
   pub ends_so : (told : G → Option Told) (size disk_faults emit_faults : G → ℕ) (floor after : FloorState G) (h : List (ℕ × Entry G)) (n : ℕ) (answer : Result ℕ CommitFault) (attempts : List Attempt) (tick pump : Result Ticket EnterFault) (ends : Ends) (answered : Bool) (ended : End)
-      → FloorStands told size disk_faults emit_faults floor h → (c : IsLastCommit told size disk_faults emit_faults floor after h n answer) → after.origin ≡ floor.origin → (IsTrue ends.no_memory ⊎ All (λ one. IsBehind one.last → ⊥) attempts) → (IsTrue answered → WasAnswered tick × WasAnswered pump)
-      → IsEndOf ends answered answer ended → IsEnd (account floor.origin (h ++ c.entries)) attempts tick pump ended
+      → FloorStands told size disk_faults emit_faults floor h → (c : IsLastCommit told size disk_faults emit_faults floor after h n answer) → after.origin ≡ floor.origin → (IsTrue ends.no_memory ⊎ All (λ one. IsAnsweredBehind one.last → ⊥) attempts) → (IsTrue answered → WasAnswered tick × WasAnswered pump)
+      → IsEndBy ends answered answer ended → EndsAccount (account floor.origin (h ++ c.entries)) attempts tick pump ended
   ends_so told size disk_faults emit_faults floor after h n answer attempts tick pump ends answered ended stands c same tried answers is =
       let legal : IsLegalFrom told size disk_faults emit_faults floor.origin (account floor.origin h) c.entries = legal_after told size disk_faults emit_faults floor.origin (start floor.origin) h c.entries (subst (λ (o : CoreState × PressState G). IsLegalFrom told size disk_faults emit_faults o (start o) (h ++ c.entries)) same c.stands.legal) in
       by_answer told size disk_faults emit_faults floor h c.entries n answer attempts tick pump ends answered ended stands c.are legal tried answers is
@@ -174,7 +175,7 @@ done_late ends ended u done true is_l = absurd (subst IsDone (sym done ∙ u.0 i
 done_late ends ended u done false is_l = absurd (subst IsDone (sym done ∙ u.1 is_l) tt)
 
 -- Done, neither the link failed nor was memory refused
-pub done_all : (ends : Ends) (answered : Bool) (answer : Result ℕ CommitFault) (ended : End) → IsEndOf ends answered answer ended → ended ≡ end.Done → (ends.link_fault ≡ false) × (ends.no_memory ≡ false)
+pub done_all : (ends : Ends) (answered : Bool) (answer : Result ℕ CommitFault) (ended : End) → IsEndBy ends answered answer ended → ended ≡ end.Done → (ends.link_fault ≡ false) × (ends.no_memory ≡ false)
 done_all ends answered (Ok upto) ended is done = done_unbroken ends answered ended is done ends.link_fault ends.no_memory refl refl
 done_all ends answered (Err commits.DiskFault) ended is done = absurd (subst IsDone (sym done ∙ is) tt)
 done_all ends answered (Err (commits.Stopped at)) ended is done = absurd (subst IsDone (sym done ∙ is) tt)
@@ -193,7 +194,7 @@ link_late ends ended u link true is_l = is_l
 link_late ends ended u link false is_l = absurd (subst IsLink (sym link ∙ u.1 is_l) tt)
 
 -- with LinkFault the link failed
-pub link_only : (ends : Ends) (answered : Bool) (answer : Result ℕ CommitFault) (ended : End) → IsEndOf ends answered answer ended → ended ≡ end.LinkFault → IsTrue ends.link_fault
+pub link_only : (ends : Ends) (answered : Bool) (answer : Result ℕ CommitFault) (ended : End) → IsEndBy ends answered answer ended → ended ≡ end.LinkFault → IsTrue ends.link_fault
 link_only ends answered (Ok upto) ended is link = link_unbroken ends answered ended is link ends.link_fault ends.no_memory answered refl refl refl
 link_only ends answered (Err commits.DiskFault) ended is link = absurd (subst IsLink (sym link ∙ is) tt)
 link_only ends answered (Err (commits.Stopped at)) ended is link = absurd (subst IsLink (sym link ∙ is) tt)

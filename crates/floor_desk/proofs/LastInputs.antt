@@ -12,9 +12,10 @@ use Rattle.alarm_journal.specs.Press.{PressState}
 use Rattle.floor_desk.specs.declared.entry.Entry.{Entry}
 use Rattle.floor_desk.specs.declared.entry.Ticket.{Ticket}
 use Rattle.floor_desk.specs.declared.faults.EnterFault.{EnterFault}
-use Rattle.floor_desk.specs.Serving.{AreLast, HasEnded}
+use Rattle.floor_desk.specs.Serving.{AreLast}
+use Rattle.floor_desk.specs.ServingSteps.{HasEnded}
 use Rattle.floor_desk.specs.Tries.{Try, tries_in}
-use Rattle.floor_desk.specs.Workers.{HasTried}
+use Rattle.floor_desk.specs.WorkersSteps.{HasTried}
 use Rattle.floor_desk.proofs.Working.{MadeCommit, no_tries, tries_append, worked_then}
 
 module _ {G : Type 0} where

@@ -11,6 +11,7 @@ pub mod Inputs
 pub mod JoinedPasses
 pub mod LastCommits
 pub mod LastInputs
+pub mod LookingBack
 pub mod Marks
 pub mod Prefixes
 pub mod Quiet

@@ -19,7 +19,7 @@ use Rattle.alarm_journal.specs.Press.{Lasts, Throughout}
 use Rattle.state_codec.specs.Contents.{ImageStands, StandsForHistory}
 use Rattle.floor_desk.specs.Accounts.{Due}
 use Rattle.state_codec.specs.Keeping.{Commits}
-use Rattle.floor_desk.specs.Prefixes.{HasLost, KeepsOrder, LeavesPrefix, RestsOn, Settle, with_first, capped, losses}
+use Rattle.floor_desk.specs.Prefixes.{HasLost, KeepsOrder, LeavesPrefix, RestsOn, GoOut, with_first, capped, losses}
 
 -- ---- a history with the events of an order
 
@@ -90,7 +90,7 @@ all_sent (send ∷ sends) sent lost (Wrote place octets ∷ entries) before are 
 all_sent (send ∷ sends) sent lost (Broke place tried left ∷ entries) before are = absurd are
 all_sent (send ∷ sends) sent lost (Synced ∷ entries) before are = absurd are
 
-settled_by : (sends : List Send) (sent lost : ℕ) (entries : List Entry) → AreEmissions sends sent lost entries → Settle sends entries
+settled_by : (sends : List Send) (sent lost : ℕ) (entries : List Entry) → AreEmissions sends sent lost entries → GoOut sends entries
 settled_by [] sent lost [] are = tt
 settled_by (send ∷ sends) sent lost (Emitted peer octets ∷ entries) (to, of, (less, count, are)) = ((to, of), settled_by sends less lost entries are)
 settled_by (send ∷ sends) sent lost (Lost peer octets ∷ entries) (to, of, (less, count, are)) = ((to, of), settled_by sends sent less entries are)
@@ -110,13 +110,13 @@ lost_by (send ∷ sends) sent lost (Wrote place octets ∷ entries) are = absurd
 lost_by (send ∷ sends) sent lost (Broke place tried left ∷ entries) are = absurd are
 lost_by (send ∷ sends) sent lost (Synced ∷ entries) are = absurd are
 
-settled_count : (sends : List Send) (entries : List Entry) → Settle sends entries → length entries ≡ length sends
+settled_count : (sends : List Send) (entries : List Entry) → GoOut sends entries → length entries ≡ length sends
 settled_count [] [] s = refl
 settled_count [] (entry ∷ entries) s = absurd s
 settled_count (send ∷ sends) [] s = absurd s
 settled_count (send ∷ sends) (entry ∷ entries) s = omega (arith, settled_count sends entries s.1)
 
-settled_both : (first second : List Send) (entries others : List Entry) → Settle first entries → Settle second others → Settle (first ++ second) (entries ++ others)
+settled_both : (first second : List Send) (entries others : List Entry) → GoOut first entries → GoOut second others → GoOut (first ++ second) (entries ++ others)
 settled_both [] second [] others one two = two
 settled_both [] second (entry ∷ entries) others one two = absurd one
 settled_both (send ∷ first) second [] others one two = absurd one
@@ -185,7 +185,7 @@ module _ (journal : Journal) (site : Site) (history : List Event) where
   keeps_more order more dues owed sent (Some old) (Some new) few (entries, adds, settle, along) = (
     entries,
     adds,
-    subst (λ (l : List Due). Settle (map (λ due. due.send) l) (emissions entries)) (sym (take-append-le sent dues owed few)) settle,
+    subst (λ (l : List Due). GoOut (map (λ due. due.send) l) (emissions entries)) (sym (take-append-le sent dues owed few)) settle,
     along_weaker (LeavesPrefix journal site history order dues) (LeavesPrefix journal site history (order ++ more) (dues ++ owed)) (λ s image. leaves_more order more dues owed s image) [] (disk_of old) entries along,
   )
 
@@ -202,7 +202,7 @@ module _ (journal : Journal) (site : Site) (history : List Event) where
   )
 
   -- so many were sent
-  sent_count : (dues : List Due) (sent : ℕ) (entries : List Entry) → sent ≤ length dues → Settle (map (λ due. due.send) (take sent dues)) (emissions entries) → length (emissions entries) ≡ sent
+  sent_count : (dues : List Due) (sent : ℕ) (entries : List Entry) → sent ≤ length dues → GoOut (map (λ due. due.send) (take sent dues)) (emissions entries) → length (emissions entries) ≡ sent
   sent_count dues sent entries few settle =
       omega (arith, few, settled_count (map (λ due. due.send) (take sent dues)) (emissions entries) settle, length-map (take sent dues) (λ (due : Due). due.send), length-take sent dues)
 
@@ -215,7 +215,7 @@ module _ (journal : Journal) (site : Site) (history : List Event) where
   keeps_commit order dues sent first second (Some old) (Some mid) (Some new) few one two less rests (entries, adds, settle, along) commits = (
     entries ++ commits.entries,
     adds_both (Some old) (Some mid) (Some new) entries commits.entries adds commits.adds,
-    subst (λ (l : List Entry). Settle (map (λ due. due.send) (take sent dues)) l) (sym same) settle,
+    subst (λ (l : List Entry). GoOut (map (λ due. due.send) (take sent dues)) l) (sym same) settle,
     along-append P [] (disk_of old) entries commits.entries along
         (subst (λ (d : Disk). Along P gone d commits.entries) (disk_adds old mid entries adds) (along_quiet P gone (disk_of mid) commits.entries commits.quiet (always_weaker Q (P gone) to (disk_of mid) commits.entries commits.always))),
   )
@@ -253,7 +253,7 @@ module _ (journal : Journal) (site : Site) (history : List Event) where
   keeps_emitting order dues sent count (Some old) (Some mid) (Some new) content sends gone lost few within rests stands is (entries, adds, settle, along) emits (others, more, always) = (
     entries ++ emits.entries,
     adds_both (Some old) (Some mid) (Some new) entries emits.entries adds emits.adds,
-    subst (λ (l : List Due). Settle (map (λ due. due.send) l) (emissions (entries ++ emits.entries))) (sym (take_all (length dues) dues (omega arith))) whole,
+    subst (λ (l : List Due). GoOut (map (λ due. due.send) l) (emissions (entries ++ emits.entries))) (sym (take_all (length dues) dues (omega arith))) whole,
     along-append P [] (disk_of old) entries emits.entries along
         (subst (λ (d : Disk). Along P before d emits.entries) (disk_adds old mid entries adds) (along_few P Q (length dues) to before (disk_of mid) emits.entries most images)),
   )
@@ -279,7 +279,7 @@ module _ (journal : Journal) (site : Site) (history : List Event) where
       sent_now : sent_after emits.entries before ≡ before ++ emits.entries
       sent_now = all_sent sends gone lost emits.entries before emits.emissions
 
-      settles : Settle sends emits.entries
+      settles : GoOut sends emits.entries
       settles = settled_by sends gone lost emits.entries emits.emissions
 
       rest : length sends ≡ length dues - sent
@@ -288,14 +288,14 @@ module _ (journal : Journal) (site : Site) (history : List Event) where
       most : length (sent_after emits.entries before) ≤ length dues
       most = omega (arith, few, so_far, rest, settled_count sends emits.entries settles, ap (λ (l : List Entry). length l) sent_now, length-append before emits.entries)
 
-      both : Settle (map (λ due. due.send) (take sent dues) ++ map (λ due. due.send) (drop sent dues)) (before ++ emits.entries)
-      both = settled_both (map (λ due. due.send) (take sent dues)) (map (λ due. due.send) (drop sent dues)) before emits.entries settle (subst (λ (l : List Send). Settle l emits.entries) is settles)
+      both : GoOut (map (λ due. due.send) (take sent dues) ++ map (λ due. due.send) (drop sent dues)) (before ++ emits.entries)
+      both = settled_both (map (λ due. due.send) (take sent dues)) (map (λ due. due.send) (drop sent dues)) before emits.entries settle (subst (λ (l : List Send). GoOut l emits.entries) is settles)
 
       together : map (λ due. due.send) (take sent dues) ++ map (λ due. due.send) (drop sent dues) ≡ map (λ due. due.send) dues
       together = sym (map-append (λ (due : Due). due.send) (take sent dues) (drop sent dues)) ∙ ap (λ (l : List Due). map (λ due. due.send) l) (take-append-drop sent dues)
 
-      whole : Settle (map (λ due. due.send) dues) (emissions (entries ++ emits.entries))
-      whole = subst (λ (l : List Entry). Settle (map (λ due. due.send) dues) l) (sym (sent-append entries emits.entries [] ∙ sent_now)) (subst (λ (l : List Send). Settle l (before ++ emits.entries)) together both)
+      whole : GoOut (map (λ due. due.send) dues) (emissions (entries ++ emits.entries))
+      whole = subst (λ (l : List Entry). GoOut (map (λ due. due.send) dues) l) (sym (sent-append entries emits.entries [] ∙ sent_now)) (subst (λ (l : List Send). GoOut l (before ++ emits.entries)) together both)
 
       to : (sent : List Entry) (image : List ℕ) → length sent ≤ length dues → Q image → P sent image
       to sent image few opens = record {

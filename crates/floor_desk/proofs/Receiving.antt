@@ -25,8 +25,9 @@ use Rattle.floor_desk.specs.declared.faults.EnterFault.TheVariants as enters
 use Rattle.ground_io.specs.declared.link.Received.{Received}
 use Rattle.floor_desk.specs.declared.receiver.Came.{Came}
 use Rattle.floor_desk.specs.declared.receiver.Ends.{Ends}
-use Rattle.floor_desk.specs.Tries.{AreTried, Attempt, GaveUp, IsBehind, IsOfCommit, IsOfInput, IsTried, Try, tries_in}
-use Rattle.floor_desk.specs.Workers.{AreTaken, HasCome, HasReceived, HasTried, IsDatagram, IsNext, StaysLeft, if_lost, input_of, lost_of}
+use Rattle.floor_desk.specs.Tries.{AreTried, Attempt, GaveUp, IsAnsweredBehind, IsOfCommit, IsOfInput, IsTried, Try, tries_in}
+use Rattle.floor_desk.specs.Workers.{AreTaken, HasReceived, IsDatagram, if_lost, input_of, lost_of}
+use Rattle.floor_desk.specs.WorkersSteps.{HasCome, HasTried, IsNext, StaysLeft}
 use Rattle.floor_desk.proofs.Working.{tries_append, worked_none, worked_then}
 
 abbrev attempt : Input → Result Ticket EnterFault → Attempt
@@ -107,7 +108,7 @@ taken_none None = tt
 taken_none (Some o) = (refl, refl)
 
 -- an answer is that a commit has to come first, or it isn't
-behind_or : (last : Result Ticket EnterFault) → IsBehind last ⊎ (IsBehind last → ⊥)
+behind_or : (last : Result Ticket EnterFault) → IsAnsweredBehind last ⊎ (IsAnsweredBehind last → ⊥)
 behind_or (Ok ticket) = inr (λ behind. behind)
 behind_or (Err (enters.Stopped at)) = inr (λ behind. behind)
 behind_or (Err (enters.Behind pending octets)) = inl tt
@@ -123,10 +124,10 @@ module _ {G : Type 0} (shows : ℕ → Type 0) where
     entries = [];
     attempts = [];
     worked = worked_none p;
-    received = record { tried = refl; datagrams = All-nil (λ (one : Attempt). IsDatagram one.input); taken = taken_none old; parts = All-nil IsPart; shown = All-nil (λ (one : Try). shows one.moment); gave_up = inl (All-nil (λ (one : Attempt). IsBehind one.last → ⊥)) };
+    received = record { tried = refl; datagrams = All-nil (λ (one : Attempt). IsDatagram one.input); taken = taken_none old; parts = All-nil IsPart; shown = All-nil (λ (one : Try). shows one.moment); gave_up = inl (All-nil (λ (one : Attempt). IsAnsweredBehind one.last → ⊥)) };
     count = ap (λ (e : Ends). e.received) none;
     lost = ap (λ (e : Ends). e.lost) none;
-    tried = inr (All-nil (λ (one : Attempt). IsBehind one.last → ⊥));
+    tried = inr (All-nil (λ (one : Attempt). IsAnsweredBehind one.last → ⊥));
   }
 
   -- the link gave nothing, and the numbers are as they were; where one says that memory was refused, it may be so
@@ -147,11 +148,11 @@ module _ {G : Type 0} (shows : ℕ → Type 0) where
 
   -- a datagram more
   pub received_more : (old mid new : Option (List Send)) (p q r : Known (Entry G) (CoreState × PressState G)) (ends after : Ends) (input : Input) (last : Result Ticket EnterFault) → HasReceived shows old mid p q ends → ends.no_memory ≡ false → IsNext mid new input → IsDatagram input → HasTried shows q r input last
-      → after.received ≡ ends.received + 1 → after.lost ≡ ends.lost + if_lost last → (IsTrue after.no_memory ⊎ ((ends.no_memory ≡ false) × (IsBehind last → ⊥))) → HasReceived shows old new p r after
+      → after.received ≡ ends.received + 1 → after.lost ≡ ends.lost + if_lost last → (IsTrue after.no_memory ⊎ ((ends.no_memory ≡ false) × (IsAnsweredBehind last → ⊥))) → HasReceived shows old new p r after
   received_more old mid new p q r ends after input last h unrefused next is t count lost memory =
       let one = attempt input last in
       let D : Attempt → Type 0 = λ (a : Attempt). IsDatagram a.input in
-      let N : Attempt → Type 0 = λ (a : Attempt). IsBehind a.last → ⊥ in
+      let N : Attempt → Type 0 = λ (a : Attempt). IsAnsweredBehind a.last → ⊥ in
       let S : Try → Type 0 = λ (a : Try). shows a.moment in
       let tries = tries_append h.entries t.entries in record {
         entries = h.entries ++ t.entries;

@@ -17,7 +17,7 @@ use Rattle.floor_desk.specs.declared.faults.EnterFault.{EnterFault}
 use Rattle.floor_desk.specs.Accounts.{entry_for}
 use Rattle.floor_desk.specs.Desks.{MakesEntry}
 use Rattle.floor_desk.specs.Tries.{AreTicks, IsOfCommit, IsOfInput, Try, tried_by, tries_in}
-use Rattle.floor_desk.specs.Workers.{HasKept, HasTicked, Worked}
+use Rattle.floor_desk.specs.Workers.{HasKept, HasTicked, MadeEntries}
 use Rattle.floor_desk.proofs.Working.{MadeCommit, is_of_input, tried_of, tries_append, worked_entry, worked_none, worked_then}
 
 ticks_more : (tries more : List Try) → AreTicks tries → AreTicks more → AreTicks (tries ++ more)
@@ -56,10 +56,10 @@ module _ {G : Type 0} where
       }
 
   -- and a look at the mark behind them
-  pub ticked_looked : (shows : ℕ → Type 0) (p q r : Known (Entry G) (CoreState × PressState G)) → HasTicked shows p q → Worked q r [] → HasTicked shows p r
+  pub ticked_looked : (shows : ℕ → Type 0) (p q r : Known (Entry G) (CoreState × PressState G)) → HasTicked shows p q → MadeEntries q r [] → HasTicked shows p r
   ticked_looked shows p q r t w = record {
     entries = t.entries;
-    worked = subst (λ (z : List (Entry G)). Worked p r z) (append-nil t.entries) (worked_then p q r t.entries [] t.worked w);
+    worked = subst (λ (z : List (Entry G)). MadeEntries p r z) (append-nil t.entries) (worked_then p q r t.entries [] t.worked w);
     ticks = t.ticks;
     parts = t.parts;
     shown = t.shown;

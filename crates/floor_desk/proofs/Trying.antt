@@ -20,13 +20,14 @@ use Rattle.floor_desk.specs.Accounts.{entry_for}
 use Rattle.floor_desk.specs.Desks.{MakesEntry}
 use Rattle.floor_desk.specs.declared.entering.Offer.{Offer}
 use Rattle.floor_desk.specs.declared.entering.Offer.TheVariants as offers
-use Rattle.floor_desk.specs.Tries.{FindsNone, IsBehind, IsInputOf, IsOfCommit, IsOfInput, IsTried, Try, tried_by, tries_in}
-use Rattle.floor_desk.specs.Workers.{AreShown, HasTried, Worked}
+use Rattle.floor_desk.specs.Tries.{FindsNone, IsAnsweredBehind, IsInputOf, IsOfCommit, IsOfInput, IsTried, Try, tried_by, tries_in}
+use Rattle.floor_desk.specs.Workers.{AreShown, MadeEntries}
+use Rattle.floor_desk.specs.WorkersSteps.{HasTried}
 use Rattle.floor_desk.proofs.Working.{MadeCommit, is_of_input, no_tries, tried_of, tries_append, worked_entry, worked_none, worked_then}
 
 -- a try of this input to which a commit had to come first
 abbrev pub IsTurnedBack : Input → Try → Type 0
-IsTurnedBack input one = (one.input ≡ input) × IsBehind one.answer
+IsTurnedBack input one = (one.input ≡ input) × IsAnsweredBehind one.answer
 
 -- one try more than such ones
 tried_last : (input : Input) (last : Result Ticket EnterFault) (before : List Try) (one : Try) → All (IsTurnedBack input) before → one.input ≡ input → one.answer ≡ last → IsTried input last (before ++ one ∷ [])
@@ -43,7 +44,7 @@ module _ {G : Type 0} where
   -- so far a commit always had to come first
   pub record HasTurnedBack (shows : ℕ → Type 0) (p q : Known (Entry G) (CoreState × PressState G)) (input : Input) : Type 0 where
     pub entries : List (Entry G)
-    pub worked : Worked p q entries
+    pub worked : MadeEntries p q entries
     pub tries : All (IsTurnedBack input) (tries_in entries)
     pub parts : All (λ entry. IsOfInput entry ⊎ IsOfCommit entry) entries
     pub shown : AreShown shows entries
@@ -84,7 +85,7 @@ module _ {G : Type 0} where
       let P : Try → Type 0 = (λ t. shows t.moment) in
       subst (λ z. All P z) (sym (tries_snoc es e one is)) (All-append P (tries_in es) (one ∷ []) all (All-cons P one [] shown (All-nil P)))
 
-  finds_none : (e : Entry G) (memo : Memo Input) (moment : ℕ) (answer : Result Ticket EnterFault) → e ≡ entry_for memo moment answer → IsBehind answer → FindsNone e
+  finds_none : (e : Entry G) (memo : Memo Input) (moment : ℕ) (answer : Result Ticket EnterFault) → e ≡ entry_for memo moment answer → IsAnsweredBehind answer → FindsNone e
   finds_none e memo moment (Ok ticket) is behind = absurd behind
   finds_none e memo moment (Err fault) is behind = subst FindsNone (sym is) behind
 
@@ -103,14 +104,14 @@ module _ {G : Type 0} where
 
   -- a try to which a commit had to come first
   pub turned_now : (told : G → Option Told) (size disk_faults emit_faults : G → ℕ) (origin : CoreState × PressState G) (shows : ℕ → Type 0) (p q r : Known (Entry G) (CoreState × PressState G)) (input : Input) (memo : Memo Input) (moment : ℕ) (answer : Result Ticket EnterFault) → HasTurnedBack shows p q input → memo.value ≡ input → shows moment
-      → MakesEntry told size disk_faults emit_faults origin q r (entry_for memo moment answer) → IsBehind answer → HasTurnedBack shows p r input
+      → MakesEntry told size disk_faults emit_faults origin q r (entry_for memo moment answer) → IsAnsweredBehind answer → HasTurnedBack shows p r input
   turned_now told size disk_faults emit_faults origin shows p q r input memo moment answer t is shown a behind =
       let e : Entry G = entry_for memo moment answer in let o = one_of shows memo moment answer shown in
       let P : Try → Type 0 = IsTurnedBack input in record {
         entries = t.entries ++ e ∷ [];
         worked = worked_then p q r t.entries (e ∷ []) t.worked (worked_entry told size disk_faults emit_faults origin q r e a);
         tries = subst (λ z. All P z) (sym (tries_snoc t.entries e o.one o.is))
-            (All-append P (tries_in t.entries) (o.one ∷ []) t.tries (All-cons P o.one [] (o.input_is ∙ is, subst IsBehind (sym o.answer_is) behind) (All-nil P)));
+            (All-append P (tries_in t.entries) (o.one ∷ []) t.tries (All-cons P o.one [] (o.input_is ∙ is, subst IsAnsweredBehind (sym o.answer_is) behind) (All-nil P)));
         parts = All-append IsPart t.entries (e ∷ []) t.parts (All-cons IsPart e [] o.part (All-nil IsPart));
         shown = shown_snoc shows t.entries e o.one o.is o.moment t.shown;
       }

@@ -15,7 +15,7 @@ use Rattle.floor_desk.specs.declared.entry.Entry.TheVariants.{Event as Happened,
 use Rattle.floor_desk.specs.declared.faults.CommitFault.{CommitFault}
 use Rattle.floor_desk.specs.declared.steps.Steps.{Steps}
 use Rattle.floor_desk.specs.Desks.{HasCommitted, MakesEntry}
-use Rattle.floor_desk.specs.Workers.{GoesThrough, Worked, calls_in}
+use Rattle.floor_desk.specs.Workers.{GoesThrough, MadeEntries, calls_in}
 use Rattle.floor_desk.proofs.Working.{calls_one, made_commit, worked_entry}
 
 -- ---- the steps of a worker
@@ -63,7 +63,7 @@ module _ {G : Type 0} where
     }
 
     -- one step, and one call behind it, or none
-    pub through_once : (from : ℕ) (p q : Known (Entry G) (CoreState × PressState G)) (entries : List (Entry G)) → passed (next_count from) → Worked p q entries → calls_in entries ≤ 1 → GoesThrough passed from (next_count from) p q
+    pub through_once : (from : ℕ) (p q : Known (Entry G) (CoreState × PressState G)) (entries : List (Entry G)) → passed (next_count from) → MadeEntries p q entries → calls_in entries ≤ 1 → GoesThrough passed from (next_count from) p q
     through_once from p q entries turn worked one = record {
       entries = entries;
       mine = ap (λ (k : Known (Entry G) (CoreState × PressState G)). k.mine) worked.same;
@@ -76,7 +76,7 @@ module _ {G : Type 0} where
   module _ (turn : Worker → ℕ → Type 0) (worker : Worker) where
     -- a step more, and what was made behind it
     pub through_step : (from : ℕ) (old new : Steps) (p q r : Known (Entry G) (CoreState × PressState G)) (entries : List (Entry G)) → GoesThrough (turn worker) from old.count p q → old.worker ≡ worker → new ≡ record old { count = next_count old.count } → turn new.worker new.count
-        → Worked q r entries → calls_in entries ≤ 1 → GoesThrough (turn worker) from new.count p r
+        → MadeEntries q r entries → calls_in entries ≤ 1 → GoesThrough (turn worker) from new.count p r
     through_step from old new p q r entries before is next passed worked one =
         let s = stepped turn worker old new is next passed in
         subst (λ (n : ℕ). GoesThrough (turn worker) from n p r) (sym s.count)

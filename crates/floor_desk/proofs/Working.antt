@@ -26,11 +26,11 @@ use Rattle.floor_desk.specs.declared.desk.Standing.TheVariants.{Durable, NotYet}
 use Rattle.floor_desk.specs.Accounts.{entry_by, entry_for}
 use Rattle.floor_desk.specs.Desks.{MakesEntry, HasCommitted, TellsStanding, Leaves}
 use Rattle.floor_desk.specs.Tries.{IsOfCommit, IsOfInput, tried_by, tries_in}
-use Rattle.floor_desk.specs.Workers.{Worked, calls_in}
+use Rattle.floor_desk.specs.Workers.{MadeEntries, calls_in}
 
 module _ {G : Type 0} where
   -- nothing was made
-  pub worked_none : (p : Known (Entry G) (CoreState × PressState G)) → Worked p p []
+  pub worked_none : (p : Known (Entry G) (CoreState × PressState G)) → MadeEntries p p []
   worked_none p = record {
     begins = ([], sym (append-nil p.seen));
     same = ap (λ (z : List (Entry G)). record p { mine = z; seen = p.seen; mark = p.mark }) (sym (append-nil p.mine));
@@ -38,7 +38,7 @@ module _ {G : Type 0} where
   }
 
   -- one stretch behind the other
-  pub worked_then : (p q r : Known (Entry G) (CoreState × PressState G)) (es fs : List (Entry G)) → Worked p q es → Worked q r fs → Worked p r (es ++ fs)
+  pub worked_then : (p q r : Known (Entry G) (CoreState × PressState G)) (es fs : List (Entry G)) → MadeEntries p q es → MadeEntries q r fs → MadeEntries p r (es ++ fs)
   worked_then p q r es fs a b =
       let mine : (q.mine ++ fs) ≡ p.mine ++ (es ++ fs) = ap (λ z. z ++ fs) (ap (λ (k : Known (Entry G) (CoreState × PressState G)). k.mine) a.same) ∙ append_assoc p.mine es fs in record {
         begins = (a.begins.0 ++ b.begins.0, b.begins.1 ∙ (ap (λ z. z ++ b.begins.0) a.begins.1 ∙ append_assoc p.seen a.begins.0 b.begins.0));
@@ -104,7 +104,7 @@ module _ {G : Type 0} where
 
 module _ {G : Type 0} (told : G → Option Told) (size disk_faults emit_faults : G → ℕ) (origin : CoreState × PressState G) where
   -- one entry
-  pub worked_entry : (p q : Known (Entry G) (CoreState × PressState G)) (e : Entry G) → MakesEntry told size disk_faults emit_faults origin p q e → Worked p q (e ∷ [])
+  pub worked_entry : (p q : Known (Entry G) (CoreState × PressState G)) (e : Entry G) → MakesEntry told size disk_faults emit_faults origin p q e → MadeEntries p q (e ∷ [])
   worked_entry p q e a =
       let seen : q.seen ≡ (p.seen ++ a.between) ++ (p.number, e) ∷ [] = ap (λ (k : Known (Entry G) (CoreState × PressState G)). k.seen) a.same in
       let mark : q.mark ≡ p.mark = ap (λ (k : Known (Entry G) (CoreState × PressState G)). k.mark) a.same in record {
@@ -113,7 +113,7 @@ module _ {G : Type 0} (told : G → Option Told) (size disk_faults emit_faults :
         mark = subst (λ m. p.mark ≤ m) (sym mark) (le_refl p.mark);
       }
 
-  leaves_worked : (p q : Known (Entry G) (CoreState × PressState G)) (upto : ℕ) (e : Entry G) (mark : ℕ) → p.mark ≤ mark → Leaves told size disk_faults emit_faults origin p q upto e mark → Worked p q (Taken upto ∷ (e ∷ []))
+  leaves_worked : (p q : Known (Entry G) (CoreState × PressState G)) (upto : ℕ) (e : Entry G) (mark : ℕ) → p.mark ≤ mark → Leaves told size disk_faults emit_faults origin p q upto e mark → MadeEntries p q (Taken upto ∷ (e ∷ []))
   leaves_worked p q upto e mark up l =
       let first : List (ℕ × Entry G) = (p.number, Taken upto) ∷ [] in
       let last : List (ℕ × Entry G) = (p.number, e) ∷ [] in
@@ -131,7 +131,7 @@ module _ {G : Type 0} (told : G → Option Told) (size disk_faults emit_faults :
   -- a commit makes entries of a commit alone
   pub record MadeCommit (p q : Known (Entry G) (CoreState × PressState G)) : Type 0 where
     pub entries : List (Entry G)
-    pub worked : Worked p q entries
+    pub worked : MadeEntries p q entries
     pub parts : All IsOfCommit entries
     pub calls : calls_in entries ≤ 1
 
@@ -158,7 +158,7 @@ module _ {G : Type 0} (told : G → Option Told) (size disk_faults emit_faults :
 
 module _ {G : Type 0} where
   -- a look at the mark makes none
-  marked_none : (p q : Known (Entry G) (CoreState × PressState G)) (mark : ℕ) → p.mark ≤ mark → q ≡ record p { mark = mark } → Worked p q []
+  marked_none : (p q : Known (Entry G) (CoreState × PressState G)) (mark : ℕ) → p.mark ≤ mark → q ≡ record p { mark = mark } → MadeEntries p q []
   marked_none p q mark up is =
       let seen : q.seen ≡ p.seen = ap (λ (k : Known (Entry G) (CoreState × PressState G)). k.seen) is in
       let m : q.mark ≡ mark = ap (λ (k : Known (Entry G) (CoreState × PressState G)). k.mark) is in record {
@@ -168,6 +168,6 @@ module _ {G : Type 0} where
         mark = subst (λ n. p.mark ≤ n) (sym m) up;
       }
 
-  pub worked_look : (number : ℕ) (p q : Known (Entry G) (CoreState × PressState G)) (standing : Standing) → TellsStanding number p q standing → Worked p q []
+  pub worked_look : (number : ℕ) (p q : Known (Entry G) (CoreState × PressState G)) (standing : Standing) → TellsStanding number p q standing → MadeEntries p q []
   worked_look number p q (Durable mark) t = marked_none p q mark t.1 t.2
   worked_look number p q (NotYet mark) t = marked_none p q mark t.1 t.2

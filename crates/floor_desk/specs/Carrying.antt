@@ -14,6 +14,7 @@ use Rattle.alarm_journal.specs.Emissions.{EmitsAll}
 use Rattle.alarm_journal.specs.Journal.{Content}
 use Rattle.alarm_journal.specs.Journal.{Site as Journal}
 use Rattle.alarm_journal.specs.Press.{PressState, room_of}
+use Rattle.alarm_journal.specs.Protocol.{IfToldOn}
 use Rattle.state_codec.specs.Contents.{ImageStands, records_of}
 use Rattle.state_codec.specs.Keeping.{Commits, HoldsHistory, Rests}
 use Rattle.state_codec.specs.Work.{IsWorkOf}
@@ -57,9 +58,7 @@ module _ {G : Type 0} (told : G → Option Told) where
 
 -- From one to the other each image that a crash may leave stands for one history, where it tells.
 abbrev pub Stays : Journal → Site → List Event → Option Told → Option Told → Type 0
-Stays journal site history old None = ⊤
-Stays journal site history None (Some new) = ⊥
-Stays journal site history (Some old) (Some new) = (entries : List GroundEntry) × Adds (Some old) (Some new) entries × Always (λ image. ImageStands journal site image history) (disk_of old) entries
+Stays journal site history old new = IfToldOn old new (λ before now. (entries : List GroundEntry) × Adds (Some before) (Some now) entries × Always (λ image. ImageStands journal site image history) (disk_of before) entries)
 
 -- First nothing is sent, and each image that a crash may leave stands for the one history or for the other. Only behind that these datagrams are sent, of which so many are lost, and each image stands for the other.
 pub record WritesThenSends (journal : Journal) (site : Site) (before after : List Event) (sends : List Send) (lost : ℕ) (old new : Option Told) : Type 0 where
@@ -79,6 +78,15 @@ module _ {G : Type 0} (told : G → Option Told) where
   BreaksLoan origin a upto device = (journal : Journal) (history : List Event) → Represents origin.0 history → HoldsHistory journal origin.0.site history origin.1.layout (told origin.1.device)
       → Commits journal origin.0.site (with_first history (a.durable - origin.0.events) a.order) (with_first history (upto - origin.0.events) a.order) (told a.press.device) (told device)
 
+  -- Just these datagrams went out, of which so many were lost: nothing was written, no sync came, and the journal lies where it lay. No press is lost by that.
+  abbrev pub SendsAlone : List Send → PressState G → Carried G → Type 0
+  SendsAlone sends before (Home press upto lost) = (press.layout ≡ before.layout) × EmitsAll sends (length sends - lost) lost (told before.device) (told press.device)
+  SendsAlone sends before (Broken device upto) = ⊥
+
+  -- a loan for which no event waited writes nothing: just the datagrams go out that the history owed up to a front
+  abbrev pub WritesEventsAlone : Account G → ℕ → Front → Carried G → Type 0
+  WritesEventsAlone a upto front carried = upto ≡ a.durable → SendsAlone (map (λ due. due.send) (drop a.back.dues (take front.dues a.dues))) a.press carried
+
 module _ {G : Type 0} (size disk_faults emit_faults : G → ℕ) where
   -- What the ground counts behind a load, whoever made that. Home, no call of the disk has failed, and emissions failed just where datagrams were lost. Lost, a call of the disk has failed, and no emission. The device has its size.
   abbrev pub CountsCarried : G → Carried G → Type 0
@@ -92,9 +100,9 @@ module _ {G : Type 0} (told : G → Option Told) where
   RestsCarried journal content (Broken device upto) = ⊤
 
 module _ {G : Type 0} (told : G → Option Told) (size disk_faults emit_faults : G → ℕ) where
-  -- What comes back belongs to a load that left with the press to write up to an event, when the history reached to a front of what it comes to now. Home, the order up to that event is written, and just the dues up to that front were sent, of which so many more were lost. Lost, none was sent behind those that were sent before the load. And the ground counts so.
+  -- What comes back belongs to a load that left with the press to write up to an event, when the history reached to a front of what it comes to now. Home, the order up to that event is written, and just the dues up to that front were sent, of which so many more were lost. Lost, none was sent behind those that were sent before the load. The ground counts so, and where no event waited nothing is written.
   abbrev pub IsCarriedOut : CoreState × PressState G → Account G → ℕ → Front → Carried G → Type 0
   IsCarriedOut origin a upto front (Home press event more) =
-      (event ≡ upto) × CountsCarried size disk_faults emit_faults a.press.device (Home press event more) × HoldsOrder told origin a upto front press × HasLost more (told a.press.device) (told press.device) × KeepsLoan told origin a upto front more press
+      (event ≡ upto) × CountsCarried size disk_faults emit_faults a.press.device (Home press event more) × HoldsOrder told origin a upto front press × HasLost more (told a.press.device) (told press.device) × KeepsLoan told origin a upto front more press × WritesEventsAlone told a upto front (Home press event more)
   IsCarriedOut origin a upto front (Broken device event) =
-      (event ≡ upto) × CountsCarried size disk_faults emit_faults a.press.device (Broken device event) × KeptOrder told origin a a.back device × HasLost 0 (told a.press.device) (told device) × BreaksLoan told origin a upto device
+      (event ≡ upto) × CountsCarried size disk_faults emit_faults a.press.device (Broken device event) × KeptOrder told origin a a.back device × HasLost 0 (told a.press.device) (told device) × BreaksLoan told origin a upto device × WritesEventsAlone told a upto front (Broken device event)

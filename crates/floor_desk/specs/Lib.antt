@@ -5,10 +5,14 @@ pub mod Desks
 pub mod Ending
 pub mod Holding
 pub mod Legal
+pub mod LookingBack
 pub mod Moves
+pub mod MovesSteps
 pub mod Prefixes
 pub mod Serving
+pub mod ServingSteps
 pub mod Standing
 pub mod States
 pub mod Tries
 pub mod Workers
+pub mod WorkersSteps

@@ -55,18 +55,18 @@ module _ {G : Type 0} where
   IsOfInput (Failed upto device) = ⊥
 
 -- the answer is that a commit has to come first
-abbrev pub IsBehind : Result Ticket EnterFault → Type 0
-IsBehind (Ok ticket) = ⊥
-IsBehind (Err (enters.Behind pending octets)) = Unit {0}
-IsBehind (Err (enters.Stopped at)) = ⊥
-IsBehind (Err (enters.Full would limit)) = ⊥
-IsBehind (Err enters.NoMemory) = ⊥
+abbrev pub IsAnsweredBehind : Result Ticket EnterFault → Type 0
+IsAnsweredBehind (Ok ticket) = ⊥
+IsAnsweredBehind (Err (enters.Behind pending octets)) = Unit {0}
+IsAnsweredBehind (Err (enters.Stopped at)) = ⊥
+IsAnsweredBehind (Err (enters.Full would limit)) = ⊥
+IsAnsweredBehind (Err enters.NoMemory) = ⊥
 
 module _ {G : Type 0} where
   -- a commit that found no memory, or a try to which a commit had to come first
   abbrev pub FindsNone : Entry G → Type 0
   FindsNone (Looked (Refused fault)) = fault ≡ commits.NoMemory
-  FindsNone (Looked (Tried input moment answer)) = IsBehind answer
+  FindsNone (Looked (Tried input moment answer)) = IsAnsweredBehind answer
   FindsNone entry = ⊥
 
   -- Why an input isn't tried again to which a commit had to come first: the commit found no memory; or there was none to make the input again, and no commit came.
@@ -77,7 +77,7 @@ module _ {G : Type 0} where
 abbrev pub IsTried : Input → Result Ticket EnterFault → List Try → Type 0
 IsTried input last [] = ⊥
 IsTried input last (one ∷ []) = (one.input ≡ input) × (one.answer ≡ last)
-IsTried input last (one ∷ (next ∷ more)) = (one.input ≡ input) × IsBehind one.answer × IsTried input last (next ∷ more)
+IsTried input last (one ∷ (next ∷ more)) = (one.input ≡ input) × IsAnsweredBehind one.answer × IsTried input last (next ∷ more)
 
 -- an input, and its last answer
 pub record Attempt : Type 0 where

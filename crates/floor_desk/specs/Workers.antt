@@ -1,13 +1,11 @@
 -- What each worker of a server did, told by the entries that its pass made.
-use Rattle.std.specs.Prelude.{◌≡◌, ◌⊎◌, ◌<◌, ◌≤◌, ◌+◌, ℕ, ⊤, All, List, [], ◌∷◌, ◌++◌, length, map, take, drop, IsTrue, Option, Some, None, Result, Ok, Err}
+use Rattle.std.specs.Prelude.{◌≡◌, ◌⊎◌, ◌<◌, ◌≤◌, ◌+◌, ℕ, All, List, [], ◌∷◌, ◌++◌, length, map, take, drop, IsTrue, Option, Result, Ok, Err}
 use Rattle.bac_values.specs.Limits.{most_datagram_octets}
-use Rattle.bac_values.specs.Address.{PeerData}
 use Rattle.bac_values.specs.declared.input.Input.{Input}
 use Rattle.bac_values.specs.declared.input.Input.TheVariants.{Datagram}
 use Rattle.bac_values.specs.declared.note.Send.{Send}
 use Rattle.ground_io.specs.Counts.{HasCause}
-use Rattle.ground_io.specs.declared.link.Received.{Received}
-use Rattle.ground_io.specs.declared.link.Received.TheVariants as arrivals
+use Rattle.ground_io.specs.Trace.{WhereTold}
 use Rattle.turnstile.specs.Histories.{StartsWith}
 use Rattle.turnstile.specs.Passes.{Known}
 use Rattle.alarm_core.specs.State.{CoreState}
@@ -16,11 +14,9 @@ use Rattle.floor_desk.specs.declared.entry.Entry.{Entry}
 use Rattle.floor_desk.specs.declared.entry.Entry.TheVariants.{Returned, Failed}
 use Rattle.floor_desk.specs.declared.entry.Ticket.{Ticket}
 use Rattle.floor_desk.specs.declared.faults.EnterFault.{EnterFault}
-use Rattle.floor_desk.specs.declared.entering.Offer.TheVariants as offers
-use Rattle.floor_desk.specs.declared.receiver.Came.{Came}
 use Rattle.floor_desk.specs.declared.receiver.Ends.{Ends}
 use Rattle.floor_desk.specs.Prefixes.{capped}
-use Rattle.floor_desk.specs.Tries.{AreTicks, AreTried, Attempt, GaveUp, IsBehind, IsOfCommit, IsOfInput, IsTried, tries_in}
+use Rattle.floor_desk.specs.Tries.{AreTicks, AreTried, Attempt, GaveUp, IsAnsweredBehind, IsOfCommit, IsOfInput, tries_in}
 
 -- a datagram of the link as an input: cut to these octets
 abbrev pub input_of : Send → Input
@@ -37,29 +33,7 @@ lost_of (one ∷ more) = if_lost one.last + lost_of more
 
 -- so many datagrams were taken from a link, and these are the inputs that they are, in their order; where the link tells
 abbrev pub AreTaken : Option (List Send) → Option (List Send) → List Attempt → Type 0
-AreTaken None new attempts = ⊤
-AreTaken (Some old) None attempts = ⊥
-AreTaken (Some old) (Some new) attempts = (map (λ one. one.input) attempts ≡ map input_of (take (length attempts) old)) × (new ≡ drop (length attempts) old)
-
--- the first datagram of a link was taken, and this is the input that it is; where the link tells
-abbrev pub IsNext : Option (List Send) → Option (List Send) → Input → Type 0
-IsNext None new input = ⊤
-IsNext (Some old) None input = ⊥
-IsNext (Some []) (Some new) input = ⊥
-IsNext (Some (first ∷ rest)) (Some new) input = (new ≡ rest) × (input ≡ input_of first)
-
--- what came is this datagram, whose octets stand in a slice, as an input that may be made again
-pub record HasCome (received : Received) (into : List ℕ) (came : Came) : Type 0 where
-  pub peer : PeerData
-  pub is : received ≡ arrivals.Datagram peer came.length
-  pub input : came.input ≡ Datagram peer (take came.length into)
-  pub offer : came.offer ≡ offers.Datagram peer
-
--- a link goes on telling what it told
-abbrev pub StaysLeft : Option (List Send) → Option (List Send) → Type 0
-StaysLeft None new = ⊤
-StaysLeft (Some old) None = ⊥
-StaysLeft (Some old) (Some new) = new ≡ old
+AreTaken old new attempts = WhereTold old new (λ before now. (map (λ one. one.input) attempts ≡ map input_of (take (length attempts) before)) × (now ≡ drop (length attempts) before))
 
 -- a receiver ends where so many datagrams have come, where the link failed, as its count of faults tells, or where memory was refused
 pub record EndsReceiving (count before now : ℕ) (ends : Ends) : Type 0 where
@@ -75,7 +49,7 @@ IsDatagram input = ⊥
 
 module _ {G : Type 0} where
   -- a pass made these entries, and has seen more
-  pub record Worked (p q : Known (Entry G) (CoreState × PressState G)) (entries : List (Entry G)) : Type 0 where
+  pub record MadeEntries (p q : Known (Entry G) (CoreState × PressState G)) (entries : List (Entry G)) : Type 0 where
     pub begins : StartsWith q.seen p.seen
     pub same : q ≡ record p { mine = p.mine ++ entries; seen = q.seen; mark = q.mark }
     pub mark : p.mark ≤ q.mark
@@ -102,15 +76,6 @@ module _ {G : Type 0} where
   abbrev pub AreShown : (ℕ → Type 0) → List (Entry G) → Type 0
   AreShown shows entries = All (λ one. shows one.moment) (tries_in entries)
 
-  -- one input was tried, again and again while a commit had to come first, with commits between; this is its last answer
-  pub record HasTried (shows : ℕ → Type 0) (p q : Known (Entry G) (CoreState × PressState G)) (input : Input) (last : Result Ticket EnterFault) : Type 0 where
-    pub entries : List (Entry G)
-    pub worked : Worked p q entries
-    pub tried : IsTried input last (tries_in entries)
-    pub parts : All (λ entry. IsOfInput entry ⊎ IsOfCommit entry) entries
-    pub shown : AreShown shows entries
-    pub gave_up : IsBehind last → GaveUp entries
-
   -- Some datagrams were taken from the link, and tried in their order, each again and again while a commit had to come first, with commits between. None is left for which one had to come first, but where memory was refused: then the entries end with that.
   pub record IsReceived (shows : ℕ → Type 0) (old new : Option (List Send)) (entries : List (Entry G)) (attempts : List Attempt) : Type 0 where
     pub tried : AreTried attempts (tries_in entries)
@@ -118,22 +83,22 @@ module _ {G : Type 0} where
     pub taken : AreTaken old new attempts
     pub parts : All (λ entry. IsOfInput entry ⊎ IsOfCommit entry) entries
     pub shown : AreShown shows entries
-    pub gave_up : All (λ one. IsBehind one.last → ⊥) attempts ⊎ GaveUp entries
+    pub gave_up : All (λ one. IsAnsweredBehind one.last → ⊥) attempts ⊎ GaveUp entries
 
   -- what a receiver did: it counts the datagrams, and those that were given no ticket. None is left for which a commit had to come first, but where memory was refused
   pub record HasReceived (shows : ℕ → Type 0) (old new : Option (List Send)) (p q : Known (Entry G) (CoreState × PressState G)) (ends : Ends) : Type 0 where
     pub entries : List (Entry G)
     pub attempts : List Attempt
-    pub worked : Worked p q entries
+    pub worked : MadeEntries p q entries
     pub received : IsReceived shows old new entries attempts
     pub count : ends.received ≡ length attempts
     pub lost : ends.lost ≡ lost_of attempts
-    pub tried : IsTrue ends.no_memory ⊎ All (λ one. IsBehind one.last → ⊥) attempts
+    pub tried : IsTrue ends.no_memory ⊎ All (λ one. IsAnsweredBehind one.last → ⊥) attempts
 
   -- what a ticker did: Tick and Pump in turn
   pub record HasTicked (shows : ℕ → Type 0) (p q : Known (Entry G) (CoreState × PressState G)) : Type 0 where
     pub entries : List (Entry G)
-    pub worked : Worked p q entries
+    pub worked : MadeEntries p q entries
     pub ticks : AreTicks (tries_in entries)
     pub parts : All IsOfInput entries
     pub shown : AreShown shows entries
@@ -141,5 +106,5 @@ module _ {G : Type 0} where
   -- what a committer did: it made entries of commits alone
   pub record HasKept (p q : Known (Entry G) (CoreState × PressState G)) : Type 0 where
     pub entries : List (Entry G)
-    pub worked : Worked p q entries
+    pub worked : MadeEntries p q entries
     pub parts : All IsOfCommit entries

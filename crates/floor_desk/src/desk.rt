@@ -1,6 +1,6 @@
 //! A floor that callers share, each in a thread of its own.
 
-ghost use Rattle.std.specs.Prelude.{◌≡◌, ◌≤◌, List, [], ◌∷◌, ℕ, IfErr, IfOk, IsOkAnd, MatchResult, length};
+ghost use Rattle.std.specs.Prelude.{◌≡◌, ◌<◌, ◌≤◌, List, [], ◌∷◌, ℕ, IfErr, IfOk, IsOkAnd, MatchResult, length};
 ghost use Rattle.ground_io.specs.Counts.{HasCause};
 ghost use Rattle.ground_io.specs.Trace.{Adds};
 ghost use Rattle.ground_io.specs.declared.entry.Entry.TheVariants.{Synced};
@@ -12,9 +12,9 @@ ghost use Rattle.turnstile.specs.declared.memo.Memo.{Memo as Kept};
 ghost use Rattle.alarm_core.specs.Allowed.{Represents};
 ghost use Rattle.alarm_core.specs.Sites.{IsSite};
 ghost use Rattle.alarm_core.specs.declared.event.Event.{Event as Happening};
-ghost use Rattle.alarm_journal.specs.Press.{IsRefusal, IsSmall, Reopens, ReopensSynced, room_of};
+ghost use Rattle.alarm_journal.specs.Press.{IsBelow, IsRefusal, IsSmall, Reopens, ReopensSynced, room_of};
 ghost use Rattle.alarm_journal.specs.declared.open_fault.OpenFault.TheVariants as refusals;
-ghost use Rattle.state_codec.specs.Sizes.{most_text};
+ghost use Rattle.state_codec.specs.Sizes.{most_text, need};
 ghost use Rattle.floor_desk.specs.declared.entry.Entry.{Entry as Step};
 ghost use Rattle.floor_desk.specs.declared.entry.Entry.TheVariants.{Looked};
 ghost use Rattle.floor_desk.specs.declared.entry.Look.TheVariants.{Refused};
@@ -109,6 +109,9 @@ impl<G: Ground> Desk<G> {
         ensures first { IfOk result (λ opened. opened.1 ≡ first_pass opened.0) }
         ensures opening { IfOk result (λ opened. opened.2.events ≡ opened.0.origin.0.events) }
 
+        // A device that is too small isn't opened, whether it tells its octets or not.
+        ensures enough { IfOk result (λ _. need site.now (length text.now) ≤ G.size device) }
+
         // The octets opened, and the core is the state that they lead to.
         ensures leads { IfOk result (λ opened. OpenedTo site.now text.now (G.told device) (G.told opened.0.origin.1.device) opened.0.origin.0) }
 
@@ -130,6 +133,7 @@ impl<G: Ground> Desk<G> {
         ensures refused { IfErr result (λ lost. IsRefusal lost.1 → IsRefusedFor site.now text.now (G.told device) (G.told lost.0) lost.1) }
         ensures unchanged { IfErr result (λ lost. IsRefusal lost.1 → Adds (G.told device) (G.told lost.0) (Synced ∷ [])) }
         ensures small { IfErr result (λ lost. IsSmall (G.size device) lost.1) }
+        ensures below { G.size device < need site.now (length text.now) → IfErr result (λ lost. IsBelow (G.size device) (need site.now (length text.now)) lost.1) }
         ensures stands { (history : List Happening) → IfErr result (λ lost. StoodFor (journal_of site.now text.now) site.now history (G.told device) (G.told lost.0)
             → IsRefusal lost.1 → ⊥) }
         ensures same { MatchResult result (λ opened. G.size opened.0.origin.1.device ≡ G.size device) (λ lost. G.size lost.0 ≡ G.size device) }

@@ -3,13 +3,15 @@
 ghost use Rattle.std.specs.Prelude.{◌≡◌, Err, IfOk, IsTrue, MatchBool};
 ghost use Rattle.turnstile.specs.Passes.{IsOf};
 ghost use Rattle.floor_desk.specs.declared.faults.CommitFault.TheVariants as commits;
-ghost use Rattle.floor_desk.specs.Tries.{IsBehind, IsInputOf};
-ghost use Rattle.floor_desk.specs.Workers.{GoesThrough, HasTried};
+ghost use Rattle.floor_desk.specs.Tries.{IsAnsweredBehind, IsInputOf};
+ghost use Rattle.floor_desk.specs.Workers.{GoesThrough};
+ghost use Rattle.floor_desk.specs.WorkersSteps.{HasTried};
 
-use crate::desk::{Desk, DeskPass};
+use crate::desk::DeskPass;
 use crate::entry::Ticket;
 use crate::faults::{CommitFault, EnterFault};
 use crate::steps::Steps;
+use crate::tools::Tools;
 use bac_values::{Input, Items, NoMemory, Peer};
 use ground_io::{Clock, Gate, Ground};
 use std::alloc::Global;
@@ -47,7 +49,7 @@ impl Offer {
 
 /// Whether the answer is that a commit has to come first.
 pub(crate) fn is_behind(answer: &Result<Ticket, EnterFault>) -> bool
-    ensures behind { MatchBool result (IsBehind answer.now) (IsBehind answer.now → ⊥) }
+    ensures behind { MatchBool result (IsAnsweredBehind answer.now) (IsAnsweredBehind answer.now → ⊥) }
 {
     matches!(answer, Err(EnterFault::Behind { .. }))
 }
@@ -62,29 +64,26 @@ fn found_none(done: &Result<u64, CommitFault>) -> bool
 /// Tries an input until it isn't answered that a commit has to come first, and commits in between. Where the input can't be
 /// made again for want of memory, or that commit finds none, that answer is the last one.
 pub(crate) fn enter_until<R: Wait, G: Ground, K: Clock, W: Gate>(
-    rt: &R,
-    alloc: Global,
-    desk: &Desk<G>,
+    tools: &Tools<R, G, K, W>,
     pass: DeskPass<G>,
     first: Input,
     offer: Offer,
     octets: &[u8],
-    clock: &K,
-    gate: &W,
     steps: &mut Steps,
 ) -> (DeskPass<G>, Result<Ticket, EnterFault>)
-    requires here { IsOf desk.now pass }
+    requires here { IsOf tools.now.desk.now pass }
     requires input { IsInputOf offer octets.now first }
-    ensures here { IsOf desk.now result.0 }
-    ensures tried { HasTried (K.shows clock.now) pass result.0 first result.1 }
+    ensures here { IsOf tools.now.desk.now result.0 }
+    ensures tried { HasTried (K.shows tools.now.clock.now) pass result.0 first result.1 }
     ensures worker { steps.new.worker ≡ steps.old.worker }
-    ensures turns { GoesThrough (W.passed gate.now steps.old.worker) steps.old.count steps.new.count pass result.0 }
+    ensures turns { GoesThrough (W.passed tools.now.gate.now steps.old.worker) steps.old.count steps.new.count pass result.0 }
 {
+    let (rt, alloc, desk) = (tools.rt, tools.alloc, tools.desk);
     let mut pass = pass;
     let mut input = first;
     for _ in rt.forever() {
-        steps.next(gate);
-        let (entered, answer) = desk.enter(rt, alloc, pass, clock.now(), input);
+        steps.next(tools.gate);
+        let (entered, answer) = desk.enter(rt, alloc, pass, tools.clock.now(), input);
         if !is_behind(&answer) {
             return (entered, answer);
         }
@@ -92,7 +91,7 @@ pub(crate) fn enter_until<R: Wait, G: Ground, K: Clock, W: Gate>(
             Ok(input) => input,
             Err(NoMemory) => return (entered, answer),
         };
-        steps.next(gate);
+        steps.next(tools.gate);
         let (committed, done) = desk.commit(rt, alloc, entered);
         if found_none(&done) {
             return (committed, answer);

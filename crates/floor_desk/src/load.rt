@@ -1,5 +1,6 @@
 //! What leaves a floor with the press, and what comes back.
 
+ghost use Rattle.std.specs.Prelude.{◌≡◌};
 ghost use Rattle.alarm_core.specs.State.{CoreState};
 ghost use Rattle.alarm_journal.specs.Journal.{Content};
 ghost use Rattle.alarm_journal.specs.Journal.{Site as Journal};
@@ -7,7 +8,7 @@ ghost use Rattle.alarm_journal.specs.Press.{PressState, room_of};
 ghost use Rattle.floor_desk.specs.Accounts.{Account, front_of};
 ghost use Rattle.state_codec.specs.Keeping.{Rests};
 ghost use Rattle.state_codec.specs.Work.{FitsPress, content_with};
-ghost use Rattle.floor_desk.specs.Carrying.{CountsCarried, IsCarriedOut, Lends, RestsCarried, TellsCarried};
+ghost use Rattle.floor_desk.specs.Carrying.{CountsCarried, IsCarriedOut, Lends, RestsCarried, SendsAlone, TellsCarried};
 
 use crate::entry::Entry;
 use alarm_journal::Press;
@@ -79,6 +80,9 @@ impl<G: Ground> Load<G> {
         // Whoever made the load: what the ground counts, and that all of it is written where the press comes home.
         ensures counts { CountsCarried G.size G.disk_faults G.emit_faults self.press.device result }
         ensures rests { (journal : Journal) (content : Content) → Rests journal self.press.layout (G.told self.press.device) content → RestsCarried G.told journal (content_with self.work content) result }
+
+        // Without records nothing is written and no sync comes: just the datagrams go out.
+        ensures alone { self.work ≡ Work.Nothing → SendsAlone G.told self.sends self.press result }
 
         // A load that was lent is carried out.
         ensures carried { (origin : CoreState × PressState G) (a : Account G) → Lends G.told origin a self → IsCarriedOut G.told G.size G.disk_faults G.emit_faults origin a self.upto (front_of a) result }

@@ -7,14 +7,16 @@ ghost use Rattle.ground_io.specs.Counts.{HasCause};
 ghost use Rattle.ground_io.specs.Link.{FitsInto};
 ghost use Rattle.ground_io.specs.declared.link.Received.{Received as Arrival};
 ghost use Rattle.turnstile.specs.Passes.{IsOf};
-ghost use Rattle.floor_desk.specs.Tries.{IsBehind, IsInputOf};
-ghost use Rattle.floor_desk.specs.Workers.{EndsReceiving, HasCome, HasReceived, IsDatagram, IsNext, StaysLeft, TakesTurns, if_lost};
+ghost use Rattle.floor_desk.specs.Tries.{IsAnsweredBehind, IsInputOf};
+ghost use Rattle.floor_desk.specs.Workers.{EndsReceiving, HasReceived, IsDatagram, TakesTurns, if_lost};
+ghost use Rattle.floor_desk.specs.WorkersSteps.{HasCome, IsNext, StaysLeft};
 
 use crate::desk::{Desk, DeskPass};
 use crate::entering::{Offer, enter_until, is_behind};
 use crate::entry::Ticket;
 use crate::faults::EnterFault;
 use crate::steps::Steps;
+use crate::tools::Tools;
 use bac_values::{Input, Items, MOST_DATAGRAM_OCTETS, NoMemory, Peer};
 use ground_io::{Clock, Failed, Gate, Ground, Link, Received, Worker};
 use std::alloc::Global;
@@ -54,7 +56,7 @@ impl Ends {
         ensures received { result.received ≡ self.received + 1 }
         ensures lost { result.lost ≡ self.lost + if_lost answer.now }
         ensures link { result.link_fault ≡ self.link_fault }
-        ensures memory { IsTrue result.no_memory ⊎ ((self.no_memory ≡ false) × (IsBehind answer.now → ⊥)) }
+        ensures memory { IsTrue result.no_memory ⊎ ((self.no_memory ≡ false) × (IsAnsweredBehind answer.now → ⊥)) }
     {
         let behind = is_behind(answer);
         Ends {
@@ -166,6 +168,7 @@ pub fn receive_all<R: Wait, G: Ground, L: Link, K: Clock, W: Gate>(
     // It went through its gate before each call of the desk.
     ensures turns { TakesTurns (W.passed gate.now Worker.Receiver) pass result.0 }
 {
+    let tools = Tools::of(rt, alloc, desk, clock, gate);
     let mut into = [0; MOST_DATAGRAM_OCTETS];
     let mut steps = Steps::new(Worker::Receiver);
     let mut pass = pass;
@@ -183,9 +186,7 @@ pub fn receive_all<R: Wait, G: Ground, L: Link, K: Clock, W: Gate>(
                     length,
                 } = came;
                 let octets = &into[..length];
-                let (entered, answer) = enter_until(
-                    rt, alloc, desk, pass, input, offer, octets, clock, gate, &mut steps,
-                );
+                let (entered, answer) = enter_until(&tools, pass, input, offer, octets, &mut steps);
                 pass = entered;
                 ends = ends.with(&answer);
             }

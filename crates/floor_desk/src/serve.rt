@@ -4,7 +4,8 @@ ghost use Rattle.std.specs.Prelude.{◌≡◌, ◌<◌, ◌≤◌, ◌↔◌, �
 ghost use Rattle.std.specs.Thread.{IsSync};
 ghost use Rattle.ground_io.specs.Counts.{HasCause};
 ghost use Rattle.turnstile.specs.Passes.{IsOf, first_pass};
-ghost use Rattle.floor_desk.specs.Serving.{HasEnded, LeavesDisk, WasAnswered, IsEndOf, Serves, WorkedTogether};
+ghost use Rattle.floor_desk.specs.Serving.{LeavesDisk, WasAnswered, Serves};
+ghost use Rattle.floor_desk.specs.ServingSteps.{HasEnded, IsEndBy, WorkedTogether};
 ghost use Rattle.floor_desk.specs.Workers.{EndsReceiving, HasKept, HasReceived, HasTicked};
 
 use crate::committer::commit_all;
@@ -15,6 +16,7 @@ use crate::faults::{CommitFault, EnterFault};
 use crate::receiver::{Ends, receive_all};
 use crate::steps::Steps;
 use crate::ticker::tick_all;
+use crate::tools::Tools;
 use bac_values::Input;
 use ground_io::{Clock, FreeGate, Gate, Ground, Link, Worker};
 use std::alloc::Global;
@@ -52,22 +54,20 @@ pub struct Closed {
 
 // The ticker and the committer, which has a thread of its own; or comes last, where none can be started.
 fn tick_and_commit<R: Threads + Wait + Sync, G: Ground + Send, K: Clock + Sync, W: Gate + Sync>(
-    rt: &R,
-    alloc: Global,
-    desk: &Desk<G>,
+    tools: &Tools<R, G, K, W>,
     ticks: DeskPass<G>,
     commits: DeskPass<G>,
     ended: &AtomicU32,
-    clock: &K,
-    gate: &W,
 ) -> (DeskPass<G>, DeskPass<G>)
-    requires ticks { IsOf desk.now ticks }
-    requires commits { IsOf desk.now commits }
-    ensures ticks { IsOf desk.now result.0 }
-    ensures commits { IsOf desk.now result.1 }
-    ensures ticked { HasTicked (K.shows clock.now) ticks result.0 }
+    requires ticks { IsOf tools.now.desk.now ticks }
+    requires commits { IsOf tools.now.desk.now commits }
+    ensures ticks { IsOf tools.now.desk.now result.0 }
+    ensures commits { IsOf tools.now.desk.now result.1 }
+    ensures ticked { HasTicked (K.shows tools.now.clock.now) ticks result.0 }
     ensures kept { HasKept commits result.1 }
 {
+    let (rt, alloc, desk) = (tools.rt, tools.alloc, tools.desk);
+    let (clock, gate) = (tools.clock, tools.gate);
     let (commits, ticks) = join(
         rt,
         || -> DeskPass<G>
@@ -90,21 +90,14 @@ fn work<
     L: Link + Send + Drop,
     K: Clock + Sync,
     W: Gate + Sync,
->(
-    rt: &R,
-    alloc: Global,
-    desk: &Desk<G>,
-    pass: DeskPass<G>,
-    count: u32,
-    link: L,
-    clock: &K,
-    gate: &W,
-) -> (DeskPass<G>, L, Ends)
-    requires first { pass ≡ first_pass desk.now }
-    ensures here { IsOf desk.now result.0 }
-    ensures worked { WorkedTogether (K.shows clock.now) (L.left link) (L.left result.1) result.0 result.2 }
+>(tools: &Tools<R, G, K, W>, pass: DeskPass<G>, count: u32, link: L) -> (DeskPass<G>, L, Ends)
+    requires first { pass ≡ first_pass tools.now.desk.now }
+    ensures here { IsOf tools.now.desk.now result.0 }
+    ensures worked { WorkedTogether (K.shows tools.now.clock.now) (L.left link) (L.left result.1) result.0 result.2 }
     ensures ends { EndsReceiving count (L.faults link) (L.faults result.1) result.2 }
 {
+    let (rt, alloc, desk) = (tools.rt, tools.alloc, tools.desk);
+    let (clock, gate) = (tools.clock, tools.gate);
     let ended = AtomicU32::new(0);
     let (pass, ticks) = match desk.split(pass) {
         Ok(both) => both,
@@ -117,9 +110,9 @@ fn work<
     let ((ticks, commits), (pass, link, ends)) = join(
         rt,
         || -> (DeskPass<G>, DeskPass<G>)
-            requires { IsSync R.row × IsOf desk.now ticks × IsOf desk.now commits }
-            ensures { IsOf desk.entry.now result.0 × IsOf desk.entry.now result.1 × HasTicked (K.shows clock.entry.now) ticks result.0 × HasKept commits result.1 }
-        { tick_and_commit(rt, alloc, desk, ticks, commits, &ended, clock, gate) },
+            requires { IsSync R.row × IsOf tools.now.desk.now ticks × IsOf tools.now.desk.now commits }
+            ensures { IsOf tools.entry.now.desk.now result.0 × IsOf tools.entry.now.desk.now result.1 × HasTicked (K.shows tools.entry.now.clock.now) ticks result.0 × HasKept commits result.1 }
+        { tick_and_commit(tools, ticks, commits, &ended) },
         || -> (DeskPass<G>, L, Ends)
             requires { IsOf desk.now pass }
             ensures { IsOf desk.entry.now result.0 × HasReceived (K.shows clock.entry.now) (L.left link) (L.left result.1) pass result.0 result.2 × EndsReceiving count (L.faults link) (L.faults result.1) result.2 }
@@ -151,32 +144,11 @@ fn finish<R: Wait, G: Ground, K: Clock>(
     ensures here { IsOf desk.now result.0 }
     ensures ended { HasEnded (K.shows clock.now) pass result.0 result.1 result.2 }
 {
+    let tools = Tools::of(rt, alloc, desk, clock, &FreeGate);
     let mut steps = Steps::new(Worker::Committer);
     let (pass, _) = desk.commit(rt, alloc, pass);
-    let (pass, tick) = enter_until(
-        rt,
-        alloc,
-        desk,
-        pass,
-        Input::Tick,
-        Offer::Tick,
-        &[],
-        clock,
-        &FreeGate,
-        &mut steps,
-    );
-    let (pass, pump) = enter_until(
-        rt,
-        alloc,
-        desk,
-        pass,
-        Input::Pump,
-        Offer::Pump,
-        &[],
-        clock,
-        &FreeGate,
-        &mut steps,
-    );
+    let (pass, tick) = enter_until(&tools, pass, Input::Tick, Offer::Tick, &[], &mut steps);
+    let (pass, pump) = enter_until(&tools, pass, Input::Pump, Offer::Pump, &[], &mut steps);
     (pass, tick, pump)
 }
 
@@ -197,7 +169,7 @@ fn are_answered(tick: &Result<Ticket, EnterFault>, pump: &Result<Ticket, EnterFa
 
 // How it ended.
 fn end_of(ends: &Ends, answered: bool, settled: &Result<u64, CommitFault>) -> End
-    ensures end { IsEndOf ends.now answered settled.now result }
+    ensures end { IsEndBy ends.now answered settled.now result }
 {
     match settled {
         Err(CommitFault::DiskFault | CommitFault::Stopped { .. }) => End::DiskFault,
@@ -235,7 +207,7 @@ pub fn serve_desk<
     ensures cause { HasCause (L.faults link) (L.faults result.1) (result.2.end ≡ End.LinkFault) }
     ensures counted { (result.2.end ≡ End.LinkFault) ⊎ ((result.2.end ≡ End.DiskFault) ⊎ (L.faults result.1 ≡ L.faults link)) }
 {
-    let (pass, link, ends) = work(rt, alloc, &desk, pass, count, link, clock, gate);
+    let (pass, link, ends) = work(&Tools::of(rt, alloc, &desk, clock, gate), pass, count, link);
     let (pass, tick, pump) = finish(rt, alloc, &desk, pass, clock);
     let floor = desk.close(rt, pass);
     let place = floor.next();

@@ -7,6 +7,7 @@ ghost use Rattle.floor_desk.specs.Workers.{GoesThrough, HasTicked, TakesTurns};
 use crate::desk::{Desk, DeskPass};
 use crate::entry::Ticket;
 use crate::steps::Steps;
+use crate::tools::Tools;
 use bac_values::Input;
 use ground_io::{Clock, Gate, Ground, Worker};
 use std::alloc::Global;
@@ -15,27 +16,24 @@ use std::sync::atomic::{AtomicU32, Ordering};
 
 // One Tick and one Pump, and a look at how the last of them that was given a ticket stands.
 fn tick_once<R: Wait, G: Ground, K: Clock, W: Gate>(
-    rt: &R,
-    alloc: Global,
-    desk: &Desk<G>,
+    tools: &Tools<R, G, K, W>,
     pass: DeskPass<G>,
-    clock: &K,
-    gate: &W,
     steps: &mut Steps,
 ) -> DeskPass<G>
-    requires here { IsOf desk.now pass }
-    ensures here { IsOf desk.now result }
-    ensures ticked { HasTicked (K.shows clock.now) pass result }
+    requires here { IsOf tools.now.desk.now pass }
+    ensures here { IsOf tools.now.desk.now result }
+    ensures ticked { HasTicked (K.shows tools.now.clock.now) pass result }
     ensures worker { steps.new.worker ≡ steps.old.worker }
-    ensures turns { GoesThrough (W.passed gate.now steps.old.worker) steps.old.count steps.new.count pass result }
+    ensures turns { GoesThrough (W.passed tools.now.gate.now steps.old.worker) steps.old.count steps.new.count pass result }
 {
-    steps.next(gate);
-    let (pass, ticked) = desk.enter(rt, alloc, pass, clock.now(), Input::Tick);
-    steps.next(gate);
-    let (pass, pumped) = desk.enter(rt, alloc, pass, clock.now(), Input::Pump);
+    let (rt, alloc, desk) = (tools.rt, tools.alloc, tools.desk);
+    steps.next(tools.gate);
+    let (pass, ticked) = desk.enter(rt, alloc, pass, tools.clock.now(), Input::Tick);
+    steps.next(tools.gate);
+    let (pass, pumped) = desk.enter(rt, alloc, pass, tools.clock.now(), Input::Pump);
     match pumped.or(ticked) {
         Ok(ticket) => {
-            steps.next(gate);
+            steps.next(tools.gate);
             desk.standing(pass, &ticket).0
         }
         Err(_) => pass,
@@ -60,7 +58,7 @@ pub fn tick_all<R: Wait, G: Ground, K: Clock, W: Gate>(
     let mut steps = Steps::new(Worker::Ticker);
     let mut pass = pass;
     for _ in rt.forever() {
-        pass = tick_once(rt, alloc, desk, pass, clock, gate, &mut steps);
+        pass = tick_once(&Tools::of(rt, alloc, desk, clock, gate), pass, &mut steps);
         if ended.load(Ordering::SeqCst) >= 1 {
             break;
         }

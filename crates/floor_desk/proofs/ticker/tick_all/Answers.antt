@@ -19,11 +19,11 @@ loop-init g c = record {
 pub loop-preserved : goal.loop-preserved
 loop-preserved g c =
     let shows = g.K.Clock.shows c.args.clock.now in record {
-      here = c.tick_once-pass.ensures.here;
-      ticked = ticked_more shows c.args.pass c.loop.pass c.tick_once-pass.result c.loop.invariant.ticked c.tick_once-pass.ensures.ticked;
+      here = rw c.of.ensures.desk at c.tick_once-pass.ensures.here;
+      ticked = ticked_more shows c.args.pass c.loop.pass c.tick_once-pass.result c.loop.invariant.ticked (rw c.of.ensures.clock at c.tick_once-pass.ensures.ticked);
       worker = c.tick_once-pass.ensures.worker ∙ c.loop.invariant.worker;
       turns = through_then (g.W.Gate.passed c.args.gate.now Ticker) 0 c.loop.steps.count c.tick_once-pass.new.steps.count c.args.pass c.loop.pass c.tick_once-pass.result c.loop.invariant.turns
-          (subst (λ (v : Worker). GoesThrough (g.W.Gate.passed c.args.gate.now v) c.loop.steps.count c.tick_once-pass.new.steps.count c.loop.pass c.tick_once-pass.result) c.loop.invariant.worker c.tick_once-pass.ensures.turns);
+          (subst (λ (v : Worker). GoesThrough (g.W.Gate.passed c.args.gate.now v) c.loop.steps.count c.tick_once-pass.new.steps.count c.loop.pass c.tick_once-pass.result) c.loop.invariant.worker (rw c.of.ensures.gate at c.tick_once-pass.ensures.turns));
     }
 
 pub returns-clause-ticked : goal.returns-clause-ticked
@@ -31,7 +31,7 @@ returns-clause-ticked g c =
     let shows = g.K.Clock.shows c.args.clock.now in
     elim c.match-next.branch [
       | in-None w ↦ subst (λ k. HasTicked shows c.args.pass k) (sym w.pass-is) c.loop.invariant.ticked
-      | in-Some+then-load-ge1 w ↦ subst (λ k. HasTicked shows c.args.pass k) (sym w.pass-is) (ticked_more shows c.args.pass c.loop.pass w.tick_once-pass.result c.loop.invariant.ticked w.tick_once-pass.ensures.ticked)
+      | in-Some+then-load-ge1 w ↦ subst (λ k. HasTicked shows c.args.pass k) (sym w.pass-is) (ticked_more shows c.args.pass c.loop.pass w.tick_once-pass.result c.loop.invariant.ticked (rw w.of.ensures.clock at w.tick_once-pass.ensures.ticked))
     ]
 
 pub returns-clause-turns : goal.returns-clause-turns
@@ -42,6 +42,6 @@ returns-clause-turns g c =
       | in-Some+then-load-ge1 w ↦ subst (λ k. TakesTurns (turn Ticker) c.args.pass k) (sym w.pass-is) (
         w.tick_once-pass.new.steps.count,
         through_then (turn Ticker) 0 c.loop.steps.count w.tick_once-pass.new.steps.count c.args.pass p w.tick_once-pass.result c.loop.invariant.turns
-            (subst (λ (v : Worker). GoesThrough (turn v) c.loop.steps.count w.tick_once-pass.new.steps.count p w.tick_once-pass.result) c.loop.invariant.worker w.tick_once-pass.ensures.turns),
+            (subst (λ (v : Worker). GoesThrough (turn v) c.loop.steps.count w.tick_once-pass.new.steps.count p w.tick_once-pass.result) c.loop.invariant.worker (rw w.of.ensures.gate at w.tick_once-pass.ensures.turns)),
       )
     ]

@@ -1,7 +1,7 @@
 use Rattle.std.proofs.Common.{refl, sym, subst}
 use Rattle.bac_values.specs.declared.input.Input.{Input}
 use Rattle.service_desk.specs.Answers.{answer_to}
-use Rattle.floor_desk.specs.Moves.{CameOf}
+use Rattle.floor_desk.specs.MovesSteps.{CameOf}
 use Rattle.floor_desk.proofs.Floors.{comes, comes_origin, refuses}
 use Rattle.floor_desk.proofs.floor.Floor.admit.Goals as goal
 

@@ -3,7 +3,7 @@ use Rattle.alarm_core.specs.History.{raised}
 use Rattle.alarm_core.specs.Verdicts.{step_verdict}
 use Rattle.alarm_core.specs.declared.event.Event.{Event}
 use Rattle.service_desk.specs.Answers.{entering}
-use Rattle.floor_desk.specs.Moves.{CameOf}
+use Rattle.floor_desk.specs.MovesSteps.{CameOf}
 use Rattle.floor_desk.specs.States.{FloorState}
 use Rattle.floor_desk.proofs.floor.Floor.enter.Goals as goal
 

@@ -12,7 +12,7 @@ use Rattle.alarm_core.specs.declared.event.StepFault.TheVariants as faults
 use Rattle.service_desk.specs.Answers.{entering, if_owed}
 use Rattle.state_codec.specs.Records.{written_event}
 use Rattle.floor_desk.specs.declared.faults.EnterFault.TheVariants as enters
-use Rattle.floor_desk.specs.Moves.{CameOf}
+use Rattle.floor_desk.specs.MovesSteps.{CameOf}
 use Rattle.floor_desk.specs.States.{FloorState}
 use Rattle.floor_desk.proofs.Inputs.{comes_entered, comes_full, counted_none, counted_some, none_owed, one_more, two_more, with_parts}
 use Rattle.floor_desk.proofs.floor.Floor.enter_with.Goals as goal
