@@ -1,6 +1,6 @@
 -- Why a follower doesn't take a packet.
 use Rattle.std.specs.Prelude.{◌≡◌, ℕ, ⊤}
-use Rattle.ground_io.specs.Counts.{Rose}
+use Rattle.ground_io.specs.Counts.{HasCause}
 use Rattle.standby.specs.Followers.{FollowerState}
 use Rattle.standby.specs.declared.follower.TakeFault.{TakeFault}
 use Rattle.standby.specs.declared.follower.TakeFault.TheVariants.{NoMemory, DiskFault}
@@ -17,7 +17,7 @@ module _ {G : Type 0} where
   IfDiskFault (DiskFault device) P = P device
 
 module _ {G : Type 0} (disk_faults : G → ℕ) where
-  -- the disk failed only where its count rose
+  -- the disk's count never falls, and where the disk failed it rose
   abbrev pub Caused : G → TakeFault G → Type 0
   Caused old (NoMemory follower) = ⊤
-  Caused old (DiskFault device) = Rose (disk_faults old) (disk_faults device)
+  Caused old (DiskFault device) = HasCause (disk_faults old) (disk_faults device) ⊤

@@ -89,7 +89,7 @@ act_fits Pump is = tt
 act_fits (Answer peer invoke kind) is = tt
 act_fits (Edit number recipients) is = tt
 
-all_fit : (events : List Event) → All HasRecord events → All FitsEvent events
+pub all_fit : (events : List Event) → All HasRecord events → All FitsEvent events
 all_fit [] have = All-nil FitsEvent
 all_fit (event ∷ events) have = All-cons FitsEvent event events (act_fits event.act (All-head HasRecord event events have).act) (all_fit events (All-tail HasRecord event events have))
 

@@ -130,3 +130,6 @@ returns-in-Ok-Writes-clause-tried g c =
     let comes = subst (λ (j : Judged). ComesTo core packet c.self.inside.gathering left j) c.in-Ok-Writes.field-0-is c.in-Ok-Writes.ensures.comes in
     let next = c.in-Ok-Writes.core in
     rw (← c.self.view_is) (next.events, following next left, comes.takes)
+
+pub returns-in-Ok-Writes-clause-cause : goal.returns-in-Ok-Writes-clause-cause
+returns-in-Ok-Writes-clause-cause g c = rw (← c.self.view_is) c.in-Err-write_work.ensures.cause
