@@ -35,6 +35,7 @@ SEARCHES = {
     "what ends an alarm by definition": ("clause docs/CLAUSES.md", "rules algorithm_rules/Rules.antt", "to Normal BelowHighLessDeadband NormalDelay"),
     "which error a write gets": ("clause docs/CLAUSES.md", "errors of a write profile_laws/PropertyErrors.antt", "write_errors state request ="),
     "where a key acts": ("key docs/SITE.md", "`retries` outbox/Delivery.antt", "is_repeated retries attempts ="),
+    "how a standby takes over": ("run docs/OPERATE.md", "standby STANDBY.md", "## To take over"),
     "how a property is added": ("property docs/RECIPES.md", "## A property of an object"),
 }
 MOST_STEPS = 3

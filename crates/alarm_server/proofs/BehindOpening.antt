@@ -47,7 +47,7 @@ opened_before site octets state (Some old) None (Some new) entries (more, adds, 
 opened_before site octets state (Some old) (Some mid) (Some new) entries goes opened = opened
 
 -- a journal that isn't opened ends a session before its script is played
-unplayed : (fault : OpenFault) → IsUnplayed (of_open_fault fault)
+pub unplayed : (fault : OpenFault) → IsUnplayed (of_open_fault fault)
 unplayed open_fault.DiskFault = tt
 unplayed (open_fault.SmallDevice size need) = tt
 unplayed (open_fault.Foreign at) = tt

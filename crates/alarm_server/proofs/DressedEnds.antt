@@ -14,6 +14,10 @@ pub some_to : {A : Type 0} (o : Option A) (P Q : A → Type 0) → ((x : A) → 
 some_to None P Q to p = tt
 some_to (Some x) P Q to p = to x p
 
+-- a link over one that is the inner link itself
+pub over_inner : {L B : Type 0} (ending : EndingLinkState L B) (waking link : L) (seen : B) → ending ≡ record { inner = waking; flag = seen; ended = 0 } → waking ≡ link → ending ≡ record { inner = link; flag = seen; ended = 0 }
+over_inner ending waking link seen made same = made ∙ ap (λ w. record { inner = w; flag = seen; ended = 0 }) same
+
 module _ {G L : Type 0} (F : Type 0) (told : G → Option Told) (size disk_faults emit_faults : G → ℕ) (left : L → Option (List Send)) (faults : L → ℕ) where
   -- what was served over the dressed ones
   abbrev Over : (ℕ → Type 0) → Option (List ℕ) → ℕ → EndingLinkState L (Bor F) → EndingLinkState L (Bor F) → Option (List Send) → Option (List Send) → NotingGroundState G (Bor F) → NotingGroundState G (Bor F) → Served → Type 0

@@ -20,13 +20,13 @@ use Rattle.site_config.specs.declared.fault.SiteFault.{SiteFault}
 use Rattle.site_config.specs.Sites.{site_of}
 use Rattle.state_codec.specs.Emission.{Emits}
 use Rattle.alarm_server.specs.declared.command.Command.{Command}
-use Rattle.alarm_server.specs.declared.command.Command.TheVariants.{Trial, Session, Workload}
+use Rattle.alarm_server.specs.declared.command.Command.TheVariants.{Trial, Session, Workload, Ship, Standby}
 use Rattle.alarm_server.specs.declared.status.Status.{Status}
 use Rattle.alarm_server.specs.declared.status.Status.TheVariants as status
 use Rattle.alarm_server.specs.Emission.{Ends, LosesNext, SendsFront, sent}
 use Rattle.alarm_server.specs.Numbering.{FollowOn, AreNumbered, GoesNumbered, NumbersOnFile, NumbersOnSite, event_told, events_told, lines_in}
-use Rattle.alarm_server.specs.Openings.{OpensAs, OpensOnFile, OpensOnSite}
-use Rattle.alarm_server.specs.Outcomes.{NumbersAs}
+use Rattle.alarm_server.specs.Openings.{OpensOnFile, OpensOnSite}
+use Rattle.alarm_server.specs.Promises.{promise_of}
 use Rattle.alarm_server.specs.Pieces.{answer_for, change_line, piece_by, piece_text, send_line, session_end}
 use Rattle.alarm_server.specs.Sessions.{pieces_over, session_over, state_over, state_with}
 use Rattle.alarm_server.specs.Script.{refused_in, spelled_in}
@@ -178,8 +178,10 @@ on_file ended (Some octets) None old new opens = tt
 on_file ended (Some octets) (Some text) old new opens = on_site ended octets (site_of octets) text old new opens
 
 -- whatever the words ask for
-pub numbers_as : (command : Option Command) (ended : Status) (site script : Option (List ℕ)) (old new : Option Told) → OpensAs command ended site script old new → NumbersAs command site script old new
+pub numbers_as : (command : Option Command) (ended : Status) (site script : Option (List ℕ)) (old new : Option Told) → (promise_of command).opens ended site script old new → (promise_of command).numbers site script old new
 numbers_as (Some Session) ended site script old new opens = on_file ended site script old new opens
 numbers_as (Some (Trial settings)) ended site script old new opens = tt
 numbers_as (Some (Workload seed count)) ended site script old new opens = tt
+numbers_as (Some (Ship from)) ended site script old new opens = tt
+numbers_as (Some Standby) ended site script old new opens = tt
 numbers_as None ended site script old new opens = tt

@@ -1,11 +1,11 @@
--- The status of a session whose journal isn't opened, and its counts of faults.
+-- The status where a journal isn't opened, and its counts of faults.
 use Rattle.std.proofs.Common.{◌≡◌, ℕ, Err, IsErrOf, refl}
 use Rattle.ground_io.specs.Counts.{HasCause}
 use Rattle.alarm_journal.specs.declared.open_fault.OpenFault.{OpenFault}
 use Rattle.alarm_journal.specs.declared.open_fault.OpenFault.TheVariants.{DiskFault, SmallDevice, Foreign, Damaged, NoMemory}
 use Rattle.alarm_journal.specs.Press.{IsRefusal}
 use Rattle.alarm_server.specs.declared.status.Status.TheVariants as status
-use Rattle.alarm_server.specs.Status.{IsSessionFault, of_open_fault}
+use Rattle.alarm_server.specs.Status.{IsSessionFault, IsShippedFault, of_open_fault}
 
 pub is_session_fault : (fault : OpenFault) → IsSessionFault (of_open_fault fault)
 is_session_fault DiskFault = tt
@@ -13,6 +13,13 @@ is_session_fault (SmallDevice size need) = tt
 is_session_fault (Foreign at) = tt
 is_session_fault (Damaged at) = tt
 is_session_fault NoMemory = tt
+
+pub is_shipped_fault : (fault : OpenFault) → IsShippedFault (of_open_fault fault)
+is_shipped_fault DiskFault = tt
+is_shipped_fault (SmallDevice size need) = tt
+is_shipped_fault (Foreign at) = tt
+is_shipped_fault (Damaged at) = tt
+is_shipped_fault NoMemory = tt
 
 -- the journal is refused for what its octets are, and for nothing else
 pub refusal_is : (fault refusal : OpenFault) → of_open_fault fault ≡ status.JournalRefused refusal → IsRefusal fault × (fault ≡ refusal)

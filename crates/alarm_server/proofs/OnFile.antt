@@ -41,7 +41,7 @@ ends_on_site Goes composes site history LinkFault script told fault = absurd fau
 ends_on_site Goes composes site history NoMemory script told fault = ([], report_of site history script, refl, composes.nothing told)
 
 -- it is the text's own fault, or the text wasn't read
-own_fault : (octets : List ℕ) (fault : SiteFault) (ended : Status) → site_of octets ≡ Err fault → IsSiteFault ended → ((f : SiteFault) → ended ≡ SiteRefused f → RefusesFile (Some octets) f) →
+pub own_fault : (octets : List ℕ) (fault : SiteFault) (ended : Status) → site_of octets ≡ Err fault → IsSiteFault ended → ((f : SiteFault) → ended ≡ SiteRefused f → RefusesFile (Some octets) f) →
     (ended ≡ SiteRefused fault) ⊎ ((ended ≡ ReadFault) ⊎ (ended ≡ NoMemory))
 own_fault octets fault Done says site refused = absurd site
 own_fault octets fault Usage says site refused = absurd site
@@ -73,7 +73,7 @@ keeps_unopened (Some octets) None told = tt
 keeps_unopened (Some octets) (Some text) told = keeps_by octets text told (site_of octets)
 
 -- a site was there, but it wasn't read
-unplayed_by : (octets : List ℕ) (site : Site) (ended : Status) → site_of octets ≡ Ok site → IsSiteFault ended → ((f : SiteFault) → ended ≡ SiteRefused f → RefusesFile (Some octets) f) → IsUnplayed ended
+pub unplayed_by : (octets : List ℕ) (site : Site) (ended : Status) → site_of octets ≡ Ok site → IsSiteFault ended → ((f : SiteFault) → ended ≡ SiteRefused f → RefusesFile (Some octets) f) → IsUnplayed ended
 unplayed_by octets site Done says fault refused = absurd fault
 unplayed_by octets site Usage says fault refused = absurd fault
 unplayed_by octets site (SiteRefused f) says fault refused = let own : site_of octets ≡ Err f = (refused f refl).1 in absurd cc

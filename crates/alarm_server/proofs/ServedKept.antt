@@ -1,5 +1,5 @@
 -- What a crash leaves of an opening, and of a server behind it.
-use Rattle.std.proofs.Common.{◌≡◌, ℕ, ◌+◌, ◌≤◌, Option, Some, None, List, [], ◌∷◌, ◌++◌, length, take, map, ap, ◌∙◌, refl, sym, subst, arith}
+use Rattle.std.proofs.Common.{◌≡◌, ℕ, ◌+◌, ◌≤◌, Option, Some, None, List, [], ◌∷◌, ◌++◌, length, reverse, take, map, ap, ◌∙◌, refl, sym, subst, arith}
 use Rattle.std.proofs.lemmas.List.Elements.{All-nil}
 use Rattle.ground_io.specs.Disk.{Disk, disk_after}
 use Rattle.ground_io.specs.Sent.{Along, emissions, sent_after}
@@ -17,11 +17,13 @@ use Rattle.alarm_journal.specs.Journal.{OpenAlike}
 use Rattle.alarm_journal.specs.Journal.{Site as Journal}
 use Rattle.alarm_journal.specs.Press.{OpensSame, PressState, ReopensSynced}
 use Rattle.state_codec.specs.Contents.{ImageStands}
-use Rattle.floor_desk.specs.Accounts.{Account, Due, account}
+use Rattle.floor_desk.specs.Accounts.{Account, Due, Front, account}
+use Rattle.floor_desk.specs.LookingBack.{IsLookedBack, before_returned, dues_over, reach_over}
 use Rattle.state_codec.specs.Keeping.{HoldsHistory, StoodFor, journal_of}
 use Rattle.state_codec.specs.Openings.{OpenedTo}
+use Rattle.state_codec.specs.Sizes.{need}
 use Rattle.floor_desk.specs.Moves.{IsGroundOf}
-use Rattle.floor_desk.specs.Prefixes.{CountsLost, HasLost, KeepsOrder, LeavesPrefix, RestsOn, Settle}
+use Rattle.floor_desk.specs.Prefixes.{CountsLost, HasLost, KeepsOrder, LeavesPrefix, RestsOn, GoOut}
 use Rattle.floor_desk.specs.Standing.{ShowsAccount, Stands}
 use Rattle.floor_desk.specs.States.{FloorState}
 use Rattle.floor_desk.specs.declared.floor.Spot.{Spot}
@@ -31,6 +33,7 @@ use Rattle.floor_desk.specs.declared.serve.Closed.{Closed}
 use Rattle.floor_desk.specs.declared.serve.End.TheVariants.{Done}
 use Rattle.alarm_server.specs.declared.serve.Served.{Served}
 use Rattle.alarm_server.specs.ServedSites.{HasServedSite, KeepsServed, served_of}
+use Rattle.floor_desk.proofs.LookingBack.{looks_back}
 use Rattle.alarm_server.proofs.KeptLines.{along_few}
 
 module _ (journal : Journal) (site : Site) where
@@ -69,7 +72,7 @@ module _ (journal : Journal) (site : Site) where
       let same : emissions (opens.entries ++ others) ≡ emissions others = sent_behind opens.entries others [] ∙ ap (λ (s : List Entry). sent_after others s) nothing in (
         opens.entries ++ others,
         adds_both (Some old) (Some mid) (Some new) (Synced ∷ opens.entries) others opens.adds adds,
-        subst (λ (s : List Entry). Settle (map (λ (due : Due). due.send) (take sent dues)) s) (sym same) settle,
+        subst (λ (s : List Entry). GoOut (map (λ (due : Due). due.send) (take sent dues)) s) (sym same) settle,
         along-append P [] begun opens.entries others (along_opening history order dues old mid stood opens) there,
       )
 
@@ -129,11 +132,11 @@ module _ {G : Type 0} (told : G → Option Told) (size disk_faults emit_faults :
   -- a desk that was opened on a site has served it
   pub site_served : (shows : ℕ → Type 0) (site : Site) (text : List ℕ) (count : ℕ) (old new : Option (List Send)) (before after : G) (origin : CoreState × PressState G) (closed : Closed) (served : Served)
       → origin.0.site ≡ site → served ≡ served_of closed → closed.received ≤ count → (closed.end ≡ Done → closed.received ≡ count) → Serves told size disk_faults emit_faults shows old new origin after closed → LeavesDisk (disk_faults before) (disk_faults after) closed.end → emit_faults origin.1.device ≡ emit_faults before
-      → OpenedTo site text (told before) (told origin.1.device) origin.0
+      → need site (length text) ≤ size before → OpenedTo site text (told before) (told origin.1.device) origin.0
       → ((history : List Event) → StoodFor (journal_of site text) site history (told before) (told origin.1.device) → Represents origin.0 history)
       → ((history : List Event) → StoodFor (journal_of site text) site history (told before) (told origin.1.device) → HoldsHistory (journal_of site text) site history origin.1.layout (told origin.1.device))
       → ReopensSynced (journal_of site text) (told before) (told origin.1.device) → HasServedSite told size disk_faults emit_faults shows site text count old new before after served
-  site_served shows site text count old new before after origin closed served of_site is most all s disk emitted opens represents holds reopens =
+  site_served shows site text count old new before after origin closed served of_site is most all s disk emitted enough opens represents holds reopens =
       let journal = journal_of site text in
       let f = s.floor in
       let a : Account G = account f.origin s.history in
@@ -149,6 +152,7 @@ module _ {G : Type 0} (told : G → Option Told) (size disk_faults emit_faults :
         serves = s;
         disk = disk;
         counted = subst (λ (n : ℕ). CountsLost n (emit_faults after) s.floor.lost) emitted s.counted;
+        enough = enough;
         opens = opens;
         begins = represents;
         keeps = λ history stood.
@@ -158,5 +162,9 @@ module _ {G : Type 0} (told : G → Option Told) (size disk_faults emit_faults :
             let l : KeepsOrder journal site history a.order a.dues a.back.dues (told origin.1.device) (told after) = subst (λ (z : Site). KeepsOrder journal z history a.order a.dues a.back.dues (told origin.1.device) (told after)) of_site k in
             let m : KeepsOrder journal site history (account origin s.history).order (account origin s.history).dues (account origin s.history).back.dues (told origin.1.device) (told after) =
             subst (λ (o : CoreState × PressState G). KeepsOrder journal site history (account o s.history).order (account o s.history).dues (account o s.history).back.dues (told origin.1.device) (told after)) s.from l in
-            opened_and_served journal site history (account origin s.history).order (account origin s.history).dues (account origin s.history).back.dues (told before) (told origin.1.device) (told after) e reopens m;
+            let b : IsLookedBack origin (reverse s.history) (account origin s.history) = looks_back origin s.history in
+            subst (λ (l : List Event). KeepsServed journal site history l (dues_over origin.0 (reverse s.history)) (reach_over origin.0 (before_returned (reverse s.history))).dues (told before) (told after)) b.order
+            (subst (λ (l : List Due). KeepsServed journal site history (account origin s.history).order l (reach_over origin.0 (before_returned (reverse s.history))).dues (told before) (told after)) b.dues
+            (subst (λ (f : Front). KeepsServed journal site history (account origin s.history).order (account origin s.history).dues f.dues (told before) (told after)) b.back
+            (opened_and_served journal site history (account origin s.history).order (account origin s.history).dues (account origin s.history).back.dues (told before) (told origin.1.device) (told after) e reopens m)));
       }

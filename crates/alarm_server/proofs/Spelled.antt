@@ -1,5 +1,5 @@
 -- What the lines of a script spell, one after the other.
-use Rattle.std.proofs.Common.{◌≡◌, ℕ, ◌+◌, Option, Some, None, List, [], ◌∷◌, length, refl, ap, ◌∙◌, sym, arith}
+use Rattle.std.proofs.Common.{◌≡◌, ℕ, ◌+◌, Some, None, List, [], ◌∷◌, length, refl, ap, ◌∙◌, sym, arith}
 use Rattle.script_lines.specs.declared.line.Says.{Says}
 use Rattle.script_lines.specs.declared.line.Says.TheVariants.{Skipped, Outside, Spells}
 use Rattle.script_lines.specs.Script.{Next, AtEnd, Refuses, Gives, next_by, next_in}

@@ -3,7 +3,7 @@ use Rattle.std.specs.Prelude.{◌-◌, ◌^◌, ℕ, Bool, false, Option, Some, 
 use Rattle.std.specs.Str.{bytes_eq}
 use Rattle.script_lines.specs.Number.{unsigned_of}
 use Rattle.alarm_server.specs.declared.command.Command.{Command}
-use Rattle.alarm_server.specs.declared.command.Command.TheVariants.{Trial, Session, Workload}
+use Rattle.alarm_server.specs.declared.command.Command.TheVariants.{Trial, Session, Workload, Ship, Standby}
 use Rattle.alarm_server.specs.declared.settings.Settings.{Settings}
 use Rattle.alarm_server.specs.Settings.{settings_of}
 
@@ -31,10 +31,30 @@ abbrev pub workload_of : List (List ℕ) → Option Command
 workload_of (workload ∷ seed ∷ count ∷ []) = if bytes_eq workload (codes "workload") then workload_from seed count else None
 workload_of _ = None
 
-abbrev pub command_by : Option Settings → Bool → Option Command → Option Command
-command_by (Some settings) session workload = Some (Trial settings)
-command_by None session workload = if session then Some Session else workload
+abbrev pub ship_from : List ℕ → Option Command
+ship_from from = do
+  from ← unsigned_of (2 ^ 64 - 1) from
+  Some (Ship from)
 
--- what the words ask for: a trial, a session, or a workload; none where they are of no form
+-- what the words `ship SITE JOURNAL FROM` ask for
+abbrev pub ship_of : List (List ℕ) → Option Command
+ship_of (ship ∷ site ∷ journal ∷ from ∷ []) = if bytes_eq ship (codes "ship") then ship_from from else None
+ship_of _ = None
+
+-- what the words `standby SITE JOURNAL` ask for
+abbrev pub standby_of : List (List ℕ) → Option Command
+standby_of (standby ∷ site ∷ journal ∷ []) = if bytes_eq standby (codes "standby") then Some Standby else None
+standby_of _ = None
+
+-- the first of two commands that is there
+abbrev pub command_or : Option Command → Option Command → Option Command
+command_or (Some command) other = Some command
+command_or None other = other
+
+abbrev pub command_by : Option Settings → Bool → Option Command → Option Command
+command_by (Some settings) session others = Some (Trial settings)
+command_by None session others = if session then Some Session else others
+
+-- what the words ask for: a trial, a session, a workload, what is shipped, or a standby; none where they are of no form
 abbrev pub command_of : List (List ℕ) → Option Command
-command_of words = command_by (settings_of words) (is_session words) (workload_of words)
+command_of words = command_by (settings_of words) (is_session words) (command_or (workload_of words) (command_or (ship_of words) (standby_of words)))

@@ -1,5 +1,5 @@
 -- What the journal of a file's site opens to, and what a session plays from there; or why it is refused, by its octets.
-use Rattle.std.specs.Prelude.{◌⊎◌, ℕ, ⊤, Option, Some, None, List, [], ◌∷◌, Result, Ok, Err, IfSome}
+use Rattle.std.specs.Prelude.{◌⊎◌, ℕ, Option, List, [], ◌∷◌, Result, Ok, Err, IfSome}
 use Rattle.ground_io.specs.Trace.{Adds, Told}
 use Rattle.ground_io.specs.declared.entry.Entry.TheVariants.{Synced}
 use Rattle.alarm_journal.specs.declared.open_fault.OpenFault.{OpenFault}
@@ -10,8 +10,6 @@ use Rattle.alarm_core.specs.State.{CoreState}
 use Rattle.script_lines.specs.Script.{lines_of}
 use Rattle.state_codec.specs.Emission.{Emits}
 use Rattle.state_codec.specs.Openings.{IsRefusedFor, OpenedTo}
-use Rattle.alarm_server.specs.declared.command.Command.{Command}
-use Rattle.alarm_server.specs.declared.command.Command.TheVariants.{Trial, Session, Workload}
 use Rattle.alarm_server.specs.declared.status.Status.{Status}
 use Rattle.alarm_server.specs.declared.status.Status.TheVariants.{DiskFault, JournalRefused, NoMemory, ReadFault}
 use Rattle.alarm_server.specs.Emission.{Ends}
@@ -26,14 +24,7 @@ RefusesOnSite text (Err refused) old new fault = ⊥
 abbrev pub RefusesJournal : Option (List ℕ) → Option Told → Option Told → OpenFault → Type 0
 RefusesJournal site old new fault = IfSome site (λ octets. RefusesOnSite octets (site_of octets) old new fault)
 
--- only a session opens a journal
-abbrev pub RefusesJournalAs : Option Command → Option (List ℕ) → Option Told → Option Told → OpenFault → Type 0
-RefusesJournalAs (Some Session) site old new fault = RefusesJournal site old new fault
-RefusesJournalAs (Some (Trial settings)) site old new fault = ⊥
-RefusesJournalAs (Some (Workload seed count)) site old new fault = ⊥
-RefusesJournalAs None site old new fault = ⊥
-
--- a session may end so before its script is played: a call failed, the journal is refused, or memory is
+-- a session may end so before its script is played, and what ships a journal before it is open: a call failed, the journal is refused, or memory is
 abbrev pub IsUnplayed : Status → Type 0
 IsUnplayed ReadFault = Unit {0}
 IsUnplayed DiskFault = Unit {0}
@@ -49,10 +40,3 @@ OpensOnSite text (Err refused) ended script old new = Emits old new []
 
 abbrev pub OpensOnFile : Option (List ℕ) → Status → Option (List ℕ) → Option Told → Option Told → Type 0
 OpensOnFile site ended script old new = IfSome site (λ octets. IfSome script (λ text. OpensOnSite octets (site_of octets) ended text old new))
-
--- of a session; the others open none
-abbrev pub OpensAs : Option Command → Status → Option (List ℕ) → Option (List ℕ) → Option Told → Option Told → Type 0
-OpensAs (Some Session) ended site script old new = OpensOnFile site ended script old new
-OpensAs (Some (Trial settings)) ended site script old new = ⊤
-OpensAs (Some (Workload seed count)) ended site script old new = ⊤
-OpensAs None ended site script old new = ⊤

@@ -2,16 +2,18 @@
 use Rattle.std.specs.Prelude.{ℕ, true, false, List, Option, Some, None}
 use Rattle.std.specs.Option.{option_map}
 use Rattle.alarm_server.specs.declared.command.Command.{Command}
-use Rattle.alarm_server.specs.declared.command.Command.TheVariants.{Trial, Session, Workload}
+use Rattle.alarm_server.specs.declared.command.Command.TheVariants.{Trial, Session, Workload, Ship, Standby}
 use Rattle.alarm_server.specs.declared.paths.Paths.{Paths}
 use Rattle.alarm_server.specs.Commands.{command_of}
 use Rattle.alarm_server.specs.ServeWords.{count_in}
 
--- the words of a session name the site's file and the journal's, in this order; others name none; none of them serves anybody
+-- the words of a session, of what ships a journal, and of a standby name the site's file and the journal's, in this order; others name none; none of them serves anybody
 abbrev pub paths_by : Command → Paths
 paths_by Session = record { site = Some 1; journal = Some 2; serves = false }
 paths_by (Trial settings) = record { site = None; journal = None; serves = false }
 paths_by (Workload seed count) = record { site = None; journal = None; serves = false }
+paths_by (Ship from) = record { site = Some 1; journal = Some 2; serves = false }
+paths_by Standby = record { site = Some 1; journal = Some 2; serves = false }
 
 -- so do those of a server, which serves its peers
 abbrev pub paths_served : Option Paths → Option ℕ → Option Paths

@@ -1,5 +1,5 @@
 -- A server on a site: what it leaves of its journal, and what it did, or why no desk was opened.
-use Rattle.std.specs.Prelude.{◌≡◌, ◌⊎◌, ◌≤◌, ℕ, ⊤, List, [], ◌∷◌, map, take, Option, Some, None}
+use Rattle.std.specs.Prelude.{◌≡◌, ◌⊎◌, ◌≤◌, ℕ, List, [], ◌∷◌, length, map, reverse, take, Option, Some}
 use Rattle.ground_io.specs.Counts.{HasCause}
 use Rattle.ground_io.specs.Sent.{Along, emissions}
 use Rattle.ground_io.specs.Trace.{Told, Adds, disk_of}
@@ -12,10 +12,13 @@ use Rattle.alarm_core.specs.declared.event.Event.{Event}
 use Rattle.alarm_core.specs.declared.site.Site.{Site}
 use Rattle.alarm_journal.specs.Journal.{Site as Journal}
 use Rattle.alarm_journal.specs.Press.{PressState}
-use Rattle.floor_desk.specs.Accounts.{Due, account}
+use Rattle.alarm_journal.specs.Protocol.{IfToldOn}
+use Rattle.floor_desk.specs.Accounts.{Due}
+use Rattle.floor_desk.specs.LookingBack.{before_returned, dues_over, events_over, reach_over}
 use Rattle.state_codec.specs.Keeping.{StoodFor, journal_of}
 use Rattle.state_codec.specs.Openings.{OpenedTo}
-use Rattle.floor_desk.specs.Prefixes.{CountsLost, LeavesPrefix, Settle}
+use Rattle.state_codec.specs.Sizes.{need}
+use Rattle.floor_desk.specs.Prefixes.{CountsLost, LeavesPrefix, GoOut}
 use Rattle.floor_desk.specs.Serving.{LeavesDisk, Serves}
 use Rattle.floor_desk.specs.declared.serve.Closed.{Closed}
 use Rattle.floor_desk.specs.declared.serve.End.{End}
@@ -27,12 +30,10 @@ use Rattle.alarm_server.specs.declared.status.Status.TheVariants as status
 
 -- From the opening's first sync on, at each moment each image that a crash may leave stands for the history and the first events of the order: of as many, at least, as what was sent until then rests on. Just the first of the dues were sent, so many, each once and in their order. Where it tells.
 abbrev pub KeepsServed : Journal → Site → List Event → List Event → List Due → ℕ → Option Told → Option Told → Type 0
-KeepsServed journal site history order dues sent old None = ⊤
-KeepsServed journal site history order dues sent None (Some new) = ⊥
-KeepsServed journal site history order dues sent (Some old) (Some new) =
-    (entries : List Entry) × Adds (Some old) (Some new) (Synced ∷ entries)
-    × Settle (map (λ due. due.send) (take sent dues)) (emissions entries)
-    × Along (LeavesPrefix journal site history order dues) [] (record { contents = (disk_of old).contents; loose = [] }) entries
+KeepsServed journal site history order dues sent old new = IfToldOn old new (λ before now.
+    (entries : List Entry) × Adds (Some before) (Some now) (Synced ∷ entries)
+    × GoOut (map (λ due. due.send) (take sent dues)) (emissions entries)
+    × Along (LeavesPrefix journal site history order dues) [] (record { contents = (disk_of before).contents; loose = [] }) entries)
 
 -- how a program ends whose server ended so
 abbrev pub of_end : End → Status
@@ -54,7 +55,7 @@ abbrev pub IsUnserved : Served → Status → Type 0
 IsUnserved served status = served ≡ record { status = status; received = 0; events = 0; durable = 0; lost = 0 }
 
 module _ {G : Type 0} (told : G → Option Told) (size disk_faults emit_faults : G → ℕ) where
-  -- The octets of the device opened, and lead to the state that a desk began with, which served at most so many datagrams; Done, it was so many. Of what was sent, datagrams were lost just where emissions of the ground failed. Of each history that the octets of the device stood for, the desk began with it, and a crash leaves it with a prefix of the order.
+  -- The device is as large as it must be; its octets opened, and lead to the state that a desk began with, which served at most so many datagrams; Done, it was so many. Of what was sent, datagrams were lost just where emissions of the ground failed. Of each history that the octets of the device stood for, the desk began with it, and a crash leaves it with a prefix of the order.
   pub record HasServedSite (shows : ℕ → Type 0) (site : Site) (text : List ℕ) (count : ℕ) (old new : Option (List Send)) (before after : G) (served : Served) : Type 0 where
     pub origin : CoreState × PressState G
     pub of_site : origin.0.site ≡ site
@@ -63,9 +64,10 @@ module _ {G : Type 0} (told : G → Option Told) (size disk_faults emit_faults :
     pub most : closed.received ≤ count
     pub all : closed.end ≡ end.Done → closed.received ≡ count
     pub serves : Serves told size disk_faults emit_faults shows old new origin after closed
+    pub enough : need site (length text) ≤ size before
     pub opens : OpenedTo site text (told before) (told origin.1.device) origin.0
     pub disk : LeavesDisk (disk_faults before) (disk_faults after) closed.end
     pub counted : CountsLost (emit_faults before) (emit_faults after) serves.floor.lost
     pub begins : (history : List Event) → StoodFor (journal_of site text) site history (told before) (told origin.1.device) → Represents origin.0 history
     pub keeps : (history : List Event) → StoodFor (journal_of site text) site history (told before) (told after)
-        → KeepsServed (journal_of site text) site history (account origin serves.history).order (account origin serves.history).dues (account origin serves.history).back.dues (told before) (told after)
+        → KeepsServed (journal_of site text) site history (events_over origin.0 (reverse serves.history)) (dues_over origin.0 (reverse serves.history)) (reach_over origin.0 (before_returned (reverse serves.history))).dues (told before) (told after)

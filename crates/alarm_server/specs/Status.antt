@@ -41,7 +41,7 @@ open_fault_text open_fault.NoMemory = codes "no memory"
 -- the text of a status
 abbrev pub status_text : Status → List ℕ
 status_text Done = codes "done"
-status_text Usage = codes "usage: trial LOW HIGH DEADBAND DELAY NORMAL | session SITE JOURNAL | workload SEED COUNT | serve SITE JOURNAL COUNT"
+status_text Usage = codes "usage: trial LOW HIGH DEADBAND DELAY NORMAL | session SITE JOURNAL | workload SEED COUNT | serve SITE JOURNAL COUNT | ship SITE JOURNAL FROM | standby SITE JOURNAL"
 status_text (SiteRefused fault) = fault_text fault
 status_text (ScriptRefused line) = codes "script refused: line " ++ decimal line
 status_text ReadFault = codes "read fault"
@@ -129,6 +129,20 @@ IsSessionFault Usage = ⊥
 IsSessionFault (SiteRefused fault) = ⊥
 IsSessionFault LinkFault = ⊥
 IsSessionFault status = Unit {0}
+
+-- an end while a journal is shipped: it isn't opened, or a line doesn't go out
+abbrev pub IsShippedFault : Status → Type 0
+IsShippedFault EmitFault = Unit {0}
+IsShippedFault DiskFault = Unit {0}
+IsShippedFault (JournalRefused fault) = Unit {0}
+IsShippedFault NoMemory = Unit {0}
+IsShippedFault status = ⊥
+
+-- the same where the site is found first
+abbrev pub IsShipFault : Status → Type 0
+IsShipFault (SiteRefused fault) = Unit {0}
+IsShipFault ReadFault = Unit {0}
+IsShipFault status = IsShippedFault status
 
 -- an end while a text is read
 abbrev pub IsTextFault : Status → Type 0

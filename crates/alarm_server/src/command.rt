@@ -1,7 +1,7 @@
 //! The words of a program, and the command that they are.
 
 ghost use Rattle.std.specs.Prelude.{◌≡◌, ◌-◌, ◌^◌, map, string_bytes};
-ghost use Rattle.alarm_server.specs.Commands.{command_of, is_session, workload_of};
+ghost use Rattle.alarm_server.specs.Commands.{command_of, is_session, ship_of, standby_of, workload_of};
 ghost use Rattle.alarm_server.specs.ServeWords.{count_in};
 
 use crate::settings::Settings;
@@ -30,6 +30,13 @@ pub enum Command {
         /// How many lines it has, at most 20,000.
         count: u32,
     },
+    /// The packets by which a standby comes to have what a journal holds.
+    Ship {
+        /// Behind how many events, which the standby has, the packets begin.
+        from: u64,
+    },
+    /// A standby on the site of a file, with a journal of its own.
+    Standby,
 }
 
 // Whether the words are `session SITE JOURNAL`.
@@ -58,6 +65,31 @@ fn read_workload(words: &[String]) -> Option<Command>
     })
 }
 
+// What the words `ship SITE JOURNAL FROM` ask for.
+fn read_ship(words: &[String]) -> Option<Command>
+    ensures ship { result ≡ ship_of (map string_bytes words.now) }
+{
+    let [ship, _site, _journal, from] = words else {
+        return None;
+    };
+    if ship.as_str() != "ship" {
+        return None;
+    }
+    Some(Command::Ship {
+        from: unsigned(from.as_bytes(), u64::MAX)?,
+    })
+}
+
+// What the words `standby SITE JOURNAL` ask for.
+fn read_standby(words: &[String]) -> Option<Command>
+    ensures standby { result ≡ standby_of (map string_bytes words.now) }
+{
+    match words {
+        [standby, _site, _journal] if standby.as_str() == "standby" => Some(Command::Standby),
+        _ => None,
+    }
+}
+
 /// What the words ask for, and none exactly where they are of no form.
 pub fn read_command(words: &[String]) -> Option<Command>
     ensures command { result ≡ command_of (map string_bytes words.now) }
@@ -68,7 +100,13 @@ pub fn read_command(words: &[String]) -> Option<Command>
     if is_session(words) {
         return Some(Command::Session);
     }
-    read_workload(words)
+    if let Some(workload) = read_workload(words) {
+        return Some(workload);
+    }
+    if let Some(ship) = read_ship(words) {
+        return Some(ship);
+    }
+    read_standby(words)
 }
 
 /// How many datagrams the words `serve SITE JOURNAL COUNT` ask a server to take, from 1 to 1,000,000.

@@ -10,6 +10,7 @@ ghost use Rattle.alarm_server.specs.ServeWords.{count_in};
 
 use crate::serve::{Served, serve};
 use crate::waking_gate::WakingGate;
+use crate::waking_link::WakingLink;
 use ending_link::{AskedLink, EndingLink, NotingGround, SharedFlag};
 use ground_io::{Ground, Source, SystemClock};
 use std::alloc::Global;
@@ -44,12 +45,15 @@ pub fn serve_over<
     ensures size { G.size result.0 ≡ G.size device }
     ensures emit_cause { HasCause (G.emit_faults device) (G.emit_faults result.0) (result.2.received < result.2.lost) }
     ensures no_emit_fault { result.2.lost ≡ 0 → G.emit_faults result.0 ≡ G.emit_faults device }
+    ensures site_read { result.2.status ≡ status.Done → S.faults site.new ≡ S.faults site.old }
 {
     let clock = SystemClock::new(rt);
     let gate = WakingGate::new(rt, Duration::from_millis(REST));
     let flag = SharedFlag::new();
     let device = NotingGround::new(device, &flag);
-    let link = EndingLink::new(link, &flag);
+    let waking = WakingLink::new(link, &gate);
+    let link = EndingLink::new(waking, &flag);
     let (device, link, served) = serve(rt, alloc, words, site, device, link, &clock, &gate);
-    (device.into_inner(), link.into_inner(), served)
+    let waking = link.into_inner();
+    (device.into_inner(), waking.into_inner(), served)
 }

@@ -1,4 +1,4 @@
-//! The alarm server: a server or a session on a site's file, an integer value on trial, or a generated site.
+//! The alarm server: a server, a session or a standby on a site's file, an integer value on trial, or a generated site.
 //!
 //! `run` and `serve` are the top calls. They stand over any source of octets, any ground and any link, so that their
 //! contracts say all that the program does; `main` hands them the real ones. Where a text can't be printed, the status is
@@ -9,6 +9,7 @@ mod announcing_link;
 mod command;
 mod dressed;
 mod emission;
+mod following;
 mod on_file;
 mod paths;
 mod pieces;
@@ -16,12 +17,15 @@ mod run;
 mod serve;
 mod session;
 mod settings;
+mod ship;
+mod standing_by;
 mod status;
 mod taken;
 mod tally;
 mod text;
 mod trial;
 mod waking_gate;
+mod waking_link;
 mod watch;
 mod workload;
 
@@ -76,6 +80,22 @@ from the events that the file JOURNAL holds. What is owed for an event goes out
 once the event is in JOURNAL, and on the disk. At the end it prints the line
 `served RECEIVED EVENTS DURABLE LOST`. ALARM_SERVER_PORT and
 ALARM_SERVER_ADDRESS in the environment name another port, and one address.
+
+alarm-server ship SITE JOURNAL FROM
+
+ship prints the packets by which a standby that has the first FROM events comes
+to have all that the file JOURNAL holds, one a line: `packet HEX`. Where FROM is
+below the number of events of JOURNAL's snapshot, the snapshot comes first, in
+pieces. The last line is `end PACKETS EVENTS`: how many packets, and how many
+events JOURNAL has.
+
+alarm-server standby SITE JOURNAL < PACKETS
+
+standby takes the packets of such lines into a journal of its own, the file
+JOURNAL. It prints `open EVENTS`, for each packet what came of it (`N taken E`,
+`N repeat E`, `N gap E`, `N part PLACE` or `N malformed`), and at the end
+`end LINES EVENTS`. `taken E` is printed once E events are in JOURNAL, and on
+the disk.
 
 alarm-server --help      prints this text
 alarm-server --version   prints the version

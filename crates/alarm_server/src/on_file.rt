@@ -1,17 +1,18 @@
 //! A session on the site of a file and its journal, from both files to the last line.
 
-ghost use Rattle.std.specs.Prelude.{◌≡◌, ◌≢◌, ◌≤◌, ⊤, ℕ, List, length, [], ◌∷◌, None, Ok, Err, OnOk, OnErr, IfErr, IfOk, IfSome, IsErrOf};
+ghost use Rattle.std.specs.Prelude.{◌≡◌, ◌≢◌, ◌<◌, ◌≤◌, ⊤, ℕ, List, length, [], ◌∷◌, None, Ok, Err, OnOk, OnErr, IfErr, IfOk, IfSome, IsErrOf};
 ghost use Rattle.std.specs.Io.KnownBytes.{IsAtEnd};
 ghost use Rattle.ground_io.specs.Counts.{HasCause, Rose};
 ghost use Rattle.ground_io.specs.Trace.{Adds, WhereTold};
 ghost use Rattle.ground_io.specs.declared.entry.Entry.TheVariants.{Synced};
 ghost use Rattle.script_lines.specs.declared.line.Grammar.TheVariants.{Session};
 ghost use Rattle.script_lines.specs.Line.{line_says};
+ghost use Rattle.alarm_journal.specs.Press.{IsSmall};
 ghost use Rattle.alarm_journal.specs.declared.open_fault.OpenFault.{OpenFault as Refusal};
 ghost use Rattle.alarm_core.specs.declared.event.Event.{Event as Happening};
 ghost use Rattle.alarm_core.specs.Sites.{IsSite};
 ghost use Rattle.script_lines.specs.Script.{lines_of};
-ghost use Rattle.state_codec.specs.Sizes.{most_text};
+ghost use Rattle.state_codec.specs.Sizes.{most_text, need};
 ghost use Rattle.state_codec.specs.Keeping.{StoodFor, journal_of};
 ghost use Rattle.alarm_server.specs.Keeping.{KeepsOpened};
 ghost use Rattle.state_codec.specs.Openings.{IsRefusedFor};
@@ -23,6 +24,7 @@ ghost use Rattle.state_codec.specs.Emission.{Emits};
 ghost use Rattle.alarm_server.specs.Emission.{Ends};
 ghost use Rattle.alarm_server.specs.OnFile.{AcceptsOnFile, EndsOnFile, KeepsOnFile, RefusesFile, StopsOnFile};
 ghost use Rattle.alarm_server.specs.Report.{front_pieces, report_of};
+ghost use Rattle.alarm_server.specs.SmallDevices.{EndsSmall, RefusesSmall};
 ghost use Rattle.alarm_server.specs.Script.{refused_line, spelled_in};
 ghost use Rattle.alarm_server.specs.Pieces.{piece_text};
 ghost use Rattle.alarm_server.specs.Status.{IsFault, IsSessionFault, IsSiteFault, status_of};
@@ -80,6 +82,8 @@ fn play_site<T: Source, G: Ground>(
     // The journal is refused for what its octets are, and never where they stood for a history; then it was synced, nothing
     // else was done, and the script isn't read.
     ensures refuses_journal { (fault : Refusal) → result.1 ≡ Err (Status.JournalRefused fault) → IsRefusedFor site.now text.now (G.told device) (G.told result.0) fault × Adds (G.told device) (G.told result.0) (Synced ∷ []) }
+    ensures small { (fault : Refusal) → result.1 ≡ Err (Status.JournalRefused fault) → IsSmall (G.size device) fault }
+    ensures below { G.size device < need site.now (length text.now) → EndsSmall (G.size device) (need site.now (length text.now)) (status_of result.1) }
     ensures unplayed { (fault : Refusal) → result.1 ≡ Err (Status.JournalRefused fault) → script.new ≡ script.old }
     ensures stands { (history : List Happening) (fault : Refusal) → StoodFor (journal_of site.now text.now) site.now history (G.told device) (G.told result.0) → result.1 ≢ Err (Status.JournalRefused fault) }
     ensures to_end { OnOk result.1 (IsAtEnd (T.left script.new)) }
@@ -132,6 +136,10 @@ pub fn session<S: Source, T: Source, G: Ground>(
         IfSome (T.left script.old) (λ text. refused_line (line_says Session) text ≡ Some line) }
     ensures refuses_site { (fault : SiteFault) → result.1 ≡ Err (Status.SiteRefused fault) → RefusesFile (S.left site.old) fault }
     ensures refuses_journal { (fault : Refusal) → result.1 ≡ Err (Status.JournalRefused fault) → RefusesJournal (S.left site.old) (G.told device) (G.told result.0) fault }
+
+    // A device that is smaller than it must be is refused as such, or fails, whether it tells its octets or not.
+    ensures small { (fault : Refusal) → result.1 ≡ Err (Status.JournalRefused fault) → IsSmall (G.size device) fault }
+    ensures below { RefusesSmall (G.size device) (S.left site.old) (status_of result.1) }
     ensures unplayed { (fault : Refusal) → result.1 ≡ Err (Status.JournalRefused fault) → script.new ≡ script.old }
     ensures unread { IfSome (S.left site.old) (λ octets. OnErr (site_of octets) (script.new ≡ script.old)) }
 

@@ -28,7 +28,7 @@ pub fn paths_of(words: &[String]) -> Option<Paths>
         });
     }
     let (site, journal) = match read_command(words)? {
-        Command::Session => (Some(1), Some(2)),
+        Command::Session | Command::Ship { .. } | Command::Standby => (Some(1), Some(2)),
         Command::Trial { .. } | Command::Workload { .. } => (None, None),
     };
     Some(Paths {

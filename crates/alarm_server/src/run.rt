@@ -2,16 +2,18 @@
 
 ghost use Rattle.std.specs.Prelude.{◌≡◌, ◌≢◌, ◌↔◌, ℕ, map, None, OnOk, IfErr, IsErrOf, string_bytes};
 ghost use Rattle.ground_io.specs.Counts.{HasCause, Rose};
+ghost use Rattle.alarm_journal.specs.Press.{IsSmall};
 ghost use Rattle.alarm_journal.specs.declared.open_fault.OpenFault.{OpenFault as Refusal};
 ghost use Rattle.site_config.specs.declared.fault.SiteFault.{SiteFault};
-ghost use Rattle.alarm_server.specs.Openings.{OpensAs, RefusesJournalAs};
 ghost use Rattle.alarm_server.specs.Causes.{HasCauseInEither};
 ghost use Rattle.alarm_server.specs.Commands.{command_of};
-ghost use Rattle.alarm_server.specs.Outcomes.{AcceptsAs, EndsAs, KeepsAs, LeavesDiskAs, LeavesScript, LeavesSite, NumbersAs, ReadsToEnd, RefusesAs, RefusesSiteAs, StopsAs};
+ghost use Rattle.alarm_server.specs.Promises.{promise_of};
 ghost use Rattle.alarm_server.specs.Status.{IsFault, status_of};
 
 use crate::command::{Command, read_command};
 use crate::on_file::session;
+use crate::ship::ship;
+use crate::standing_by::stand_by;
 use crate::status::Status;
 use crate::trial::play;
 use crate::workload::workload;
@@ -26,24 +28,26 @@ fn carry_out<S: Source, T: Source, G: Ground>(
     script: &mut T,
     mut device: G,
 ) -> (G, Result<(), Status>)
-    ensures ends { EndsAs (Some command.now) (status_of result.1) (S.left site.old) (T.left script.old) (G.told device) (G.told result.0) }
-    ensures to_end { OnOk result.1 (ReadsToEnd (Some command.now) (T.left script.new)) }
-    ensures accepted { OnOk result.1 (AcceptsAs (Some command.now) (S.left site.old) (T.left script.old)) }
-    ensures refused { (line : ℕ) → result.1 ≡ Err (Status.ScriptRefused line) → RefusesAs (Some command.now) (T.left script.old) line }
-    ensures refuses_site { (fault : SiteFault) → result.1 ≡ Err (Status.SiteRefused fault) → RefusesSiteAs (Some command.now) (S.left site.old) fault }
-    ensures stops { result.1 ≡ Err Status.ReadFault → StopsAs (Some command.now)
+    ensures ends { (promise_of (Some command.now)).ends (status_of result.1) (S.left site.old) (T.left script.old) (G.told device) (G.told result.0) }
+    ensures to_end { OnOk result.1 ((promise_of (Some command.now)).to_end (T.left script.new)) }
+    ensures accepted { OnOk result.1 ((promise_of (Some command.now)).accepts (S.left site.old) (T.left script.old)) }
+    ensures refused { (line : ℕ) → result.1 ≡ Err (Status.ScriptRefused line) → (promise_of (Some command.now)).refuses (T.left script.old) line }
+    ensures refuses_site { (fault : SiteFault) → result.1 ≡ Err (Status.SiteRefused fault) → (promise_of (Some command.now)).refuses_site (S.left site.old) fault }
+    ensures stops { result.1 ≡ Err Status.ReadFault → (promise_of (Some command.now)).stops
         ((script.new ≡ script.old) × Rose (S.faults site.old) (S.faults site.new))
         (Rose (T.faults script.old) (T.faults script.new))
         (S.left site.old) (T.left script.old) (T.left script.new) (G.told device) (G.told result.0) }
-    ensures site { LeavesSite (Some command.now) (site.new ≡ site.old) }
-    ensures unread { LeavesScript (Some command.now) (S.left site.old) (script.new ≡ script.old) }
-    ensures keeps { KeepsAs (Some command.now) (S.left site.old) (T.left script.old) (G.told device) (G.told result.0) }
-    ensures opened { OpensAs (Some command.now) (status_of result.1) (S.left site.old) (T.left script.old) (G.told device) (G.told result.0) }
+    ensures site { (promise_of (Some command.now)).leaves_site (site.new ≡ site.old) }
+    ensures unread { (promise_of (Some command.now)).leaves_script (S.left site.old) (script.new ≡ script.old) }
+    ensures keeps { (promise_of (Some command.now)).keeps (S.left site.old) (T.left script.old) (G.told device) (G.told result.0) }
+    ensures opened { (promise_of (Some command.now)).opens (status_of result.1) (S.left site.old) (T.left script.old) (G.told device) (G.told result.0) }
+    ensures small { (fault : Refusal) → result.1 ≡ Err (Status.JournalRefused fault) → IsSmall (G.size device) fault }
+    ensures below { (promise_of (Some command.now)).refuses_small (G.size device) (S.left site.old) (status_of result.1) }
     ensures unplayed { (fault : Refusal) → result.1 ≡ Err (Status.JournalRefused fault) → script.new ≡ script.old }
-    ensures refuses_journal { (fault : Refusal) → result.1 ≡ Err (Status.JournalRefused fault) → RefusesJournalAs (Some command.now) (S.left site.old) (G.told device) (G.told result.0) fault }
+    ensures refuses_journal { (fault : Refusal) → result.1 ≡ Err (Status.JournalRefused fault) → (promise_of (Some command.now)).refuses_journal (S.left site.old) (G.told device) (G.told result.0) fault }
     ensures fault { IfErr result.1 IsFault }
     ensures size { G.size result.0 ≡ G.size device }
-    ensures disk { LeavesDiskAs (Some command.now) (G.disk_faults result.0 ≡ G.disk_faults device) }
+    ensures disk { (promise_of (Some command.now)).leaves_disk (G.disk_faults result.0 ≡ G.disk_faults device) }
     ensures disk_cause { HasCause (G.disk_faults device) (G.disk_faults result.0) (IsErrOf result.1 Status.DiskFault) }
     ensures read_cause { HasCauseInEither (S.faults site.old) (S.faults site.new) (T.faults script.old) (T.faults script.new) (IsErrOf result.1 Status.ReadFault) }
     ensures emit_cause { HasCause (G.emit_faults device) (G.emit_faults result.0) (IsErrOf result.1 Status.EmitFault) }
@@ -60,6 +64,8 @@ fn carry_out<S: Source, T: Source, G: Ground>(
             let played = workload(alloc, *seed, *count, &mut device);
             (device, played)
         }
+        Command::Ship { from } => ship(alloc, *from, site, device),
+        Command::Standby => stand_by(alloc, site, script, device),
     }
 }
 
@@ -68,8 +74,11 @@ fn carry_out<S: Source, T: Source, G: Ground>(
 /// `trial LOW HIGH DEADBAND DELAY NORMAL` puts one Integer Value on trial by the script, and emits a line for each of its
 /// moves. `session SITE JOURNAL` opens the journal of the site whose text the site's source has, goes on from what it holds,
 /// and plays the script; each event is on the disk before the piece of its line is emitted. `workload SEED COUNT` plays a
-/// generated script to a generated site, in memory, and emits one line, which sums the report up. Only a session touches the
-/// disk and reads the site's source, and a workload reads nothing.
+/// generated script to a generated site, in memory, and emits one line, which sums the report up. `ship SITE JOURNAL FROM`
+/// opens the journal as a session does, and emits the packets by which a standby that has FROM events comes to have all of
+/// it, and a last line. `standby SITE JOURNAL` opens a journal of its own as a session does, takes the packets of its script
+/// into it, and emits a line for each, once what the line acknowledges is on the disk. Only these three touch the disk and
+/// read the site's source; a workload reads nothing, and a ship no script.
 pub fn run<S: Source, T: Source, G: Ground>(
     alloc: Global,
     words: &[String],
@@ -81,29 +90,31 @@ pub fn run<S: Source, T: Source, G: Ground>(
     ensures usage { (result.1 ≡ Status.Usage) ↔ (command_of (map string_bytes words.now) ≡ None) }
     ensures unused { result.1 ≡ Status.Usage → result.0 ≡ device }
 
-    // What isn't read is left as it was: the site's source but for a session, the script where nothing is played from it.
-    ensures site { LeavesSite (command_of (map string_bytes words.now)) (site.new ≡ site.old) }
-    ensures unread { LeavesScript (command_of (map string_bytes words.now)) (S.left site.old) (script.new ≡ script.old) }
+    // What isn't read is left as it was: the site's source but for a session, a ship and a standby, the script where nothing is
+    // played from it.
+    ensures site { (promise_of (command_of (map string_bytes words.now))).leaves_site (site.new ≡ site.old) }
+    ensures unread { (promise_of (command_of (map string_bytes words.now))).leaves_script (S.left site.old) (script.new ≡ script.old) }
 
     // What went out: the whole report, or a front of it, as the status says.
-    ensures ends { EndsAs (command_of (map string_bytes words.now)) result.1 (S.left site.old) (T.left script.old) (G.told device) (G.told result.0) }
+    ensures ends { (promise_of (command_of (map string_bytes words.now))).ends result.1 (S.left site.old) (T.left script.old) (G.told device) (G.told result.0) }
 
     // The events that were told of are numbered without a gap, behind the number that the first line tells.
-    ensures numbered { NumbersAs (command_of (map string_bytes words.now)) (S.left site.old) (T.left script.old) (G.told device) (G.told result.0) }
+    ensures numbered { (promise_of (command_of (map string_bytes words.now))).numbers (S.left site.old) (T.left script.old) (G.told device) (G.told result.0) }
 
-    // With Done the script was read to its end, the site's text is a site, and each line is in the grammar.
-    ensures to_end { result.1 ≡ Status.Done → ReadsToEnd (command_of (map string_bytes words.now)) (T.left script.new) }
-    ensures accepted { result.1 ≡ Status.Done → AcceptsAs (command_of (map string_bytes words.now)) (S.left site.old) (T.left script.old) }
+    // With Done the script was read to its end, the site's text is a site, and each line is in the grammar: of what a command
+    // reads.
+    ensures to_end { result.1 ≡ Status.Done → (promise_of (command_of (map string_bytes words.now))).to_end (T.left script.new) }
+    ensures accepted { result.1 ≡ Status.Done → (promise_of (command_of (map string_bytes words.now))).accepts (S.left site.old) (T.left script.old) }
 
     // The line that is refused is the first outside the grammar; the site's text that is refused has this fault.
     ensures refused { (line : ℕ) → result.1 ≡ Status.ScriptRefused line →
-        RefusesAs (command_of (map string_bytes words.now)) (T.left script.old) line }
+        (promise_of (command_of (map string_bytes words.now))).refuses (T.left script.old) line }
     ensures refuses_site { (fault : SiteFault) → result.1 ≡ Status.SiteRefused fault →
-        RefusesSiteAs (command_of (map string_bytes words.now)) (S.left site.old) fault }
+        (promise_of (command_of (map string_bytes words.now))).refuses_site (S.left site.old) fault }
 
     // With ReadFault of the script all of the report went out that the lines give whose line feed was read, and none of these
     // is refused; with one of the site nothing went out, and the script is as it was.
-    ensures stops { result.1 ≡ Status.ReadFault → StopsAs (command_of (map string_bytes words.now))
+    ensures stops { result.1 ≡ Status.ReadFault → (promise_of (command_of (map string_bytes words.now))).stops
         ((script.new ≡ script.old) × Rose (S.faults site.old) (S.faults site.new))
         (Rose (T.faults script.old) (T.faults script.new))
         (S.left site.old) (T.left script.old) (T.left script.new) (G.told device) (G.told result.0) }
@@ -120,24 +131,30 @@ pub fn run<S: Source, T: Source, G: Ground>(
 
     // A crash at any moment from the opening's first sync on leaves, of each history that the device's octets stood for when
     // the session began, a history that begins with it and goes on with the events of the script's first lines: at least
-    // those whose piece was emitted by then.
-    ensures keeps { KeepsAs (command_of (map string_bytes words.now)) (S.left site.old) (T.left script.old) (G.told device) (G.told result.0) }
+    // those whose piece was emitted by then. Of what is shipped it leaves what opens as the device did; and of a standby a
+    // history to which its leader's goes back, or, of packets that anybody sent and that bring no snapshot, one that goes on
+    // from the one before; at least as long as each number that was acknowledged by then.
+    ensures keeps { (promise_of (command_of (map string_bytes words.now))).keeps (S.left site.old) (T.left script.old) (G.told device) (G.told result.0) }
 
-    // A session's journal opened, its octets lead to a state, and the report goes on from that, whether a history leads to it
-    // or not; or nothing went out.
-    ensures opened { OpensAs (command_of (map string_bytes words.now)) result.1 (S.left site.old) (T.left script.old) (G.told device) (G.told result.0) }
+    // A session's or a standby's journal opened, its octets lead to a state, and the report goes on from that, whether a history
+    // leads to it or not; or nothing went out.
+    ensures opened { (promise_of (command_of (map string_bytes words.now))).opens result.1 (S.left site.old) (T.left script.old) (G.told device) (G.told result.0) }
 
     // The journal is refused for what its octets are: it was synced, and nothing else was done, and the script isn't read.
     ensures unplayed { (fault : Refusal) → result.1 ≡ Status.JournalRefused fault → script.new ≡ script.old }
     ensures refuses_journal { (fault : Refusal) → result.1 ≡ Status.JournalRefused fault →
-        RefusesJournalAs (command_of (map string_bytes words.now)) (S.left site.old) (G.told device) (G.told result.0) fault }
+        (promise_of (command_of (map string_bytes words.now))).refuses_journal (S.left site.old) (G.told device) (G.told result.0) fault }
+
+    // A device that is smaller than the journal on it has to be is refused as such, with its size, or fails.
+    ensures small { (fault : Refusal) → result.1 ≡ Status.JournalRefused fault → IsSmall (G.size device) fault }
+    ensures below { (promise_of (command_of (map string_bytes words.now))).refuses_small (G.size device) (S.left site.old) result.1 }
 
     // A server's fault is none of these.
     ensures outside { result.1 ≢ Status.LinkFault }
 
-    // All but a session leave the disk alone.
+    // All but a session, a ship and a standby leave the disk alone.
     ensures size { G.size result.0 ≡ G.size device }
-    ensures disk { LeavesDiskAs (command_of (map string_bytes words.now)) (G.disk_faults result.0 ≡ G.disk_faults device) }
+    ensures disk { (promise_of (command_of (map string_bytes words.now))).leaves_disk (G.disk_faults result.0 ≡ G.disk_faults device) }
 {
     let Some(command) = read_command(words) else {
         return (device, Status::Usage);

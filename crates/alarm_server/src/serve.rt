@@ -5,7 +5,8 @@ ghost use Rattle.ground_io.specs.Counts.{HasCause, Rose};
 ghost use Rattle.alarm_core.specs.Sites.{IsSite};
 ghost use Rattle.state_codec.specs.Sizes.{most_text};
 ghost use Rattle.alarm_server.specs.ServedSites.{IsUnserved, LeavesLink, of_end, served_of};
-ghost use Rattle.alarm_server.specs.Serving.{ServesFile, ServesSite};
+ghost use Rattle.alarm_server.specs.Serving.{ServesFile};
+ghost use Rattle.alarm_server.specs.ServingSteps.{ServesSite};
 ghost use Rattle.alarm_server.specs.ServeWords.{count_in};
 
 use crate::command::count_of;
@@ -136,12 +137,14 @@ pub fn serve<
     ensures usage { (result.2.status ≡ Status.Usage) ↔ (count_in (map string_bytes words.now) ≡ None) }
     ensures unused { result.2.status ≡ Status.Usage → (result.0 ≡ device) × (result.1 ≡ link) × (site.new ≡ site.old) }
 
-    // A desk was opened on the site whose text the source has, and served; or none was, and nothing was sent.
+    // It goes one of five ways: a desk was opened on the site whose text the source has, and served; or none was, and nothing
+    // was sent.
     ensures serves { IfSome (count_in (map string_bytes words.now)) (λ count.
         ServesFile G.told G.size G.disk_faults G.emit_faults (K.shows clock.now) (S.left site.old) count link result.1 (L.left link) (L.left result.1) device result.0 result.2) }
 
     // A fault comes only where its count rose, and so does a datagram that was sent and lost.
     ensures read_cause { HasCause (S.faults site.old) (S.faults site.new) (result.2.status ≡ Status.ReadFault) }
+    ensures site_read { result.2.status ≡ Status.Done → S.faults site.new ≡ S.faults site.old }
     ensures link { LeavesLink (L.faults link) (L.faults result.1) result.2.status }
     ensures disk_cause { result.2.status ≡ Status.DiskFault → Rose (G.disk_faults device) (G.disk_faults result.0) }
     ensures no_disk_fault { result.2.status ≡ Status.Done → G.disk_faults result.0 ≡ G.disk_faults device }

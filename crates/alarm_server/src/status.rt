@@ -15,7 +15,7 @@ use std::fmt;
 
 /// The forms of the words.
 const USAGE: &str =
-    "usage: trial LOW HIGH DEADBAND DELAY NORMAL | session SITE JOURNAL | workload SEED COUNT | serve SITE JOURNAL COUNT";
+    "usage: trial LOW HIGH DEADBAND DELAY NORMAL | session SITE JOURNAL | workload SEED COUNT | serve SITE JOURNAL COUNT | ship SITE JOURNAL FROM | standby SITE JOURNAL";
 
 /// How a program ends.
 #[derive(Debug, Drop, PartialEq)]

@@ -1,4 +1,4 @@
-//! A gate at which a server rests until a datagram comes.
+//! A gate at which a server rests until a datagram was entered.
 
 use ground_io::{Gate, Worker};
 use std::sync::Wait;
@@ -6,22 +6,15 @@ use std::sync::atomic::{AtomicU64, Ordering};
 use std::thread;
 use std::time::{Clock, Duration};
 
-/// So often the committer looks again, soon, once a datagram has come.
-const LOOKS: u64 = 40;
-
-/// So many microseconds it waits between these looks.
-const SOON: u64 = 50;
-
 /// A gate at which a server without work rests. It never holds the receiver. It holds the ticker for a while before each
-/// step, and the committer as long, but no longer than until a datagram has come; then the committer looks often for a
-/// short time, as the datagram has yet to be entered.
+/// step, and the committer as long, but no longer than until a datagram was entered.
 #[derive(Drop)]
 pub struct WakingGate<R: Clock + Wait> {
     rt: R,
     rest: Duration,
-    came: AtomicU64,
+    entered: AtomicU64,
     seen: AtomicU64,
-    looks: AtomicU64,
+    sleepers: AtomicU64,
 }
 
 impl<R: Clock + Wait> WakingGate<R> {
@@ -30,33 +23,37 @@ impl<R: Clock + Wait> WakingGate<R> {
         WakingGate {
             rt,
             rest,
-            came: AtomicU64::new(0),
+            entered: AtomicU64::new(0),
             seen: AtomicU64::new(0),
-            looks: AtomicU64::new(0),
+            sleepers: AtomicU64::new(0),
         }
     }
 
-    // A datagram comes, and wakes the committer.
-    fn wake(&self) {
-        self.came.fetch_add(1, Ordering::SeqCst);
-        self.came.wake_all();
+    /// Something was entered: the committer goes on, and is woken where it sleeps.
+    pub fn wake(&self) {
+        self.entered.fetch_add(1, Ordering::SeqCst);
+        if self.sleepers.load(Ordering::SeqCst) != 0 {
+            self.entered.wake_all();
+        }
     }
 
-    // Holds the committer, where no datagram has come for a short time.
+    // Sleeps for a while, unless more was entered than this, and until more is: who wakes counts first and looks for
+    // sleepers then, and a sleeper is counted before the system compares.
+    fn sleep(&self, seen: u64) {
+        self.sleepers.fetch_add(1, Ordering::SeqCst);
+        let low = (seen & 0xffff_ffff) as u32;
+        self.entered.park_timeout(&self.rt, low, self.rest);
+        self.sleepers.fetch_sub(1, Ordering::SeqCst);
+    }
+
+    // Holds the committer, where nothing was entered since it was held last.
     fn hold(&self) {
-        let came = self.came.load(Ordering::SeqCst);
-        if self.seen.swap(came, Ordering::SeqCst) != came {
-            self.looks.store(LOOKS, Ordering::SeqCst);
-            return;
+        let seen = self.seen.load(Ordering::SeqCst);
+        if self.entered.load(Ordering::SeqCst) == seen {
+            self.sleep(seen);
         }
-        let looks = self.looks.load(Ordering::SeqCst);
-        if looks > 0 {
-            self.looks.store(looks - 1, Ordering::SeqCst);
-            thread::sleep(&self.rt, Duration::from_micros(SOON));
-        } else {
-            let low = (came & 0xffff_ffff) as u32;
-            self.came.park_timeout(&self.rt, low, self.rest);
-        }
+        let entered = self.entered.load(Ordering::SeqCst);
+        self.seen.store(entered, Ordering::SeqCst);
     }
 }
 
@@ -65,7 +62,7 @@ impl<R: Clock + Wait> Gate for WakingGate<R> {
 
     fn turn(&self, worker: Worker, _step: u64) {
         match worker {
-            Worker::Receiver => self.wake(),
+            Worker::Receiver => {}
             Worker::Ticker => thread::sleep(&self.rt, self.rest),
             Worker::Committer => self.hold(),
         }

@@ -6,6 +6,7 @@ use Rattle.alarm_server.specs.declared.status.Status.TheVariants.{Done, JournalR
 use Rattle.state_codec.specs.Emission.{Emits}
 use Rattle.alarm_server.specs.Emission.{Ends}
 use Rattle.alarm_journal.specs.Opened.{content_in}
+use Rattle.alarm_journal.specs.Press.{IsSmall}
 use Rattle.state_codec.specs.Openings.{IsRefusedFor}
 use Rattle.state_codec.proofs.Openings.{opened_to}
 use Rattle.state_codec.specs.Keeping.{journal_of}
@@ -21,6 +22,7 @@ use Rattle.alarm_server.proofs.KeptOpenings.{opening_kept}
 use Rattle.alarm_server.proofs.KeptProgress.{in_any}
 use Rattle.alarm_server.proofs.OfOpenFault.{disk_cause, is_session_fault, refusal_is}
 use Rattle.alarm_server.proofs.OnFile.{told_more}
+use Rattle.alarm_server.proofs.SmallDevices.{small_end}
 use Rattle.alarm_server.proofs.on_file.play_site.Goals as goal
 
 pub returns-in-Err-clause-ends : goal.returns-in-Err-clause-ends
@@ -49,6 +51,14 @@ returns-in-Err-clause-refuses_journal g c = λ fault same.
     let came : of_open_fault c.in-Err.fault ≡ JournalRefused fault = cc in
     let is = refusal_is c.in-Err.fault fault came in
     (subst (λ f. IsRefusedFor c.args.site.now c.args.text.now (g.G.Ground.told c.args.device) (g.G.Ground.told c.in-Err.device) f) is.1 (c.in-Err.ensures.refused is.0), c.in-Err.ensures.unchanged is.0)
+
+pub returns-in-Err-clause-small : goal.returns-in-Err-clause-small
+returns-in-Err-clause-small g c = λ fault same.
+    let came : of_open_fault c.in-Err.fault ≡ JournalRefused fault = cc in
+    subst (λ f. IsSmall (g.G.Ground.size c.args.device) f) (refusal_is c.in-Err.fault fault came).1 c.in-Err.ensures.small
+
+pub returns-in-Err-clause-below : goal.returns-in-Err-clause-below
+returns-in-Err-clause-below g c = λ low. rw c.from.ensures (small_end _ _ c.in-Err.fault (c.in-Err.ensures.below low))
 
 pub returns-in-Err-clause-fault : goal.returns-in-Err-clause-fault
 returns-in-Err-clause-fault g c = rw c.from.ensures (is_session_fault c.in-Err.fault)

@@ -1,10 +1,11 @@
-use Rattle.std.proofs.Common.{◌≡◌, ◌∙◌, Err, None, IfSome, IsOk, OnErr, ap, refl, inr}
+use Rattle.std.proofs.Common.{◌≡◌, ◌⊎◌, ◌<◌, ◌∙◌, Err, None, IfOk, IfSome, IsOk, OnErr, ap, length, refl, inr}
 use Rattle.ground_io.specs.Trace.{WhereTold}
 use Rattle.script_lines.specs.declared.line.Grammar.TheVariants.{Session}
 use Rattle.script_lines.specs.Line.{line_says}
 use Rattle.script_lines.specs.Script.{lines_of}
 use Rattle.site_config.specs.Sites.{site_of}
-use Rattle.alarm_server.specs.declared.status.Status.TheVariants.{SiteRefused}
+use Rattle.state_codec.specs.Sizes.{need}
+use Rattle.alarm_server.specs.declared.status.Status.TheVariants.{NoMemory, ReadFault, SiteRefused}
 use Rattle.state_codec.specs.Emission.{Emits}
 use Rattle.alarm_server.specs.Emission.{Ends}
 use Rattle.state_codec.specs.Keeping.{StoodFor, journal_of}
@@ -14,10 +15,12 @@ use Rattle.alarm_server.specs.Openings.{OpensOnSite, RefusesOnSite}
 use Rattle.alarm_server.specs.Pieces.{piece_text}
 use Rattle.alarm_server.specs.Report.{front_pieces, report_of}
 use Rattle.alarm_server.specs.Script.{refused_line, spelled_in}
+use Rattle.alarm_server.specs.SmallDevices.{EndsSmall}
 use Rattle.alarm_server.specs.Status.{status_of}
 use Rattle.alarm_server.specs.Stopping.{StopsReading}
 use Rattle.alarm_server.proofs.Emitting.{emits}
 use Rattle.alarm_server.proofs.OnFile.{each_script, each_told, ends_unopened, keeps_unopened, on_ok_more, on_read, opens_unopened}
+use Rattle.alarm_server.proofs.SmallDevices.{small_unopened}
 use Rattle.alarm_server.proofs.on_file.session.Goals as goal
 
 pub returns-in-Err-clause-ends : goal.returns-in-Err-clause-ends
@@ -95,3 +98,14 @@ returns-clause-opened g c =
     let script = g.T.Source.left c.args.script.now in
     let ended = status_of c.play_site.result.1 in
     on_read (λ octets says. IfSome script (λ t. OpensOnSite octets says ended t old new)) (g.S.Source.left c.args.site.now) c.in-Ok.read.0 c.in-Ok.read.1.items c.as_slice.result.now c.as_slice.ensures.value c.in-Ok.ensures.site c.play_site.ensures.opened
+
+pub returns-in-Err-clause-below : goal.returns-in-Err-clause-below
+returns-in-Err-clause-below g c =
+    small_unopened (g.G.Ground.size c.args.device) (g.S.Source.left c.args.site.now) c.in-Err.status c.in-Err.ensures.fault (λ own same. c.open_site.ensures.refused own (c.in-Err.is ∙ ap Err same))
+
+pub returns-clause-below : goal.returns-clause-below
+returns-clause-below g c =
+    let size = g.G.Ground.size c.args.device in
+    let ended = status_of c.play_site.result.1 in
+    on_read (λ octets says. IfOk says (λ site. size < need site (length octets) → (ended ≡ ReadFault) ⊎ ((ended ≡ NoMemory) ⊎ EndsSmall size (need site (length octets)) ended))) (g.S.Source.left c.args.site.now) c.in-Ok.read.0 c.in-Ok.read.1.items c.as_slice.result.now c.as_slice.ensures.value c.in-Ok.ensures.site
+    (λ low. inr (inr (c.play_site.ensures.below low)))

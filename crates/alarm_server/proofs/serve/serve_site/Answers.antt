@@ -15,6 +15,8 @@ returns-in-Err-clause-serves g c =
         unserved = c.none.ensures.none ∙ ap (λ (s : Status). record { status = s; received = 0; events = 0; durable = 0; lost = 0 }) c.from.ensures;
         refused = e.refused;
         unchanged = e.unchanged;
+        small = e.small;
+        below = e.below;
         stands = e.stands;
         reopens = e.reopens;
         quiet = e.quiet;
@@ -27,7 +29,7 @@ pub returns-clause-serves : goal.returns-clause-serves
 returns-clause-serves g c =
     let e = c.in-Ok.ensures in let d = c.serve_desk-device in
     inr (site_served g.G.Ground.told g.G.Ground.size g.G.Ground.disk_faults g.G.Ground.emit_faults (g.K.Clock.shows c.args.clock.now) c.args.site.now c.args.text.now c.args.count (g.L.Link.left c.args.link) (g.L.Link.left d.result.1) c.args.device d.result.0 c.in-Ok.desk.origin d.result.2 c.of.result
-    e.site c.of.ensures.closed d.ensures.most d.ensures.done d.ensures.serves (subst (λ (n : ℕ). LeavesDisk n (g.G.Ground.disk_faults d.result.0) d.result.2.end) e.cause d.ensures.disk) e.emitted e.leads e.represents e.holds e.reopens)
+    e.site c.of.ensures.closed d.ensures.most d.ensures.done d.ensures.serves (subst (λ (n : ℕ). LeavesDisk n (g.G.Ground.disk_faults d.result.0) d.result.2.end) e.cause d.ensures.disk) e.emitted e.enough e.leads e.represents e.holds e.reopens)
 
 pub returns-in-Err-clause-disk_cause : goal.returns-in-Err-clause-disk_cause
 returns-in-Err-clause-disk_cause g c = rose_unopened _ _ c.in-Err.fault c.from.result c.none.result c.from.ensures c.none.ensures.none c.in-Err.ensures.cause
