@@ -48,6 +48,7 @@ use Rattle.alarm_server.specs.Status.{IsKeepFault, of_line_fault, of_unsent}
 use Rattle.alarm_server.proofs.Emitting.{emits, emits_sent}
 use Rattle.alarm_server.proofs.Sending.{sent_then}
 use Rattle.alarm_server.proofs.Fronts.{front_accepted, front_lines, lines_of-whole, takes_then}
+use Rattle.alarm_server.proofs.Known.{in_any}
 use Rattle.alarm_server.proofs.KeptAlong.{kept_lost, kept_nothing, kept_quiet, kept_sent, kept_still, kept_then}
 use Rattle.alarm_server.proofs.Senders.{IsWith, led_to, reaches_at_once, with_at_once}
 use Rattle.alarm_server.proofs.Spelled.{spelled_gives, spells_none, spells_refused, spells_same}
@@ -632,11 +633,6 @@ ends_at_first start (Some t) old new unsent.Lost tells =
 ends_at_first start (Some t) old new unsent.NoMemory tells =
     let closing : List ReportLine = closing_lines (packets_of t) (refused_line packet_says t) (length (lines_of t)) (following start None) in
     record { packets = []; left = packets_of t; split = refl; each = tt; lines = []; reached = following start None; reports = refl; went = ([], opening_line start ∷ closing, refl, emits_none old new tells) }
-
--- whatever the script is
-in_any : {A : Type 0} (P : A → Type 0) (text : Option A) → ((t : A) → P t) → IfSome text P
-in_any P None all = tt
-in_any P (Some t) all = all t
 
 module _ (journal : Journal) (start : CoreState) (first : Layout) (old : Option Told) (sender : Sender) (older : List Event) (stands : Represents start older) (holds : HoldsHistory journal start.site older first old) (text : Option (List ℕ)) where
   pub kept_begun : IfSome text (λ t. IsSent start.site sender older t → KeepsAlong (LeavesFollower journal start.site sender older) old old)

@@ -185,8 +185,3 @@ module _ (start : CoreState) (text come : Option (List ℕ)) (first layout : Lay
       at_end (Some t) (Some octets) (Some rest) remains read =
           let none = (spells_none (line_says Session) (lines_of octets) number number' read.0).spelled in
           subst (λ (ls : List Line). KeepsReport journal start.site history ls 1 old new') (sym (remains.spelled ∙ (ap (λ (l : List Line). lines ++ l) none ∙ append-nil lines))) keeps
-
--- whatever the script is
-pub in_any : {A : Type 0} (P : A → Type 0) (text : Option A) → ((t : A) → P t) → IfSome text P
-in_any P None all = tt
-in_any P (Some t) all = all t

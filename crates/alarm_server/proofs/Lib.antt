@@ -15,6 +15,7 @@ pub mod KeptLine
 pub mod KeptLines
 pub mod KeptOpenings
 pub mod KeptProgress
+pub mod Known
 pub mod Led
 pub mod LineFaults
 pub mod NoSite

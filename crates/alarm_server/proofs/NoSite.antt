@@ -1,6 +1,5 @@
 -- A server whose site's text wasn't found, or is none.
 use Rattle.std.proofs.Common.{◌≡◌, ℕ, List, Option, Some, None, refl}
-use Rattle.std.specs.Prelude.{IfSome}
 use Rattle.site_config.specs.declared.fault.SiteFault.{SiteFault}
 use Rattle.alarm_server.specs.declared.serve.Served.{Served}
 use Rattle.alarm_server.specs.declared.status.Status.{Status}
@@ -8,10 +7,6 @@ use Rattle.alarm_server.specs.declared.status.Status.TheVariants.{Done, Usage, S
 use Rattle.alarm_server.specs.OnFile.{RefusesFile}
 use Rattle.alarm_server.specs.ServedSites.{IsUnserved}
 use Rattle.alarm_server.specs.Status.{IsSiteFault}
-
-pub each_some : {A : Type 0} (o : Option A) (P : A → Type 0) → ((x : A) → P x) → IfSome o P
-each_some None P all = tt
-each_some (Some x) P all = all x
 
 pub no_site : (P : Type 0) (file : Option (List ℕ)) (status : Status) (served : Served) → IsUnserved served status → IsSiteFault status → ((fault : SiteFault) → status ≡ SiteRefused fault → RefusesFile file fault)
     → ((fault : SiteFault) → RefusesFile file fault → IsUnserved served (SiteRefused fault) → P) → (IsUnserved served ReadFault → P) → (IsUnserved served NoMemory → P) → P

@@ -37,6 +37,8 @@ use Rattle.alarm_server.specs.StandingBy.{FollowsOnFile, FollowsOnSite, GoesOnFr
 use Rattle.alarm_server.specs.Status.{IsSiteFault, of_open_fault}
 use Rattle.alarm_server.proofs.BehindOpening.{opened_ended, tells_ended}
 use Rattle.alarm_server.proofs.Emitting.{emits}
+use Rattle.alarm_server.proofs.Known.{in_any}
+use Rattle.alarm_server.proofs.OnFile.{own_fault, unplayed_by}
 use Rattle.alarm_server.proofs.Senders.{reaches_at_once}
 use Rattle.alarm_server.proofs.KeptAlong.{kept_opened, kept_unopened}
 
@@ -93,10 +95,6 @@ follows_refused (open_fault.SmallDevice size need) state script old new quiet = 
 follows_refused (open_fault.Foreign at) state script old new quiet = follows_nothing (JournalRefused (open_fault.Foreign at)) state script old new (λ left. tt) (λ lines. quiet)
 follows_refused (open_fault.Damaged at) state script old new quiet = follows_nothing (JournalRefused (open_fault.Damaged at)) state script old new (λ left. tt) (λ lines. quiet)
 follows_refused open_fault.NoMemory state script old new quiet = follows_nothing NoMemory state script old new (λ left. tt) (λ lines. ([], lines, refl, quiet))
-
-in_any : {A : Type 0} (P : A → Type 0) (text : Option A) → ((t : A) → P t) → IfSome text P
-in_any P None all = tt
-in_any P (Some t) all = all t
 
 pub ends_refused : (fault : OpenFault) (state : CoreState) (text : Option (List ℕ)) (old new : Option Told) → Emits old new [] → IfSome text (λ t. Follows Emits (of_open_fault fault) state t old new)
 ends_refused fault state text old new quiet = in_any (λ t. Follows Emits (of_open_fault fault) state t old new) text (λ t. follows_refused fault state t old new quiet)
@@ -178,32 +176,6 @@ follows_unread state DiskFault script told fault = absurd fault
 follows_unread state (JournalRefused why) script told fault = absurd fault
 follows_unread state LinkFault script told fault = absurd fault
 follows_unread state NoMemory script told fault = follows_nothing NoMemory state script told told (λ left. tt) (λ lines. ([], lines, refl, emits.nothing told))
-
--- it is the text's own fault, or the text wasn't read
-own_fault : (octets : List ℕ) (fault : SiteFault) (ended : Status) → site_of octets ≡ Err fault → IsSiteFault ended → ((f : SiteFault) → ended ≡ SiteRefused f → RefusesFile (Some octets) f) →
-    (ended ≡ SiteRefused fault) ⊎ ((ended ≡ ReadFault) ⊎ (ended ≡ NoMemory))
-own_fault octets fault Done says site refused = absurd site
-own_fault octets fault Usage says site refused = absurd site
-own_fault octets fault (SiteRefused f) says site refused = let own : site_of octets ≡ Err f = (refused f refl).1 in let same : f ≡ fault = cc in inl (ap SiteRefused same)
-own_fault octets fault (ScriptRefused line) says site refused = absurd site
-own_fault octets fault ReadFault says site refused = inr (inl refl)
-own_fault octets fault EmitFault says site refused = absurd site
-own_fault octets fault DiskFault says site refused = absurd site
-own_fault octets fault (JournalRefused why) says site refused = absurd site
-own_fault octets fault LinkFault says site refused = absurd site
-own_fault octets fault NoMemory says site refused = inr (inr refl)
-
-unplayed_by : (octets : List ℕ) (site : Site) (ended : Status) → site_of octets ≡ Ok site → IsSiteFault ended → ((f : SiteFault) → ended ≡ SiteRefused f → RefusesFile (Some octets) f) → IsUnplayed ended
-unplayed_by octets site Done says fault refused = absurd fault
-unplayed_by octets site Usage says fault refused = absurd fault
-unplayed_by octets site (SiteRefused f) says fault refused = let own : site_of octets ≡ Err f = (refused f refl).1 in absurd cc
-unplayed_by octets site (ScriptRefused line) says fault refused = absurd fault
-unplayed_by octets site ReadFault says fault refused = tt
-unplayed_by octets site EmitFault says fault refused = absurd fault
-unplayed_by octets site DiskFault says fault refused = absurd fault
-unplayed_by octets site (JournalRefused why) says fault refused = absurd fault
-unplayed_by octets site LinkFault says fault refused = absurd fault
-unplayed_by octets site NoMemory says fault refused = tt
 
 ends_by : (octets script : List ℕ) (ended : Status) (told : Option Told) (says : Result Site SiteFault) → site_of octets ≡ says → IsSiteFault ended → ((f : SiteFault) → ended ≡ SiteRefused f → RefusesFile (Some octets) f) → FollowsOnSite ended octets says script told told
 ends_by octets script ended told (Ok site) says fault refused = λ older stood. follows_unread (state_of site older) ended script told fault

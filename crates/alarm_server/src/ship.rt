@@ -47,6 +47,22 @@ fn ship_packet<G: Ground>(alloc: Global, device: &mut G, packet: Vec<u8>) -> Res
     emit(alloc, device, &line)
 }
 
+// Emits how many packets were shipped, and how many events there are.
+fn end_shipping<G: Ground>(
+    alloc: Global,
+    device: &mut G,
+    packets: u64,
+    events: u64,
+) -> Result<(), Unsent>
+    ensures sends { Sends Adds report_text result (say.ShipEnd packets events ∷ []) (G.told device.old) (G.told device.new) }
+    ensures size { G.size device.new ≡ G.size device.old }
+    ensures disk { G.disk_faults device.new ≡ G.disk_faults device.old }
+    ensures cause { HasCause (G.emit_faults device.old) (G.emit_faults device.new) (IsErrOf result Unsent.Lost) }
+    ensures uncounted { OnOk result (G.emit_faults device.new ≡ G.emit_faults device.old) }
+{
+    emit(alloc, device, &ReportLine::ShipEnd { packets, events })
+}
+
 // Emits all that a leader offers, and behind it how many packets these are and how many events there are.
 fn ship_all<G: Ground>(
     alloc: Global,
@@ -67,7 +83,7 @@ fn ship_all<G: Ground>(
         ship_packet(alloc, device, packet)?;
         packets += 1;
     }
-    emit(alloc, device, &ReportLine::ShipEnd { packets, events })
+    end_shipping(alloc, device, packets, events)
 }
 
 // Opens the journal of a site, whose text is given, and ships it from a number of events on. The ground comes back.

@@ -20,14 +20,16 @@ use Rattle.floor_desk.specs.declared.entry.Kind.TheVariants as kinds
 use Rattle.floor_desk.specs.declared.entry.Ticket.{Ticket}
 use Rattle.floor_desk.specs.declared.faults.EnterFault.TheVariants as enters
 use Rattle.floor_desk.specs.MovesSteps.{CameOf}
+use Rattle.floor_desk.specs.Owed.{sends_of}
+use Rattle.floor_desk.specs.declared.pending.Owed.{Owed}
 use Rattle.floor_desk.specs.States.{FloorState}
 
--- lists of datagrams, and more of them
-pub one_more : (lists : List (List Send)) (list : List Send) → flat_map (λ l. l) (lists ++ list ∷ []) ≡ flat_map (λ l. l) lists ++ list
-one_more lists list = flat_map-append (λ (l : List Send). l) lists (list ∷ []) ∙ ap (λ (l : List Send). flat_map (λ x. x) lists ++ l) (append-nil list)
+-- what is owed, and more of it
+pub one_more : (waiting : List Owed) (owed : Owed) → flat_map sends_of (waiting ++ owed ∷ []) ≡ flat_map sends_of waiting ++ sends_of owed
+one_more waiting owed = flat_map-append sends_of waiting (owed ∷ []) ∙ ap (λ (l : List Send). flat_map sends_of waiting ++ l) (append-nil (sends_of owed))
 
-pub two_more : (lists : List (List Send)) (list other : List Send) → flat_map (λ l. l) ((lists ++ list ∷ []) ++ other ∷ []) ≡ flat_map (λ l. l) lists ++ (list ++ other)
-two_more lists list other = one_more (lists ++ list ∷ []) other ∙ (ap (λ (l : List Send). l ++ other) (one_more lists list) ∙ append_assoc (flat_map (λ l. l) lists) list other)
+pub two_more : (waiting : List Owed) (owed other : Owed) → flat_map sends_of ((waiting ++ owed ∷ []) ++ other ∷ []) ≡ flat_map sends_of waiting ++ (sends_of owed ++ sends_of other)
+two_more waiting owed other = one_more (waiting ++ owed ∷ []) other ∙ (ap (λ (l : List Send). l ++ sends_of other) (one_more waiting owed) ∙ append_assoc (flat_map sends_of waiting) (sends_of owed) (sends_of other))
 
 -- a call is counted where it owes a datagram
 abbrev pub IsCounted : Option Send → ℕ → ℕ → Type 0

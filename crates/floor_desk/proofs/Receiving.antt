@@ -19,11 +19,13 @@ use Rattle.turnstile.specs.Passes.{Known}
 use Rattle.alarm_core.specs.State.{CoreState}
 use Rattle.alarm_journal.specs.Press.{PressState}
 use Rattle.floor_desk.specs.declared.entry.Entry.{Entry}
+use Rattle.floor_desk.specs.declared.entry.Entry.TheVariants.{Looked}
+use Rattle.floor_desk.specs.declared.entry.Look.TheVariants.{Refused}
+use Rattle.floor_desk.specs.declared.faults.CommitFault.TheVariants as commits
 use Rattle.floor_desk.specs.declared.entry.Ticket.{Ticket}
 use Rattle.floor_desk.specs.declared.faults.EnterFault.{EnterFault}
 use Rattle.floor_desk.specs.declared.faults.EnterFault.TheVariants as enters
 use Rattle.ground_io.specs.declared.link.Received.{Received}
-use Rattle.floor_desk.specs.declared.receiver.Came.{Came}
 use Rattle.floor_desk.specs.declared.receiver.Ends.{Ends}
 use Rattle.floor_desk.specs.Tries.{AreTried, Attempt, GaveUp, IsAnsweredBehind, IsOfCommit, IsOfInput, IsTried, Try, tries_in}
 use Rattle.floor_desk.specs.Workers.{AreTaken, HasReceived, IsDatagram, if_lost, input_of, lost_of}
@@ -60,10 +62,10 @@ next_of E (Some (first ∷ rest)) (Some new) peer count before after long r =
     (r.0, ap (λ z. Entered z (take count after)) cut.sender ∙ ap (λ z. Entered first.peer z) same)
 
 -- if it came
-pub next_in : (E : Type 0) (old new : Option (List Send)) (received : Received) (before after : List ℕ) (result : Option Came) → length before ≡ most_datagram_octets → Receives {E = E} old new (Ok received) before after → IfSome result (HasCome received after) → IfSome result (λ came. IsNext old new came.input)
+pub next_in : (E : Type 0) (old new : Option (List Send)) (received : Received) (before after : List ℕ) (result : Option Input) → length before ≡ most_datagram_octets → Receives {E = E} old new (Ok received) before after → IfSome result (HasCome received after) → IfSome result (IsNext old new)
 next_in E old new received before after None long r h = h
-next_in E old new received before after (Some came) long r h =
-    subst (λ i. IsNext old new i) (sym h.input) (next_of E old new h.peer came.length before after long (subst (λ x. Receives {E = E} old new (Ok x) before after) h.is r))
+next_in E old new received before after (Some input) long r h =
+    subst (λ i. IsNext old new i) (sym h.input_is) (next_of E old new h.peer h.length before after long (subst (λ x. Receives {E = E} old new (Ok x) before after) h.is r))
 
 pub lost_once : (last : Result Ticket EnterFault) → if_lost last ≤ 1
 lost_once (Ok ticket) = omega arith
@@ -144,7 +146,7 @@ module _ {G : Type 0} (shows : ℕ → Type 0) where
   }
 
   gave_up_more : (entries more : List (Entry G)) → GaveUp more → GaveUp (entries ++ more)
-  gave_up_more entries more (front, last, is, finds) = (entries ++ front, last, ap (λ z. entries ++ z) is ∙ sym (append_assoc entries front (last ∷ [])), finds)
+  gave_up_more entries more (front, is) = (entries ++ front, ap (λ z. entries ++ z) is ∙ sym (append_assoc entries front (Looked (Refused commits.NoMemory) ∷ [])))
 
   -- a datagram more
   pub received_more : (old mid new : Option (List Send)) (p q r : Known (Entry G) (CoreState × PressState G)) (ends after : Ends) (input : Input) (last : Result Ticket EnterFault) → HasReceived shows old mid p q ends → ends.no_memory ≡ false → IsNext mid new input → IsDatagram input → HasTried shows q r input last

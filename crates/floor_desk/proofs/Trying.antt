@@ -18,9 +18,7 @@ use Rattle.floor_desk.specs.declared.entry.Ticket.{Ticket}
 use Rattle.floor_desk.specs.declared.faults.EnterFault.{EnterFault}
 use Rattle.floor_desk.specs.Accounts.{entry_for}
 use Rattle.floor_desk.specs.Desks.{MakesEntry}
-use Rattle.floor_desk.specs.declared.entering.Offer.{Offer}
-use Rattle.floor_desk.specs.declared.entering.Offer.TheVariants as offers
-use Rattle.floor_desk.specs.Tries.{FindsNone, IsAnsweredBehind, IsInputOf, IsOfCommit, IsOfInput, IsTried, Try, tried_by, tries_in}
+use Rattle.floor_desk.specs.Tries.{IsAnsweredBehind, IsOfCommit, IsOfInput, IsTried, Try, tried_by, tries_in}
 use Rattle.floor_desk.specs.Workers.{AreShown, MadeEntries}
 use Rattle.floor_desk.specs.WorkersSteps.{HasTried}
 use Rattle.floor_desk.proofs.Working.{MadeCommit, is_of_input, no_tries, tried_of, tries_append, worked_entry, worked_none, worked_then}
@@ -85,21 +83,17 @@ module _ {G : Type 0} where
       let P : Try → Type 0 = (λ t. shows t.moment) in
       subst (λ z. All P z) (sym (tries_snoc es e one is)) (All-append P (tries_in es) (one ∷ []) all (All-cons P one [] shown (All-nil P)))
 
-  finds_none : (e : Entry G) (memo : Memo Input) (moment : ℕ) (answer : Result Ticket EnterFault) → e ≡ entry_for memo moment answer → IsAnsweredBehind answer → FindsNone e
-  finds_none e memo moment (Ok ticket) is behind = absurd behind
-  finds_none e memo moment (Err fault) is behind = subst FindsNone (sym is) behind
-
-  -- the last try
+  -- the last try, to which no commit had to come first
   pub tried_now : (told : G → Option Told) (size disk_faults emit_faults : G → ℕ) (origin : CoreState × PressState G) (shows : ℕ → Type 0) (p q r : Known (Entry G) (CoreState × PressState G)) (input : Input) (memo : Memo Input) (moment : ℕ) (answer : Result Ticket EnterFault) → HasTurnedBack shows p q input → memo.value ≡ input → shows moment
-      → MakesEntry told size disk_faults emit_faults origin q r (entry_for memo moment answer) → HasTried shows p r input answer
-  tried_now told size disk_faults emit_faults origin shows p q r input memo moment answer t is shown a =
+      → MakesEntry told size disk_faults emit_faults origin q r (entry_for memo moment answer) → (IsAnsweredBehind answer → ⊥) → HasTried shows p r input answer
+  tried_now told size disk_faults emit_faults origin shows p q r input memo moment answer t is shown a not =
       let e : Entry G = entry_for memo moment answer in let o = one_of shows memo moment answer shown in record {
         entries = t.entries ++ e ∷ [];
         worked = worked_then p q r t.entries (e ∷ []) t.worked (worked_entry told size disk_faults emit_faults origin q r e a);
         tried = subst (λ z. IsTried input answer z) (sym (tries_snoc t.entries e o.one o.is)) (tried_last input answer (tries_in t.entries) o.one t.tries (o.input_is ∙ is) o.answer_is);
         parts = All-append IsPart t.entries (e ∷ []) t.parts (All-cons IsPart e [] o.part (All-nil IsPart));
         shown = shown_snoc shows t.entries e o.one o.is o.moment t.shown;
-        gave_up = λ behind. (t.entries, e, refl, finds_none e memo moment answer refl behind);
+        gave_up = λ behind. absurd (not behind);
       }
 
   -- a try to which a commit had to come first
@@ -130,22 +124,18 @@ module _ {G : Type 0} where
         shown = subst (λ z. All (λ (one : Try). shows one.moment) z) (sym same) t.shown;
       }
 
-  -- a commit behind it found no memory
-  pub tried_none : (told : G → Option Told) (size disk_faults emit_faults : G → ℕ) (origin : CoreState × PressState G) (shows : ℕ → Type 0) (p q r : Known (Entry G) (CoreState × PressState G)) (input : Input) (last : Result Ticket EnterFault) → HasTried shows p q input last
-      → MakesEntry told size disk_faults emit_faults origin q r (Looked (Refused commits.NoMemory)) → HasTried shows p r input last
-  tried_none told size disk_faults emit_faults origin shows p q r input last t a =
-      let e : Entry G = Looked (Refused commits.NoMemory) in
-      let same : tries_in (t.entries ++ e ∷ []) ≡ tries_in t.entries = tries_append t.entries (e ∷ []) ∙ append-nil (tries_in t.entries) in record {
-        entries = t.entries ++ e ∷ [];
-        worked = worked_then p q r t.entries (e ∷ []) t.worked (worked_entry told size disk_faults emit_faults origin q r e a);
-        tried = subst (λ z. IsTried input last z) (sym same) t.tried;
-        parts = All-append IsPart t.entries (e ∷ []) t.parts (All-cons IsPart e [] (inr tt) (All-nil IsPart));
-        shown = subst (λ z. All (λ (one : Try). shows one.moment) z) (sym same) t.shown;
-        gave_up = λ behind. (t.entries, e, refl, refl);
+  -- the last try, to which a commit had to come first that found no memory
+  pub tried_none : (told : G → Option Told) (size disk_faults emit_faults : G → ℕ) (origin : CoreState × PressState G) (shows : ℕ → Type 0) (p q r s : Known (Entry G) (CoreState × PressState G)) (input : Input) (memo : Memo Input) (moment : ℕ) (answer : Result Ticket EnterFault) → HasTurnedBack shows p q input → memo.value ≡ input → shows moment
+      → MakesEntry told size disk_faults emit_faults origin q r (entry_for memo moment answer) → MakesEntry told size disk_faults emit_faults origin r s (Looked (Refused commits.NoMemory)) → HasTried shows p s input answer
+  tried_none told size disk_faults emit_faults origin shows p q r s input memo moment answer t is shown a b =
+      let e : Entry G = entry_for memo moment answer in let o = one_of shows memo moment answer shown in
+      let tried : List (Entry G) = t.entries ++ e ∷ [] in
+      let none : Entry G = Looked (Refused commits.NoMemory) in
+      let same : tries_in (tried ++ none ∷ []) ≡ tries_in tried = tries_append tried (none ∷ []) ∙ append-nil (tries_in tried) in record {
+        entries = tried ++ none ∷ [];
+        worked = worked_then p r s tried (none ∷ []) (worked_then p q r t.entries (e ∷ []) t.worked (worked_entry told size disk_faults emit_faults origin q r e a)) (worked_entry told size disk_faults emit_faults origin r s none b);
+        tried = subst (λ z. IsTried input answer z) (sym (same ∙ tries_snoc t.entries e o.one o.is)) (tried_last input answer (tries_in t.entries) o.one t.tries (o.input_is ∙ is) o.answer_is);
+        parts = All-append IsPart tried (none ∷ []) (All-append IsPart t.entries (e ∷ []) t.parts (All-cons IsPart e [] o.part (All-nil IsPart))) (All-cons IsPart none [] (inr tt) (All-nil IsPart));
+        shown = subst (λ z. All (λ (one : Try). shows one.moment) z) (sym same) (shown_snoc shows t.entries e o.one o.is o.moment t.shown);
+        gave_up = λ behind. (tried, refl);
       }
-
--- an offer is one input
-pub same_input : (offer : Offer) (octets : List ℕ) (one two : Input) → IsInputOf offer octets one → IsInputOf offer octets two → one ≡ two
-same_input offers.Tick octets one two a b = a ∙ sym b
-same_input offers.Pump octets one two a b = a ∙ sym b
-same_input (offers.Datagram peer) octets one two a b = a ∙ sym b

@@ -8,6 +8,7 @@ pub mod Legal
 pub mod LookingBack
 pub mod Moves
 pub mod MovesSteps
+pub mod Owed
 pub mod Prefixes
 pub mod Serving
 pub mod ServingSteps

@@ -2,7 +2,7 @@
 use Rattle.std.specs.Prelude.{◌≡◌, ℕ, List, [], ◌∷◌, ◌++◌, Result, Ok, Err}
 use Rattle.std.specs.List.{flat_map}
 use Rattle.bac_values.specs.declared.input.Input.{Input}
-use Rattle.bac_values.specs.declared.input.Input.TheVariants.{Tick, Pump, Datagram}
+use Rattle.bac_values.specs.declared.input.Input.TheVariants.{Tick, Pump}
 use Rattle.floor_desk.specs.declared.entry.Entry.{Entry}
 use Rattle.floor_desk.specs.declared.entry.Entry.TheVariants.{Event, Looked, Taken, Returned, Failed}
 use Rattle.floor_desk.specs.declared.entry.Look.TheVariants.{Tried, Refused, Closing}
@@ -10,8 +10,6 @@ use Rattle.floor_desk.specs.declared.entry.Ticket.{Ticket}
 use Rattle.floor_desk.specs.declared.faults.CommitFault.TheVariants as commits
 use Rattle.floor_desk.specs.declared.faults.EnterFault.{EnterFault}
 use Rattle.floor_desk.specs.declared.faults.EnterFault.TheVariants as enters
-use Rattle.floor_desk.specs.declared.entering.Offer.{Offer}
-use Rattle.floor_desk.specs.declared.entering.Offer.TheVariants as offers
 
 -- an input that was tried at a moment, and what was answered
 pub record Try : Type 0 where
@@ -63,15 +61,9 @@ IsAnsweredBehind (Err (enters.Full would limit)) = ⊥
 IsAnsweredBehind (Err enters.NoMemory) = ⊥
 
 module _ {G : Type 0} where
-  -- a commit that found no memory, or a try to which a commit had to come first
-  abbrev pub FindsNone : Entry G → Type 0
-  FindsNone (Looked (Refused fault)) = fault ≡ commits.NoMemory
-  FindsNone (Looked (Tried input moment answer)) = IsAnsweredBehind answer
-  FindsNone entry = ⊥
-
-  -- Why an input isn't tried again to which a commit had to come first: the commit found no memory; or there was none to make the input again, and no commit came.
+  -- why an input isn't tried again to which a commit had to come first: that commit found no memory
   abbrev pub GaveUp : List (Entry G) → Type 0
-  GaveUp entries = (front : List (Entry G)) × (last : Entry G) × (entries ≡ front ++ last ∷ []) × FindsNone last
+  GaveUp entries = (front : List (Entry G)) × (entries ≡ front ++ Looked (Refused commits.NoMemory) ∷ [])
 
 -- The input was tried until it was no longer answered that a commit has to come first, or once more was refused: each answer but the last is that, and this is the last one.
 abbrev pub IsTried : Input → Result Ticket EnterFault → List Try → Type 0
@@ -94,9 +86,3 @@ abbrev pub AreTicks : List Try → Type 0
 AreTicks [] = Unit {0}
 AreTicks (tick ∷ []) = ⊥
 AreTicks (tick ∷ (pump ∷ more)) = (tick.input ≡ Tick) × (pump.input ≡ Pump) × AreTicks more
-
--- the input that is offered; that of a datagram with these octets
-abbrev pub IsInputOf : Offer → List ℕ → Input → Type 0
-IsInputOf offers.Tick octets input = input ≡ Tick
-IsInputOf offers.Pump octets input = input ≡ Pump
-IsInputOf (offers.Datagram peer) octets input = input ≡ Datagram peer octets

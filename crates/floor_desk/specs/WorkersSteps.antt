@@ -13,8 +13,6 @@ use Rattle.alarm_journal.specs.Press.{PressState}
 use Rattle.floor_desk.specs.declared.entry.Entry.{Entry}
 use Rattle.floor_desk.specs.declared.entry.Ticket.{Ticket}
 use Rattle.floor_desk.specs.declared.faults.EnterFault.{EnterFault}
-use Rattle.floor_desk.specs.declared.entering.Offer.TheVariants as offers
-use Rattle.floor_desk.specs.declared.receiver.Came.{Came}
 use Rattle.floor_desk.specs.Tries.{GaveUp, IsAnsweredBehind, IsOfCommit, IsOfInput, IsTried, tries_in}
 use Rattle.floor_desk.specs.Workers.{AreShown, MadeEntries, input_of}
 
@@ -25,12 +23,12 @@ IsNext (Some old) None input = ⊥
 IsNext (Some []) (Some new) input = ⊥
 IsNext (Some (first ∷ rest)) (Some new) input = (new ≡ rest) × (input ≡ input_of first)
 
--- what came is this datagram, whose octets stand in a slice, as an input that may be made again
-pub record HasCome (received : Received) (into : List ℕ) (came : Came) : Type 0 where
+-- what came is this input: a datagram whose octets stand in a slice
+pub record HasCome (received : Received) (into : List ℕ) (input : Input) : Type 0 where
   pub peer : PeerData
-  pub is : received ≡ arrivals.Datagram peer came.length
-  pub input : came.input ≡ Datagram peer (take came.length into)
-  pub offer : came.offer ≡ offers.Datagram peer
+  pub length : ℕ
+  pub is : received ≡ arrivals.Datagram peer length
+  pub input_is : input ≡ Datagram peer (take length into)
 
 -- a link goes on telling what it told
 abbrev pub StaysLeft : Option (List Send) → Option (List Send) → Type 0

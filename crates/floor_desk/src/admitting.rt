@@ -18,26 +18,28 @@ ghost use Rattle.floor_desk.specs.declared.entry.Look.TheVariants.{Refused};
 ghost use Rattle.floor_desk.specs.declared.faults.EnterFault.TheVariants as enters;
 ghost use Rattle.floor_desk.specs.Accounts.{entry_for, most_pending_octets};
 ghost use Rattle.floor_desk.specs.MovesSteps.{CameOf, IsReady, Refuses};
+ghost use Rattle.floor_desk.specs.Owed.{sends_of};
 ghost use Rattle.floor_desk.specs.Standing.{FloorStands};
+ghost use Rattle.floor_desk.specs.declared.pending.Owed.{Owed as Owing};
 
 use crate::entry::{Kind, Ticket};
 use crate::faults::EnterFault;
 use crate::floor::{Floor, Spot};
-use crate::pending::Pending;
+use crate::pending::{Owed, Pending};
 use alarm_core::{Event, Outcome, StepFault};
-use bac_values::{Input, Items, NoMemory, Send, single};
+use bac_values::{Input, Items, NoMemory, Send};
 use ground_io::Ground;
 use service_desk::{Decision, decide};
 use state_codec::{event_to_record, records_are_short, write_event};
 use std::alloc::Global;
 
-// The datagrams of a reply, if there is one.
-fn listed(alloc: Global, reply: Option<Send>) -> Result<Items<Send>, NoMemory>
-    ensures listed { IfOk result (λ sends. sends ≡ if_owed reply) }
+// What is owed for a reply, if there is one.
+fn owed_for(alloc: Global, reply: Option<Send>) -> Owed
+    ensures owed { sends_of result ≡ if_owed reply }
 {
     match reply {
-        Some(send) => Ok(Items::of(single(alloc, send)?)),
-        None => Ok(Items::of(Vec::new(alloc))),
+        Some(send) => Owed::One(send),
+        None => Owed::Several(Items::of(Vec::new(alloc))),
     }
 }
 
@@ -47,9 +49,9 @@ struct Parts {
     // Its record.
     octets: Vec<u8>,
     // Its reply, where one is owed.
-    reply: Items<Send>,
+    reply: Owed,
     // The answer where its notifications don't fit the outbox.
-    full: Items<Send>,
+    full: Owed,
 }
 
 // What an event adds, made ready.
@@ -62,13 +64,13 @@ fn readied(
     requires record { HasRecord event.now }
     ensures record { IfOk result (λ parts. parts.octets.items ≡ written_event event.now) }
     ensures short { IfOk result (λ parts. length parts.octets.items ≤ 1006) }
-    ensures reply { IfOk result (λ parts. parts.reply ≡ if_owed reply) }
-    ensures full { IfOk result (λ parts. parts.full ≡ if_owed full) }
+    ensures reply { IfOk result (λ parts. sends_of parts.reply ≡ if_owed reply) }
+    ensures full { IfOk result (λ parts. sends_of parts.full ≡ if_owed full) }
 {
     let octets = write_event(alloc, event)?;
     records_are_short();
-    let reply = listed(alloc, reply)?;
-    let full = listed(alloc, full)?;
+    let reply = owed_for(alloc, reply);
+    let full = owed_for(alloc, full);
     Ok(Parts {
         octets,
         reply,
@@ -82,7 +84,7 @@ fn add_entered(pending: &mut Pending, parts: Parts, outcome: Outcome)
     requires records { vec_len pending.old.records + length parts.octets.items ≤ vec_capacity pending.old.records }
     requires sends { deque_len pending.old.sends + 2 ≤ deque_capacity pending.old.sends }
     ensures records { pending.new.records.items ≡ pending.old.records.items ++ parts.octets.items }
-    ensures sends { pending.new.sends.items ≡ (pending.old.sends.items ++ outcome.sends ∷ []) ++ parts.reply ∷ [] }
+    ensures sends { pending.new.sends.items ≡ (pending.old.sends.items ++ Owing.Several outcome.sends ∷ []) ++ parts.reply ∷ [] }
     ensures calls { pending.new.calls ≡ pending.old.calls + 1 }
 {
     pending.add_event(parts.octets, outcome.sends, parts.reply);
@@ -111,18 +113,14 @@ impl<G: Ground> Floor<G> {
     }
 
     // An input that is answered without an event.
-    fn reply(&mut self, alloc: Global, send: Send) -> Result<Ticket, EnterFault>
+    fn reply(&mut self, send: Send) -> Result<Ticket, EnterFault>
         requires few { self.old.calls < most_pending_calls }
         ensures comes { CameOf self.old self.new (Replied send) result }
     {
-        let sends = match listed(alloc, Some(send)) {
-            Ok(sends) => sends,
-            Err(NoMemory) => return Err(EnterFault::NoMemory),
-        };
         if self.pending.make_room(0).is_err() {
             return Err(EnterFault::NoMemory);
         }
-        self.pending.add_reply(sends);
+        self.pending.add_reply(Owed::One(send));
         Ok(self.ticket(Kind::Replied))
     }
 
@@ -142,7 +140,7 @@ impl<G: Ground> Floor<G> {
         requires few { self.old.calls < most_pending_calls }
         requires short { length self.old.records + length parts.octets.items ≤ most_batch_octets }
         requires written { parts.octets.items ≡ written_event event.now }
-        ensures comes { (reply full : Option Datagram) → parts.reply ≡ if_owed reply → parts.full ≡ if_owed full → told ≡ is_some full → CameOf self.old self.new (entering event.now reply full (step_verdict event.now self.old.core)) result }
+        ensures comes { (reply full : Option Datagram) → sends_of parts.reply ≡ if_owed reply → sends_of parts.full ≡ if_owed full → told ≡ is_some full → CameOf self.old self.new (entering event.now reply full (step_verdict event.now self.old.core)) result }
     {
         if self.pending.make_room(parts.octets.len()).is_err() {
             return Err(EnterFault::NoMemory);
@@ -155,6 +153,8 @@ impl<G: Ground> Floor<G> {
             Err(StepFault::Full { would, limit }) => {
                 if told {
                     add_full(&mut self.pending, parts);
+                } else {
+                    drop(parts);
                 }
                 Err(EnterFault::Full { would, limit })
             }
@@ -200,7 +200,7 @@ impl<G: Ground> Floor<G> {
             Decision::Ignore => Ok(self.ticket(Kind::Ignored)),
             Decision::Idle => Ok(self.ticket(Kind::Idle)),
             Decision::Refuse { why } => Ok(self.ticket(Kind::Refused { why })),
-            Decision::Reply { send } => self.reply(alloc, send),
+            Decision::Reply { send } => self.reply(send),
             Decision::Enter { event, reply, full } => self.enter(alloc, event, reply, full),
         }
     }
@@ -224,16 +224,16 @@ impl<G: Ground> Floor<G> {
 
     /// Takes an input at a moment. The causes of a refusal are looked at in the order of `EnterFault`; but for `Full`,
     /// whose requester is told, nothing has changed behind one.
-    pub fn admit(&mut self, alloc: Global, moment: u64, input: Input) -> Result<Ticket, EnterFault>
+    pub fn admit(&mut self, alloc: Global, moment: u64, input: &Input) -> Result<Ticket, EnterFault>
         requires moment { IsMoment moment }
-        ensures stands { (h : List (ℕ × Step G)) (n : ℕ) (memo : Kept Entered) → memo.value ≡ input → FloorStands G.told G.size G.disk_faults G.emit_faults self.old h → FloorStands G.told G.size G.disk_faults G.emit_faults self.new (h ++ (n, entry_for memo moment result) ∷ []) }
+        ensures stands { (h : List (ℕ × Step G)) (n : ℕ) (memo : Kept Entered) → memo.value ≡ input.now → FloorStands G.told G.size G.disk_faults G.emit_faults self.old h → FloorStands G.told G.size G.disk_faults G.emit_faults self.new (h ++ (n, entry_for memo moment result) ∷ []) }
         ensures refused { IfErr result (λ fault. self.new.core ≡ self.old.core) }
         ensures same { IfErr result (λ fault. ((would limit : ℕ) → fault ≢ enters.Full would limit) → self.new ≡ self.old) }
         ensures origin { self.new.origin ≡ self.old.origin }
     {
         match self.shut() {
             Some(fault) => Err(fault),
-            None => self.look(alloc, moment, &input),
+            None => self.look(alloc, moment, input),
         }
     }
 }

@@ -31,6 +31,7 @@ ghost use Rattle.state_codec.specs.Openings.{IsRefusedFor, OpenedTo};
 use crate::entry::{Entry, Look, Ticket};
 use crate::faults::{CommitFault, EnterFault};
 use crate::floor::Floor;
+use crate::heap_floor::HeapFloor;
 use crate::load::{Carried, Load};
 use alarm_core::{Core, Site};
 use alarm_journal::{OpenFault, Press};
@@ -69,7 +70,7 @@ pub struct Opening {
 
 /// A floor that threads share.
 pub struct Desk<G: Ground> {
-    turnstile: Turnstile<Floor<G>>,
+    turnstile: Turnstile<HeapFloor<G>>,
 }
 
 impl<G: Ground> Model for Desk<G> {
@@ -89,9 +90,13 @@ impl<G: Ground> Desk<G> {
         ensures first { IfOk result (λ opened. opened.1 ≡ first_pass opened.0) }
         ensures back { IfErr result (λ device. device ≡ press.device) }
     {
-        match Turnstile::open(alloc, Floor::new(alloc, core, press)) {
+        let floor = match HeapFloor::new(alloc, Floor::new(alloc, core, press)) {
+            Ok(floor) => floor,
+            Err(floor) => return Err(floor.into_ground()),
+        };
+        match Turnstile::open(alloc, floor) {
             Ok((turnstile, pass)) => Ok((Desk { turnstile }, pass)),
-            Err((floor, NoMemory)) => Err(floor.into_ground()),
+            Err((floor, NoMemory)) => Err(floor.into_inner().into_ground()),
         }
     }
 
@@ -169,7 +174,24 @@ impl<G: Ground> Desk<G> {
         ensures here { IsOf self.now result.0 }
         ensures entered { (memo : Kept Entered) × (memo.value ≡ input) × MakesEntry G.told G.size G.disk_faults G.emit_faults self.now.origin pass result.0 (entry_for memo moment result.1) }
     {
-        let memo = Memo::of(&input);
+        self.offer(rt, alloc, pass, moment, &input)
+    }
+
+    /// Takes an input at a moment, as `enter` does. The caller keeps it, and may offer it again.
+    pub(crate) fn offer<R: Wait>(
+        &self,
+        rt: &R,
+        alloc: Global,
+        pass: DeskPass<G>,
+        moment: u64,
+        input: &Input,
+    ) -> (DeskPass<G>, Result<Ticket, EnterFault>)
+        requires here { IsOf self.now pass }
+        requires moment { IsMoment moment }
+        ensures here { IsOf self.now result.0 }
+        ensures entered { (memo : Kept Entered) × (memo.value ≡ input.now) × MakesEntry G.told G.size G.disk_faults G.emit_faults self.now.origin pass result.0 (entry_for memo moment result.1) }
+    {
+        let memo = Memo::of(input);
         let mut turn = self.turnstile.take(rt, pass);
         let answer = turn.value.admit(alloc, moment, input);
         let entry = Entry::of(memo, moment, answer);
@@ -296,7 +318,7 @@ impl<G: Ground> Desk<G> {
             } else {
                 let Desk { turnstile } = self;
                 let next = turn.place;
-                return turnstile.close(turn).ended_at(next);
+                return turnstile.close(turn).into_inner().ended_at(next);
             }
         }
         unreachable!()

@@ -6,14 +6,13 @@ ghost use Rattle.floor_desk.specs.declared.floor.Spot.TheVariants.{Home, Out};
 ghost use Rattle.floor_desk.specs.Moves.{IsGroundOf, IsNotOut};
 ghost use Rattle.floor_desk.specs.Standing.{FloorStands};
 
-use crate::entry::Entry;
 use crate::pending::Pending;
 use alarm_core::Core;
 use alarm_journal::Press;
 use ground_io::Ground;
 use std::alloc::Global;
 use std::marker::Model;
-use turnstile::{Chronicle, Memo};
+use turnstile::Memo;
 
 /// Where the press is.
 #[derive(Drop)]
@@ -51,6 +50,7 @@ pub struct Floor<G: Ground> {
 impl<G: Ground> Model for Floor<G> {
     ghost use Rattle.std.specs.Prelude.{◌≤◌, length};
     ghost use Rattle.std.specs.List.{flat_map};
+    ghost use Rattle.floor_desk.specs.Owed.{sends_of};
     ghost use Rattle.bac_values.specs.Limits.{most_batch_octets};
     ghost use Rattle.floor_desk.specs.States.{FloorState};
 
@@ -59,7 +59,7 @@ impl<G: Ground> Model for Floor<G> {
     ghost view = { λ floor. record {
       core = floor.core;
       records = floor.pending.records.items;
-      sends = flat_map (λ sends. sends) floor.pending.sends.items;
+      sends = flat_map sends_of floor.pending.sends.items;
       calls = floor.pending.calls;
       lost = floor.lost;
       durable = floor.durable;
@@ -159,21 +159,4 @@ impl<G: Ground> Floor<G> {
         floor.next = next;
         floor
     }
-}
-
-impl<G: Ground> Chronicle for Floor<G> {
-    ghost use Rattle.floor_desk.specs.Accounts.{Licenses, Licenses_more};
-    ghost use Rattle.floor_desk.specs.Standing.{FloorStands};
-
-    type Entry = Entry<G>;
-
-    type Origin = (Core, Press<G>);
-
-    ghost stands = { λ floor history. FloorStands G.told G.size G.disk_faults G.emit_faults floor history };
-
-    ghost origin = { λ floor. floor.origin };
-
-    ghost licenses = { Licenses };
-
-    ghost licenses_more = { Licenses_more };
 }

@@ -11,6 +11,7 @@ mod entering;
 mod entry;
 mod faults;
 mod floor;
+mod heap_floor;
 mod laws;
 mod lending;
 mod load;

@@ -1,25 +1,26 @@
 //! Takes datagrams from the link.
 
-ghost use Rattle.std.specs.Prelude.{◌≡◌, ◌≤◌, ◌<◌, ◌+◌, ◌^◌, ◌⊎◌, false, [], Err, None, IfErr, IfOk, IfSome, IsTrue, IsErrOf, OnOk, length, take, vec_capacity};
+ghost use Rattle.std.specs.Prelude.{◌≡◌, ◌≤◌, ◌<◌, ◌+◌, ◌^◌, ◌⊎◌, false, [], Err, None, IfErr, IfOk, IfSome, IsTrue, IsErrOf, OnOk, length, vec_capacity};
 ghost use Rattle.bac_values.specs.Limits.{most_datagram_octets};
 ghost use Rattle.bac_values.specs.declared.input.Input.{Input as Entered};
 ghost use Rattle.ground_io.specs.Counts.{HasCause};
 ghost use Rattle.ground_io.specs.Link.{FitsInto};
 ghost use Rattle.ground_io.specs.declared.link.Received.{Received as Arrival};
 ghost use Rattle.turnstile.specs.Passes.{IsOf};
-ghost use Rattle.floor_desk.specs.Tries.{IsAnsweredBehind, IsInputOf};
+ghost use Rattle.floor_desk.specs.Tries.{IsAnsweredBehind};
 ghost use Rattle.floor_desk.specs.Workers.{EndsReceiving, HasReceived, IsDatagram, TakesTurns, if_lost};
 ghost use Rattle.floor_desk.specs.WorkersSteps.{HasCome, IsNext, StaysLeft};
 
 use crate::desk::{Desk, DeskPass};
-use crate::entering::{Offer, enter_until, is_behind};
+use crate::entering::{enter_until, is_behind};
 use crate::entry::Ticket;
 use crate::faults::EnterFault;
 use crate::steps::Steps;
 use crate::tools::Tools;
-use bac_values::{Input, Items, MOST_DATAGRAM_OCTETS, NoMemory, Peer};
+use bac_values::{Input, Items, MOST_DATAGRAM_OCTETS, Peer};
 use ground_io::{Clock, Failed, Gate, Ground, Link, Received, Worker};
 use std::alloc::Global;
+use std::mem;
 use std::sync::Wait;
 use std::sync::atomic::{AtomicU32, Ordering};
 
@@ -77,14 +78,6 @@ enum Missed {
     Memory,
 }
 
-// A datagram that came: the input that it is, how it is made again, and how many of its octets stand in the slice.
-#[derive(Drop)]
-struct Came {
-    input: Input,
-    offer: Offer,
-    length: usize,
-}
-
 // The input of a datagram whose octets stand in the slice, in a vector that has room for them.
 fn filled(mut bytes: Vec<u8>, peer: Peer, octets: &[u8]) -> Input
     requires empty { bytes.items ≡ [] }
@@ -98,49 +91,57 @@ fn filled(mut bytes: Vec<u8>, peer: Peer, octets: &[u8]) -> Input
     Input::Datagram { peer, bytes }
 }
 
-// The datagram that came, if one did, whose octets stand in the slice; the vector has room for them.
-fn came_of(bytes: Vec<u8>, received: Received, into: &[u8]) -> Option<Came>
-    requires empty { bytes.items ≡ [] }
-    requires room { length into.now ≤ vec_capacity bytes }
+// The datagram that came, if one did, whose octets stand in the slice; the vector has room for them, and is taken for it.
+fn came_of(alloc: Global, bytes: &mut Vec<u8>, received: Received, into: &[u8]) -> Option<Input>
+    requires empty { bytes.old.items ≡ [] }
+    requires room { length into.now ≤ vec_capacity bytes.old }
     requires fits { FitsInto received into.now }
     ensures nothing { result ≡ None → received ≡ Arrival.Nothing }
     ensures came { IfSome result (HasCome received into.now) }
 {
     match received {
         Received::Nothing => None,
-        Received::Datagram { peer, length } => Some(Came {
-            input: filled(bytes, peer, &into[..length]),
-            offer: Offer::Datagram { peer },
-            length,
-        }),
+        Received::Datagram { peer, length } => {
+            let bytes = mem::replace(bytes, Vec::new(alloc));
+            Some(filled(bytes, peer, &into[..length]))
+        }
     }
 }
 
-// The next datagram of the link, if there is one. Memory for its input is found before the link is asked.
+// The next datagram of the link, if there is one. Memory for its input is found before the link is asked; none is wanted
+// where the vector has room for it.
 fn next_datagram<L: Link>(
     alloc: Global,
     link: &mut L,
     into: &mut [u8],
-) -> Result<Option<Came>, Missed>
+    bytes: &mut Vec<u8>,
+) -> Result<Option<Input>, Missed>
     requires whole { length into.old ≡ most_datagram_octets }
     ensures whole { length into.new ≡ most_datagram_octets }
-    ensures next { IfOk result (λ next. IfSome next (λ came. IsNext (L.left link.old) (L.left link.new) came.input)) }
-    ensures short { IfOk result (λ next. IfSome next (λ came. came.length ≤ most_datagram_octets)) }
-    ensures offer { IfOk result (λ next. IfSome next (λ came. IsInputOf came.offer (take came.length into.new) came.input)) }
-    ensures datagram { IfOk result (λ next. IfSome next (λ came. IsDatagram came.input)) }
+    ensures next { IfOk result (λ next. IfSome next (IsNext (L.left link.old) (L.left link.new))) }
+    ensures datagram { IfOk result (λ next. IfSome next IsDatagram) }
     ensures nothing { IfOk result (λ next. next ≡ None → StaysLeft (L.left link.old) (L.left link.new)) }
     ensures missed { IfErr result (λ missed. StaysLeft (L.left link.old) (L.left link.new)) }
     ensures cause { HasCause (L.faults link.old) (L.faults link.new) (IsErrOf result Missed.Link) }
     ensures counted { (result ≡ Err Missed.Link) ⊎ (L.faults link.new ≡ L.faults link.old) }
     ensures uncounted { OnOk result (L.faults link.new ≡ L.faults link.old) }
 {
-    let Ok(bytes) = Vec::with_capacity(alloc, MOST_DATAGRAM_OCTETS) else {
+    bytes.clear();
+    if bytes.reserve(MOST_DATAGRAM_OCTETS).is_err() {
         return Err(Missed::Memory);
-    };
+    }
     let Ok(received) = link.receive(into) else {
         return Err(Missed::Link);
     };
-    Ok(came_of(bytes, received, into))
+    Ok(came_of(alloc, bytes, received, into))
+}
+
+// The vector of a datagram that was tried.
+fn vector_of(alloc: Global, input: Input) -> Vec<u8> {
+    match input {
+        Input::Datagram { bytes, .. } => bytes.into_vec(),
+        _ => Vec::new(alloc),
+    }
 }
 
 /// Takes so many datagrams from the link, and enters each at the clock's moment. It ends before where the link fails, or
@@ -170,6 +171,7 @@ pub fn receive_all<R: Wait, G: Ground, L: Link, K: Clock, W: Gate>(
 {
     let tools = Tools::of(rt, alloc, desk, clock, gate);
     let mut into = [0; MOST_DATAGRAM_OCTETS];
+    let mut bytes = Vec::new(alloc);
     let mut steps = Steps::new(Worker::Receiver);
     let mut pass = pass;
     let mut ends = Ends::none();
@@ -177,18 +179,13 @@ pub fn receive_all<R: Wait, G: Ground, L: Link, K: Clock, W: Gate>(
         if ends.received >= u64::from(count) || ends.link_fault || ends.no_memory {
             break;
         }
-        match next_datagram(alloc, link, &mut into) {
+        match next_datagram(alloc, link, &mut into, &mut bytes) {
             Ok(None) => {}
-            Ok(Some(came)) => {
-                let Came {
-                    input,
-                    offer,
-                    length,
-                } = came;
-                let octets = &into[..length];
-                let (entered, answer) = enter_until(&tools, pass, input, offer, octets, &mut steps);
+            Ok(Some(input)) => {
+                let (entered, answer) = enter_until(&tools, pass, &input, &mut steps);
                 pass = entered;
                 ends = ends.with(&answer);
+                bytes = vector_of(alloc, input);
             }
             Err(Missed::Link) => ends.link_fault = true,
             Err(Missed::Memory) => ends.no_memory = true,

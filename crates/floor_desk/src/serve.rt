@@ -10,7 +10,7 @@ ghost use Rattle.floor_desk.specs.Workers.{EndsReceiving, HasKept, HasReceived, 
 
 use crate::committer::commit_all;
 use crate::desk::{Desk, DeskPass};
-use crate::entering::{Offer, enter_until};
+use crate::entering::enter_until;
 use crate::entry::Ticket;
 use crate::faults::{CommitFault, EnterFault};
 use crate::receiver::{Ends, receive_all};
@@ -147,8 +147,8 @@ fn finish<R: Wait, G: Ground, K: Clock>(
     let tools = Tools::of(rt, alloc, desk, clock, &FreeGate);
     let mut steps = Steps::new(Worker::Committer);
     let (pass, _) = desk.commit(rt, alloc, pass);
-    let (pass, tick) = enter_until(&tools, pass, Input::Tick, Offer::Tick, &[], &mut steps);
-    let (pass, pump) = enter_until(&tools, pass, Input::Pump, Offer::Pump, &[], &mut steps);
+    let (pass, tick) = enter_until(&tools, pass, &Input::Tick, &mut steps);
+    let (pass, pump) = enter_until(&tools, pass, &Input::Pump, &mut steps);
     (pass, tick, pump)
 }
 

@@ -19,7 +19,7 @@ use Rattle.alarm_server.specs.Status.{of_open_fault}
 use Rattle.alarm_server.specs.Stopping.{StopsReading}
 use Rattle.alarm_server.proofs.BehindOpening.{ends_refused, ends_session, keeps_session, opens_refused, opens_session, stops_session}
 use Rattle.alarm_server.proofs.KeptOpenings.{opening_kept}
-use Rattle.alarm_server.proofs.KeptProgress.{in_any}
+use Rattle.alarm_server.proofs.Known.{in_any}
 use Rattle.alarm_server.proofs.OfOpenFault.{disk_cause, is_session_fault, refusal_is}
 use Rattle.alarm_server.proofs.OnFile.{told_more}
 use Rattle.alarm_server.proofs.SmallDevices.{small_end}

@@ -1,7 +1,8 @@
 use Rattle.std.proofs.Common.{◌≡◌, ℕ, Ok, Err, refl, ap, sym, ◌∙◌, ⊎_elim, map, string_bytes}
 use Rattle.alarm_server.specs.ServeWords.{count_in}
 use Rattle.alarm_server.specs.Serving.{IsSiteIn, NotOpened, NotRead, NoSite, Opened, OutOfMemory, ServesFile}
-use Rattle.alarm_server.proofs.NoSite.{each_some, no_site}
+use Rattle.alarm_server.proofs.Known.{in_any}
+use Rattle.alarm_server.proofs.NoSite.{no_site}
 use Rattle.alarm_server.proofs.OnFile.{on_read}
 use Rattle.alarm_server.proofs.serve.serve.Goals as goal
 
@@ -10,8 +11,8 @@ returns-in-Err-clause-serves g c =
     let link = c.args.link in
     let device = c.args.device in
     let left = g.L.Link.left c.args.link in
-    each_some (count_in (map string_bytes c.args.words.now))
-    (λ (count : ℕ). ServesFile g.G.Ground.told g.G.Ground.size g.G.Ground.disk_faults g.G.Ground.emit_faults (g.K.Clock.shows c.args.clock.now) (g.S.Source.left c.args.site.now) count link link left left device device c.none-in-Err.result)
+    in_any (λ (count : ℕ). ServesFile g.G.Ground.told g.G.Ground.size g.G.Ground.disk_faults g.G.Ground.emit_faults (g.K.Clock.shows c.args.clock.now) (g.S.Source.left c.args.site.now) count link link left left device device c.none-in-Err.result)
+    (count_in (map string_bytes c.args.words.now))
     (λ count.
     no_site _ (g.S.Source.left c.args.site.now) c.in-Err.status c.none-in-Err.result c.none-in-Err.ensures.none c.in-Err.ensures.fault (λ fault same. c.open_site.ensures.refused fault (c.in-Err.is ∙ ap Err same))
     (λ fault refuses unserved. NoSite fault refuses unserved refl refl) (λ unserved. NotRead unserved refl refl) (λ unserved. OutOfMemory unserved refl refl))

@@ -17,7 +17,8 @@ use Rattle.alarm_server.specs.Script.{spelled_in}
 use Rattle.alarm_server.specs.Sessions.{session_over}
 use Rattle.alarm_server.specs.Status.{of_line_fault}
 use Rattle.alarm_server.proofs.Emitting.{emits, emits_sent, emits_up_to}
-use Rattle.alarm_server.proofs.KeptProgress.{in_any, KeepsLine, kept_at_end, kept_at_first, kept_at_line, kept_at_once, kept_between, plays_first, plays_on}
+use Rattle.alarm_server.proofs.Known.{in_any}
+use Rattle.alarm_server.proofs.KeptProgress.{KeepsLine, kept_at_end, kept_at_first, kept_at_line, kept_at_once, kept_between, plays_first, plays_on}
 use Rattle.alarm_server.proofs.LineFaults.{ends_script_as, sends_by, way_of}
 use Rattle.alarm_server.proofs.Progress.{grammar_fault, read_fault}
 use Rattle.alarm_server.proofs.SessionProgress.{accepts, ends, ends_at_end, ends_at_first, ends_at_line, ends_at_piece, reaches, refused_first, stops_reading, tallies}

@@ -40,6 +40,6 @@ returns-clause-sends g c = λ packets all.
     let next = c.offer.new.self in
     let old = g.G.Ground.told c.args.device.now in
     let mid = g.G.Ground.told here.device in
-    let new = g.G.Ground.told c.emit.new.device in
+    let new = g.G.Ground.told c.end_shipping.new.device in
     let offers : OffersNext here.leader None next = rw c.in_default.is at c.in_ok-packet.ensures.next in
-    shipped_all c.args.leader.now here.leader here.packets old mid here.invariant.shipping c.emit.result next c.args.events new c.offers_all.ensures.all offers c.emit.ensures.sends packets all
+    shipped_all c.args.leader.now here.leader here.packets old mid here.invariant.shipping c.end_shipping.result next c.args.events new c.offers_all.ensures.all offers c.end_shipping.ensures.sends packets all

@@ -1,13 +1,14 @@
 use Rattle.std.proofs.Common.{◌≡◌, ◌+◌, ◌≤◌, ◌++◌}
 use Rattle.std.specs.VecDeque.{deque_len, deque_capacity}
 use Rattle.std.specs.List.{flat_map}
+use Rattle.floor_desk.specs.Owed.{sends_of}
 use Rattle.floor_desk.proofs.pending.joined.Given as goal
 
-abbrev pub invariant-loop-list : goal.invariant-loop-list
-invariant-loop-list l = record {
-  together : l.all.items ++ flat_map (λ list. list) l.lists.items ≡ flat_map (λ list. list) l.fn.lists.items;
-  room : deque_len l.lists + 1 ≤ deque_capacity l.lists;
+abbrev pub invariant-loop-owed : goal.invariant-loop-owed
+invariant-loop-owed l = record {
+  together : l.all.items ++ flat_map sends_of l.waiting.items ≡ flat_map sends_of l.fn.waiting.items;
+  room : deque_len l.waiting + 1 ≤ deque_capacity l.waiting;
 }
 
-abbrev pub decreases-loop-list : goal.decreases-loop-list
-decreases-loop-list l = deque_len l.lists
+abbrev pub decreases-loop-owed : goal.decreases-loop-owed
+decreases-loop-owed l = deque_len l.waiting

@@ -27,7 +27,7 @@ loop-preserved-in-Ok-Some g c =
     let i = c.loop.invariant in let next = c.in-Ok-Some.ensures in let more = c.with-ends.ensures in let last = c.enter_until-entered.result.1 in record {
       here = rw c.of-tools.ensures.desk at c.enter_until-entered.ensures.here;
       received = received_more (g.K.Clock.shows c.args.clock.now) (g.L.Link.left c.args.link.now) (g.L.Link.left c.loop.link) (g.L.Link.left c.next_datagram.new.link) c.args.pass c.loop.pass c.enter_until-entered.result.0 c.loop.ends c.with-ends.result
-          c.in-Ok-Some.came.input last i.received c.if-ends-2.false (rw c.in-Ok-Some.field-0-is at next.next) (rw c.in-Ok-Some.field-0-is at next.datagram) (rw c.of-tools.ensures.clock at c.enter_until-entered.ensures.tried) more.received more.lost more.memory;
+          c.in-Ok-Some.input last i.received c.if-ends-2.false (rw c.in-Ok-Some.field-0-is at next.next) (rw c.in-Ok-Some.field-0-is at next.datagram) (rw c.of-tools.ensures.clock at c.enter_until-entered.ensures.tried) more.received more.lost more.memory;
       worker = c.enter_until-entered.ensures.worker ∙ i.worker;
       turns = through_then (g.W.Gate.passed c.args.gate.now Receiver) 0 c.loop.steps.count c.enter_until-entered.new.steps.count c.args.pass c.loop.pass c.enter_until-entered.result.0 i.turns
           (subst (λ (v : Worker). GoesThrough (g.W.Gate.passed c.args.gate.now v) c.loop.steps.count c.enter_until-entered.new.steps.count c.loop.pass c.enter_until-entered.result.0) i.worker (rw c.of-tools.ensures.gate at c.enter_until-entered.ensures.turns));

@@ -24,7 +24,7 @@ loop-preserved g c =
 pub returns-else-is_out-clause-closed : goal.returns-else-is_out-clause-closed
 returns-else-is_out-clause-closed g c =
     let told = g.G.Ground.told in let faults = g.G.Ground.disk_faults in
-    let q = c.take-turn.result.pass in let floor = c.close.result in
+    let q = c.take-turn.result.pass in let floor = c.into_inner.result in
     record {
       waiting = c.loop.pass;
       last = q;
@@ -32,6 +32,6 @@ returns-else-is_out-clause-closed g c =
       sees = c.take-turn.ensures.sees;
       stands =
           subst (λ (x : FloorState _). FloorStands told g.G.Ground.size faults g.G.Ground.emit_faults x q.seen) (sym c.ended_at.ensures.ended)
-          (stands_at told g.G.Ground.size faults g.G.Ground.emit_faults floor c.take-turn.result.place q.seen (subst (λ (x : FloorState _). FloorStands told g.G.Ground.size faults g.G.Ground.emit_faults x q.seen) (sym c.close.ensures) c.take-turn.ensures.value));
+          (stands_at told g.G.Ground.size faults g.G.Ground.emit_faults floor c.take-turn.result.place q.seen (subst (λ (x : FloorState _). FloorStands told g.G.Ground.size faults g.G.Ground.emit_faults x q.seen) (sym (c.into_inner.ensures.same ∙ c.close.ensures)) c.take-turn.ensures.value));
       next = ap (λ (x : FloorState _). x.next) c.ended_at.ensures.ended ∙ c.take-turn.ensures.place;
     }

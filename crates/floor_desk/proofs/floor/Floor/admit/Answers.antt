@@ -8,8 +8,8 @@ use Rattle.floor_desk.proofs.floor.Floor.admit.Goals as goal
 pub returns-in-Some-clause-stands : goal.returns-in-Some-clause-stands
 returns-in-Some-clause-stands g c = λ h n memo same f. refuses g.G.Ground.told g.G.Ground.size g.G.Ground.disk_faults g.G.Ground.emit_faults c.args.self.now h n c.args.moment memo c.in-Some.fault f c.in-Some.ensures.shut
 
-pub returns-clause-stands : goal.returns-clause-stands
-returns-clause-stands g c = λ h n memo same f.
+pub returns-in-None-clause-stands : goal.returns-in-None-clause-stands
+returns-in-None-clause-stands g c = λ h n memo same f.
     let old = c.args.self.now in
     let new = c.look.new.self in
     comes g.G.Ground.told g.G.Ground.size g.G.Ground.disk_faults g.G.Ground.emit_faults old new h n c.args.moment memo c.look.result (comes_origin g.G.Ground.told g.G.Ground.size g.G.Ground.disk_faults g.G.Ground.emit_faults old new _ c.look.result c.look.ensures.comes) f (c.in-None.ensures.ready refl)

@@ -13,6 +13,9 @@ use Rattle.service_desk.specs.Answers.{entering, if_owed}
 use Rattle.state_codec.specs.Records.{written_event}
 use Rattle.floor_desk.specs.declared.faults.EnterFault.TheVariants as enters
 use Rattle.floor_desk.specs.MovesSteps.{CameOf}
+use Rattle.floor_desk.specs.Owed.{sends_of}
+use Rattle.floor_desk.specs.declared.pending.Owed.{Owed}
+use Rattle.floor_desk.specs.declared.pending.Owed.TheVariants.{Several}
 use Rattle.floor_desk.specs.States.{FloorState}
 use Rattle.floor_desk.proofs.Inputs.{comes_entered, comes_full, counted_none, counted_some, none_owed, one_more, two_more, with_parts}
 use Rattle.floor_desk.proofs.floor.Floor.enter_with.Goals as goal
@@ -24,7 +27,7 @@ returns-in-Ok g c = record {
       let view : FloorState _ = record {
         core = inside.core;
         records = inside.pending.records.items;
-        sends = flat_map (λ sends. sends) inside.pending.sends.items;
+        sends = flat_map sends_of inside.pending.sends.items;
         calls = inside.pending.calls;
         lost = inside.lost;
         durable = inside.durable;
@@ -42,13 +45,13 @@ returns-in-Ok g c = record {
       let state : c.take.new.self ≡ next_state event view.core = c.in-Ok.ensures.state ∙ ap (λ (e : Event). next_state e view.core) same_event in
       let represents = λ (history : List Event) (before : Represents view.core history). subst (λ (e : Event). Represents c.take.new.self (e ∷ history)) same_event (c.in-Ok.ensures.represents history before) in
       let records : add.records.items ≡ view.records ++ written_event event = c.add_entered.ensures.records ∙ (λ i. same.0 i ++ c.requires.written i) in
-      let sends : flat_map (λ sends. sends) add.sends.items ≡ view.sends ++ (next_sends event view.core ++ if_owed reply) =
-      ap (λ (l : List (List Send)). flat_map (λ sends. sends) l) c.add_entered.ensures.sends
-      ∙ (two_more room.sends.items c.in-Ok.outcome.sends c.args.parts.reply ∙ (λ i. flat_map (λ sends. sends) (same.1 i) ++ (sent i ++ owed i))) in
+      let sends : flat_map sends_of add.sends.items ≡ view.sends ++ (next_sends event view.core ++ if_owed reply) =
+      ap (λ (l : List Owed). flat_map sends_of l) c.add_entered.ensures.sends
+      ∙ (two_more room.sends.items (Several c.in-Ok.outcome.sends) c.args.parts.reply ∙ (λ i. flat_map sends_of (same.1 i) ++ (sent i ++ owed i))) in
       let calls : add.calls ≡ view.calls + 1 = c.add_entered.ensures.calls ∙ ap (λ (n : ℕ). n + 1) same.2 in
-      let new : FloorState _ = with_parts view c.take.new.self add.records.items (flat_map (λ sends. sends) add.sends.items) add.calls in
+      let new : FloorState _ = with_parts view c.take.new.self add.records.items (flat_map sends_of add.sends.items) add.calls in
       subst (λ (old : FloorState _). CameOf old new (entering event reply full (step_verdict event old.core)) (Ok c.ticket.result)) c.self.view_is
-      (comes_entered view event reply full (step_verdict event view.core) c.take.new.self add.records.items (flat_map (λ sends. sends) add.sends.items) add.calls c.ticket.result
+      (comes_entered view event reply full (step_verdict event view.core) c.take.new.self add.records.items (flat_map sends_of add.sends.items) add.calls c.ticket.result
       verdict c.requires.record c.requires.fits represents state records sends calls c.ticket.ensures.ticket);
 }
 
@@ -59,7 +62,7 @@ returns-else-told g c = record {
       let view : FloorState _ = record {
         core = inside.core;
         records = inside.pending.records.items;
-        sends = flat_map (λ sends. sends) inside.pending.sends.items;
+        sends = flat_map sends_of inside.pending.sends.items;
         calls = inside.pending.calls;
         lost = inside.lost;
         durable = inside.durable;
@@ -76,11 +79,11 @@ returns-else-told g c = record {
       let none : is_some full ≡ false = sym told ∙ c.if-told.false in
       let verdict : step_verdict event view.core ≡ Err (faults.Full would limit) = subst (λ (e : Event). step_verdict e view.core ≡ Err (faults.Full would limit)) same_event
       (subst (λ (fault : StepFault). Answers {A = Unit {0}} (Err fault) (step_verdict (raised view.core.last_moment event) view.core)) c.in-Err-Full.field-0-is c.in-Err-Full.ensures.verdict) in
-      let sends : flat_map (λ sends. sends) room.sends.items ≡ view.sends ++ if_owed full =
-      ap (λ (l : List (List Send)). flat_map (λ sends. sends) l) same.1 ∙ (sym (append-nil view.sends) ∙ ap (λ (l : List Send). view.sends ++ l) (sym (none_owed full none))) in
-      let new : FloorState _ = with_parts view c.take.new.self room.records.items (flat_map (λ sends. sends) room.sends.items) room.calls in
+      let sends : flat_map sends_of room.sends.items ≡ view.sends ++ if_owed full =
+      ap (λ (l : List Owed). flat_map sends_of l) same.1 ∙ (sym (append-nil view.sends) ∙ ap (λ (l : List Send). view.sends ++ l) (sym (none_owed full none))) in
+      let new : FloorState _ = with_parts view c.take.new.self room.records.items (flat_map sends_of room.sends.items) room.calls in
       subst (λ (old : FloorState _). CameOf old new (entering event reply full (step_verdict event old.core)) (Err (enters.Full would limit))) c.self.view_is
-      (comes_full view event reply full (step_verdict event view.core) would limit c.take.new.self room.records.items (flat_map (λ sends. sends) room.sends.items) room.calls
+      (comes_full view event reply full (step_verdict event view.core) would limit c.take.new.self room.records.items (flat_map sends_of room.sends.items) room.calls
       verdict c.in-Err-Full.ensures.same same.0 sends (counted_none full view.calls room.calls none same.2));
 }
 
@@ -91,7 +94,7 @@ returns-then-told g c = record {
       let view : FloorState _ = record {
         core = inside.core;
         records = inside.pending.records.items;
-        sends = flat_map (λ sends. sends) inside.pending.sends.items;
+        sends = flat_map sends_of inside.pending.sends.items;
         calls = inside.pending.calls;
         lost = inside.lost;
         durable = inside.durable;
@@ -109,11 +112,11 @@ returns-then-told g c = record {
       let some : is_some full ≡ true = sym told ∙ c.if-told.true in
       let verdict : step_verdict event view.core ≡ Err (faults.Full would limit) = subst (λ (e : Event). step_verdict e view.core ≡ Err (faults.Full would limit)) same_event
       (subst (λ (fault : StepFault). Answers {A = Unit {0}} (Err fault) (step_verdict (raised view.core.last_moment event) view.core)) c.in-Err-Full.field-0-is c.in-Err-Full.ensures.verdict) in
-      let sends : flat_map (λ sends. sends) add.sends.items ≡ view.sends ++ if_owed full =
-      ap (λ (l : List (List Send)). flat_map (λ sends. sends) l) c.add_full.ensures.sends ∙ (one_more room.sends.items c.args.parts.full ∙ (λ i. flat_map (λ sends. sends) (same.1 i) ++ owed_full i)) in
+      let sends : flat_map sends_of add.sends.items ≡ view.sends ++ if_owed full =
+      ap (λ (l : List Owed). flat_map sends_of l) c.add_full.ensures.sends ∙ (one_more room.sends.items c.args.parts.full ∙ (λ i. flat_map sends_of (same.1 i) ++ owed_full i)) in
       let calls : add.calls ≡ view.calls + 1 = c.add_full.ensures.calls ∙ ap (λ (n : ℕ). n + 1) same.2 in
-      let new : FloorState _ = with_parts view c.take.new.self add.records.items (flat_map (λ sends. sends) add.sends.items) add.calls in
+      let new : FloorState _ = with_parts view c.take.new.self add.records.items (flat_map sends_of add.sends.items) add.calls in
       subst (λ (old : FloorState _). CameOf old new (entering event reply full (step_verdict event old.core)) (Err (enters.Full would limit))) c.self.view_is
-      (comes_full view event reply full (step_verdict event view.core) would limit c.take.new.self add.records.items (flat_map (λ sends. sends) add.sends.items) add.calls
+      (comes_full view event reply full (step_verdict event view.core) would limit c.take.new.self add.records.items (flat_map sends_of add.sends.items) add.calls
       verdict c.in-Err-Full.ensures.same (c.add_full.ensures.records ∙ same.0) sends (counted_some full view.calls add.calls some calls));
 }

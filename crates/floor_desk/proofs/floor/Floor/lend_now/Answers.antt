@@ -1,5 +1,8 @@
 use Rattle.std.proofs.Common.{rules, ◌∙◌, refl}
 use Rattle.std.specs.List.{flat_map}
+use Rattle.floor_desk.specs.Owed.{sends_of}
+use Rattle.floor_desk.specs.declared.pending.Owed.{Owed}
+use Rattle.floor_desk.specs.declared.pending.Owed.TheVariants.{Several}
 use Rattle.floor_desk.specs.States.{FloorState}
 use Rattle.floor_desk.proofs.Inputs.{same_parts}
 use Rattle.floor_desk.proofs.floor.Floor.lend_now.Goals as goal
@@ -20,7 +23,7 @@ returns-in-Err-take_sends-clause-hindered g c =
     let view : FloorState _ = record {
       core = inside.core;
       records = inside.pending.records.items;
-      sends = flat_map (λ sends. sends) inside.pending.sends.items;
+      sends = flat_map sends_of inside.pending.sends.items;
       calls = inside.pending.calls;
       lost = inside.lost;
       durable = inside.durable;
@@ -29,6 +32,6 @@ returns-in-Err-take_sends-clause-hindered g c =
       origin = (inside.opened.0.value, inside.opened.1.value);
     } in
     let same = c.take_sends.ensures.same in (
-      same_parts view inside.core inside.core left.records.items view.records (flat_map (λ sends. sends) left.sends.items) view.sends left.calls view.calls refl same.0 c.in-Err-take_sends.ensures.refused same.1 ∙ c.self.view_is,
+      same_parts view inside.core inside.core left.records.items view.records (flat_map sends_of left.sends.items) view.sends left.calls view.calls refl same.0 c.in-Err-take_sends.ensures.refused same.1 ∙ c.self.view_is,
       (c.in-Home.press, search rules, search rules),
     )

@@ -2,7 +2,7 @@ use Rattle.std.proofs.Common.{rules, ◌≡◌, sym, subst, ◌++◌, ◌∷◌,
 use Rattle.turnstile.specs.Passes.{with_entry}
 use Rattle.floor_desk.specs.Standing.{FloorStands}
 use Rattle.floor_desk.proofs.Desks.{adds}
-use Rattle.floor_desk.proofs.desk.Desk.enter.Goals as goal
+use Rattle.floor_desk.proofs.desk.Desk.offer.Goals as goal
 
 pub give-requires-clause-value : goal.give-requires-clause-value
 give-requires-clause-value g c =
