@@ -4,7 +4,7 @@ import pathlib
 import sys
 import time
 
-from . import glance, journal, names, site_text, words
+from . import glance, journal, names, same, site_text, words
 from .journal import NoJournal
 from .words import CANNOT_OPEN, DONE, Ends
 from .zone import moment_from
@@ -21,12 +21,16 @@ STATUSES = [
     (2, "the words are none that it knows"),
     (8, "it is no journal, or what stands in it can't be there: the text names the octet"),
     (9, "show --limit: the last event is further ahead of the clock"),
+    (10, "same: the two have parted; the text names the first event that differs"),
+    (11, "same: the two have different texts of the site"),
+    (12, "same: it can't be told, since they share no record"),
     (75, "the journal changed each time while it was read: try again"),
 ]
 EXAMPLES = [
     ("alarm-journal show journal", "the number of events, the last one against the clock, and what room is left"),
     ("alarm-journal events journal --since 12h --object integer-value:1", "what happened to an object in the last twelve hours"),
     ("alarm-journal copy journal backup", "a copy, also while the server runs"),
+    ("alarm-journal same journal standby", "whether two journals are of one history, or where they part"),
     ("alarm-journal site journal > the-text-of-it.toml", "the site's text that it was made for"),
     ("alarm-journal show --limit 60 journal", "before a start: ends with 9 where the last event is over a minute ahead"),
 ]
@@ -55,6 +59,7 @@ def parser():
     copy.add_argument("copy", metavar="COPY", help="a file that isn't there yet")
     for command in (show, check, copy):
         command.add_argument("--json", action="store_true", help="as one line of JSON")
+    same.add_commands(commands, opened)
     return made
 
 

@@ -1,0 +1,172 @@
+"""Stands before the input of `alarm-server standby`: compares the text of the site, and the journal, with the leader's.
+
+The lines of its input go to the program as they come, but for those that are for it:
+
+    # site SUM            the SHA-256 of the leader's text. Where this site has another one nothing behind the line is taken, and it
+                          ends with 3. It may come again, as where several ships stand one behind the other.
+    # compare SECONDS     in the first line alone: it tells the journal by sums (`alarm-journal digest --ranges`) before the program
+                          begins, each line behind `# `, and then `# compared`; and from there on it ends the program's input where
+                          no line has come for so many seconds.
+
+The program begins once the first line has come, or after two seconds without one.
+"""
+import os
+import re
+import select
+import shutil
+import signal
+import stat
+import subprocess
+import sys
+import time
+
+from . import journal, same
+
+SITE_REFUSED, FIRST_SECONDS, MOST, COMPARED = 3, 2, 1 << 16, "# compared"
+SITE = re.compile(rb"# site ([0-9a-f]{64})\r?\n?")
+COMPARE = re.compile(rb"# compare ([1-9][0-9]{0,4})\r?\n?")
+
+
+class Lines:
+    """The lines of a file that is read without waiting for a whole one. What is longer than any line that means something comes in parts."""
+
+    def __init__(self, source):
+        self.source, self.rest, self.ended, self.begun = source, b"", False, False
+
+    def read(self, seconds, also=()):
+        """The lines that come within some seconds, each with whether it begins there; [] where none came, or something else is ready."""
+        ready = select.select([self.source, *also], [], [], seconds)[0]
+        if self.source not in ready:
+            return []
+        octets = os.read(self.source, MOST)
+        self.ended = not octets
+        whole, mark, self.rest = (self.rest + octets).rpartition(b"\n")
+        if self.ended or len(self.rest) > MOST:
+            whole, mark, self.rest = whole + mark + self.rest, b"", b""
+        found = []
+        for line in (whole + mark).splitlines(keepends=True):
+            found.append((line, not self.begun))
+            self.begun = not line.endswith(b"\n")
+        return found
+
+
+class OtherSite(Exception):
+    """The leader's site has another text."""
+
+
+def say(text):
+    print(f"alarm-server: {text}", file=sys.stderr, flush=True)
+
+
+class Guard:
+    """What stands between the lines of a leader and the program."""
+
+    def __init__(self, site, path):
+        with open(site, "rb") as file:
+            self.sum = same.sum_of(file.read())
+        self.path, self.lines, self.silence, self.heard = path, Lines(0), None, 0.0
+
+    def pass_on(self, found):
+        """What the program gets of lines."""
+        return b"".join(line for line, begins in found if not (begins and self.is_ours(line)))
+
+    def is_ours(self, line):
+        """Whether a line is for the guard, which looks at it then."""
+        if told := SITE.fullmatch(line):
+            if told[1].decode() != self.sum:
+                raise OtherSite(f"the leader's site is another text: its SHA-256 is {told[1].decode()}, and that of this site is {self.sum}")
+            return True
+        return bool(COMPARE.fullmatch(line))
+
+    def first(self):
+        """The first lines, behind what is told because of them."""
+        found = self.lines.read(FIRST_SECONDS)
+        if found and (asked := COMPARE.fullmatch(found[0][0])):
+            self.silence = int(asked[1])
+            self.tell()
+        return self.pass_on(found)
+
+    def tell(self):
+        """Tells the journal by sums. One that can't be read is told by the program."""
+        try:
+            lines = list(same.digest_lines(same.digest_of(self.path)))
+        except (OSError, journal.NoJournal) as fault:
+            say(f"{self.path} can't be compared: {fault}")
+            lines = []
+        try:
+            print("".join(f"# {line}\n" for line in lines) + COMPARED, flush=True)
+        except BrokenPipeError:
+            # Nobody hears what the program tells either, which says so.
+            pass
+
+    def note(self):
+        """Notes beside the journal that the leader was heard, once in a second, for whoever watches."""
+        now = time.monotonic()
+        if self.silence is None or now < self.heard + 1:
+            return
+        self.heard = now
+        try:
+            with open(f"{self.path}.heard", "w", encoding="ascii") as file:
+                file.write(f"{time.time():.3f}\n")
+        except OSError:
+            pass
+
+
+def can_read():
+    """Whether the input is there to be read. What isn't is told by the program."""
+    try:
+        return not stat.S_ISDIR(os.fstat(0).st_mode)
+    except OSError:
+        return False
+
+
+def begin(words):
+    """The program, which ends where this does. What is locked stays so for it."""
+    bound = ["setpriv", "--pdeathsig", "TERM", "--"] if shutil.which("setpriv") else []
+    return subprocess.Popen([*bound, *words], stdin=subprocess.PIPE, close_fds=False)
+
+
+def feed(guard, child, octets):
+    """Gives the program its input until one of both has ended."""
+    watch, heard = os.pidfd_open(child.pid), time.monotonic()
+    while True:
+        if octets:
+            child.stdin.write(octets)
+            child.stdin.flush()
+            guard.note()
+        if guard.lines.ended or select.select([watch], [], [], 0)[0]:
+            return
+        found = guard.lines.read(1 if guard.silence else None, [watch])
+        if found:
+            heard = time.monotonic()
+        elif guard.silence and time.monotonic() > heard + guard.silence:
+            say(f"nothing has come for {guard.silence} seconds: the leader is gone, or the way to it")
+            return
+        octets = guard.pass_on(found)
+
+
+def main(words):
+    """The status with which the program ends that is named by the words: SITE JOURNAL PROGRAM WORDS.."""
+    signal.signal(signal.SIGINT, signal.SIG_DFL)
+    if not can_read():
+        os.execvp(words[2], words[2:])
+    guard, status = Guard(*words[:2]), None
+    try:
+        first = guard.first()
+    except OtherSite as fault:
+        say(fault)
+        return SITE_REFUSED
+    child = begin(words[2:])
+    try:
+        feed(guard, child, first)
+    except OtherSite as fault:
+        say(fault)
+        status = SITE_REFUSED
+    except BrokenPipeError:
+        pass
+    try:
+        child.stdin.close()
+    except BrokenPipeError:
+        pass
+    ended = child.wait()
+    return status or (ended if ended >= 0 else 128 - ended)
