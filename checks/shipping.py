@@ -3,6 +3,7 @@
 For checks/standby, checks/crash and checks/faults. Journals are read by tools/alarm_tools, by docs/JOURNAL.md.
 """
 import collections
+import hashlib
 import re
 import subprocess
 
@@ -48,6 +49,11 @@ def packet_of(octets):
 
 def line_of(packet):
     return b"packet " + packet.hex().encode() + b"\n"
+
+
+def sum_of(path):
+    """The SHA-256 of a file, as `# site` has it."""
+    return hashlib.sha256(path.read_bytes()).hexdigest()
 
 
 # What is offered.

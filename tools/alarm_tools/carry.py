@@ -4,14 +4,15 @@ import time
 
 from . import journal, same
 from .carry_source import Changed, Offers, Source
-from .carry_way import BEAT, FLYING, MOST_LINES, Way, WayLost, opened
+from .carry_way import BEAT, FEW, FLYING, MOST_LINES, Way, WayLost, opened
 
-# How often the journal is looked at, and for how long one standby is kept before both journals are compared anew.
-POLL, COMPARE = 0.01, 3_600
+# How often the journal is looked at.
+POLL = 0.01
 # How often the leader's events are counted while nothing is carried, and a standby is begun anew while neither side has an event.
 COUNT, EMPTY = 15, 20
-# For how long is waited behind a way that was lost, and before two that have parted are compared again.
-SOONEST, LATEST, PARTED_WAIT = 1, 15, 30
+# For how long is waited behind a way that was lost; and before two that have parted are compared again, which takes the longer the
+# larger they are.
+SOONEST, LATEST, PARTED_WAIT = 0.2, 15, 2
 # The statuses of `alarm-server standby` by which nothing more is to be done until somebody has seen to it, and what they mean.
 OTHER_TEXT, DISK_FAULT = 3, 7
 MEANINGS = {
@@ -75,22 +76,24 @@ class State:
 
 
 class Carry:
-    """The carrying of one journal over one way."""
+    """The carrying of one journal over one way: how long it waits for an answer, and how often both journals are compared, is given."""
 
-    def __init__(self, path, words, state, note=lambda: None):
+    def __init__(self, path, words, state, note, patience, compare_every):
         self.path, self.words, self.state, self.note = path, words, state, note
+        self.patience, self.compare_every = patience, compare_every
         self.wait, self.counted = SOONEST, 0.0
 
     def run(self):
         """Carries for good. It ends by `Ended` alone."""
         while True:
+            begun = time.monotonic()
             try:
                 self.carry()
                 self.wait = SOONEST
                 continue
             except Parted as fault:
                 self.state.tell(f"NOT CARRIED: {fault}")
-                wait = PARTED_WAIT
+                wait = PARTED_WAIT + 10 * (time.monotonic() - begun)
             except (WayLost, Changed, OSError, journal.NoJournal) as fault:
                 wait = self.failed(fault)
             self.state.is_carried = False
@@ -133,7 +136,7 @@ class Carry:
             if source.is_blank():
                 raise Changed("the journal is blank: nothing was kept in it yet")
             self.state.ways += 1
-            with Way(self.words) as way:
+            with Way(self.words, self.patience) as way:
                 digest, events = opened(way, source.site())
                 self.compare(source, digest, events)
                 self.stream(source, way, events)
@@ -162,7 +165,7 @@ class Carry:
     def stream(self, source, way, events):
         """Sends what comes, and takes what is answered, until the standby is to be begun anew."""
         offers = Offers(source, 0 if self.state.verdict == UNTOLD else events)
-        until, beat = time.monotonic() + (COMPARE if offers.has_some() else EMPTY), 0.0
+        until, beat = time.monotonic() + (self.compare_every if offers.has_some() else EMPTY), 0.0
         while time.monotonic() < until and way.sent < MOST_LINES or way.owed:
             anew = time.monotonic() >= until or way.sent >= MOST_LINES
             if not anew:
@@ -178,7 +181,7 @@ class Carry:
         """Sends packets while few are on their way, and the last one again where there is nothing else. Gives when that is next."""
         while way.owed < FLYING:
             packet = offers.next()
-            if packet is None and not offers.more():
+            if packet is None and (way.owed >= FEW or not offers.more()):
                 break
             self.state.see(offers.source.events)
             if packet:

@@ -1,7 +1,9 @@
 """alarm-carry: carries the journal of a server that runs to a standby, and tells how far it is."""
+import argparse
 import json
 import os
 import pathlib
+import re
 import sys
 import time
 
@@ -53,10 +55,19 @@ def parser():
     made.add_argument("--standby", metavar="STANDBY", help="tell of a standby's journal on this machine, and end")
     made.add_argument("--state", metavar="FILE", default=STATE, help="where it keeps how it stands, for --check (%(default)s)")
     made.add_argument("--limit", type=float, metavar="SECONDS", default=LIMIT, help="how long an event may wait, and the standby be silent (%(default)s)")
+    made.add_argument("--patience", type=whole, metavar="SECONDS", default=20, help="how long an answer is waited for, and a line on the standby (%(default)s)")
+    made.add_argument("--compare-every", type=whole, metavar="SECONDS", default=3600, help="how often both journals are compared anew (%(default)s)")
     made.add_argument("--textfile", metavar="FILE", help="write metrics for Prometheus to a file, which is replaced at once")
     made.add_argument("--json", action="store_true", help="with --check and --standby: as one line of JSON")
     made.set_defaults(call=carry, way=[])
     return made
+
+
+def whole(text):
+    """A number of seconds of at most five digits."""
+    if not re.fullmatch(r"[1-9][0-9]{0,4}", text):
+        raise argparse.ArgumentTypeError(f"{text!r} is no whole number of seconds from 1 to 99999")
+    return int(text)
 
 
 def carry(given):
@@ -114,7 +125,7 @@ def carry_for_good(given):
     try:
         with words.opened(given.journal, "rb"):
             pass
-        Carry(given.journal, given.way, state, notes.write).run()
+        Carry(given.journal, given.way, state, notes.write, given.patience, given.compare_every).run()
     except Ended as end:
         state.is_carried, state.text = False, str(end)
         notes.next = [0.0, 0.0]

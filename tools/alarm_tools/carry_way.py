@@ -9,11 +9,12 @@ import time
 from . import packets, same
 from .taking import COMPARED
 
-# How long the other end may take to open its journal, to end, and to answer; and after how many lines a standby is begun anew, since a
-# script of the program has at most a million.
-OPENING, ENDING, PATIENCE, MOST_LINES = 120, 5, 20, 900_000
-# How many packets are on their way at once, and after how many seconds without one the last one is sent again.
-FLYING, BEAT = 64, 2
+# How long the other end may take to open its journal, and to end; and after how many lines a standby is begun anew, since a script of
+# the program has at most a million.
+OPENING, ENDING, MOST_LINES = 120, 5, 900_000
+# How many packets are on their way at once, behind how many of them new events are waited for, so that more of these come in one,
+# and after how many seconds without a packet the last one is sent again.
+FLYING, FEW, BEAT = 64, 2, 1
 
 
 class WayLost(Exception):
@@ -27,7 +28,8 @@ class WayLost(Exception):
 class Way:
     """A command that runs, with lines to it and from it. It is ended at the end of its block, with what it began."""
 
-    def __init__(self, words):
+    def __init__(self, words, patience):
+        self.patience = patience
         try:
             self.child = subprocess.Popen(words, stdin=subprocess.PIPE, stdout=subprocess.PIPE, start_new_session=True, bufsize=0)
         except OSError as error:
@@ -87,8 +89,8 @@ class Way:
         return WayLost(f"the way has ended with {status}", status)
 
     def see_patience(self):
-        if self.owed and time.monotonic() > self.heard + PATIENCE:
-            raise WayLost(f"nothing has been answered for {PATIENCE} seconds")
+        if self.owed and time.monotonic() > self.heard + self.patience:
+            raise WayLost(f"nothing has been answered for {self.patience} seconds")
 
     def close(self):
         for stream in (self.child.stdin, self.child.stdout):
@@ -115,7 +117,7 @@ class Way:
 
 def opened(way, site):
     """The digest that the other end tells of its journal, or None where it tells none, and how many events it opened with."""
-    way.say(f"# compare {PATIENCE}\n# site {site}\n".encode())
+    way.say(f"# compare {way.patience}\n# site {site}\n".encode())
     told, digest, until = [], None, time.monotonic() + OPENING
     while time.monotonic() < until:
         way.wait(1)

@@ -6,6 +6,7 @@ of numbers, which lie side by side, so that the other journal can make the same 
 """
 import collections
 import hashlib
+import sys
 
 from . import journal, words
 from .words import Ends
@@ -225,7 +226,8 @@ def add_commands(commands, opened):
     digest.add_argument("--ranges", action="store_true", help="the sums of its records too, range by range, a line each")
     both = words.command_of(commands, "same", "says whether two journals are of one history", lambda given: show_same(given, opened))
     both.add_argument("journal", metavar="A")
-    both.add_argument("other", metavar="B")
+    both.add_argument("other", nargs="?", metavar="B")
+    both.add_argument("--digest", metavar="FILE", help="in place of B, the lines of `digest --ranges` of it, also behind `# `; - is standard input")
     for command in (digest, both):
         command.add_argument("--json", action="store_true", help="as one line of JSON")
 
@@ -242,10 +244,27 @@ def show_digest(given, opened):
     return 0
 
 
+def digest_of_lines(path):
+    """The digest that a file tells, each line as it is or behind `# `, and nothing of its other lines."""
+    try:
+        with (sys.stdin if path == "-" else words.opened(path)) as file:
+            lines = [line.rstrip("\n").removeprefix("# ") for line in file]
+        return digest_from([line for line in lines if line.split(" ")[0] in ("site", "events", "range", "snapshot")])
+    except ValueError as fault:
+        raise Ends(words.USAGE, f"{path}: {fault}") from None
+
+
 def show_same(given, opened):
-    with opened(given.journal, blank=True) as one, opened(given.other, blank=True) as other:
-        verdict, counts = same(one, other), [events_of(it) for it in (one, other)]
-    told = f"{verdict.text} ({given.journal} has {counts[0]:,} events, {given.other} {counts[1]:,})"
+    if bool(given.other) == bool(given.digest):
+        raise Ends(words.USAGE, "one of these is wanted behind A: B, or --digest FILE")
+    with opened(given.journal, blank=True) as one:
+        if given.digest:
+            theirs = digest_of_lines(given.digest)
+            verdict, counts = compared(one, theirs), [events_of(one), theirs.events]
+        else:
+            with opened(given.other, blank=True) as other:
+                verdict, counts = same(one, other), [events_of(it) for it in (one, other)]
+    told = f"{verdict.text} ({given.journal} has {counts[0]:,} events, {given.other or 'the other one'} {counts[1]:,})"
     if given.json:
         words.put(words.json_line({"same": verdict.status == 0, "status": verdict.status, "text": verdict.text, "events": counts}))
         return verdict.status

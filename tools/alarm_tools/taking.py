@@ -50,10 +50,6 @@ class Lines:
         return found
 
 
-class OtherSite(Exception):
-    """The leader's site has another text."""
-
-
 def say(text):
     print(f"alarm-server: {text}", file=sys.stderr, flush=True)
 
@@ -64,19 +60,19 @@ class Guard:
     def __init__(self, site, path):
         with open(site, "rb") as file:
             self.sum = same.sum_of(file.read())
-        self.path, self.lines, self.silence, self.heard = path, Lines(0), None, 0.0
+        self.path, self.lines, self.silence, self.heard, self.refused = path, Lines(0), None, 0.0, None
 
     def pass_on(self, found):
-        """What the program gets of lines."""
-        return b"".join(line for line, begins in found if not (begins and self.is_ours(line)))
-
-    def is_ours(self, line):
-        """Whether a line is for the guard, which looks at it then."""
-        if told := SITE.fullmatch(line):
-            if told[1].decode() != self.sum:
-                raise OtherSite(f"the leader's site is another text: its SHA-256 is {told[1].decode()}, and that of this site is {self.sum}")
-            return True
-        return bool(COMPARE.fullmatch(line))
+        """What the program gets of lines: what stands before one by which the leader's site has another text."""
+        passed = []
+        for line, begins in found:
+            if begins and (told := SITE.fullmatch(line)):
+                if told[1].decode() != self.sum:
+                    self.refused = f"the leader's site is another text: its SHA-256 is {told[1].decode()}, and that of this site is {self.sum}"
+                    break
+            elif not (begins and COMPARE.fullmatch(line)):
+                passed.append(line)
+        return b"".join(passed)
 
     def first(self):
         """The first lines, behind what is told because of them."""
@@ -121,20 +117,21 @@ def can_read():
 
 
 def begin(words):
-    """The program, which ends where this does. What is locked stays so for it."""
+    """The program, which ends where this does. What is locked stays so for it, and a file that may not grow is a fault of its disk."""
     bound = ["setpriv", "--pdeathsig", "TERM", "--"] if shutil.which("setpriv") else []
-    return subprocess.Popen([*bound, *words], stdin=subprocess.PIPE, close_fds=False)
+    as_before = lambda: signal.signal(signal.SIGPIPE, signal.SIG_DFL)
+    return subprocess.Popen([*bound, *words], stdin=subprocess.PIPE, close_fds=False, restore_signals=False, preexec_fn=as_before)
 
 
 def feed(guard, child, octets):
-    """Gives the program its input until one of both has ended."""
+    """Gives the program its input until one of both has ended, or the leader's site is another one."""
     watch, heard = os.pidfd_open(child.pid), time.monotonic()
     while True:
         if octets:
             child.stdin.write(octets)
             child.stdin.flush()
             guard.note()
-        if guard.lines.ended or select.select([watch], [], [], 0)[0]:
+        if guard.refused or guard.lines.ended or select.select([watch], [], [], 0)[0]:
             return
         found = guard.lines.read(1 if guard.silence else None, [watch])
         if found:
@@ -145,28 +142,27 @@ def feed(guard, child, octets):
         octets = guard.pass_on(found)
 
 
+def run(guard, words, first):
+    """How the program ended that is named by the words, and gets the first lines and all that come behind them."""
+    child = begin(words)
+    try:
+        feed(guard, child, first)
+        child.stdin.close()
+    except BrokenPipeError:
+        child.stdin = None
+    ended = child.wait()
+    return ended if ended >= 0 else 128 - ended
+
+
 def main(words):
-    """The status with which the program ends that is named by the words: SITE JOURNAL PROGRAM WORDS.."""
+    """The status with which it ends that is named by the words: SITE JOURNAL PROGRAM WORDS.."""
     signal.signal(signal.SIGINT, signal.SIG_DFL)
     if not can_read():
         os.execvp(words[2], words[2:])
-    guard, status = Guard(*words[:2]), None
-    try:
-        first = guard.first()
-    except OtherSite as fault:
-        say(fault)
+    guard = Guard(*words[:2])
+    first = guard.first()
+    status = 0 if guard.refused and not first else run(guard, words[2:], first)
+    if guard.refused:
+        say(guard.refused)
         return SITE_REFUSED
-    child = begin(words[2:])
-    try:
-        feed(guard, child, first)
-    except OtherSite as fault:
-        say(fault)
-        status = SITE_REFUSED
-    except BrokenPipeError:
-        pass
-    try:
-        child.stdin.close()
-    except BrokenPipeError:
-        pass
-    ended = child.wait()
-    return status or (ended if ended >= 0 else 128 - ended)
+    return status
