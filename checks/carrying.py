@@ -2,6 +2,7 @@
 
 The server is the program, and answers writes; the way is checks/carrying_way.py, and at its other end stands the command's standby.
 """
+import hashlib
 import json
 import os
 import pathlib
@@ -200,6 +201,75 @@ class Scene:
 # Two histories.
 
 
+def journal_of(program, site, path, script):
+    """A journal of a site to which a script was played."""
+    serving.make_journal(program, site, path)
+    ended = subprocess.run([program, "session", site, path], input=script.encode(), capture_output=True, timeout=serving.SECONDS, check=False)
+    bacnet.want(ended.returncode == 0, f"a session ended with {ended.returncode}, {ended.stderr!r}")
+    return path
+
+
+def folded(path, of, other=0):
+    """A journal that has the events of another one in a snapshot alone, which is made up: its head is right, and one octet is given."""
+    octets = of.read_bytes()
+    with journal.Journal(of) as it:
+        area = it.settled()
+        head = b"\x01" + journal.events_in(area).to_bytes(8, "big") + journal.last_of(area).to_bytes(8, "big") + bytes([other])
+    path.write_bytes(shipping.cut(octets, area, len(head).to_bytes(4, "big") + head))
+    return path
+
+
+def see_same(told, rows):
+    """What `same` says of two journals, each with the status and a text that are wanted, and of one and the digest of the other."""
+    digests = tooling.run_many("journal_command", [["digest", "--ranges", second] for _, second, *_ in rows])
+    lines = []
+    for place, ((first, second, *_), (_, digest, _)) in enumerate(zip(rows, digests)):
+        path = first.with_name(f"digest-{place}")
+        path.write_text("".join(f"# {line}\n" for line in digest.splitlines()), encoding="ascii")
+        lines += [["same", first, second], ["same", first, "--digest", path]]
+    found = tooling.run_many("journal_command", lines)
+    for (first, second, wanted, text), direct, far in zip(rows, found[::2], found[1::2]):
+        told.want(direct[0] == wanted and text in direct[1] + direct[2], f"same {first.name} {second.name}: {direct}")
+        # A range of several records is told by its first and last one.
+        part = text.replace("event 41 ", "41")
+        told.want(far[0] == wanted and part in far[1] + far[2], f"same {first.name} by the digest of {second.name}: {far}")
+
+
+def try_same(told, program, folder):
+    """Two journals are compared, as files and by a digest, with each answer; and a digest has the sums of what it tells."""
+    site, other = folder / "site.toml", folder / "other.toml"
+    site.write_text(site_text(), encoding="utf-8")
+    other.write_text(site_text(high=70), encoding="utf-8")
+    lines = [f"set {START + 1000 * number} integer-value:9 signed:{number}\n" for number in range(100)]
+    changed = [*lines[:40], lines[40].replace("signed:40", "signed:41"), *lines[41:]]
+    one, fewer, parted, foreign = (
+        journal_of(program, of, folder / name, "".join(script))
+        for name, of, script in [("one", site, lines), ("fewer", site, lines[:70]), ("parted", site, changed), ("foreign", other, lines)]
+    )
+    blank, fold = folder / "blank", folded(folder / "fold", one)
+    serving.make_journal(program, site, blank)
+    see_same(told, [
+        (one, one, 0, "one record for each"), (one, fewer, 0, "one record for each"), (fewer, one, 0, "one record for each"), (one, blank, 0, "no events yet"),
+        (one, parted, 10, "event 41 "), (parted, fewer, 10, "event 41 "), (one, foreign, 11, shipping.sum_of(other)), (one, fold, 12, "can't be told"),
+        (fold, folded(folder / "same", one), 0, "one record for each"), (fold, folded(folder / "differs", one, 1), 10, "snapshots of 100 events differ"),
+    ])
+    with journal.Journal(one) as it:
+        last = list(shipping.records_of(it.settled()))[-1]
+    wanted = f"site {shipping.sum_of(site)} events 100 last {hashlib.sha256(last).hexdigest()}\n"
+    told.same("a digest", tooling.run("alarm-journal", "digest", one), (0, wanted, ""))
+
+
+def see_rules(told, it):
+    """The rules for Prometheus name metrics that are written of both sides, and no others."""
+    watched = it.folder / "standby.prom"
+    status, output, _ = tooling.run("alarm-carry", "--standby", it.standby, "--textfile", watched)
+    told.want(status == 0 and "15 events; the leader was heard" in output, f"--standby ended with {status}, {output}")
+    written = {name for path in (it.textfile, watched) for name in re.findall(r"^(\w+) ", path.read_text(encoding="utf-8"), re.M)}
+    rules = "\n".join(re.findall(r"expr: (.*)", (tooling.TOOLS / "alarm-server.rules.yml").read_text(encoding="utf-8")))
+    named = set(re.findall(r"\balarm_(?:carry|standby)_\w+", rules))
+    told.want(len(named) >= 6 and named <= written, f"the rules name {sorted(named - written)}, of {sorted(named)}")
+
+
 def try_parted(told, program, folder):
     """A leader that was restored from an older copy: told within a pass, nothing is carried; restored from its standby it is."""
     with Scene(told, program, folder) as it:
@@ -222,6 +292,7 @@ def try_parted(told, program, folder):
         told.want(status == 10 and "have parted" in text, f"--check of two that have parted ended with {status}, {text}")
         until(lambda: "\nalarm_carry_parted 1\n" in it.textfile.read_text(encoding="utf-8"), "the metric of two that have parted")
         told.same("the standby's events behind that", it.events(it.standby), 15)
+        see_rules(told, it)
         ended = tooling.run("alarm-journal", "same", it.leader, it.standby)
         told.want(ended[0] == 10 and "event 11 isn't" in ended[2], f"same, of two that have parted: {ended}")
         it.stop("server")
@@ -302,19 +373,20 @@ def try_recipe(told, program, folder):
         status, text = play_recipe(it, lambda text: text.count("leader 5 standby 5") > 1)
         told.want(status is None and "leader 5 standby 5" in text, f"the recipe ended with {status}, and said {text[-300:]}")
         it.stop("server")
-        keep = it.leader.read_bytes()
         it.site.write_text(site_text(high=70), encoding="utf-8")
         status, text = play_recipe(it, lambda text: text.count("FAILED") > 1)
         told.want(text.count("FAILED") > 1 and "leader" not in text and "journal refused: foreign" in text, f"a ship that fails is told as {text[-300:]}")
         it.site.write_text(site_text(), encoding="utf-8")
+        keep_standby = it.standby.read_bytes()
         it.other.write_text(site_text(high=70), encoding="utf-8")
+        serving.make_journal(program, it.other, it.standby)
         status, text = play_recipe(it, lambda text: "FAILED" in text)
         told.want("FAILED" in text and "another text" in text, f"another text is told by the recipe as {text[-300:]}")
         it.other.write_text(site_text(), encoding="utf-8")
+        it.standby.write_bytes(keep_standby)
         shutil.copyfile(copy, it.leader)
         status, text = play_recipe(it, lambda text: "PARTED" in text)
         told.want(status == 1 and "PARTED" in text, f"a leader with fewer events is told by the recipe as {status}, {text[-300:]}")
-        it.leader.write_bytes(keep)
 
 
 # The way.
@@ -490,7 +562,7 @@ def try_behind(told, program, folder, seconds):
 
 
 PLAYS = {
-    "parted": try_parted, "other text": try_other_text, "recipe": try_recipe, "way": try_way, "full disk": try_full_disk,
+    "same": try_same, "parted": try_parted, "other text": try_other_text, "recipe": try_recipe, "way": try_way, "full disk": try_full_disk,
 }
 
 
