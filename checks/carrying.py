@@ -2,6 +2,7 @@
 
 The server is the program, and answers writes; the way is checks/carrying_way.py, and at its other end stands the command's standby.
 """
+import concurrent.futures
 import hashlib
 import json
 import os
@@ -26,7 +27,8 @@ TOP = pathlib.Path(__file__).resolve().parent.parent
 COUNTER, TANK = (bacnet.INTEGER_VALUE, 9), (bacnet.INTEGER_VALUE, 1)
 # For how long something is awaited that has to come; how long the carrying waits for an answer where one doesn't come.
 DEADLINE, PATIENCE = 60, 2
-IN_FLIGHT = 8
+# How many writes are on their way at once, and how many plays are played side by side.
+IN_FLIGHT, TOGETHER = 8, 3
 
 
 def site_text(high=80):
@@ -566,17 +568,22 @@ PLAYS = {
 }
 
 
+def try_play(told, program, place, name, play):
+    """Tries a play in a folder of its own."""
+    place.mkdir()
+    begun = time.monotonic()
+    try:
+        play(told, program, place)
+    except (OSError, ValueError, KeyError, IndexError, subprocess.SubprocessError, journal.NoJournal) as error:
+        told.want(False, f"{name}: {type(error).__name__}: {error}")
+    print(f"{name}: {time.monotonic() - begun:.1f} s", flush=True)
+
+
 def try_carrying(told, program, folder, count, rng):
-    """All of it, each in a folder of its own."""
-    plays = {
-        **PLAYS, "kills": lambda *given: try_kills(*given, 2 * count, rng), "behind": lambda *given: try_behind(*given, min(3 + count / 10, 60)),
-    }
-    for name, play in plays.items():
-        place = folder / name.replace(" ", "-")
-        place.mkdir()
-        begun = time.monotonic()
-        try:
-            play(told, program, place)
-        except (OSError, ValueError, KeyError, IndexError, subprocess.SubprocessError, journal.NoJournal) as error:
-            told.want(False, f"{name}: {type(error).__name__}: {error}")
-        print(f"{name}: {time.monotonic() - begun:.1f} s", flush=True)
+    """All of it, some side by side, since they mostly wait; what is measured is played alone."""
+    plays = {**PLAYS, "kills": lambda *given: try_kills(*given, 2 * count, rng)}
+    with concurrent.futures.ThreadPoolExecutor(TOGETHER) as pool:
+        tried = [pool.submit(try_play, told, program, folder / name.replace(" ", "-"), name, play) for name, play in plays.items()]
+    for it in tried:
+        it.result()
+    try_play(told, program, folder / "behind", "behind", lambda *given: try_behind(*given, min(3 + count / 10, 60)))

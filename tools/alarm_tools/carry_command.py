@@ -17,7 +17,7 @@ STATE_EVERY, TEXT_EVERY, LIMIT = 1, 5, 60
 STATE = "/run/alarm-carry/state"
 WHAT = """\
 Carries the journal of a server that runs to a standby on another machine, as its events come. WAY is a command at whose other
-end `alarm-server standby SITE STANDBY` reads and answers, as `ssh root@standby.example` with that as its only command.
+end `alarm-server standby SITE STANDBY` reads and answers, as `ssh -T root@standby.example` with that as its only command.
 
 It runs for good, beside the server: it only reads the journal, and sends what is on its disk. It begins by comparing both
 journals, and compares them again each hour; two that have parted aren't carried, and it says so. When the way is lost, or
@@ -32,7 +32,7 @@ STATUSES = [
     (13, "--check, --standby: nothing is known: it doesn't run, or the leader isn't heard"),
 ]
 EXAMPLES = [
-    ("alarm-carry /var/lib/alarm-server/journal -- ssh root@standby.example", "carries for good"),
+    ("alarm-carry /var/lib/alarm-server/journal -- ssh -T root@standby.example", "carries for good"),
     ("alarm-carry --check", "tells how the one that runs stands"),
     ("alarm-carry --standby /var/lib/alarm-server/standby", "on the standby: how many events it has, and when the leader was heard"),
 ]
