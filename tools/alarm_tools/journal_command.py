@@ -4,7 +4,7 @@ import pathlib
 import sys
 import time
 
-from . import glance, journal, names, site_text, words
+from . import glance, journal, names, replay_command, site_text, words
 from .journal import NoJournal
 from .words import CANNOT_OPEN, DONE, Ends
 from .zone import moment_from
@@ -53,6 +53,7 @@ def parser():
     for command in (show, events, check, copy, site):
         command.add_argument("journal", metavar="JOURNAL")
     copy.add_argument("copy", metavar="COPY", help="a file that isn't there yet")
+    replay_command.add_replay(commands)
     for command in (show, check, copy):
         command.add_argument("--json", action="store_true", help="as one line of JSON")
     return made
