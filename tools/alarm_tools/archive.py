@@ -4,6 +4,7 @@ A head names the text, and the archive that ended where the text changed; then c
 and the next append begins there. An append reads the last frame alone, whose place is kept in a file beside the archive.
 """
 import collections
+import fcntl
 import json
 import os
 import pathlib
@@ -154,8 +155,9 @@ class Appending:
     def __init__(self, path, text, before=None):
         self.path, self.beside = pathlib.Path(path), pathlib.Path(f"{path}.end")
         self.file = open(os.open(path, os.O_RDWR | os.O_CREAT, 0o600), "r+b")
+        fcntl.flock(self.file, fcntl.LOCK_EX | fcntl.LOCK_NB)
         self.events, self.added, self.missing = 0, 0, []
-        self.waiting, self.first, self.size, self.kind = [], None, 0, RECORDS
+        self.waiting, self.first, self.size, self.kind, self.last = [], None, 0, RECORDS, None
         if os.fstat(self.file.fileno()).st_size == 0 or self.is_cut_head(text, before):
             self.file.truncate(0)
             self.file.seek(0)
@@ -222,7 +224,7 @@ class Appending:
         self.write()
         self.file.flush()
         os.fsync(self.file.fileno())
-        if hasattr(self, "last"):
+        if self.last is not None:
             part = self.beside.with_name(self.beside.name + ".new")
             part.write_text(json.dumps({"place": self.last, "text": zlib.crc32(self.head.text)}) + "\n")
             os.replace(part, self.beside)
@@ -230,5 +232,8 @@ class Appending:
         os.fsync(folder)
         os.close(folder)
 
-    def close(self):
+    def __enter__(self):
+        return self
+
+    def __exit__(self, *_):
         self.file.close()

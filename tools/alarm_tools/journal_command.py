@@ -54,6 +54,7 @@ def parser():
         command.add_argument("journal", metavar="JOURNAL")
     copy.add_argument("copy", metavar="COPY", help="a file that isn't there yet")
     replay_command.add_replay(commands)
+    replay_command.add_archive(commands)
     for command in (show, check, copy):
         command.add_argument("--json", action="store_true", help="as one line of JSON")
     return made
@@ -86,7 +87,7 @@ class opened:
 # show
 
 
-def told_of(it, area):
+def told_of(it, older, area):
     """What `show` tells of a journal, by name."""
     view = glance.glance(it.header.text)
     events, last = journal.events_in(area), journal.last_of(area)
@@ -94,9 +95,20 @@ def told_of(it, area):
         "journal": it.path, "octets": it.size, "device": view.device, "name": view.names.get((8, view.device)),
         "text_octets": len(it.header.text), "events": events, "area": "AB"[area.number],
         "snapshot_events": area.snapshot.events, "snapshot_octets": area.snapshot.length, "records": events - area.snapshot.events,
-        "area_octets": it.header.area_octets, "room_left": it.header.area_octets - len(area.octets), "last_moment": last,
+        "first_record": first_record(older, area), "whole": is_whole(older, area), "area_octets": it.header.area_octets, "room_left": it.header.area_octets - len(area.octets), "last_moment": last,
         "last_time": None if last is None else view.zone.text(last), "seconds_ahead": None if last is None else round(last / 1000 - time.time(), 3),
     }
+
+
+def first_record(older, area):
+    """The number of the first event that a record tells, or None where none does."""
+    first = (older or area).snapshot.events + 1
+    return first if first <= journal.events_in(area) else None
+
+
+def is_whole(older, area):
+    """Whether the journal has the record of each event, from the first one on."""
+    return (older or area).snapshot.events == 0 and (older is None or journal.events_in(older) == area.snapshot.events)
 
 
 def show_journal(given):
@@ -105,7 +117,7 @@ def show_journal(given):
             words.put(words.json_line({"journal": given.journal, "octets": it.size, "blank": True}) if given.json else
                       f"{given.journal}: {words.octets_text(it.size)}, blank: nothing was kept in it yet")
             return DONE
-        view, told = told_of(it, it.settled())
+        view, told = told_of(it, *it.history())
     if given.json:
         words.put(words.json_line(told))
     else:
@@ -123,6 +135,7 @@ def lines_of(told, view):
     yield f"site        {of_site}, a text of {told['text_octets']:,} octets"
     before = f"{told['snapshot_events']:,} in a snapshot of {words.octets_text(told['snapshot_octets'])}, " if told["snapshot_octets"] else ""
     yield f"events      {told['events']:,}: {before}{told['records']:,} behind it" if before else f"events      {told['events']:,}, and no snapshot yet"
+    yield whole_text(told)
     yield f"room left   {told['room_left']:,} of the {told['area_octets']:,} octets of area {told['area']}; when it is full, a snapshot goes into the other one"
     if told["last_moment"] is None:
         yield "last event  none"
@@ -132,23 +145,41 @@ def lines_of(told, view):
     yield f"last event  {view.zone.text(told['last_moment'])}, {against}"
 
 
+def whole_text(told):
+    """Whether the journal is its whole history, for people."""
+    if told["whole"]:
+        return "whole       yes: each event has its record"
+    first = "no event has" if told["first_record"] is None else f"only those from event {told['first_record']:,} on have"
+    return f"whole       no: {first} a record, and what came before is in a snapshot alone"
+
+
 # events
 
 
 def show_events(given):
-    with opened(given.journal) as it:
-        older, area = it.history()
-        view = glance.glance(it.header.text)
+    if replay_command.is_archive(given.journal):
+        text, rows = replay_command.archived(given.journal)
+    else:
+        text, rows = kept_events(given.journal)
+    view = glance.glance(text)
     wanted = None if given.object is None else object_wanted(given.object)
     since = since_of(given.since, view)
+    for number, record in rows:
+        if (since is None or record.moment >= since) and (wanted is None or record.fields.get("object") == wanted):
+            event = event_of(number, record, view)
+            words.put(event_text(event) if given.text else words.json_line(event))
+    return DONE
+
+
+def kept_events(path):
+    """The text of a journal, and each event that a record tells, with its number."""
+    with opened(path) as it:
+        older, area = it.history()
+        text = it.header.text
     if older:
         tell_gap(journal.events_in(older) + 1, area.snapshot.events)
-    for part in filter(None, (older, area)):
-        for number, record in enumerate(records_of(part, given.journal), part.snapshot.events + 1):
-            if (since is None or record.moment >= since) and (wanted is None or record.fields.get("object") == wanted):
-                event = event_of(number, record, view)
-                words.put(event_text(event) if given.text else words.json_line(event))
-    return DONE
+    parts = filter(None, (older, area))
+    return text, (row for part in parts for row in enumerate(records_of(part, path), part.snapshot.events + 1))
 
 
 def tell_gap(first, last):

@@ -16,10 +16,10 @@ from . import glance, journal, names, octets, replay_lines, replay_site, replay_
 from .replay_lines import asked
 from .replay_session import MOST_LINES, Session
 from .replay_source import Source
-from .words import CANNOT_OPEN, Ends
+from .words import CANNOT_OPEN, UNREADABLE, USAGE, Ends
 
 SITE_REFUSED, REFUSED, PARTED = 3, 8, 9
-SECONDS = 60
+SECONDS, IN_MEMORY = 60, "/dev/shm"
 # How many events are given before a look at what came of them.
 TOGETHER = 512
 # How often what nobody waits for is answered for, at most, at one moment.
@@ -52,6 +52,18 @@ def need_of(program, site, called):
     if found := re.fullmatch(r"(site refused: .*)\n(?:line (\d+)\n)?", ran.stderr):
         raise Ends(SITE_REFUSED, f"{called}{':' + found[2] if found[2] else ''}: {found[1]}")
     raise Ends(CANNOT_OPEN, f"{program} ended with {ran.returncode}: {ran.stderr.strip()}")
+
+
+def size_of(need, source, options, called):
+    """How large the new journal is to be."""
+    if options.octets is not None and options.octets < need:
+        raise Ends(USAGE, f"a journal of {called} has at least {need} octets")
+    return options.octets or max(need, source.octets or 0)
+
+
+def in_memory():
+    """A folder in memory, where nothing waits for a disk; None is that of temporary files."""
+    return IN_MEMORY if os.access(IN_MEMORY, os.W_OK) else None
 
 
 def make_blank(path, size):
@@ -372,9 +384,7 @@ class Run:
         try:
             need = need_of(self.program, new, self.called)
             old_need = need_of(self.program, old, f"the text of {self.path}")
-            self.size = self.options.octets or max(need, self.source.octets or 0)
-            if self.size < need:
-                raise Ends(2, f"a journal of {self.called} has at least {need} octets")
+            self.size = size_of(need, self.source, self.options, self.called)
             make_blank(self.journal, self.size)
             make_blank(self.copy, max(old_need, self.source.octets or 0))
             texts = self.read_texts()
@@ -391,7 +401,7 @@ class Run:
             return replay_site.Texts(self.old_text, self.text)
         except ValueError as fault:
             # The program takes it, as what needs TOML 1.1.
-            raise Ends(5, f"the program takes the text, and this tool can't read it: {fault}") from None
+            raise Ends(UNREADABLE, f"the program takes the text, and this tool can't read it: {fault}") from None
 
     def catch_up(self):
         """Plays what is there now, and says how many events it was."""

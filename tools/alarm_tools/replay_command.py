@@ -1,17 +1,18 @@
 """The commands `replay` and `archive` of alarm-journal."""
-import fcntl
+import hashlib
 import os
 import pathlib
 import shutil
 import tempfile
 import time
 
-from . import archive, journal_command, names, replay, replay_words, site_command, words
+from . import archive, archive_search, journal, journal_command, names, replay, replay_words, site_command, words
+from .replay_packets import Standby
 from .replay_source import Source
 from .words import CANNOT_OPEN, DONE, Ends
 from .zone import moment_from
 
-IN_MEMORY = "/dev/shm"
+WHERE_FOUND = "found again by trying: the state behind it is that of the snapshot, octet for octet"
 
 
 def add_replay(commands):
@@ -61,7 +62,8 @@ def moment_of(given, source):
 
 def work_folder(size, beside):
     """Where it is played: in memory where there is room for it, since each event is synced, else beside the new journal."""
-    folder = IN_MEMORY if os.access(IN_MEMORY, os.W_OK) and shutil.disk_usage(IN_MEMORY).free > 3 * size + (1 << 20) else beside
+    memory = replay.in_memory()
+    folder = memory if memory and shutil.disk_usage(memory).free > 3 * size + (1 << 20) else beside
     return tempfile.TemporaryDirectory(prefix="alarm-replay-", dir=folder)
 
 
@@ -88,19 +90,37 @@ def replay_journal(given):
     made, program = see_new(given), program_of(given)
     with words.opened(given.site, "rb") as file:
         text = file.read()
-    options = replay.Options(given.as_if, keys_asked(given), given.octets, given.archive)
-    source = Source(given.journal, given.archive)
+    options = replay.Options(given.as_if, keys_asked(given), given.octets, given.archive, archive_search.Search(program).find)
+    source = Source(given.journal, given.archive, options.find)
     moment, size = moment_of(given, source), max(given.octets or 0, source.octets or 0)
+    is_same = source.text == text and not (given.lines or given.set)
     with work_folder(size, made.parent if made else None) as folder:
-        with replay.Run(program, given.journal, text, folder, options, given.site) as run:
-            run.catch_up()
-            outcome = run.finish(moment)
-        tell(given, outcome, made)
+        if is_same:
+            outcome, played = bring_back(program, source, folder, options, given.site)
+        else:
+            with replay.Run(program, given.journal, text, folder, options, given.site) as run:
+                run.catch_up()
+                outcome, played = run.finish(moment), run.journal
+        tell(given, outcome)
         if not given.dry_run:
-            see_room(made, run.size)
-            journal_command.write_copy(made, parts_of(run.journal))
-        tell_end(given, outcome, made)
+            see_room(made, os.path.getsize(played))
+            journal_command.write_copy(made, parts_of(played))
+        tell_end(given, outcome)
     return replay_words.status_of(outcome)
+
+
+def bring_back(program, source, folder, options, called):
+    """An unchanged history, by packets of its records as they are."""
+    site, kept = pathlib.Path(folder, "site.toml"), pathlib.Path(folder, "journal")
+    site.write_bytes(source.text)
+    replay.make_blank(kept, replay.size_of(replay.need_of(program, site, called), source, options, called))
+    with Standby(program, site, kept) as standby:
+        taken = all(standby.add(event.octets) for event in source.more()) and standby.flush()
+        if not taken:
+            raise Ends(replay.PARTED, f"the replay of {source.path} isn't {source.path}: behind event {standby.events:,} a record can't follow")
+        standby.end()
+        count = standby.events
+    return replay.Outcome([], {"kind": "end", "journal": None, "events": count, "of_journal": count, "of_change": 0, "left_out": 0, "stays": 0}), kept
 
 
 def parts_of(path):
@@ -110,11 +130,95 @@ def parts_of(path):
             yield part
 
 
-def tell(given, outcome, made):
+def tell(given, outcome):
     for line in outcome.lines:
         print(words.json_line(line) if given.json else replay_words.text_of(line))
 
 
-def tell_end(given, outcome, made):
+def tell_end(given, outcome):
     end = outcome.end | {"journal": given.new if not given.dry_run else None}
     words.put(words.json_line(end) if given.json else replay_words.text_of(end | {"source": given.journal, "called": given.new}))
+
+
+# archive
+
+
+def add_archive(commands):
+    made = words.command_of(commands, "archive", "appends the events that an archive doesn't have yet", archive_journal)
+    made.add_argument("journal", metavar="JOURNAL", help="a journal, also one in use")
+    made.add_argument("archive", metavar="ARCHIVE", help="a file that grows; it is made where it isn't there")
+    made.add_argument("--behind", metavar="OLD", help="of a new archive: the one that ended where the text changed, whose SHA-256 its head has")
+    made.add_argument("--json", action="store_true", help="as one line of JSON")
+    made.add_argument("--program", metavar="PROGRAM", help="the program, which looks for an event that came with a snapshot; as of replay")
+
+
+def archive_journal(given):
+    program = site_command.program_of(given)
+    before = sum_of(given.behind) if given.behind else None
+    with journal_command.opened(given.journal) as it:
+        it.settled()
+        text = it.header.text
+    try:
+        kept = archive.Appending(given.archive, text, before)
+    except journal.NoJournal as fault:
+        raise Ends(journal_command.REFUSED, f"{given.archive}: {fault}") from None
+    except BlockingIOError:
+        raise Ends(journal_command.BUSY, f"{given.archive} is being appended to by another one") from None
+    with kept:
+        if kept.head.text != text:
+            raise Ends(journal_command.REFUSED, f"{given.archive} is of another text than {given.journal}: begin a new one, with --behind {given.archive}")
+        found = append(given, kept, archive_search.Search(program).find if program else None)
+    told = {"archive": given.archive, "events": kept.events, "new": kept.added, "found": found, "missing": kept.missing}
+    words.put(words.json_line(told) if given.json else f"{given.archive}: {kept.events:,} events, {kept.added:,} new")
+    if kept.missing:
+        which = " and ".join(f"{first:,} to {last:,}" for first, last in kept.missing)
+        raise Ends(journal_command.REFUSED, f"events {which} are in a snapshot alone: {given.archive} has that snapshot, and goes on behind it")
+    return DONE
+
+
+def append(given, kept, find):
+    """Appends all that is new. A gap is noted with its snapshot. The numbers of the events that were found by trying."""
+    source, found = Source(given.journal, None, find), []
+    source.had = kept.events
+    source.gap = kept.add_gap
+    for event in source.more():
+        kept.add(event.number, event.octets, event.found)
+        if event.found:
+            found.append(event.number)
+            words.say(f"alarm-journal: event {event.number:,} came with a snapshot, and was {WHERE_FOUND}")
+    kept.end()
+    return found
+
+
+def is_archive(path):
+    """Whether a file is an archive; one that can't be opened ends the tool."""
+    try:
+        return archive.is_archive(path)
+    except OSError as error:
+        raise Ends(CANNOT_OPEN, f"{path}: {error.strerror}") from None
+
+
+def archived(path):
+    """The text of an archive, and each of its events with its number. What is missing, and what was found by trying, is told."""
+    with archive.Archive(path) as it:
+        for first, last in it.gaps():
+            journal_command.tell_gap(first, last)
+        return it.head.text, list_of(path)
+
+
+def list_of(path):
+    """Each event of an archive."""
+    try:
+        with archive.Archive(path) as it:
+            for event in it.events():
+                if event.found:
+                    words.say(f"alarm-journal: event {event.number:,} came with a snapshot, and was {WHERE_FOUND}")
+                yield event.number, event.record
+    except journal.NoJournal as fault:
+        raise Ends(journal_command.REFUSED, f"{path}: {fault}") from None
+
+
+def sum_of(path):
+    """The SHA-256 of a file."""
+    with words.opened(path, "rb") as file:
+        return hashlib.file_digest(file, "sha256").hexdigest()

@@ -1,7 +1,7 @@
 """The events of a site, from a journal that may be in use, from an archive, or from an archive and then a journal."""
 import os
 
-from . import archive, journal
+from . import archive, journal, snapshots
 from .archive import Event
 from .journal import NoJournal
 from .words import CANNOT_OPEN, Ends
@@ -17,10 +17,15 @@ def fault_of(path, fault):
 
 
 class Source:
-    """What has happened so far, and later what came since. `find` makes the one event that came with a snapshot alone, or gives None."""
+    """What has happened so far, and later what came since.
+
+    `find` makes the one event that came with a snapshot alone, or gives None. Where events are missing `gap` takes the number of the
+    last one and the snapshot that stands for them; without it that ends the tool.
+    """
 
     def __init__(self, path, archive_path=None, find=None):
         self.path, self.archive, self.find, self.had, self.area, self.at = str(path), archive_path, find, 0, None, 0
+        self.gap = None
         try:
             self.is_archive = archive.is_archive(path)
             self.text, self.octets = self.text_of()
@@ -76,10 +81,13 @@ class Source:
             cut, number = part._replace(place=part.place + self.at, octets=part.octets[self.at :], batches=0), self.had
         elif number > self.had:
             found = self.find(self.text, older, part) if self.find and older and number == self.had + 1 == journal.events_in(older) + 1 else None
-            if not found:
+            if not found and not self.gap:
                 raise self.missing(number)
             self.had = number
-            yield Event(number, *found, True)
+            if found:
+                yield Event(number, *found, True)
+            else:
+                self.gap(number, snapshots.of_area(part))
         for place, body in journal.batches_in(cut):
             for number, octets, record in archive.records_in(body, number + 1, place):
                 if number > self.had:
