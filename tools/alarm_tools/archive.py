@@ -5,6 +5,7 @@ and the next append begins there. An append reads the last frame alone, whose pl
 """
 import collections
 import fcntl
+import hashlib
 import json
 import os
 import pathlib
@@ -32,6 +33,12 @@ def is_archive(path):
     """Whether a file begins as an archive does."""
     with open(path, "rb") as file:
         return file.read(len(MARK)) == MARK
+
+
+def sum_of(path):
+    """The SHA-256 of a file."""
+    with open(path, "rb") as file:
+        return hashlib.file_digest(file, "sha256").hexdigest()
 
 
 def head_octets(text, before):

@@ -12,7 +12,7 @@ import pathlib
 import re
 import subprocess
 
-from . import glance, journal, names, octets, replay_lines, replay_site, replay_words
+from . import archive, glance, journal, names, octets, replay_lines, replay_site, replay_words
 from .replay_lines import asked
 from .replay_session import MOST_LINES, Session
 from .replay_source import Source
@@ -36,6 +36,7 @@ class Options:
     octets: int | None = None
     archive: str | None = None
     find: object = None
+    new_archive: str | None = None
     most_lines: int = MOST_LINES
 
 
@@ -54,11 +55,11 @@ def need_of(program, site, called):
     raise Ends(CANNOT_OPEN, f"{program} ended with {ran.returncode}: {ran.stderr.strip()}")
 
 
-def size_of(need, source, options, called):
-    """How large the new journal is to be."""
+def size_of(need, size, options, called):
+    """How large the new journal is to be: as the old one, where its size is known."""
     if options.octets is not None and options.octets < need:
         raise Ends(USAGE, f"a journal of {called} has at least {need} octets")
-    return options.octets or max(need, source.octets or 0)
+    return options.octets or max(need, size or 0)
 
 
 def in_memory():
@@ -367,6 +368,23 @@ def refusal_of(message, why):
     return why
 
 
+def texts_of(old_text, text):
+    """Both texts, read; one that the program takes and this tool can't read, as what needs TOML 1.1, ends the tool."""
+    try:
+        return replay_site.Texts(old_text, text)
+    except ValueError as fault:
+        raise Ends(UNREADABLE, f"the program takes the text, and this tool can't read it: {fault}") from None
+
+
+def see_keys(texts, take):
+    """Sees that each key whose text's value is asked for is one."""
+    for it in take - {"all"}:
+        try:
+            texts.change_of(it)
+        except ValueError as fault:
+            raise Ends(USAGE, f"--set: {fault}") from None
+
+
 class Run:
     """A replay from beginning to end, in a folder of its own. The sessions end with its block."""
 
@@ -375,7 +393,7 @@ class Run:
         self.source = Source(path, self.options.archive, self.options.find)
         self.path, self.old_text = str(path), self.source.text
         self.journal, self.copy = self.folder / "journal", self.folder / "old-journal"
-        self.sessions, self.replay, self.expected = [], None, collections.deque()
+        self.sessions, self.replay, self.kept, self.expected = [], None, None, collections.deque()
 
     def __enter__(self):
         new, old = self.folder / "new.toml", self.folder / "old.toml"
@@ -384,24 +402,32 @@ class Run:
         try:
             need = need_of(self.program, new, self.called)
             old_need = need_of(self.program, old, f"the text of {self.path}")
-            self.size = size_of(need, self.source, self.options, self.called)
+            self.size = size_of(need, self.source.octets, self.options, self.called)
             make_blank(self.journal, self.size)
             make_blank(self.copy, max(old_need, self.source.octets or 0))
-            texts = self.read_texts()
+            texts = texts_of(self.old_text, self.text)
+            see_keys(texts, self.options.take)
             for site, kept in ((old, self.copy), (new, self.journal)):
                 self.sessions.append(Session(self.program, site, kept, self.options.most_lines))
         except BaseException:
             self.close()
             raise
         self.replay, self.again = Replay(self.sessions, texts, self.options), Source(self.copy)
+        self.begin_archive()
         return self
 
-    def read_texts(self):
-        try:
-            return replay_site.Texts(self.old_text, self.text)
-        except ValueError as fault:
-            # The program takes it, as what needs TOML 1.1.
-            raise Ends(UNREADABLE, f"the program takes the text, and this tool can't read it: {fault}") from None
+    def begin_archive(self):
+        """Where an archive of the new journal is asked for, its records go there while they are made: the new journal may be folded too."""
+        if self.options.new_archive:
+            before = archive.sum_of(self.options.archive or self.path) if self.source.is_archive or self.options.archive else None
+            self.kept = archive.Appending(self.options.new_archive, self.text, before)
+            self.made = Source(self.journal, None, self.options.find)
+            self.made.gap = self.kept.add_gap
+
+    def keep(self):
+        if self.kept:
+            for event in self.made.more():
+                self.kept.add(event.number, event.octets, event.found)
 
     def catch_up(self):
         """Plays what is there now, and says how many events it was."""
@@ -435,6 +461,7 @@ class Run:
 
     def compare(self):
         """Sees that the journal of the old run has the records that the old one has, octet for octet; but for what it has only in a snapshot."""
+        self.keep()
         if not self.expected:
             return
         for number, found in self.of_old_run():
@@ -467,6 +494,9 @@ class Run:
                 it.let_go(max(it.last, moment or 0))
         for session in self.sessions:
             session.end()
+        self.keep()
+        if self.kept:
+            self.kept.end()
         with journal.Journal(self.journal) as made:
             events = 0 if made.header.blank else journal.events_in(made.settled())
         lines = list(replay_words.lines_of(it))
@@ -476,6 +506,8 @@ class Run:
     def close(self):
         for session in self.sessions:
             session.close()
+        if self.kept:
+            self.kept.file.close()
 
     def __exit__(self, *_):
         self.close()

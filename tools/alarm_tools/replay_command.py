@@ -1,12 +1,11 @@
 """The commands `replay` and `archive` of alarm-journal."""
-import hashlib
 import os
 import pathlib
 import shutil
 import tempfile
 import time
 
-from . import archive, archive_search, journal, journal_command, names, replay, replay_words, site_command, words
+from . import archive, archive_search, from_state, journal, journal_command, names, replay, replay_source, replay_words, site_command, words
 from .replay_packets import Standby
 from .replay_source import Source
 from .words import CANNOT_OPEN, DONE, Ends
@@ -26,6 +25,8 @@ def add_replay(commands):
     made.add_argument("--octets", type=int, metavar="N", help="the size of NEW (as large as JOURNAL, and as SITE needs)")
     made.add_argument("--at", metavar="MOMENT", help="the moment of the change: milliseconds, a time by the site's clock, or now (that of the last event)")
     made.add_argument("--archive", metavar="ARCHIVE", help="take from it the events that JOURNAL hasn't any more")
+    made.add_argument("--new-archive", metavar="FILE", help="keep the events of NEW in an archive of its own too, as where they are more than NEW has room for")
+    made.add_argument("--from-state", action="store_true", help="translate the state in place of playing events: for who has neither all records nor an archive")
     made.add_argument("--lines", action="store_true", help="play an unchanged history as lines too, and not as packets")
     made.add_argument("--json", action="store_true", help="each line as JSON")
     made.add_argument("--program", metavar="PROGRAM", help="the program (ALARM_SERVER_PROGRAM, else the one that was built or installed beside this tool)")
@@ -91,29 +92,58 @@ def replay_journal(given):
     with words.opened(given.site, "rb") as file:
         text = file.read()
     options = replay.Options(given.as_if, keys_asked(given), given.octets, given.archive, archive_search.Search(program).find)
-    source = Source(given.journal, given.archive, options.find)
-    moment, size = moment_of(given, source), max(given.octets or 0, source.octets or 0)
-    is_same = source.text == text and not (given.lines or given.set)
-    with work_folder(size, made.parent if made else None) as folder:
-        if is_same:
-            outcome, played = bring_back(program, source, folder, options, given.site)
-        else:
-            with replay.Run(program, given.journal, text, folder, options, given.site) as run:
-                run.catch_up()
-                outcome, played = run.finish(moment), run.journal
+    see_new_archive(given)
+    with work_folder(size_asked(given), made.parent if made else None) as folder:
+        options.new_archive = given.new_archive and os.path.join(folder, "archive")
+        outcome, played = play(given, program, text, folder, options)
         tell(given, outcome)
         if not given.dry_run:
             see_room(made, os.path.getsize(played))
             journal_command.write_copy(made, parts_of(played))
+            if options.new_archive:
+                journal_command.write_copy(pathlib.Path(given.new_archive), parts_of(options.new_archive))
         tell_end(given, outcome)
     return replay_words.status_of(outcome)
+
+
+def see_new_archive(given):
+    """Sees that the archive of the new journal may be made."""
+    if given.new_archive and given.from_state:
+        raise Ends(words.USAGE, "--new-archive wants the events, and --from-state plays none")
+    if given.new_archive and os.path.lexists(given.new_archive):
+        raise Ends(CANNOT_OPEN, f"{given.new_archive} is there already, and stays as it is")
+
+
+def size_asked(given):
+    """How large the new journal may be, as far as that is known beforehand."""
+    try:
+        return max(given.octets or 0, os.path.getsize(given.journal))
+    except OSError as error:
+        raise Ends(CANNOT_OPEN, f"{given.journal}: {error.strerror}") from None
+
+
+def play(given, program, text, folder, options):
+    """What came of it, and the new journal in a folder: by its state, by packets where the text is the very one, else by lines."""
+    if given.from_state:
+        words.say(f"alarm-journal: the state of {given.journal} is put together for {given.site} by this tool, and no event is played: docs/STANDBY.md says what is promised then")
+        try:
+            return from_state.move(program, given.journal, text, folder, options, given.site)
+        except journal.NoJournal as fault:
+            raise replay_source.fault_of(given.journal, fault) from None
+    source = Source(given.journal, given.archive, options.find)
+    if source.text == text and not (given.lines or given.set or given.new_archive):
+        return bring_back(program, source, folder, options, given.site)
+    moment = moment_of(given, source)
+    with replay.Run(program, given.journal, text, folder, options, given.site) as run:
+        run.catch_up()
+        return run.finish(moment), run.journal
 
 
 def bring_back(program, source, folder, options, called):
     """An unchanged history, by packets of its records as they are."""
     site, kept = pathlib.Path(folder, "site.toml"), pathlib.Path(folder, "journal")
     site.write_bytes(source.text)
-    replay.make_blank(kept, replay.size_of(replay.need_of(program, site, called), source, options, called))
+    replay.make_blank(kept, replay.size_of(replay.need_of(program, site, called), source.octets, options, called))
     with Standby(program, site, kept) as standby:
         taken = all(standby.add(event.octets) for event in source.more()) and standby.flush()
         if not taken:
@@ -154,7 +184,7 @@ def add_archive(commands):
 
 def archive_journal(given):
     program = site_command.program_of(given)
-    before = sum_of(given.behind) if given.behind else None
+    before = before_of(given)
     with journal_command.opened(given.journal) as it:
         it.settled()
         text = it.header.text
@@ -174,6 +204,14 @@ def archive_journal(given):
         which = " and ".join(f"{first:,} to {last:,}" for first, last in kept.missing)
         raise Ends(journal_command.REFUSED, f"events {which} are in a snapshot alone: {given.archive} has that snapshot, and goes on behind it")
     return DONE
+
+
+def before_of(given):
+    """The sum of the archive that ended where the text changed."""
+    try:
+        return archive.sum_of(given.behind) if given.behind else None
+    except OSError as error:
+        raise Ends(CANNOT_OPEN, f"{given.behind}: {error.strerror}") from None
 
 
 def append(given, kept, find):
@@ -216,9 +254,3 @@ def list_of(path):
                 yield event.number, event.record
     except journal.NoJournal as fault:
         raise Ends(journal_command.REFUSED, f"{path}: {fault}") from None
-
-
-def sum_of(path):
-    """The SHA-256 of a file."""
-    with words.opened(path, "rb") as file:
-        return hashlib.file_digest(file, "sha256").hexdigest()

@@ -14,7 +14,7 @@ def lines_of(of):
     """All that a replay has to tell."""
     told = [line for it in of.told for line in line_of(of, it)]
     if not of.options.as_if:
-        told += texts_lines(of)
+        told += texts_lines(of.texts)
     told += moves_lines(of)
     order = list(KINDS)
     yield from sorted(told, key=lambda line: order.index(line["kind"]))
@@ -78,12 +78,11 @@ def told_value(item, key, element):
     return bool(value) if found.number == octets.BOOLEAN else plain_value(item["object"], found.number, value)
 
 
-def texts_lines(of):
-    """What the texts have differently: what holds for the past too, and what is there or gone from now on."""
-    texts = of.texts
+def texts_lines(texts, is_state=False):
+    """What the texts have differently: what holds for the past too, where events are played, and what is there or gone from now on."""
     for item, key, before, after, past in texts.others():
         row = {**texts.named(item["object"]), "key": replay_site.key_word(key, item)}
-        yield {"kind": "not-as-it-was", **row} if past else {"kind": "from-now-on", **row, "value": after, "before": before}
+        yield {"kind": "not-as-it-was", **row} if past and not is_state else {"kind": "from-now-on", **row, "value": after, "before": before}
     for which, word in ((1, "there"), (0, "gone")):
         for one in texts.alone(which):
             yield {"kind": "from-now-on", **texts.named(one), "is": word}
@@ -92,6 +91,20 @@ def texts_lines(of):
             for it in elements:
                 yield {"kind": "from-now-on", **texts.named((15, one)), "tells": tells, "recipient": replay_site.recipient(it)}
     yield from bindings_lines(texts)
+
+
+def state_lines(texts, stays):
+    """What a translation of a state has to tell: all of it is from now on, but for what was written over the network."""
+    kept = {(of, key) for of, key, _ in stays}
+    for of, key, value in stays:
+        change = texts.change_of((of, key))
+        yield {"kind": "stays", **texts.named(of), "key": replay_site.key_word(key, texts.rows[1][of]), "value": value, "event": None, "text": change.after, "before": change.before}
+    for it in texts.changed():
+        if (it.object, it.key) not in kept:
+            row = {**texts.named(it.object), "key": replay_site.key_word(it.key, texts.rows[1][it.object])}
+            yield {"kind": "from-now-on", **row, "value": it.after, "before": it.before}
+    for line in texts_lines(texts, True):
+        yield line
 
 
 def bindings_lines(texts):
