@@ -228,11 +228,12 @@ def start_case(program, of):
 
 def full_case(program, of):
     """A recipient more whom nobody answers for would fill an outbox of 64."""
-    site, kept = small(of, program, serving.device(outbox=64), serving.of_class(7), serving.tank(1, 7, name="Tank"))
+    told = serving.told_at(47001, 7, False)
+    site, kept = small(of, program, serving.device(outbox=64), serving.of_class(7), told, serving.tank(1, 7, name="Tank"))
     play(program, site, kept, [line for it in range(60) for line in (
         f"set {START + 1000 * it + 1000} integer-value:1 signed:{90 if it % 2 else 50}", f"pump {START + 1000 * it + 1000}")])
-    told = serving.told_at(47001, 7, True)
-    text = serving.site_text(serving.device(outbox=64, apdu_timeout=600_000), serving.of_class(7), told, serving.told_at(47002, 7, True), serving.tank(1, 7, name="Tank")).encode()
+    dead = serving.told_at(47002, 7, True), serving.told_at(47003, 7, True)
+    text = serving.site_text(serving.device(outbox=64, apdu_timeout=600_000), serving.of_class(7), told, *dead, serving.tank(1, 7, name="Tank")).encode()
     return lambda: not any("full" in it for it in told_in(played(program, kept, text, of / "work", as_if=True)[0]))
 
 
