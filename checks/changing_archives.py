@@ -1,13 +1,15 @@
 """The parts of checks/replay for histories that were folded: archives, and a state that is translated."""
 import json
+import random
 
 import bacnet
 import changing_reads
 import changing_replay
 import serving
 from alarm_tools import journal
-from changing_sites import START, TOOL, play
-from tooling import lines_of_json, run
+from changing_replay import run
+from changing_sites import START, TOOL, History, draw_site, play
+from tooling import lines_of_json
 
 LONG = 250
 NOTE = (40, 1)
@@ -40,7 +42,7 @@ class Writing:
         """Writes until the journal has changed its area once more."""
         before = self.area()
         while self.area() == before:
-            self.give(150)
+            self.give(100)
 
     def area(self):
         with journal.Journal(self.kept) as it:
@@ -60,6 +62,7 @@ def try_archive(told, program, folder, _):
     shown = json.loads(run("alarm-journal", "show", kept, "--json")[1])
     told.same("show of a folded journal", (shown["whole"], found.get("events")), (False, shown["events"]))
     see_again(told, program, folder, site, kept, kept_in)
+    see_report(told, program, folder)
     see_frames(told, kept, kept_in, keys)
     it.until_folded()
     it.until_folded()
@@ -89,6 +92,23 @@ def see_again(told, program, folder, site, kept, kept_in):
     document = changing_replay.document_of(site.read_bytes())
     same = status == 0 and changing_reads.read(program, site, kept, document) == changing_reads.read(program, site, folder / "again", document)
     told.want(same, f"the replay of an archive reads otherwise, or ended with {status}, {said!r}")
+
+
+def see_report(told, program, folder):
+    """The report of an archive is that of the session that made the events."""
+    of = folder / "reported"
+    of.mkdir()
+    draw = random.Random("reported")
+    it = History(program, of, draw_site(draw), draw).rounds(2, 12)
+    run("alarm-journal", "archive", it.kept, of / "archive", ALARM_SERVER_PROGRAM=program)
+    status, output, said = run("alarm-report", of / "archive", "--json", ALARM_SERVER_PROGRAM=program)
+    rows = lines_of_json(output)
+    moves, moment = [], None
+    for row in rows:
+        moment = row.get("moment", moment)
+        moves += [(moment, row["object"], row["from"], row["to"])] if row["kind"] == "change" else []
+    told.same("how the report of an archive ends", (status, said), (0, ""))
+    told.same("the moves in the report of an archive", moves, it.moves)
 
 
 def see_frames(told, kept, kept_in, keys):

@@ -10,9 +10,17 @@ import changing_reads
 import serving
 from alarm_tools import archive, journal, replay, replay_lines, replay_words, words
 from changing_sites import START, TOOL, History, change, change_nothing, draw_site, play, text_of
-from tooling import TOOLS, environment, run, words_of
+from tooling import environment, words_of
 
 TANK = (bacnet.INTEGER_VALUE, 1)
+# For how long a tool may run: long enough for a machine that has much else to do.
+SECONDS = 300
+
+
+def run(name, *given, **keys):
+    """How a tool ended: its status, its standard output and its standard error."""
+    ended = subprocess.run(words_of(name, *given), stdin=subprocess.DEVNULL, capture_output=True, timeout=SECONDS, check=False, text=True, env=environment(**keys))
+    return ended.returncode, ended.stdout, ended.stderr
 
 
 def octets_of(path):
@@ -197,7 +205,7 @@ def another_transition_case(program, of):
 def acknowledge_any(self, event):
     record, of = event.record, event.record.fields
     for side in (self.old, self.new):
-        side.put(replay_lines.asked(record.moment, replay_lines.acknowledgement(of, self.stamp(side, record))), replay.Given(event))
+        side.put(replay_lines.asked(record.moment, replay_lines.acknowledgement(of, side.stamp(record))), replay.Given(event))
 
 
 def gone_object_case(program, of):
@@ -257,7 +265,7 @@ def edit_replacing(self, event):
     record, of_class = event.record, event.record.fields["class"]
     wanted = [replay_lines.destination(it) for it in record.fields["recipients"]]
     for side in (self.old, self.new):
-        for request in replay_lines.edits(of_class, self.list_now(side, record.moment, of_class), wanted):
+        for request in replay_lines.edits(of_class, side.list_now(record.moment, of_class), wanted):
             side.put(replay_lines.asked(record.moment, request), replay.Given(event))
 
 
@@ -332,7 +340,7 @@ def see_there_and_back(told, program, folder, site, kept):
 def try_kills(told, program, folder, _):
     """A replay that is killed leaves no new journal, or the whole one; and the next one makes it."""
     site, kept = small(folder, program, *sections())
-    play(program, site, kept, [f"set {START + 1000 + it} integer-value:1 signed:{it % 100}" for it in range(1500)])
+    play(program, site, kept, [f"set {START + 1000 + it} integer-value:1 signed:{it % 100}" for it in range(300)])
     changed, new, before = folder / "changed.toml", folder / "new", kept.read_bytes()
     changed.write_bytes(site.read_bytes().replace(b"deadband = 5", b"deadband = 4"))
     seen = collections.Counter()
@@ -343,7 +351,7 @@ def try_kills(told, program, folder, _):
         child.wait()
         seen[new.exists()] += 1
         if new.exists():
-            told.want(serving.events_in(program, changed, new) >= 1500, "a journal of a replay that was killed isn't whole")
+            told.want(serving.events_in(program, changed, new) >= 300, "a journal of a replay that was killed isn't whole")
             new.unlink()
     status, output, said = run("alarm-journal", "replay", kept, changed, new, ALARM_SERVER_PROGRAM=program)
     told.want(status == 0 and new.exists(), f"behind the kills: {status}, {output[-200:]}, {said}")

@@ -12,15 +12,17 @@ from .zone import moment_from
 REFUSED, BUSY, AHEAD = 8, 75, 9
 WHAT = """\
 Reads a journal of the alarm server. It never writes to it, and a server or a session may run on it meanwhile: what it
-tells is as the journal stood at one moment.
+tells is as the journal stood at one moment. What replay, archive and copy make are files of their own.
 
 A journal holds the events since its last snapshot, and those before it as long as the area that isn't in use still has them."""
 STATUSES = [
     (0, "done"),
     (1, "a file can't be opened, or a copy can't be written"),
     (2, "the words are none that it knows"),
-    (8, "it is no journal, or what stands in it can't be there: the text names the octet"),
-    (9, "show --limit: the last event is further ahead of the clock"),
+    (3, "replay: SITE is no site"),
+    (4, "replay: done, and some of it was left out, or stays as it was written"),
+    (8, "it is no journal, or what stands in it can't be there: the text names the octet. replay: its first events are gone. archive: events are missing"),
+    (9, "show --limit: the last event is further ahead of the clock. replay: the old text didn't make the old journal again"),
     (75, "the journal changed each time while it was read: try again"),
 ]
 EXAMPLES = [
@@ -28,6 +30,8 @@ EXAMPLES = [
     ("alarm-journal events journal --since 12h --object integer-value:1", "what happened to an object in the last twelve hours"),
     ("alarm-journal copy journal backup", "a copy, also while the server runs"),
     ("alarm-journal site journal > the-text-of-it.toml", "the site's text that it was made for"),
+    ("alarm-journal replay journal changed.toml new-journal --dry-run", "what a changed text of the site would change"),
+    ("alarm-journal archive journal archive", "appends what is new to a file that has all events"),
     ("alarm-journal show --limit 60 journal", "before a start: ends with 9 where the last event is over a minute ahead"),
 ]
 UNTIL_THEN = "until the clock has passed it no delay passes and nothing is sent again"

@@ -94,6 +94,30 @@ class Side:
         self.take(before)
         return message
 
+    def stamp(self, record):
+        """The time stamp of a transition, as the program has it now."""
+        of = record.fields
+        message = self.ask(record.moment, octets.read_property(0, of["object"], replay_lines.EVENT_TIME_STAMPS, of["transition"] + 1))
+        if message.kind != "complex-ack":
+            raise Ends(PARTED, f"{names.object_text(of['object'])} has no time stamps")
+        return octets.stamp_in(octets.elements(message.parameters)[-1].content[0])
+
+    def list_now(self, moment, of_class):
+        """The list of a class as elements, or None where there is no such class."""
+        message = self.ask(moment, octets.read_property(0, (15, of_class), octets.RECIPIENT_LIST))
+        if message.kind != "complex-ack":
+            return None
+        return [octets.destination(it) for it in octets.destinations_of(octets.values_read(message)[3])]
+
+    def lines(self, record):
+        """The line of a record that was made here, or where another hand made it the lines."""
+        if record.act == 4:
+            return [asked(record.moment, replay_lines.acknowledgement(record.fields, self.stamp(record)))]
+        if record.act == 7:
+            wanted, of_class = [replay_lines.destination(it) for it in record.fields["recipients"]], record.fields["class"]
+            return [asked(record.moment, it) for it in replay_lines.edits(of_class, self.list_now(record.moment, of_class) or [], wanted)]
+        return [replay_lines.plain(record)]
+
     def take(self, blocks):
         # The session may have begun anew, and then it counts its lines anew.
         for number, block in blocks.items():
@@ -221,38 +245,23 @@ class Replay:
     def acknowledge(self, event):
         """It is carried only for the very transition that somebody acknowledged."""
         record, of = event.record, event.record.fields
-        self.old.put(asked(record.moment, replay_lines.acknowledgement(of, self.stamp(self.old, record))), Given(event))
+        self.old.put(asked(record.moment, replay_lines.acknowledgement(of, self.old.stamp(record))), Given(event))
         self.settle()
         key = names.object_text(of["object"]), of["transition"]
         there, here = self.old.stood.get(key), self.new.stood.get(key)
         if there != here:
             self.tell_left(Given(event), "another transition" if here else "no such transition")
             return
-        self.new.put(asked(record.moment, replay_lines.acknowledgement(of, self.stamp(self.new, record))), Given(event))
-
-    def stamp(self, side, record):
-        """The time stamp of a transition, as the program has it now."""
-        of = record.fields
-        message = side.ask(record.moment, octets.read_property(0, of["object"], replay_lines.EVENT_TIME_STAMPS, of["transition"] + 1))
-        if message.kind != "complex-ack":
-            raise Ends(PARTED, f"at event {self.number:,} {names.object_text(of['object'])} has no time stamps")
-        return octets.stamp_in(octets.elements(message.parameters)[-1].content[0])
-
-    def list_now(self, side, moment, of_class):
-        """The list of a class as elements, or None where there is no such class."""
-        message = side.ask(moment, octets.read_property(0, (15, of_class), octets.RECIPIENT_LIST))
-        if message.kind != "complex-ack":
-            return None
-        return [octets.destination(it) for it in octets.destinations_of(octets.values_read(message)[3])]
+        self.new.put(asked(record.moment, replay_lines.acknowledgement(of, self.new.stamp(record))), Given(event))
 
     def edit(self, event):
         """One request made the record, so one of both makes it again; the new text's list gets the same change."""
         record, of_class = event.record, event.record.fields["class"]
         wanted = [replay_lines.destination(it) for it in record.fields["recipients"]]
-        before = self.list_now(self.old, record.moment, of_class)
+        before = self.old.list_now(record.moment, of_class)
         for request in replay_lines.edits(of_class, before, wanted):
             self.old.put(asked(record.moment, request), Given(event))
-        here = self.list_now(self.new, record.moment, of_class)
+        here = self.new.list_now(record.moment, of_class)
         if here is None:
             self.tell_left(Given(event), "unknown-object")
             return
@@ -330,7 +339,7 @@ class Replay:
         for of, elements in self.texts.list_changes(1):
             self.request(moment, replay_lines.edit(octets.ADD_LIST_ELEMENT, of, elements), ((15, of), elements))
         for of, elements in self.texts.list_changes(0):
-            here = self.list_now(self.new, moment, of)
+            here = self.new.list_now(moment, of)
             left = [it for it in elements if it in here]
             if left:
                 self.request(moment, replay_lines.edit(octets.REMOVE_LIST_ELEMENT, of, left), ((15, of), left))
