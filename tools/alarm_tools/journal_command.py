@@ -4,7 +4,7 @@ import pathlib
 import sys
 import time
 
-from . import glance, journal, names, same, site_text, words
+from . import glance, journal, names, replay_command, same, site_text, words
 from .journal import NoJournal
 from .words import CANNOT_OPEN, DONE, Ends
 from .zone import moment_from
@@ -12,15 +12,17 @@ from .zone import moment_from
 REFUSED, BUSY, AHEAD = 8, 75, 9
 WHAT = """\
 Reads a journal of the alarm server. It never writes to it, and a server or a session may run on it meanwhile: what it
-tells is as the journal stood at one moment.
+tells is as the journal stood at one moment. What replay, archive and copy make are files of their own.
 
 A journal holds the events since its last snapshot, and those before it as long as the area that isn't in use still has them."""
 STATUSES = [
     (0, "done"),
     (1, "a file can't be opened, or a copy can't be written"),
     (2, "the words are none that it knows"),
-    (8, "it is no journal, or what stands in it can't be there: the text names the octet"),
-    (9, "show --limit: the last event is further ahead of the clock"),
+    (3, "replay: SITE is no site"),
+    (4, "replay: done, and some of it was left out, or stays as it was written"),
+    (8, "it is no journal, or what stands in it can't be there: the text names the octet. replay: its first events are gone. archive: events are missing"),
+    (9, "show --limit: the last event is further ahead of the clock. replay: the old text didn't make the old journal again"),
     (10, "same: the two have parted; the text names the first event that differs"),
     (11, "same: the two have different texts of the site"),
     (12, "same: it can't be told, since they share no record"),
@@ -32,6 +34,8 @@ EXAMPLES = [
     ("alarm-journal copy journal backup", "a copy, also while the server runs"),
     ("alarm-journal same journal standby", "whether two journals are of one history, or where they part"),
     ("alarm-journal site journal > the-text-of-it.toml", "the site's text that it was made for"),
+    ("alarm-journal replay journal changed.toml new-journal --dry-run", "what a changed text of the site would change"),
+    ("alarm-journal archive journal archive", "appends what is new to a file that has all events"),
     ("alarm-journal show --limit 60 journal", "before a start: ends with 9 where the last event is over a minute ahead"),
 ]
 UNTIL_THEN = "until the clock has passed it no delay passes and nothing is sent again"
@@ -57,6 +61,8 @@ def parser():
     for command in (show, events, check, copy, site):
         command.add_argument("journal", metavar="JOURNAL")
     copy.add_argument("copy", metavar="COPY", help="a file that isn't there yet")
+    replay_command.add_replay(commands)
+    replay_command.add_archive(commands)
     for command in (show, check, copy):
         command.add_argument("--json", action="store_true", help="as one line of JSON")
     same.add_commands(commands, opened)
@@ -90,7 +96,7 @@ class opened:
 # show
 
 
-def told_of(it, area):
+def told_of(it, older, area):
     """What `show` tells of a journal, by name."""
     view = glance.glance(it.header.text)
     events, last = journal.events_in(area), journal.last_of(area)
@@ -98,9 +104,20 @@ def told_of(it, area):
         "journal": it.path, "octets": it.size, "device": view.device, "name": view.names.get((8, view.device)),
         "text_octets": len(it.header.text), "events": events, "area": "AB"[area.number],
         "snapshot_events": area.snapshot.events, "snapshot_octets": area.snapshot.length, "records": events - area.snapshot.events,
-        "area_octets": it.header.area_octets, "room_left": it.header.area_octets - len(area.octets), "last_moment": last,
+        "first_record": first_record(older, area), "whole": is_whole(older, area), "area_octets": it.header.area_octets, "room_left": it.header.area_octets - len(area.octets), "last_moment": last,
         "last_time": None if last is None else view.zone.text(last), "seconds_ahead": None if last is None else round(last / 1000 - time.time(), 3),
     }
+
+
+def first_record(older, area):
+    """The number of the first event that a record tells, or None where none does."""
+    first = (older or area).snapshot.events + 1
+    return first if first <= journal.events_in(area) else None
+
+
+def is_whole(older, area):
+    """Whether the journal has the record of each event, from the first one on."""
+    return (older or area).snapshot.events == 0 and (older is None or journal.events_in(older) == area.snapshot.events)
 
 
 def show_journal(given):
@@ -109,7 +126,7 @@ def show_journal(given):
             words.put(words.json_line({"journal": given.journal, "octets": it.size, "blank": True}) if given.json else
                       f"{given.journal}: {words.octets_text(it.size)}, blank: nothing was kept in it yet")
             return DONE
-        view, told = told_of(it, it.settled())
+        view, told = told_of(it, *it.history())
     if given.json:
         words.put(words.json_line(told))
     else:
@@ -127,6 +144,7 @@ def lines_of(told, view):
     yield f"site        {of_site}, a text of {told['text_octets']:,} octets"
     before = f"{told['snapshot_events']:,} in a snapshot of {words.octets_text(told['snapshot_octets'])}, " if told["snapshot_octets"] else ""
     yield f"events      {told['events']:,}: {before}{told['records']:,} behind it" if before else f"events      {told['events']:,}, and no snapshot yet"
+    yield whole_text(told)
     yield f"room left   {told['room_left']:,} of the {told['area_octets']:,} octets of area {told['area']}; when it is full, a snapshot goes into the other one"
     if told["last_moment"] is None:
         yield "last event  none"
@@ -136,23 +154,41 @@ def lines_of(told, view):
     yield f"last event  {view.zone.text(told['last_moment'])}, {against}"
 
 
+def whole_text(told):
+    """Whether the journal is its whole history, for people."""
+    if told["whole"]:
+        return "whole       yes: each event has its record"
+    first = "no event has" if told["first_record"] is None else f"only those from event {told['first_record']:,} on have"
+    return f"whole       no: {first} a record, and what came before is in a snapshot alone"
+
+
 # events
 
 
 def show_events(given):
-    with opened(given.journal) as it:
-        older, area = it.history()
-        view = glance.glance(it.header.text)
+    if replay_command.is_archive(given.journal):
+        text, rows = replay_command.archived(given.journal)
+    else:
+        text, rows = kept_events(given.journal)
+    view = glance.glance(text)
     wanted = None if given.object is None else object_wanted(given.object)
     since = since_of(given.since, view)
+    for number, record in rows:
+        if (since is None or record.moment >= since) and (wanted is None or record.fields.get("object") == wanted):
+            event = event_of(number, record, view)
+            words.put(event_text(event) if given.text else words.json_line(event))
+    return DONE
+
+
+def kept_events(path):
+    """The text of a journal, and each event that a record tells, with its number."""
+    with opened(path) as it:
+        older, area = it.history()
+        text = it.header.text
     if older:
         tell_gap(journal.events_in(older) + 1, area.snapshot.events)
-    for part in filter(None, (older, area)):
-        for number, record in enumerate(records_of(part, given.journal), part.snapshot.events + 1):
-            if (since is None or record.moment >= since) and (wanted is None or record.fields.get("object") == wanted):
-                event = event_of(number, record, view)
-                words.put(event_text(event) if given.text else words.json_line(event))
-    return DONE
+    parts = filter(None, (older, area))
+    return text, (row for part in parts for row in enumerate(records_of(part, path), part.snapshot.events + 1))
 
 
 def tell_gap(first, last):

@@ -2,7 +2,7 @@
 import pathlib
 import sys
 
-from . import drawing, glance, names, report, words
+from . import archive, drawing, glance, names, replay_report, report, site_command, words
 from .words import CANNOT_OPEN, DONE, Ends
 from .zone import Zone
 
@@ -19,18 +19,20 @@ STATUSES = [
 EXAMPLES = [
     ("alarm-server session site.toml journal < lines | alarm-report --site site.toml", "a session in words"),
     ("alarm-report --site site.toml --script lines --svg states.svg report", "with what each line said, and a picture of the states"),
+    ("alarm-report --brief archive", "an archive of alarm-journal, whose events are played once more"),
 ]
 
 
 def parser():
     made = words.parser_of("alarm-report", WHAT, STATUSES, EXAMPLES)
-    made.add_argument("report", metavar="REPORT", nargs="?", default="-", help="a file; standard input without it")
+    made.add_argument("report", metavar="REPORT", nargs="?", default="-", help="a file, which may be an archive of alarm-journal; standard input without it")
     made.add_argument("--site", metavar="SITE", help="take names and the clock from a site's text (UTC, and no names)")
     made.add_argument("--script", metavar="SCRIPT", help="the script that was played")
     made.add_argument("--svg", metavar="FILE", help="draw the timeline into a file")
     made.add_argument("--width", type=int, default=100, metavar="COLUMNS", help="of the timeline as text; 0 leaves it out (%(default)s)")
     made.add_argument("--brief", action="store_true", help="leave out lines that moved, sent and refused nothing")
     made.add_argument("--json", action="store_true", help="a line of JSON for each line of the report, and no timeline")
+    made.add_argument("--program", metavar="PROGRAM", help="the program that plays an archive (ALARM_SERVER_PROGRAM, else the one that was built or installed beside this tool)")
     made.set_defaults(call=tell)
     return made
 
@@ -151,7 +153,7 @@ def worth_telling(lines):
 def tell(given):
     teller, lines, fault = Teller(given), [], None
     script = words.opened(given.script, encoding="utf-8", errors="replace") if given.script else None
-    file = sys.stdin if given.report == "-" else words.opened(given.report, encoding="utf-8", errors="replace")
+    file = lines_of_archive(given, teller) or (sys.stdin if given.report == "-" else words.opened(given.report, encoding="utf-8", errors="replace"))
     try:
         kept = keeping(lines, report.lines_of(file, script))
         for line in worth_telling(kept) if given.brief else kept:
@@ -170,6 +172,22 @@ def tell(given):
     if fault:
         raise Ends(UNREADABLE, str(fault))
     return DONE
+
+
+def lines_of_archive(given, teller):
+    """The lines of the report of an archive, whose events the program plays once more; None where REPORT is another file."""
+    if given.report == "-":
+        return None
+    with words.opened(given.report, "rb") as file:
+        if file.read(len(archive.MARK)) != archive.MARK:
+            return None
+    program = site_command.program_of(given)
+    if program is None:
+        raise Ends(CANNOT_OPEN, "there is no program, which plays the archive: build or install it, or name it by --program")
+    told = replay_report.Told(program, given.report)
+    view = glance.glance(told.source.text)
+    teller.names, teller.zone, teller.script = view.names, view.zone, told.script
+    return told.lines()
 
 
 def draw(path, changes, bounds, teller):

@@ -116,6 +116,11 @@ def put(line):
     sys.stdout.flush()
 
 
+def say(line):
+    """Writes a line on standard error."""
+    print(line, file=sys.stderr)
+
+
 def length_text(seconds):
     """A length of time as people say it: 5 s, 12 min, 3 h 20 min, 4 d 2 h."""
     seconds = int(seconds)
