@@ -11,15 +11,18 @@ import threading
 import time
 
 import serving
+import tooling
 
 TOP = pathlib.Path(__file__).resolve().parent.parent
 sys.path.insert(0, str(TOP / "tools"))
 from alarm_tools import journal, octets
 
-SECONDS = 90
+# For how long a command is awaited: on a busy machine each takes long.
+SECONDS = 300
 START = 1_780_000_000_000
 COUNTER = (48, 3)
 PRESENT_VALUE = 85
+MAKING = threading.Lock()
 # The class that tells a desk which confirms and a pager which is dead, the one that tells a screen, and the one that tells nobody.
 VITAL, TECHNICAL, HOUSE = 1, 2, 3
 
@@ -100,7 +103,6 @@ RESTART = """#!/bin/sh
 # Ends the server and begins it, as systemd does with the unit.
 cd "$(dirname "$0")" || exit 1
 { kill "$(cat pid)"; } 2> /dev/null
-while [ -e "/proc/$(cat pid)" ]; do sleep 0.005; done
 flock --timeout 60 state/current/journal true
 . ./begin
 """
@@ -113,14 +115,14 @@ while ! grep -q '^listening' errors; do [ -e "/proc/$(cat pid)" ] || exit 1; sle
 """
 # Stands before libexec/change: it kills the one who prepares, or the one who finishes, at a step whose name stands in the file `kill`.
 KILLING = """#!/usr/bin/env python3
-import os, pathlib, signal, sys
+import os, pathlib, signal, sys, time
 HERE = pathlib.Path(__file__).resolve().parent
 sys.path[:0] = [str(HERE.parent.parent / "lib" / "alarm-server")]
 from alarm_tools import change, change_command, place
 seen = HERE.parent.parent
 def passed(step):
     with open(seen / "steps", "a") as file:
-        file.write(step + "\\n")
+        file.write(f"{step} {time.monotonic():.3f}\\n")
     try:
         found = (seen / "kill").read_text()
     except OSError:
@@ -201,12 +203,19 @@ class Unit:
             raise ValueError(f"alarm-client {' '.join(map(str, words))} ended with {status}: {told[-300:]}")
         return [json.loads(line) for line in told.splitlines()] if "--json" in words else told
 
+    def asks(self, *lines):
+        """What alarm-client tells for each of several lines of words, which one process does in turn."""
+        told = tooling.run_many("client_command", [[*line, "--to", f"{serving.HOST}:{self.port}", "--retries", "15"] for line in lines])
+        if bad := [(line, it) for line, it in zip(lines, told) if it[0]]:
+            raise ValueError(f"alarm-client {bad[0]}")
+        return [it[1] for it in told]
+
     def text(self):
         return (self.state / "current" / "site.toml").read_text(encoding="utf-8")
 
     def steps(self):
         found = self.folder / "steps"
-        return found.read_text(encoding="utf-8").split("\n")[:-1] if found.exists() else []
+        return [line.rsplit(" ", 1)[0] for line in found.read_text(encoding="utf-8").splitlines()] if found.exists() else []
 
     def __enter__(self):
         return self
@@ -220,13 +229,25 @@ def ward(folder, program, events=0, tools=None):
     unit = Unit(folder, program, tools)
     unit.desk = socket.socket(socket.AF_INET, socket.SOCK_DGRAM)
     unit.desk.bind((serving.HOST, 0))
-    unit.dead = serving.free_port()
-    unit.site.write_text(ward_text(unit.desk.getsockname()[1], unit.dead), encoding="utf-8")
-    size = ["4000000"] if events > 20_000 else []
-    status, said = unit.run("alarm-server", "new-journal", unit.site, unit.state / "journal", *size)
+    unit.site.write_text(ward_text(unit.desk.getsockname()[1], serving.free_port()), encoding="utf-8")
+    status, said = unit.run("alarm-server", "new-journal", unit.site, unit.state / "journal")
     if status:
         raise ValueError(said)
     unit.play(past(events))
+    return unit
+
+
+def lonely_ward(folder, program, made):
+    """The same, whose recipients are all dead; its two files are copies of those in a folder, and are made there where they aren't yet."""
+    unit = Unit(folder, program)
+    with MAKING:
+        if not (made / "journal").exists():
+            first = ward(made / "first", program)
+            first.desk.close()
+            shutil.copy2(first.site, made / "site.toml")
+            os.replace(first.state / "journal", made / "journal")
+    shutil.copy2(made / "site.toml", unit.site)
+    shutil.copy2(made / "journal", unit.state / "journal")
     return unit
 
 
@@ -261,7 +282,7 @@ class Desk:
 class Writer:
     """Writes ever greater numbers to the ward's counter, each until it is answered, in a block. It knows for how long nobody answered."""
 
-    def __init__(self, unit, pause=0.02):
+    def __init__(self, unit, pause=0.1):
         self.unit, self.pause, self.answered, self.longest, self.stops = unit, pause, [], 0.0, False
         self.thread = threading.Thread(target=self.write, daemon=True)
 

@@ -25,7 +25,7 @@ GIVEN_UP, WRONG = 75, 9
 # For how many seconds the one who finishes waits for an answer, and the one who prepares for the server's end; how often both look.
 MOST, RESTART, LOOK = 60, 180, 0.005
 # For how long another one may have the lock that prepares, as where he only looks.
-PATIENCE = 2
+PATIENCE = 10
 # A round that takes less is short enough to be played while nobody is served.
 SHORT = 0.3
 
@@ -147,15 +147,18 @@ class Preparing:
                 raise Ends(GIVEN_UP, "another change is on its way: nothing was changed")
             time.sleep(LOOK)
         self.lock = lock
-        clean(self.place)
-        self.place.clear()
+        self.clear()
         return self
+
+    def clear(self):
+        """Removes what was begun and isn't in force, if whoever finishes isn't at it."""
+        if is_free(self.place.folder / ENDED):
+            clean(self.place)
+            self.place.clear()
 
     def __exit__(self, *_):
         try:
-            if is_free(self.place.folder / ENDED):  # Else whoever finishes may be at it.
-                clean(self.place)
-                self.place.clear()
+            self.clear()
         finally:
             os.close(self.lock)
 

@@ -1,10 +1,11 @@
 """alarm-server change: brings a changed site into force, with all that happened, and ends the server for the last of it alone."""
 import argparse
 import os
+import pathlib
 import sys
 import time
 
-from . import change, glance, journal, names, words
+from . import change, glance, journal, words
 from .change import WRONG, Preparing
 from .place import FOLDER, JOURNAL, SITE, Place, as_owner, passed, text_of
 from .words import CANNOT_OPEN, DONE, USAGE, Ends
@@ -43,6 +44,7 @@ def parser():
     made.add_argument("--forget", action="store_true", help="with --back: also its journal as it was, without what happened since")
     made.add_argument("--set", action="append", default=[], metavar="KIND:INSTANCE.KEY", help="the text's value of a key that was written over the network; all: of each")
     made.add_argument("--octets", type=int, metavar="N", help="the size of the new journal; else as large as that in force, and as SITE needs")
+    made.add_argument("--archive", metavar="ARCHIVE", help="take from it the events that the journal hasn't any more (alarm-journal archive)")
     made.add_argument("--finish", action="store_true", help="before a server begins, as its unit does: finish or give up what was begun")
     made.add_argument("--folder", default=FOLDER, help="the server's folder (%(default)s)")
     made.add_argument("--site", default=SITE, metavar="FILE", help="where the text in force is linked (%(default)s)")
@@ -137,39 +139,68 @@ class Bringing:
         return self.play(text)
 
     def play(self, text):
-        from . import replay, replay_words
+        """Brings a text into force behind all that happened under the one before."""
+        from . import archive_search, replay, replay_command, replay_words
 
-        self.words_of = replay_words
+        kept = self.place.current / JOURNAL
+        self.words_of, find = replay_words, archive_search.Search(self.given.program).find
+        options = replay.Options(take=replay_command.keys_asked(self.given), octets=self.given.octets, archive=self.given.archive, find=find)
+        called = self.given.text or "the text before"
         with Preparing(self.place) as preparing:
-            options = replay.Options(as_if=False, take=keys_of(self.given.set), octets=self.given.octets)
-            size = (self.place.current / JOURNAL).stat().st_size
-            arguments = self.given.program, self.place.current / JOURNAL, text, preparing.room(4 * size), options
-            with replay.Run(*arguments) as run:
-                run.catch_up()
-                self.tell(run.finish(now()))
-            if self.given.dry_run:
-                return None
-            self.ask()
-            change.clean(self.place)
-            with replay.Run(*arguments[:3], preparing.room(4 * size), options) as run:
+            if text_of(kept) is None:
+                return self.begin_anew(text, replay.need_of, preparing)
+            size = 4 * max(kept.stat().st_size, self.given.octets or 0)
+            if not self.given.yes or self.given.dry_run:
+                with replay.Run(self.given.program, kept, text, preparing.room(size), options, called) as run:
+                    run.catch_up()
+                    self.tell(run.finish(now()))
+                if self.given.dry_run:
+                    return None
+                self.ask()
+                preparing.clear()
+            with replay.Run(self.given.program, kept, text, preparing.room(size), options, called) as run:
                 return self.put_in_force(run, text)
+
+    def begin_anew(self, text, need_of, preparing):
+        """Where nothing was kept yet there is nothing to be played."""
+        work = pathlib.Path(preparing.room(1 << 20), "site.toml")
+        work.write_bytes(text)
+        size = max(need_of(self.given.program, work, self.given.text), self.given.octets or 0)
+        print(f"{self.place.current}: the journal is blank, so a blank one of {words.octets_text(size)} takes its place")
+        if self.given.dry_run:
+            return None
+        self.ask()
+        made = self.place.make(text)
+        with open(os.open(self.place.folder / made / JOURNAL, os.O_WRONLY | os.O_CREAT, 0o600), "wb") as file:
+            file.writelines(journal.zeros(size))
+            file.flush()
+            os.fsync(file.fileno())
+
+        def ready():
+            if text_of(self.place.current / JOURNAL) is not None:
+                raise Ends(change.GIVEN_UP, "something was kept in the meantime: say it again")
+            self.place.sync(made)
+            return made
+
+        name, seconds = change.put_in_force(self.place, ready, self.given.restart)
+        print(f"{self.place.folder / name} is in force; the server was away for {seconds:.2f} s at most")
+        return name
 
     def tell(self, outcome):
         """What will change, and what was left out."""
         print(f"{self.place.current} -> {self.place.name()}: {device_of(self.place.text())}, {outcome.end['of_journal']:,} events")
-        for line in self.lines(outcome):
-            print(f"  {line}")
+        self.tell_lines(outcome)
         if not self.told:
             print("  nothing of what is served changes")
         self.given.status = self.words_of.status_of(outcome) if self.given.dry_run else DONE
         sys.stdout.flush()
 
-    def lines(self, outcome):
+    def tell_lines(self, outcome):
         """The lines that weren't told yet."""
         for it in map(self.words_of.text_of, outcome.lines):
             if it not in self.told:
                 self.told.add(it)
-                yield it
+                print(f"  {it}")
 
     def ask(self):
         if self.given.yes:
@@ -206,8 +237,7 @@ class Bringing:
         return self.done(*change.put_in_force(self.place, ready, self.given.restart), outcomes[0])
 
     def done(self, name, seconds, outcome):
-        for line in self.lines(outcome):
-            print(f"  {line}")
+        self.tell_lines(outcome)
         end = outcome.end
         print(f"{self.place.folder / name} is in force: {end['events']:,} events, {end['of_journal']:,} that happened and {end['of_change']:,} of the change; the server was away for {seconds:.2f} s at most")
         print(f"{self.place.folder / (self.place.name_before() or '')} is kept as it was; alarm-server change --back brings its text back")
@@ -228,20 +258,6 @@ class Bringing:
 
 def now():
     return int(time.time() * 1000)
-
-
-def keys_of(given):
-    """The keys of --set: {"all"}, or pairs of an object and a key."""
-    found = set()
-    for it in given:
-        of, _, key = it.partition(".")
-        try:
-            found.add("all" if it == "all" else (names.object_from(of), key))
-        except ValueError as error:
-            raise Ends(USAGE, f"--set {it}: {error}") from None
-        if it != "all" and not key:
-            raise Ends(USAGE, f"--set {it}: KIND:INSTANCE.KEY is wanted, or all")
-    return frozenset(found)
 
 
 def device_of(text):
