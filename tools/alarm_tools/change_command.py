@@ -73,7 +73,7 @@ def finish(place):
         for line in change.finish(place):
             say(line)
     except PermissionError as error:
-        raise Ends(CANNOT_OPEN, f"{error.filename}: {error.strerror} (this is user {os.geteuid()})") from None
+        raise Ends(CANNOT_OPEN, f"{error.filename}: {error.strerror}: it has to belong to whom {place.folder} belongs to (chown)") from None
     return DONE
 
 
