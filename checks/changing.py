@@ -237,9 +237,9 @@ def ward(folder, program, events=0, tools=None):
     return unit
 
 
-def lonely_ward(folder, program, made):
+def lonely_ward(folder, program, made, tools=None):
     """The same, whose recipients are all dead; its two files are copies of those in a folder, and are made there where they aren't yet."""
-    unit = Unit(folder, program)
+    unit = Unit(folder, program, tools)
     with MAKING:
         if not (made / "journal").exists():
             first = ward(made / "first", program)

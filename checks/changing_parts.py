@@ -4,10 +4,13 @@ import os
 import pty
 import random
 import re
+import shutil
 import subprocess
 import time
 
 import changing
+import serving
+import tooling
 from changing import HOUSE, IN_ALARM, TECHNICAL, THIRTEENTH, TOP, VITAL, Desk, Writer, lonely_ward, missing, ward
 
 # The steps of whoever prepares, in their order, and those of whoever finishes.
@@ -72,10 +75,10 @@ def see_replaced(told, unit, kept):
     told.same("the journal's old place behind that", os.readlink(unit.state / "journal"), "current/journal")
 
 
-def try_taking_in(told, program, folder):
+def try_taking_in(told, program, folder, tools=None, steps=TAKING_IN):
     """Killed at each of its steps, the next start takes in the two files all the same."""
-    for step in TAKING_IN:
-        with lonely_ward(folder / step.replace(" ", "-"), program, folder) as unit:
+    for step in steps:
+        with lonely_ward(folder / step.replace(" ", "-"), program, folder, tools) as unit:
             (unit.folder / "kill").write_text(step, encoding="utf-8")
             kept = unit.state / "journal"
             first = kept.read_bytes()
@@ -285,6 +288,28 @@ def try_blank(told, program, folder):
         see_tidy(told, unit, "behind a unit that doesn't finish")
 
 
+def try_late(told, program, folder, tools=None):
+    """What was made ready for another start than this one isn't put in force: events may have come since."""
+    with lonely_ward(folder / "unit", program, folder, tools) as unit:
+        unit.change("--finish")
+        shutil.copytree(unit.state / "site.1", unit.state / "site.2")
+        for name, text in (("site.2/making", ""), ("change.prepared", ""), ("change.ready", "another site.2\n")):
+            (unit.state / name).write_text(text, encoding="utf-8")
+        with subprocess.Popen(["flock", unit.state / "change.lock", "cat"], stdin=subprocess.PIPE) as lives:
+            while subprocess.run(["flock", "--nonblock", unit.state / "change.lock", "true"], check=False).returncode == 0:
+                time.sleep(0.02)
+            command = [unit.folder / "bin" / "alarm-server", "change", "--finish", "--folder", "state", "--site", "etc/site.toml"]
+            with subprocess.Popen(command, cwd=unit.folder, env=unit.environment, stderr=subprocess.DEVNULL) as finishing:
+                told.want(tooling.until(lambda: "asked" in unit.steps(), changing.SECONDS), "nobody was asked for what was prepared")
+                time.sleep(0.2)
+                told.same("the folder in force while another word is answered", os.readlink(unit.state / "current"), "site.1")
+                lives.stdin.close()
+                told.same("the end of who finishes", finishing.wait(changing.SECONDS), 0)
+        told.same("the folder in force behind a change that came too late", os.readlink(unit.state / "current"), "site.1")
+        told.same("the next start", unit.change("--finish")[0], 0)
+        see_tidy(told, unit, "behind a change that came too late")
+
+
 # Kills.
 
 
@@ -373,10 +398,64 @@ def try_other_text(told, program, folder):
         told.want("alarm-server change" not in unit.run("alarm-server", "session", other, "state/journal")[1], "another device's journal is no changed text")
 
 
+# Tools that are wrong.
+
+
+class Quiet(serving.Told):
+    """What failed, unsaid."""
+
+    def want(self, holds, text):
+        self.failed += not holds
+
+
+def see_edited(told, program, folder, tools):
+    """An edit of the text in force stops no server."""
+    with lonely_ward(folder / "unit", program, folder, tools) as unit:
+        unit.change("--finish")
+        see_edits(told, unit, unit.site.read_bytes())
+
+
+def see_writes(told, program, folder, tools):
+    """A change under many writes."""
+    with lonely_ward(folder / "unit", program, folder, tools) as unit:
+        unit.begin()
+        next_text(unit)
+        with Writer(unit, 0.005) as writer:
+            told.same("a change", until_done(unit, "--yes", "next.toml")[0], 0)
+        told.same("answered, and not in the journal", missing(unit, writer.answered), [])
+
+
+# Of each its file, what stands there, what stands there in its place, and who sees it.
+WRONG = {
+    "moves the journal away before its folder is in force": (
+        "place.py", "os.link(self.old_journal, ", "os.rename(self.old_journal, ", lambda *given: try_taking_in(*given, steps=["taken in"])),
+    "takes an answer to another start": ("change.py", "found[0] == word and ", "", try_late),
+    "leaves an edited text in force": ("change.py", "edited = place.mend()", "edited = None", see_edited),
+    "plays nothing of what came last": ("change_command.py", "            run.catch_up()\n            passed(\"rest played\")", "            passed(\"rest played\")", see_writes),
+}
+
+
+def try_wrong(told, program, folder):
+    """Each tool that is wrong in one place is seen by a part that the right one passes."""
+    for number, (name, (file, old, new, call)) in enumerate(WRONG.items()):
+        tools, quiet = folder / f"wrong-{number}" / "alarm_tools", Quiet()
+        shutil.copytree(TOP / "tools" / "alarm_tools", tools, ignore=shutil.ignore_patterns("__pycache__"))
+        text = (tools / file).read_text(encoding="utf-8")
+        told.same(f"how often '{old}' stands in {file}", text.count(old), 1)
+        (tools / file).write_text(text.replace(old, new), encoding="utf-8")
+        (folder / f"of-{number}").mkdir()
+        try:
+            call(quiet, program, folder / f"of-{number}", tools)
+        except (OSError, ValueError, subprocess.SubprocessError):
+            quiet.failed += 1
+        told.want(quiet.failed, f"a tool that {name} isn't seen")
+
+
 def parts(kills, made):
     """Each part by its name. What they share is made in a folder."""
     found = {
         "ward": try_ward, "refusals": try_refusals, "folder": try_folder, "taking in": try_taking_in, "blank": try_blank, "other text": try_other_text,
+        "late": try_late, "wrong tools": try_wrong,
     }
     for number in range(kills):
         step = kill_of(number, kills)
