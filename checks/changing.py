@@ -107,11 +107,16 @@ flock --timeout 60 state/current/journal true
 . ./begin
 """
 BEGIN = """
-bin/alarm-server change --finish --folder state --site etc/site.toml 2>> finished || true
-: > errors
-setsid bin/alarm-server serve state/current/site.toml state/current/journal > served 2> errors < /dev/null &
-echo $! > pid
-while ! grep -q '^listening' errors; do [ -e "/proc/$(cat pid)" ] || exit 1; sleep 0.005; done
+begin() {
+    bin/alarm-server change --finish --folder state --site etc/site.toml 2>> finished || true
+    : > errors
+    setsid bin/alarm-server serve state/current/site.toml state/current/journal > served 2> errors < /dev/null &
+    echo $! > pid
+    while ! grep -q '^listening' errors; do [ -e "/proc/$(cat pid)" ] || return 1; sleep 0.005; done
+}
+# Again where it ends, as the unit, but not for good.
+tries=0
+until begin; do tries=$((tries + 1)); [ "$tries" -lt 5 ] || exit 1; sleep 1; done
 """
 # Stands before libexec/change: it kills the one who prepares, or the one who finishes, at a step whose name stands in the file `kill`.
 KILLING = """#!/usr/bin/env python3
@@ -288,12 +293,14 @@ class Writer:
 
     def write(self):
         asking = socket.socket(socket.AF_INET, socket.SOCK_DGRAM)
-        asking.settimeout(0.05)
         number, last = 100_000, time.monotonic()
         while not self.stops:
-            number += 1
+            number, patience = number + 1, 0.05
             request = octets.write_property(number % 256, COUNTER, PRESENT_VALUE, octets.application(2, number))
             while not self.stops:
+                # It asks less often where nobody answers, so that a slow server isn't flooded.
+                asking.settimeout(patience)
+                patience = min(2 * patience, 5)
                 try:
                     asking.sendto(request, (serving.HOST, self.unit.port))
                     answer = octets.read(asking.recvfrom(2048)[0])

@@ -241,12 +241,13 @@ def try_refusals(told, program, folder):
         first, changed = tree(unit), next_text(unit)
         bad = unit.folder / "bad.toml"
         bad.write_text(unit.text().replace("value = 420", "value = 42.0"), encoding="utf-8")
+        line = unit.text()[: unit.text().index("value = 420")].count("\n") + 1
         later = unit.folder / "later.toml"
         later.write_text(unit.text().replace(str(changing.START), "1790000000000"), encoding="utf-8")
         for what, words, wanted, text in (
             ("a dry run", ["--dry-run", changed], 0, 'is there\n'),
             ("nobody to be asked", [changed], 2, "nobody can be asked"),
-            ("no site", ["--yes", bad], 3, "bad.toml:"),
+            ("no site", ["--yes", bad], 3, f"bad.toml:{line}: site refused: bad-value object 3 value\n  \"Oxygen pressure\": "),
             ("no file", ["--yes", "nosuch.toml"], 1, "nosuch.toml: No such file"),
             ("the same text", ["--yes", "etc/site.toml"], 0, "is the text in force already"),
             ("nothing before it", ["--back", "--yes"], 1, "has nothing before it"),
@@ -354,24 +355,20 @@ def kill_somewhere(unit, number):
     command = [unit.folder / "bin" / "alarm-server", "change", "--folder", "state", "--site", "etc/site.toml", "--restart", "./restart", "--yes", "next.toml"]
     with subprocess.Popen(command, cwd=unit.folder, env=unit.environment, stdout=subprocess.DEVNULL, stderr=subprocess.DEVNULL) as run:
         # From its second run of the history on it is on its way; each of its steps may take long on a busy machine.
-        time.sleep(random.Random(number).uniform(0.2, 2.5))
+        time.sleep(random.Random(number).uniform(0.05, 1.5))
         run.kill()
     return True
 
 
 def serves(told, unit, when):
     """Somebody answers, within the time in which a server is begun."""
-    end = time.monotonic() + 60
-    while time.monotonic() < end and unit.run("alarm-client", "whois")[0]:
-        time.sleep(0.1)
-    told.want(unit.run("alarm-client", "whois")[0] == 0, f"{when}: nobody is served: {(unit.folder / 'errors').read_text(encoding='utf-8')}")
+    answers = tooling.until(lambda: unit.run("alarm-client", "whois", "--wait", "10")[0] == 0, changing.SECONDS)
+    told.want(answers, f"{when}: nobody is served: {(unit.folder / 'errors').read_text(encoding='utf-8')}")
 
 
 def again(told, unit, changed, when):
     """The same command again brings it to its end, or says that it was."""
-    end = time.monotonic() + 60
-    while (found := unit.change("--yes", "next.toml"))[0] == 75 and time.monotonic() < end:
-        time.sleep(0.1)
+    found = until_done(unit, "--yes", "next.toml")
     told.want(found[0] == 0 and unit.text() == changed.read_text(encoding="utf-8"), f"{when}: a second try ended with {found}")
     serves(told, unit, when)
 

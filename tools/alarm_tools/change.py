@@ -94,7 +94,17 @@ def between(place, seconds):
         if alone:
             clean(place)
             place.clear()
-        return [told] if told else [], edited
+    if not alone:
+        clear_if_left(place)
+    return [told] if told else [], edited
+
+
+def clear_if_left(place):
+    """Removes what somebody who prepared and was killed has left, and nothing of one who is still there."""
+    with locked(place.folder / LOCK, make=True) as alone:
+        if alone:
+            clean(place)
+            place.clear()
 
 
 def hand_over(place, seconds):

@@ -3,9 +3,10 @@ import argparse
 import os
 import pathlib
 import sys
+import tempfile
 import time
 
-from . import change, glance, journal, words
+from . import change, glance, journal, site_command, words
 from .change import WRONG, Preparing
 from .place import FOLDER, JOURNAL, SITE, Place, as_owner, passed, text_of
 from .words import CANNOT_OPEN, DONE, USAGE, Ends
@@ -86,6 +87,8 @@ def say(line):
 
 def bring(given, place):
     text = None if given.back else octets_of(given.text)
+    if text is not None:
+        see_site(given, text)
     try:
         with as_owner(place.folder):
             see_place(place)
@@ -100,6 +103,18 @@ def bring(given, place):
     if not place.set_site(before):
         say(f"{place.site} isn't the text in force, which is {place.current}")
     return given.status
+
+
+def see_site(given, text):
+    """Ends with the line, the item and what is wanted where the program refuses the text."""
+    with tempfile.NamedTemporaryFile() as copy:
+        copy.write(text)
+        copy.flush()
+        told, line, _ = site_command.program_says(given.program, copy.name)
+    if told is not None:
+        fault = site_command.fault_of(text, told, line, site_command.own_reading(text)[1])
+        at, whose = (f":{fault.line}" if fault.line else ""), (f"{fault.whose}: " if fault.whose else "")
+        raise Ends(site_command.SITE_REFUSED, f"{given.text}{at}: site refused: {fault.told}\n  {whose}{words.printable(fault.reason)}")
 
 
 def octets_of(path):
@@ -134,6 +149,7 @@ class Bringing:
                 return self.forget(before)
             text = text_of(self.place.folder / before / JOURNAL)
         if text == self.place.text():
+            change.clear_if_left(self.place)
             print(f"{self.given.text or 'the text before'} is the text in force already: nothing is to be changed")
             return self.place.name()
         return self.play(text)
