@@ -5,7 +5,7 @@ import re
 import subprocess
 import tempfile
 
-from . import plan, site_lint, site_text, words
+from . import glance, journal, place, plan, site_lint, site_text, texts, words
 from .words import CANNOT_OPEN, DONE, Ends
 
 SITE_REFUSED = 3
@@ -13,12 +13,14 @@ SECONDS = 60
 TOP = pathlib.Path(__file__).resolve().parent.parent.parent
 # Where the program is: in a checkout as it was built, and where a package has put it.
 PROGRAMS = [str(TOP / "crates" / "alarm_server" / "out" / "alarm_server"), str(TOP.parent / "libexec" / "alarm-server" / "alarm_server")]
+# The journal of this machine's server, in the folder in force or at its old place.
+JOURNALS = [os.path.join(place.FOLDER, it) for it in ("current/journal", "journal")]
 WHAT = """\
 Looks at a site's text before a server does.
 
 check has the program read it, where one is at hand, and else reads it by itself, by the rules of docs/SITE.md, and says which
 of both it was. A fault is told as the program tells it, with the line, the name and the reason; a site that is taken is looked
-over for what is allowed and hardly meant. describe says in words what is an alarm and who is told of it at which hour."""
+over for what is allowed and hardly meant, and compared with the text of the journal in place. describe says in words what is an alarm and who is told of it at which hour."""
 STATUSES = [
     (0, "it is a site; check --strict: and there is no warning"),
     (1, "the file can't be opened, or --strict and there are warnings"),
@@ -38,6 +40,7 @@ def parser():
     commands = made.add_subparsers(metavar="COMMAND", required=True)
     check = words.command_of(commands, "check", "says its first fault, and what in it is hardly meant", check_site)
     check.add_argument("--strict", action="store_true", help="end with 1 where there are warnings")
+    check.add_argument("--journal", metavar="JOURNAL", help="the journal with whose text it is compared; else that of this machine's server, where it is of the same device")
     describe = words.command_of(commands, "describe", "says in words what is an alarm and who is told when", describe_site)
     size = words.command_of(commands, "size", "says how large its journal is, and what the outbox takes", size_site)
     for command in (check, describe, size):
@@ -106,6 +109,7 @@ def check_site(given):
     found = site_lint.warnings_of(site)
     for it in found:
         show_warning(given, it)
+    show_other_text(given, octets)
     if not given.json:
         print(f"{given.site}: a site, says {said_by}; {plan.counted(len(found), 'warning')}")
     return CANNOT_OPEN if given.strict and found else DONE
@@ -137,6 +141,28 @@ def show_warning(given, it):
         return
     at = f":{it.line}" if it.line else ""
     print(f"{given.site}{at}: {words.coloured('warning', 'yellow')}: {it.text} [{it.kind}]")
+
+
+def show_other_text(given, octets):
+    """Says that the journal in place is of another text, on which a server of this text won't begin. It is a note and no warning: a changed text is always another one."""
+    path = given.journal or next((it for it in JOURNALS if os.access(it, os.R_OK)), None)
+    if path is None:
+        return
+    try:
+        with journal.Journal(path) as it:
+            text = it.header.text
+    except (OSError, journal.NoJournal) as fault:
+        if given.journal:
+            raise Ends(CANNOT_OPEN, f"{path}: {getattr(fault, 'strerror', None) or fault}") from None
+        return
+    if not text or text == octets or not given.journal and glance.glance(text).device != glance.glance(octets).device:
+        return
+    line = texts.first_difference(text, octets)[0]
+    told = f"{path} is of another text, which differs first in line {line}: a server with this one won't begin on it. alarm-server change {given.site} brings this one into force"
+    if given.json:
+        words.put(words.json_line({"site": given.site, "line": line, "note": "journal", "text": told}))
+    else:
+        print(f"{given.site}:{line}: {words.coloured('note', 'bold')}: {told} [journal]")
 
 
 # describe and size
