@@ -18,7 +18,7 @@ import tooling
 from tooling import NAMES, TOOLS, TOP, Running, run, until
 from tools_parts import Plant
 
-SECONDS = 40
+SECONDS = 180
 # A screen of 30 rows and 110 columns.
 SIZE = {"LINES": "30", "COLUMNS": "110", "TERM": "xterm"}
 
@@ -33,7 +33,7 @@ class Terminal:
             os.execve(sys.executable, tooling.words_of(name, *words), tooling.environment(**SIZE))
         self.drawn = b""
 
-    def shows(self, text, seconds=10):
+    def shows(self, text, seconds=tooling.WAIT):
         """Waits until a text was drawn."""
         until_then = time.monotonic() + seconds
         while text not in self.drawn and time.monotonic() < until_then:
@@ -214,7 +214,7 @@ def see_browser(told, it, port, folder):
     browser = Browser(chromium, folder)
     try:
         browser.open(f"http://127.0.0.1:{port}/")
-        told.want(until(lambda: browser.value("document.querySelectorAll('tbody tr').length") == 2, 20), "the browser doesn't show two alarms")
+        told.want(until(lambda: browser.value("document.querySelectorAll('tbody tr').length") == 2), "the browser doesn't show two alarms")
         picture = base64.b64decode(browser.do("Page.captureScreenshot", format="png")["data"])
         told.want(picture.startswith(b"\x89PNG") and len(picture) > 5000, f"a picture of {len(picture)} octets")
         if "KEEP_PICTURES" in os.environ:
@@ -230,7 +230,7 @@ def see_browser(told, it, port, folder):
         told.same("the first row", browser.value("document.querySelector('tbody tr strong').textContent"), "Freezer 2")
         told.same("what the page's policy refuses", browser.value("performance.getEntriesByType('resource').every((it) => it.responseStatus === 200)"), True)
         it.kill()
-        told.want(until(lambda: browser.value("!document.getElementById('error').hidden"), 15), "the page doesn't say that nobody answers")
+        told.want(until(lambda: browser.value("!document.getElementById('error').hidden")), "the page doesn't say that nobody answers")
     finally:
         browser.close()
 

@@ -120,10 +120,17 @@ def destination_words(of):
     }
 
 
+def error_text(error):
+    """An Error by its two numbers and its name."""
+    return f"Error {error[0]},{error[1]}, {names.ERRORS.get(tuple(error), 'unknown')}"
+
+
 def text_of(value):
-    """A value of `value_of` as a text for people."""
+    """A value of `value_of` as a text for people. An empty text is shown as two quotes."""
     if isinstance(value, list):
         return ", ".join(map(text_of, value)) or "none"
+    if value == "":
+        return '""'
     if isinstance(value, dict):
         days = " ".join(day[:3] for day, it in zip(names.DAYS, value["days"]) if it == "1") if value["days"] != "1111111" else "every day"
         how = "confirms" if value["confirmed"] else "doesn't confirm"
