@@ -326,6 +326,7 @@ def try_follower(told, program, folder):
             told.want(until(lambda: numbers_of(second) == [7, 8]), f"behind its own kill it followed {numbers_of(second)}, {second.errors()}")
             rows = [(row["name"], row["values"]["value"], row["to"]) for row in lines_of_json(second.output())]
             told.same("a name and a value", rows, [("Freezer 2", 90, "high-limit"), ("Freezer 2", 50, "normal")])
+            until(lambda: (folder / "position").read_text() == "9\n")
             second.kill()
         swing(it, 12)
         status, output, said = run("alarm-client", *words, "--once")

@@ -3,7 +3,7 @@ import os
 import socket
 import time
 
-from . import names, octets, words
+from . import language, names, octets, words
 
 PORT = 47808
 # How often a request is sent anew while nothing listens, in seconds.
@@ -49,6 +49,7 @@ def add_words(parser):
     where = "the server (ALARM_SERVER_ADDRESS and ALARM_SERVER_PORT, else 127.0.0.1:47808)"
     parser.add_argument("--to", metavar="HOST[:PORT]", default=default_address(), help=where)
     parser.add_argument("--wait", type=seconds, metavar="SECONDS", default=2.0, help="for how long an answer is awaited (%(default)s)")
+    language.add_words(parser)
     parser.add_argument("--retries", type=int, choices=range(16), metavar="N", default=3, help="how often a request is sent again (%(default)s)")
 
 

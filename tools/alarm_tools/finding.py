@@ -17,16 +17,15 @@ def nearest(text, known):
     return f"; the nearest names are {', '.join(json.dumps(it, ensure_ascii=False) for it in told)}" if told else ""
 
 
-def named_in(text, table):
+def named_in(text, table, kind=None):
     """The object of a name in a table of names by objects. It may differ in capitals, where one object alone is called so."""
     same = [of for of, name in table.items() if name == text] or [of for of, name in table.items() if name and name.casefold() == text.casefold()]
     if len(same) == 1:
         return same[0]
     if same:
         raise ValueError(f"{text!r} is the name of {' and '.join(map(names.object_text, sorted(same)))}: one of these is wanted")
-    raise ValueError(
-        f"{text!r} is no object: KIND:INSTANCE is wanted, as integer-value:3, or an object's name{nearest(text, [it for it in table.values() if it])}"
-    )
+    wanted = f"its instance is wanted, as {kind}:7, or its name" if kind else "KIND:INSTANCE is wanted, as integer-value:3, or an object's name"
+    raise ValueError(f"{text!r} is no {kind or 'object'}: {wanted}{nearest(text, [it for it in table.values() if it])}")
 
 
 def table_of(asked, kind=None):
@@ -43,7 +42,7 @@ def object_of(asked, text, kind=None):
     try:
         found = names.object_from(text)
     except ValueError:
-        found = named_in(text, table_of(asked, kind))
+        found = named_in(text, table_of(asked, kind), kind)
     if kind and found[0] != names.OBJECT_NUMBERS[kind]:
         raise ValueError(f"{text!r} is no {kind}")
     return found
