@@ -112,12 +112,17 @@ class Told:
     """What failed, and how much was tried."""
 
     def __init__(self):
-        self.kills = self.replies = self.failed = 0
+        self.kills = self.replies = self.failed = self.skipped = 0
 
     def want(self, holds, text):
         if not holds:
             self.failed += 1
             print(f"FAILED: {text}")
+
+    def skip(self, text):
+        """Says what isn't tried, as where something isn't installed."""
+        self.skipped += 1
+        print(f"NOT TRIED: {text}")
 
     def same(self, what, found, wanted):
         self.want(found == wanted, f"{what}: {found}, and not {wanted}")

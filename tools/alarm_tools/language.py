@@ -21,6 +21,7 @@ GERMAN = {
     "inhibited, and not from this shelf": "unterdrückt, aber nicht hier zurückgestellt", "on the shelf, and inhibited no more": "zurückgestellt, aber nicht mehr unterdrückt",
     "overdue": "überfällig", "no alarm came in {} days": "kein Alarm in {} Tagen",
     "the logs tell of all since {}": "die Protokolle reichen bis {} zurück",
+    "TIME": "ZEIT", "FROM": "AUS", "DID": "TAT", "WHAT": "WAS", "ANSWER": "ANTWORT", "there is no record of it": "davon gibt es keine Aufzeichnung",
     # Notifications in words.
     "alarm": "Alarm", "event": "Ereignis", "acknowledged: {} {} at {}, class {}": "quittiert: {} {} um {}, Klasse {}",
     "{}: {} {} -> {} at {}, {}, class {}, priority {}": "{}: {} {} -> {} um {}, {}, Klasse {}, Priorität {}", "to be acknowledged": "zu quittieren",
@@ -46,9 +47,9 @@ GERMAN = {
     "No answer yet, so nothing is known. {}": "Noch keine Antwort, also ist nichts bekannt. {}",
     "The console itself doesn't answer: what is shown is old.": "Die Konsole selbst antwortet nicht: was gezeigt ist, ist alt.",
     "It isn't known whether it was acknowledged: the console doesn't answer.": "Ob quittiert wurde, ist nicht bekannt: die Konsole antwortet nicht.",
-    "Search": "Suchen", "Class": "Klasse", "any": "alle", "up to": "bis", "to be acknowledged only": "nur offene", "Show": "Zeigen", "new since I looked": "neu, seit ich hinsah",
+    "Search": "Suchen", "Class": "Klasse", "any": "alle", "priority up to": "Priorität bis", "to be acknowledged only": "nur offene", "Show": "Zeigen", "new since I looked": "neu, seit ich hinsah",
     "I have looked": "Gesehen", "Sound": "Ton", "More": "Mehr", "{} of {}": "{} von {}", "The ten most frequent of the week": "Die zehn häufigsten der Woche",
-    "On the shelf": "Zurückgestellt", "until {}, by {}": "bis {}, von {}", "{} times, last {}": "{}-mal, zuletzt {}",
+    "On the shelf": "Zurückgestellt", "until {}, by {}": "bis {}, von {}", "{} ×, last {}": "{} ×, zuletzt {}",
     "No log of this server has an alarm of the week.": "Kein Protokoll dieses Servers hat einen Alarm der Woche.",
     "The log isn't asked yet.": "Das Protokoll ist noch nicht gefragt.", "new": "neu", "The page is an old one: load it anew.": "Die Seite ist alt: bitte neu laden.",
 }

@@ -24,6 +24,11 @@ def of_name(name):
     return Measure(decimal.Decimal(found[1] or 1), found[2]) if found else None
 
 
+def bare(name):
+    """A name without the measure at its end, where its value is shown with it."""
+    return IN_NAME.sub("", name or "").strip()
+
+
 def measure_of(name, units):
     """The measure of an object by its name, else by its Units, a number or None."""
     return of_name(name) or (Measure(decimal.Decimal(1), UNITS[units]) if UNITS.get(units) else NONE)

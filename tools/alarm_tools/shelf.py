@@ -153,6 +153,7 @@ class Keeper:
             if not self.look():
                 with self.shelf.changing() as rows:
                     if not rows:
+                        self.lock.truncate(0)
                         self.lock.close()
                         self.lock = None
                         return

@@ -10,7 +10,7 @@ import threading
 import time
 import urllib.parse
 
-from . import alarms, filters, language, names, shelf, words
+from . import alarms, filters, language, measure, names, shelf, words
 from .language import say
 from .web_page import PAGE, SCRIPT, STYLE
 
@@ -34,11 +34,10 @@ def is_allowed(host, allowed):
         return name == "localhost" or name in allowed
 
 
-def rows_of(state, shown, looked):
+def rows_of(shown, looked):
     """What the page shows of each alarm."""
     for it in shown:
-        new = it.get("number", 0) > looked
-        yield it | {"sign": SIGNS[it["state"]], "since": (it["since"] or say("never"))[:19], "waits": bool(it["unacknowledged"]), "new": new and state["is_known"]}
+        yield it | {"sign": SIGNS[it["state"]], "since": (it["since"] or say("never"))[:19], "waits": bool(it["unacknowledged"]), "new": it.get("number", 0) > looked > 0}
 
 
 def cells_of(it, token, back):
@@ -49,7 +48,7 @@ def cells_of(it, token, back):
     new = f'<mark>{e(say("new"))}</mark>' if it["new"] else ""
     state = say(it["state"] if it["active"] else "normal again")
     yield "", f'<span class="state"><span aria-hidden="true">{it["sign"]}</span> {e(state)}</span>{new}'
-    yield "", f'<strong>{e(name or it["object"])}</strong>' + (f'<small>{e(it["object"])}</small>' if name else "") + message
+    yield "", f'<strong>{e(measure.bare(name) or it["object"])}</strong>' + (f'<small>{e(it["object"])}</small>' if name else "") + message
     yield "", (e(it["value_text"]) + limit) if it["value_text"] else ""
     yield "", f'<time>{e(it["since"])}</time>'
     yield say("To acknowledge"), e(", ".join(map(say, it["unacknowledged"]))) or "&ndash;"
@@ -138,7 +137,7 @@ def shelf_html(rows):
     if not rows:
         return ""
     e = html.escape
-    lines = [f'<li><strong>{e(it.get("name") or it["object"])}</strong> {e(say("until {}, by {}", shelf.moment_text(it["until"]), it["by"]))} {e(it.get("why", ""))}</li>' for it in rows]
+    lines = [f'<li><strong>{e(it.get("name") or it["object"])}</strong> {e(say("until {}, by {}", shelf.moment_text(it["until"]), it["by"]))}{e(": " + it["why"] if it.get("why") else "")}</li>' for it in rows]
     return f'<h2>{e(say("On the shelf"))}</h2><ul>{"".join(lines)}</ul>'
 
 
@@ -150,7 +149,7 @@ def frequent_html(most):
     rows, since = most
     if not rows:
         return f'<p class="quiet">{e(say("No log of this server has an alarm of the week."))}</p>'
-    lines = [f'<li><strong>{e(it["name"] or it["object"])}</strong> {e(say("{} times, last {}", it["times"], it["last"][:19]))}</li>' for it in rows]
+    lines = [f'<li><strong>{e(measure.bare(it["name"]) or it["object"])}</strong> {e(say("{} ×, last {}", it["times"], it["last"][:19]))}</li>' for it in rows]
     note = f'<p class="quiet">{e(say("the logs tell of all since {}", since[:19]))}</p>' if since else ""
     return f"<ol>{''.join(lines)}</ol>{note}"
 
@@ -159,7 +158,7 @@ def shown_of(state, asked, token):
     """What a page shows of the alarms, by name: rows and all that changes with them."""
     found = asked.rows(state)
     back = asked.query()
-    rows = [(it["object"], row_html(it, token, back)) for it in rows_of(state, found[: asked.show], asked.looked)]
+    rows = [(it["object"], row_html(it, token, back)) for it in rows_of(found[: asked.show], asked.looked)]
     is_all = len(found) == len(state["alarms"])
     return {
         "device": state["device"], "rows": rows, "counts": counts(state), "more": len(found) > asked.show, "last": state["last"], "run": state["run"],
@@ -236,7 +235,7 @@ class Handler(http.server.BaseHTTPRequestHandler):
     def state(self):
         """All that a page shows, as it is now."""
         state = self.server.watch.state()
-        return state | {"shelf": self.server.shelved(state["where"]), "most": self.server.watch.most, "is_known": state["as_of"] is not None}
+        return state | {"shelf": self.server.shelved(state["where"]), "most": self.server.watch.most}
 
     def do_GET(self):
         if self.refuses():

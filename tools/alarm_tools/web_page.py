@@ -112,14 +112,14 @@ input[type="number"] { width: 5rem; }
 @media (max-width: 44rem) {
   table, tbody { display: block; }
   table[hidden] { display: none; }
-  thead { position: absolute; clip-path: inset(50%); }
+  thead { display: block; position: absolute; width: 1px; height: 1px; overflow: hidden; clip-path: inset(50%); }
   tr { display: grid; grid-template-columns: minmax(0, 1fr) auto; gap: .1rem .75rem; padding: .7rem 0; border-bottom: 1px solid var(--line); }
   tr td, tr.waits td:first-child, tr.seen td:first-child { border: 0; padding: .05rem .9rem; }
   tr.waits { box-shadow: inset .35rem 0 var(--bad); }
   tr.seen { box-shadow: inset .2rem 0 var(--seen); }
-  td:nth-child(2) { grid-row: 1; grid-column: 1; }
-  td:nth-child(1) { grid-row: 1; grid-column: 2; text-align: right; }
-  td:nth-child(7) { grid-row: 2 / span 4; grid-column: 2; align-self: center; }
+  td:nth-child(1) { grid-row: 1; grid-column: 1 / span 2; }
+  td:nth-child(2) { grid-row: 2; grid-column: 1 / span 2; }
+  td:nth-child(7) { grid-row: 3 / span 4; grid-column: 2; align-self: center; }
   td[data-label]::before { content: attr(data-label) ": "; color: var(--soft); }
   td:nth-child(3):empty { display: none; }
   td small.limit { display: inline; margin-left: .5rem; }
