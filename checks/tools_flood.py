@@ -22,7 +22,7 @@ WIDER = "[...document.querySelectorAll('body, body *')].filter((it) => it.getBou
 def flood(count):
     """The sections of a site whose tanks are all in alarm as soon as it runs, but for the first one; every third one asks for no acknowledgement."""
     rows = [serving.tank(number, 8 if number % 3 == 0 else 7, name=f"Tank {number}", value=50 if number == 1 else 90) for number in range(1, count + 2)]
-    return [serving.device(name="Tank farm"), serving.of_class(7), serving.of_class(8, acknowledged=False), *rows, ("[[log]]", {"instance": 1, "name": "History", "size": 4 * count, "classes": [7, 8]})]
+    return [serving.device(name="Tank farm"), serving.of_class(7), serving.of_class(8, acknowledged=False), *rows, ("[[log]]", {"instance": 1, "name": "History", "size": 100, "classes": [7, 8]})]
 
 
 class Farm(Plant):
