@@ -14,6 +14,8 @@ import bacnet
 HOST = "127.0.0.1"
 # For how long a server runs at most, and for how long an answer is awaited.
 SECONDS, ANSWER = 120, 10
+# How long the start of a server may take, on a machine that has much else to do.
+STARTS = 60
 # How many datagrams a client keeps, to be decoded.
 KEPT = 5_000
 # How many datagrams a server takes at most.
@@ -110,12 +112,17 @@ class Told:
     """What failed, and how much was tried."""
 
     def __init__(self):
-        self.kills = self.replies = self.failed = 0
+        self.kills = self.replies = self.failed = self.skipped = 0
 
     def want(self, holds, text):
         if not holds:
             self.failed += 1
             print(f"FAILED: {text}")
+
+    def skip(self, text):
+        """Says what isn't tried, as where something isn't installed."""
+        self.skipped += 1
+        print(f"NOT TRIED: {text}")
 
     def same(self, what, found, wanted):
         self.want(found == wanted, f"{what}: {found}, and not {wanted}")
@@ -138,7 +145,7 @@ class Server:
             raise
 
     def await_line(self, line):
-        until = time.monotonic() + ANSWER
+        until = time.monotonic() + STARTS
         while line not in self.parts[1].read_bytes():
             bacnet.want(self.child.poll() is None and time.monotonic() < until, f"no line {line!r}: {self.said()}")
             time.sleep(0.002)

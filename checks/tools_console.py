@@ -1,5 +1,4 @@
 """The parts of checks/tools that look at the console: in a terminal, over HTTP, in a browser, and its commands; and at the manual pages."""
-import base64
 import http.client
 import json
 import os
@@ -14,11 +13,12 @@ import sys
 import time
 import urllib.parse
 
+import browsing
 import tooling
 from tooling import NAMES, TOOLS, TOP, Running, run, until
 from tools_parts import Plant
 
-SECONDS = 40
+SECONDS = 180
 # A screen of 30 rows and 110 columns.
 SIZE = {"LINES": "30", "COLUMNS": "110", "TERM": "xterm"}
 
@@ -33,7 +33,7 @@ class Terminal:
             os.execve(sys.executable, tooling.words_of(name, *words), tooling.environment(**SIZE))
         self.drawn = b""
 
-    def shows(self, text, seconds=10):
+    def shows(self, text, seconds=tooling.WAIT):
         """Waits until a text was drawn."""
         until_then = time.monotonic() + seconds
         while text not in self.drawn and time.monotonic() < until_then:
@@ -144,78 +144,16 @@ def see_http(told, it, port):
 # In a browser.
 
 
-class Browser:
-    """Chromium without a window, which is told what to do over two pipes."""
-
-    def __init__(self, chromium, folder):
-        into, self.write_end = os.pipe()
-        self.read_end, out = os.pipe()
-        words = [chromium, "--headless", "--no-sandbox", "--disable-gpu", "--remote-debugging-pipe", f"--user-data-dir={folder / 'browser'}", "--window-size=1180,620", "about:blank"]
-
-        def begin():
-            os.dup2(into, 3)
-            os.dup2(out, 4)
-            signal.alarm(SECONDS)
-
-        self.child = subprocess.Popen(words, stdin=subprocess.DEVNULL, stdout=subprocess.DEVNULL, stderr=subprocess.DEVNULL, preexec_fn=begin, pass_fds=(3, 4), start_new_session=True)
-        os.close(into)
-        os.close(out)
-        self.number, self.left, self.session = 0, b"", None
-
-    def do(self, method, **parameters):
-        """What the browser answers to a command."""
-        self.number += 1
-        command = {"id": self.number, "method": method, "params": parameters} | ({"sessionId": self.session} if self.session else {})
-        os.write(self.write_end, json.dumps(command).encode() + b"\0")
-        end = time.monotonic() + SECONDS
-        while time.monotonic() < end:
-            while b"\0" in self.left:
-                text, _, self.left = self.left.partition(b"\0")
-                answer = json.loads(text)
-                if answer.get("id") == self.number:
-                    if "error" in answer:
-                        raise ValueError(f"{method}: {answer['error']}")
-                    return answer["result"]
-            ready, _, _ = select.select([self.read_end], [], [], 1)
-            self.left += os.read(self.read_end, 1 << 20) if ready else b""
-        raise ValueError(f"{method} isn't answered")
-
-    def open(self, url):
-        target = self.do("Target.createTarget", url="about:blank")["targetId"]
-        self.session = self.do("Target.attachToTarget", targetId=target, flatten=True)["sessionId"]
-        self.do("Page.enable")
-        self.do("Page.navigate", url=url)
-
-    def value(self, expression):
-        return self.do("Runtime.evaluate", expression=expression, returnByValue=True)["result"].get("value")
-
-    def key(self, key, code):
-        for kind in ("keyDown", "keyUp"):
-            self.do("Input.dispatchKeyEvent", type=kind, key=key, windowsVirtualKeyCode=code, text="\r" if key == "Enter" else "")
-
-    def close(self):
-        self.session = None
-        try:
-            self.do("Browser.close")
-            self.child.wait(10)
-        except (OSError, ValueError, subprocess.TimeoutExpired):
-            self.child.kill()
-            self.child.wait()
-        os.close(self.read_end)
-        os.close(self.write_end)
-
-
 def see_browser(told, it, port, folder):
     """Chromium shows the page, its button acknowledges by the keyboard alone, and a new alarm comes without loading anew."""
-    chromium = shutil.which("chromium") or shutil.which("chromium-browser") or shutil.which("google-chrome")
-    if not chromium:
-        print("chromium isn't installed: the page isn't shown in a browser")
+    if not browsing.found():
+        told.skip("chromium isn't installed: the page isn't shown in a browser")
         return
-    browser = Browser(chromium, folder)
+    browser = browsing.Browser(folder)
     try:
         browser.open(f"http://127.0.0.1:{port}/")
-        told.want(until(lambda: browser.value("document.querySelectorAll('tbody tr').length") == 2, 20), "the browser doesn't show two alarms")
-        picture = base64.b64decode(browser.do("Page.captureScreenshot", format="png")["data"])
+        told.want(until(lambda: browser.value("document.querySelectorAll('tbody tr').length") == 2), "the browser doesn't show two alarms")
+        picture = browser.picture()
         told.want(picture.startswith(b"\x89PNG") and len(picture) > 5000, f"a picture of {len(picture)} octets")
         if "KEEP_PICTURES" in os.environ:
             pathlib.Path(os.environ["KEEP_PICTURES"], "console.png").write_bytes(picture)
@@ -230,7 +168,7 @@ def see_browser(told, it, port, folder):
         told.same("the first row", browser.value("document.querySelector('tbody tr strong').textContent"), "Freezer 2")
         told.same("what the page's policy refuses", browser.value("performance.getEntriesByType('resource').every((it) => it.responseStatus === 200)"), True)
         it.kill()
-        told.want(until(lambda: browser.value("!document.getElementById('error').hidden"), 15), "the page doesn't say that nobody answers")
+        told.want(until(lambda: browser.value("!document.getElementById('error').hidden")), "the page doesn't say that nobody answers")
     finally:
         browser.close()
 
@@ -272,7 +210,7 @@ def try_manuals(told, *_):
         told.want(f"\n## {name}" in page, f"docs/TOOLS.md doesn't tell of {name}")
         told.same(f"{name} with a word that it doesn't know", run(name, "--nonsense")[0], 2)
     if not shutil.which("mandoc"):
-        print("mandoc isn't installed: manual pages aren't read")
+        told.skip("mandoc isn't installed: manual pages aren't read")
         return
     read = subprocess.run(["mandoc", "-T", "lint", "-W", "warning", *sorted(map(str, (TOOLS / "man").glob("*.1")))], capture_output=True, text=True, timeout=60, check=False)
     told.want(read.returncode == 0, f"mandoc says {read.stdout}{read.stderr}")
@@ -281,7 +219,7 @@ def try_manuals(told, *_):
 def try_nmap(told, program, folder):
     """nmap's script finds the server, and is answered; what it then says is told in docs/TOOLS.md."""
     if not shutil.which("nmap") or os.geteuid() != 0:
-        print("nmap isn't installed, or isn't run by root: bacnet-info isn't tried")
+        told.skip("nmap isn't installed, or isn't run by root: bacnet-info isn't tried")
         return None
     with Plant(program, folder) as it:
         ran = subprocess.run(["nmap", "-n", "-sU", "-p", str(it.port), "--script", "+bacnet-info", "127.0.0.1"], capture_output=True, text=True, timeout=60, check=False)

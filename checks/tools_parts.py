@@ -17,7 +17,7 @@ from alarm_tools import client, names, values
 
 FREEZER, SECOND, COUNTER, DOOR = (bacnet.INTEGER_VALUE, 1), (bacnet.INTEGER_VALUE, 2), (bacnet.INTEGER_VALUE, 3), (5, 1)
 # How long a tool waits for an answer, and how often it asks again, in these parts.
-QUICK = ("--wait", "0.4", "--retries", "2")
+QUICK = ("--wait", "0.5", "--retries", "7")
 
 
 def plant(port, **keys):
@@ -95,7 +95,7 @@ def try_client(told, program, folder):
         it.kill()
         begun = time.monotonic()
         status, _, said = it.client("list")
-        told.want(status == 3 and "nobody answers" in said and time.monotonic() - begun < 10, f"without a server it ended with {status}, {said!r}")
+        told.want(status == 3 and "nobody answers" in said and time.monotonic() - begun < tooling.WAIT, f"without a server it ended with {status}, {said!r}")
         return it.relay.datagrams
 
 
@@ -316,7 +316,7 @@ def try_follower(told, program, folder):
             swing(it, 4)
             told.want(until(lambda: numbers_of(first) == [1, 2, 3, 4]), f"followed {numbers_of(first)}, {first.errors()}")
             it.kill()
-            told.want(until(lambda: "nobody answers" in first.errors(), 8), f"a gone server isn't told: {first.errors()}")
+            told.want(until(lambda: "nobody answers" in first.errors()), f"a gone server isn't told: {first.errors()}")
             it.start()
             swing(it, 2)
             told.want(until(lambda: numbers_of(first) == [1, 2, 3, 4, 5, 6]), f"behind a kill of the server it followed {numbers_of(first)}")
@@ -326,6 +326,7 @@ def try_follower(told, program, folder):
             told.want(until(lambda: numbers_of(second) == [7, 8]), f"behind its own kill it followed {numbers_of(second)}, {second.errors()}")
             rows = [(row["name"], row["values"]["value"], row["to"]) for row in lines_of_json(second.output())]
             told.same("a name and a value", rows, [("Freezer 2", 90, "high-limit"), ("Freezer 2", 50, "normal")])
+            until(lambda: (folder / "position").read_text() == "9\n")
             second.kill()
         swing(it, 12)
         status, output, said = run("alarm-client", *words, "--once")
@@ -361,7 +362,7 @@ def try_feeder(told, program, folder):
             told.want(until(lambda: all(text in first.errors() for text in refused)), f"the feeder told {first.errors()}")
             it.kill()
             first.say("integer-value:3 50\ninteger-value:3 51\ninteger-value:1 60\n")
-            told.want(until(lambda: "nobody answers" in first.errors(), 8), f"a gone server isn't told: {first.errors()}")
+            told.want(until(lambda: "nobody answers" in first.errors()), f"a gone server isn't told: {first.errors()}")
             first.say("integer-value:3 52\n")
             it.start()
             told.want(until(lambda: it.number() == 52 and it.number("integer-value:1") == 60), f"behind a kill the counter is {it.number()}")
@@ -385,6 +386,40 @@ def see_alive(told, it, folder):
         told.want(until(lambda: sum(octets[9:10] == b"\x0f" and octets.endswith(b"\x3e\x91\x01\x3f") for octets in it.relay.sent()) >= 3), f"it isn't set again and again: {feeder.errors()}")
 
 
+def try_restored(told, program, folder):
+    """Reads back what it wrote, and writes what is gone: behind a server on another journal that came between two writes, and with each pair of --alive."""
+    with Plant(program, folder) as it:
+        other = folder / "other"
+        serving.make_journal(program, it.site, other)
+        words = ["--to", it.relay.to(), "--wait", "1", "--retries", "15", "--look-every", "0.4", "--keep", folder / "kept", "--textfile", folder / "feed.prom"]
+        with Running(folder, "alarm-feed", *words) as feeder:
+            feeder.say('integer-value:1 60\n"freezer 2" 70\n"Counter"  5\n"Freezer" 1\nbinary-value:1 active\n')
+            told.want(until(lambda: restored(it) == (60, 70, 5)), f"by names it wrote {restored(it)}, {feeder.errors()}")
+            told.want(until(lambda: 'line 4: \'Freezer\' is no object' in feeder.errors() and '"Freezer 1"' in feeder.errors()), f"of a name that isn't there: {feeder.errors()}")
+            it.kill()
+            it.journal = other
+            it.start()
+            told.want(until(lambda: restored(it) == (60, 70, 5)), f"on another journal there are {restored(it)}, {feeder.errors()}")
+            said = ('integer-value:1 "Freezer 1" has 50 in place of 60: it is written again', 'binary-value:1 "Door" has inactive in place of active: it is written again')
+            told.want(until(lambda: all(text in feeder.errors() for text in said)), f"what was gone isn't told: {feeder.errors()}")
+            told.want("nobody answers" not in feeder.errors(), f"somebody was missed: {feeder.errors()}")
+            it.clients([["write", "integer-value:1", "true", "--property", "out-of-service"], ["write", "integer-value:1", "33"]])
+            told.want(until(lambda: "has 33 in place of 60, and is out of service: it is left so" in feeder.errors()), f"out of service: {feeder.errors()}")
+            told.same("what is out of service stays", it.number("integer-value:1"), 33)
+            it.client("write", "integer-value:1", "false", "--property", "out-of-service")
+            told.want(until(lambda: it.number("integer-value:1") == 60), f"behind its service: {feeder.errors()}")
+        told.want(until(lambda: metrics_of((folder / "feed.prom").read_text())["alarm_feed_restored_total"] >= 5), "what was written again isn't counted")
+        with Running(folder, "alarm-feed", "--to", it.relay.to(), "--alive", "door", "--alive-every", "0.5", "--keep", folder / "kept") as feeder:
+            until(lambda: restored(it) == (60, 70, 5))
+            it.write("integer-value:2", "1")
+            told.want(until(lambda: it.number("integer-value:2") == 70), f"with --alive: {feeder.errors()}")
+        return it.relay.datagrams
+
+
+def restored(it):
+    return tuple(it.number(f"integer-value:{number}") for number in (1, 2, 3))
+
+
 def try_full_outbox(told, program, folder):
     """A value that an Abort 0 refuses is written again until there is room."""
     sections = [serving.device(outbox=64, apdu_timeout=200, retries=1), serving.of_class(7), *[serving.told_at(serving.free_port(), 7, True)] * 32, serving.tank(1, 7), serving.tank(2, 7)]
@@ -392,8 +427,8 @@ def try_full_outbox(told, program, folder):
     port = serving.free_port()
     with Server(program, site, journal, port, MANY), Relay(port) as relay, Running(folder, "alarm-feed", "--to", relay.to(), "--json") as feeder:
         feeder.say("integer-value:1 90\ninteger-value:2 90\ninteger-value:1 50\n")
-        told.want(until(lambda: "Abort 0" in feeder.errors(), 10), f"no full outbox: {feeder.errors()!r}, {feeder.output()!r}")
-        told.want(until(lambda: len(feeder.output().splitlines()) >= 3, 40), f"it isn't written until there is room: {feeder.output()!r}")
+        told.want(until(lambda: "Abort 0" in feeder.errors()), f"no full outbox: {feeder.errors()!r}, {feeder.output()!r}")
+        told.want(until(lambda: len(feeder.output().splitlines()) >= 3), f"it isn't written until there is room: {feeder.output()!r}")
         told.same("the feeder's end", feeder.ended(), 0)
 
 
@@ -435,10 +470,10 @@ def see_rules(told, known):
     """The rules for Prometheus name metrics that are written, and no others."""
     text = (tooling.TOOLS / "alarm-server.rules.yml").read_text(encoding="utf-8")
     named = set(re.findall(r"\balarm_(?:server|feed)_\w+", "\n".join(re.findall(r"expr: (.*)", text))))
-    of_feed = {f"alarm_feed_{it}_total" for it in ("written", "refused", "full", "unanswered")}
+    of_feed = {f"alarm_feed_{it}_total" for it in ("written", "refused", "full", "unanswered", "restored")}
     told.want(len(named) >= 6 and named <= known | of_feed, f"the rules name {sorted(named - known - of_feed)}")
     if not shutil.which("promtool"):
-        print("promtool isn't installed: the rules aren't read")
+        told.skip("promtool isn't installed: the rules aren't read")
         return
     read = subprocess.run(["promtool", "check", "rules", tooling.TOOLS / "alarm-server.rules.yml"], capture_output=True, text=True, timeout=60, check=False)
     told.want(read.returncode == 0, f"promtool says {read.stdout}{read.stderr}")

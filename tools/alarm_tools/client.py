@@ -3,11 +3,14 @@ import os
 import socket
 import time
 
-from . import names, octets, words
+from . import language, names, octets, words
 
 PORT = 47808
 # How often a request is sent anew while nothing listens, in seconds.
 REFUSED_PAUSE = 0.25
+# How much of an answer to a ReadPropertyMultiple is asked for at once, in octets as they are estimated: what an object takes, and a property of it.
+MOST_OF_ANSWER, OF_OBJECT, OF_PROPERTY = 1_300, 7, 16
+OF_LONG_PROPERTY = {octets.OBJECT_NAME: 48, octets.EVENT_MESSAGE_TEXTS: 90, octets.STATE_TEXT: 200}
 # What an Abort of this server means.
 WHY_ABORTED = {0: ": the notifications of it don't fit the outbox, so nothing was taken", 4: ": the answer is too long"}
 
@@ -46,6 +49,7 @@ def add_words(parser):
     where = "the server (ALARM_SERVER_ADDRESS and ALARM_SERVER_PORT, else 127.0.0.1:47808)"
     parser.add_argument("--to", metavar="HOST[:PORT]", default=default_address(), help=where)
     parser.add_argument("--wait", type=seconds, metavar="SECONDS", default=2.0, help="for how long an answer is awaited (%(default)s)")
+    language.add_words(parser)
     parser.add_argument("--retries", type=int, choices=range(16), metavar="N", default=3, help="how often a request is sent again (%(default)s)")
 
 
@@ -83,6 +87,20 @@ def refusal_of(message):
 def fault_text(error):
     """What the system says of a datagram that couldn't be sent or taken, behind what is told of no answer."""
     return ", and nothing listens there" if isinstance(error, ConnectionRefusedError) else f": {error.strerror}"
+
+
+def batches_of(wanted):
+    """Properties of objects, parted so that the answer of each part has room in a datagram."""
+    batch, size, last = [], 0, None
+    for it in wanted:
+        cost = OF_LONG_PROPERTY.get(it[1], OF_PROPERTY) + (OF_OBJECT if it[0] != last else 0)
+        if batch and size + cost > MOST_OF_ANSWER:
+            yield batch
+            batch, size, cost = [], 0, OF_LONG_PROPERTY.get(it[1], OF_PROPERTY) + OF_OBJECT
+        batch.append(it)
+        size, last = size + cost, it[0]
+    if batch:
+        yield batch
 
 
 class Client:
@@ -179,6 +197,41 @@ class Client:
     def write(self, the_object, number, element, index=None):
         return self.ask(lambda invoke: octets.write_property(invoke, the_object, number, element, index))
 
+    def read_many(self, wanted):
+        """What several properties are, each given as an object, a number and an index or None: its elements, or the two numbers of its Error."""
+        found = {}
+        for batch in batches_of(wanted):
+            found |= self.read_batch(batch)
+        return found
+
+    def read_batch(self, batch):
+        """The same of as many as one answer may have. Where it is too long, halves are asked; where there is no such service, each by itself."""
+        try:
+            answer = self.answered(lambda invoke: octets.read_many(invoke, batch), octets.objects_read)
+        except Refusal as refusal:
+            if (refusal.kind, refusal.code) == ("abort", 4) and len(batch) > 1:
+                half = len(batch) // 2
+                return self.read_batch(batch[:half]) | self.read_batch(batch[half:])
+            if (refusal.kind, refusal.code) in (("reject", 9), ("abort", 4)):
+                return {it: self.read_or_error(*it) for it in batch}
+            raise
+        return {(of, number, index): error or found for of, rows in answer for number, index, found, error in rows}
+
+    def read_or_error(self, the_object, number, index):
+        """The elements of a property, or the two numbers of the Error by which it was refused."""
+        try:
+            return self.read(the_object, number, index)
+        except Refusal as refusal:
+            if refusal.kind == "error":
+                return refusal.code
+            raise
+
+    def learn_names(self, objects):
+        """Asks for the names of objects that aren't known yet, many at once."""
+        wanted = [(of, octets.OBJECT_NAME, None) for of in dict.fromkeys(objects) if of not in self.names]
+        for (of, _, _), found in self.read_many(wanted).items():
+            self.names[of] = octets.text_of(found[0]) if isinstance(found, list) else None
+
     def summaries(self):
         """All active objects, page by page."""
         found, behind = [], None
@@ -198,7 +251,8 @@ class Client:
             if (refusal.kind, refusal.code) != ("abort", 4):
                 raise
         count = octets.number_of(self.read(device, octets.OBJECT_LIST, 0)[0])
-        return [octets.object_of(self.read(device, octets.OBJECT_LIST, place)[0]) for place in range(1, count + 1)]
+        found = self.read_many([(device, octets.OBJECT_LIST, place) for place in range(1, count + 1)])
+        return [octets.object_of(it[0]) for it in found.values() if isinstance(it, list)]
 
     def device(self):
         """What the server's I-Am says: the device, its longest APDU, segmentation and vendor."""

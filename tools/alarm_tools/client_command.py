@@ -1,11 +1,12 @@
 """alarm-client: asks a server by BACnet/IP: who is there, values, active alarms, acknowledgements, recipients, logs, metrics."""
-import getpass
 import re
 import socket
+import sys
 import time
 
-from . import client, listening, metrics, names, octets, values, words
-from .client import Refusal
+from . import alarms, audit, client, filters, finding, listening, metrics, names, octets, shelf_command, values, words
+from .client import NoAnswer, Refusal
+from .language import say
 from .words import DONE, USAGE, Ends
 
 WHAT = """\
@@ -13,8 +14,9 @@ Asks an alarm server, or another BACnet/IP device, and tells its answers by name
 
 A request that isn't answered is sent again with its invoke ID; where no answer comes at all the tool ends with 3, and a write
 may have been taken all the same.
-Objects are written KIND:INSTANCE, as integer-value:3, properties by name or number, as present-value or event-time-stamps[1].
-Times are those of the device's clock. Text has colours at a terminal alone, and none where NO_COLOR is set."""
+Objects are written KIND:INSTANCE, as integer-value:3, or by their names, as "Flow temperature", in capitals or not; properties by name
+or number, as present-value or event-time-stamps[1]. Options may stand before the command or behind it. Times are those of the
+device's clock. Text has colours at a terminal alone, and none where NO_COLOR is set."""
 STATUSES = [
     (0, "answered"),
     (1, "a port or a file can't be opened"),
@@ -25,7 +27,9 @@ STATUSES = [
 ]
 EXAMPLES = [
     ("alarm-client list", "the active alarms, and those that nobody has acknowledged"),
-    ("alarm-client ack integer-value:1 --by \"Ann, kitchen\"", "acknowledges what there is to acknowledge of an object"),
+    ("alarm-client list --class 7 --state high-limit --text freezer", "those of a class, in a state, with a text"),
+    ("alarm-client ack \"Freezer room\" --by \"Ann, kitchen\"", "acknowledges what there is to acknowledge of an object"),
+    ("alarm-client shelve \"Freezer room\" 2h --by Ann", "has its alarms not come for two hours"),
     ("alarm-client write integer-value:1 -185", "writes its value; it ends with 0 once that was taken"),
     ("alarm-client read integer-value:1 --each", "each of its properties"),
     ("alarm-client listen --port 47809", "notifications in words, as a recipient whom the site names"),
@@ -35,10 +39,12 @@ EXAMPLES = [
 
 def parser():
     made = words.parser_of("alarm-client", WHAT, STATUSES, EXAMPLES)
+    made.behind = ("--to", "--wait", "--retries", "--language", "--json")
     commands = made.add_subparsers(metavar="COMMAND", required=True)
     add_asking(commands)
     listening.add_commands(commands)
     add_recipients(commands)
+    shelf_command.add_commands(commands)
     metrics.add_command(commands)
     return made
 
@@ -48,8 +54,8 @@ def add_asking(commands):
     whois.add_argument("range", nargs="*", type=int, metavar="LOW HIGH", help="of these instances alone")
     whois.add_argument("--broadcast", metavar="ADDRESS[:PORT]", help="ask all at a broadcast address, as 192.0.2.255, in place of one server")
     read = words.command_of(commands, "read", "reads properties of an object", read_properties)
-    read.add_argument("object", metavar="OBJECT", help="KIND:INSTANCE, or device for that of the server")
-    read.add_argument("properties", nargs="*", metavar="PROPERTY[INDEX]", help="its name or number (present-value)")
+    read.add_argument("object", metavar="OBJECT", help="KIND:INSTANCE, a name, or device for that of the server")
+    read.add_argument("properties", nargs="*", metavar="PROPERTY[INDEX]", help="its name or number (present-value; of the device object-name)")
     read.add_argument("--all", action="store_true", help="all properties, by one ReadPropertyMultiple")
     read.add_argument("--each", action="store_true", help="each property that its kind may have, one by one")
     write = words.command_of(commands, "write", "writes a property of an object", write_property)
@@ -58,11 +64,15 @@ def add_asking(commands):
     write.add_argument("--property", default="present-value", metavar="PROPERTY[INDEX]", help="(%(default)s)")
     write.add_argument("--type", choices=values.TYPES, help="the type of the value, where the property doesn't say it")
     listed = words.command_of(commands, "list", "lists active alarms, and what nobody has acknowledged", list_alarms)
+    filters.add_words(listed)
+    listed.add_argument("--looked", metavar="FILE", help="of what has come since FILE was written alone; and writes it")
+    listed.add_argument("--shelf", metavar="FILE", default=shelf_command.default_path(), help=shelf_command.HELP)
     acknowledge = words.command_of(commands, "ack", "acknowledges alarms", acknowledge_alarms)
     acknowledge.add_argument("objects", nargs="*", metavar="OBJECT")
     acknowledge.add_argument("--all", action="store_true", help="of all objects")
-    acknowledge.add_argument("--by", default=None, metavar="NAME", help="who acknowledges (the name of the user)")
     acknowledge.add_argument("--process", type=int, default=0, metavar="N", help="the process identifier of who does (%(default)s)")
+    audit.add_words(acknowledge, "acknowledges")
+    audit.add_words(write, "writes")
     for command in (whois, read, write, listed, acknowledge):
         add_common(command)
 
@@ -75,13 +85,15 @@ def add_common(command):
 def add_recipients(commands):
     recipients = words.command_of(commands, "recipients", "shows and edits whom a class tells", show_recipients)
     deeds = recipients.add_subparsers(metavar="show|add|remove", required=True)
+    of_class = "its instance or its name"
     for name, what, call in [
-        ("show", "shows the recipients of a class", show_recipients), ("add", "adds a recipient", add_recipient),
+        ("show", "shows the recipients of a class, or of all", show_recipients), ("add", "adds a recipient", add_recipient),
         ("remove", "removes those with an address", remove_recipients),
     ]:
         deed = words.command_of(deeds, name, what, call)
-        deed.add_argument("of_class", metavar="CLASS", help="its instance")
+        deed.add_argument("of_class", metavar="CLASS", help=of_class, **({"nargs": "?"} if name == "show" else {}))
         if name != "show":
+            audit.add_words(deed, f"{name}s it")
             deed.add_argument("address", metavar="A.B.C.D:PORT")
             deed.add_argument("--process", type=int, default=0 if name == "add" else None, metavar="N", help="the process identifier")
         if name == "add":
@@ -122,7 +134,7 @@ def who_is(given):
 def name_or_none(asked, of):
     try:
         return asked.name(of)
-    except (client.NoAnswer, ValueError):
+    except (NoAnswer, ValueError):
         return None
 
 
@@ -156,7 +168,7 @@ def answers_to_who_is(given):
 
 def object_of(asked, text):
     """The object of a word; `device` is the server's own."""
-    return asked.device()[0] if text == "device" else names.object_from(text)
+    return asked.device()[0] if text == "device" else finding.wanted_object(asked, text)
 
 
 def property_of(text):
@@ -168,12 +180,10 @@ def property_of(text):
 
 
 def read_properties(given):
-    asked_for = [wanted(property_of, it) for it in given.properties or ["present-value"]]
-    if given.object != "device":
-        wanted(names.object_from, given.object)
-    refused = []
+    asked_for, refused = [wanted(property_of, it) for it in given.properties], []
     with client.client_of(given) as asked:
         of = object_of(asked, given.object)
+        asked_for = asked_for or [(octets.OBJECT_NAME if of[0] == octets.DEVICE else octets.PRESENT_VALUE, None)]
         if given.all:
             rows = all_properties(asked, of)
         elif given.each:
@@ -184,7 +194,7 @@ def read_properties(given):
     if rows:
         show_properties(given, of, name, rows)
     if refused:
-        raise Ends(words.REFUSED, "; ".join(refused))
+        raise Ends(words.REFUSED, f"{words.named(names.object_text(of), name)}: {'; '.join(refused)}")
     return DONE
 
 
@@ -195,7 +205,7 @@ def named_properties(asked, of, asked_for):
         try:
             rows.append((number, index, values.value_of(of, number, asked.read(of, number, index), index)))
         except Refusal as refusal:
-            refused.append(f"{property_text(number, index)}: {refusal}" if len(asked_for) > 1 else str(refusal))
+            refused.append(f"{property_text(number, index)}: {refusal}")
     return rows, refused
 
 
@@ -208,12 +218,8 @@ def all_properties(asked, of):
         raise
     for number, _, _, error in rows:
         if error and number == octets.ALL:
-            raise Refusal("error", error, f"Error {error[0]},{error[1]}, {names.ERRORS.get(error, 'unknown')}")
-    return [(number, index, error_text(error) if error else values.value_of(of, number, found, index)) for number, index, found, error in rows]
-
-
-def error_text(error):
-    return f"Error {error[0]},{error[1]}, {names.ERRORS.get(error, 'unknown')}"
+            raise Refusal("error", error, values.error_text(error))
+    return [(number, index, values.error_text(error) if error else values.value_of(of, number, found, index)) for number, index, found, error in rows]
 
 
 def each_property(asked, of):
@@ -251,73 +257,73 @@ def property_text(number, index):
 
 
 def write_property(given):
-    of, (number, index) = wanted(names.object_from, given.object), wanted(property_of, given.property)
-    element = wanted(values.element_from, of, number, given.value, given.type)
+    number, index = wanted(property_of, given.property)
+    try:
+        of = names.object_from(given.object)
+        element = wanted(values.element_from, of, number, given.value, given.type)
+    except ValueError:
+        of = element = None
     with client.client_of(given) as asked:
-        asked.write(of, number, element, index)
+        record = audit.Audit(given.audit, "alarm-client write", asked.where())
+        of = of or finding.wanted_object(asked, given.object)
+        element = element or wanted(values.element_from, of, number, given.value, given.type)
         name = name_or_none(asked, of)
-    told = {"object": names.object_text(of), "name": name, "property": property_text(number, index), "written": given.value}
-    words.put(words.json_line(told) if given.json else f"{words.named(names.object_text(of), name)} {property_text(number, index)} = {given.value}: taken")
+        told = {"object": names.object_text(of), "name": name, "property": property_text(number, index)}
+        with record.deed("write", given.by or audit.user(), **told, value=given.value):
+            asked.write(of, number, element, index)
+        warn_of_limits(asked, of, number)
+    called = words.named(names.object_text(of), name)
+    words.put(words.json_line(told | {"written": given.value}) if given.json else say("{} {} = {}: taken", called, told["property"], given.value))
     return DONE
+
+
+def warn_of_limits(asked, of, number):
+    """Says where the limits of an object are hardly meant, once one of them was written."""
+    parts = [octets.HIGH_LIMIT_OF, octets.LOW_LIMIT_OF, octets.DEADBAND]
+    if number not in parts:
+        return
+    found = asked.read_many([(of, it, None) for it in parts])
+    if not all(isinstance(it, list) for it in found.values()):
+        return
+    high, low, deadband = (octets.number_of(found[of, it, None][0]) for it in parts)
+    called = words.named(names.object_text(of), asked.names.get(of))
+    if low >= high:
+        print(f"alarm-client: {called}: its low-limit {low} isn't below its high-limit {high}: each value is in alarm, or hardly one isn't", file=sys.stderr)
+    elif deadband >= high - low:
+        print(f"alarm-client: {called}: its deadband {deadband} is as wide as its limits {low} to {high}: an alarm hardly ends", file=sys.stderr)
 
 
 # list and ack
 
 
-def alarm_of(row, name):
-    """An active object by names, as `list` and the console tell it."""
-    transition = names.transition_to(row.state)
-    return {
-        "object": names.object_text(row.object), "name": name, "state": names.named(names.STATES, row.state), "active": row.state != octets.NORMAL,
-        "since": values.stamp_text(row.stamps[transition]), "unacknowledged": [it for it, done in zip(names.TRANSITIONS, row.acknowledged) if not done],
-        "priority": row.priorities[transition], "notify": names.named(names.NOTIFY_TYPES, row.notify_type),
-        "times": {it: values.stamp_text(stamp) for it, stamp in zip(names.TRANSITIONS, row.stamps)},
-    }
-
-
-def alarms_of(asked):
-    """All active objects: those in alarm that nobody has acknowledged, those that somebody has, and those that are normal again.
-
-    Of each the most urgent ones come first, by priority, and of these the newest one.
-    """
-    found = [alarm_of(row, asked.name(row.object)) for row in asked.summaries()]
-    found.sort(key=lambda it: it["since"] or "", reverse=True)
-    return sorted(found, key=lambda it: (not it["active"], not it["unacknowledged"], it["priority"]))
-
-
-def colour_of(alarm):
-    if not alarm["active"]:
-        return None
-    return "red" if alarm["unacknowledged"] else "yellow"
-
-
-def alarm_rows(found):
-    """The table of alarms."""
-    head = ["STATE", "SINCE", "OBJECT", "NAME", "TO ACKNOWLEDGE", "PRIORITY"]
-    return words.table(head, [row_of(it) for it in found], [colour_of(it) for it in found])
-
-
-def row_of(alarm):
-    waits = " ".join(alarm["unacknowledged"]) or "-"
-    return [alarm["state"], (alarm["since"] or "never")[:19], alarm["object"], alarm["name"] or "", waits, alarm["priority"]]
-
-
-def count_text(found):
-    active, waiting = sum(it["active"] for it in found), sum(bool(it["unacknowledged"]) for it in found)
-    return f"{active} in alarm, {waiting} to be acknowledged" if found else "nothing is in alarm, and nothing is to be acknowledged"
-
-
 def list_alarms(given):
+    chosen = filters.filter_of(given)
+    looked = filters.Looked(given.looked) if given.looked else None
     with client.client_of(given) as asked:
-        found = alarms_of(asked)
+        classes = frozenset(finding.wanted_object(asked, it, "notification-class")[1] for it in given.classes)
+        found = alarms.alarms_of(asked)
+        shelved = shelf_command.shelved(given.shelf, asked.where())
+    shown = filters.passed(chosen._replace(classes=classes), looked.new(found) if looked else found)
     if given.json:
-        for alarm in found:
+        for alarm in shown:
             words.put(words.json_line(alarm))
     else:
-        for line in alarm_rows(found) if found else []:
-            print(line)
-        print(count_text(found))
+        show_alarms(found, shown, shelved)
+    if looked:
+        looked.keep(found)
     return DONE
+
+
+def show_alarms(found, shown, shelved):
+    """The table of alarms that are shown, and below it how many there are."""
+    for line in alarms.table(shown) if shown else []:
+        print(line)
+    if len(shown) < len(found):
+        print(say("{} of {} shown", len(shown), len(found)))
+    print(alarms.count_text(found))
+    if shelved:
+        late = sum(it["until"] <= time.time() for it in shelved)
+        print(say("{} on the shelf: alarm-client shelf tells which", len(shelved)) + (f" ({late} {say('overdue')})" if late else ""))
 
 
 def acknowledged_state(row, place):
@@ -327,49 +333,57 @@ def acknowledged_state(row, place):
     return (octets.OFFNORMAL, octets.FAULT, octets.NORMAL)[place]
 
 
-def acknowledge_row(asked, row, by, process=0):
-    """Acknowledges what there is to acknowledge of an active object, and gives the names of these transitions with their stamps."""
+def acknowledge_row(asked, row, whose, record):
+    """Acknowledges what there is to acknowledge of an active object, and gives the names of these transitions with their stamps.
+
+    `whose` is who does, a process identifier, and the address of who does where it isn't here.
+    """
+    by, process, address = whose
     done = []
     now = time.time()
     of_clock = octets.stamp_of(now + time.localtime(now).tm_gmtoff)
     for place, acknowledged in enumerate(row.acknowledged):
         if not acknowledged:
-            state = acknowledged_state(row, place)
-            asked.ask(lambda invoke: octets.acknowledge_alarm_by(invoke, (process, by, of_clock), row.object, state, row.stamps[place]))
-            done.append((names.TRANSITIONS[place], values.stamp_text(row.stamps[place])))
+            state, stamp = acknowledged_state(row, place), values.stamp_text(row.stamps[place])
+            told = {"object": names.object_text(row.object), "name": name_or_none(asked, row.object), "transition": names.TRANSITIONS[place], "stamp": stamp}
+            with record.deed("acknowledge", by, address, **told):
+                asked.ask(lambda invoke: octets.acknowledge_alarm_by(invoke, (process, by, of_clock), row.object, state, row.stamps[place]))
+            done.append((names.TRANSITIONS[place], stamp))
     return done
 
 
 def acknowledge_alarms(given):
     if bool(given.objects) == given.all:
         raise Ends(USAGE, "an object is wanted, or --all")
-    objects, by = [wanted(names.object_from, it) for it in given.objects], given.by or getpass.getuser()
     with client.client_of(given) as asked:
+        whose, record = (given.by or audit.user(), given.process, None), audit.Audit(given.audit, "alarm-client ack", asked.where())
+        objects = [finding.wanted_object(asked, it) for it in given.objects]
         rows = {row.object: row for row in asked.summaries()}
+        asked.learn_names(objects or rows)
         for of in objects or rows:
             if of not in rows:
                 asked.read(of, octets.EVENT_STATE)
-            done = acknowledge_row(asked, rows[of], by, given.process) if of in rows else []
+            done = acknowledge_row(asked, rows[of], whose, record) if of in rows else []
             show_acknowledged(given, of, asked.name(of), done)
     return DONE
 
 
 def show_acknowledged(given, of, name, done):
+    called = words.named(names.object_text(of), name)
     if given.json:
         words.put(words.json_line({"object": names.object_text(of), "name": name, "acknowledged": dict(done)}))
     elif done:
         for transition, stamp in done:
-            print(f"{words.named(names.object_text(of), name)}: {transition} of {stamp} acknowledged")
+            print(say("{}: {} of {} acknowledged", called, say(transition), stamp))
     elif not given.all:
-        print(f"{words.named(names.object_text(of), name)}: nothing to acknowledge")
+        print(say("{}: nothing to acknowledge", called))
 
 
 # recipients
 
 
-def class_of(text):
-    number = text.removeprefix("notification-class:")
-    return names.object_from(f"notification-class:{number}")
+def class_of(asked, text):
+    return finding.wanted_object(asked, text, "notification-class")
 
 
 def recipients_of(asked, of):
@@ -377,10 +391,13 @@ def recipients_of(asked, of):
 
 
 def show_recipients(given):
-    of = wanted(class_of, given.of_class)
     with client.client_of(given) as asked:
-        found, name = [values.destination_words(it) for it in recipients_of(asked, of)], asked.name(of)
-    show_list(given, of, name, found)
+        if given.of_class:
+            classes = [class_of(asked, given.of_class)]
+        else:
+            classes = [of for of in asked.objects() if of[0] == names.OBJECT_NUMBERS["notification-class"]]
+        for of in classes:
+            show_list(given, of, asked.name(of), [values.destination_words(it) for it in recipients_of(asked, of)])
     return DONE
 
 
@@ -388,7 +405,8 @@ def show_list(given, of, name, found):
     if given.json:
         words.put(words.json_line({"class": of[1], "name": name, "recipients": found}))
         return
-    print(words.coloured(words.named(names.object_text(of), name), "bold") + ("" if found else ": nobody is told"))
+    called = words.named(names.object_text(of), name)
+    print(words.coloured(called if found else say("{}: nobody is told", called), "bold"))
     for it in found:
         print(f"  {values.text_of(it)}")
 
@@ -418,29 +436,32 @@ def digits_of(text, count):
 
 def edited(given, asked, service, of, wanted_ones):
     """Has the server edit a list, and shows what it then is."""
+    name, act = asked.name(of), {octets.ADD_LIST_ELEMENT: "add recipient", octets.REMOVE_LIST_ELEMENT: "remove recipient"}[service]
+    told = {"object": names.object_text(of), "name": name, "recipients": [values.destination_words(it) for it in wanted_ones]}
     try:
-        asked.ask(lambda invoke: octets.edit_list(invoke, service, of, octets.RECIPIENT_LIST, b"".join(map(octets.destination, wanted_ones))))
+        with audit.Audit(given.audit, "alarm-client recipients", asked.where()).deed(act, given.by or audit.user(), **told):
+            asked.ask(lambda invoke: octets.edit_list(invoke, service, of, octets.RECIPIENT_LIST, b"".join(map(octets.destination, wanted_ones))))
     except Refusal as refusal:
         if (refusal.kind, refusal.code) == ("reject", 9):
             raise Ends(words.REFUSED, f"the server doesn't have {names.SERVICES[service]} ({refusal}): its lists are edited in the site's text alone") from None
         raise
-    show_list(given, of, asked.name(of), [values.destination_words(it) for it in recipients_of(asked, of)])
+    show_list(given, of, name, [values.destination_words(it) for it in recipients_of(asked, of)])
 
 
 def add_recipient(given):
-    of = wanted(class_of, given.of_class)
     made = octets.Destination(
         wanted(digits_of, given.days, 7), wanted(time_of, given.begin), wanted(time_of, given.end), wanted(station_of, given.address), given.process,
         given.confirmed, wanted(digits_of, given.transitions, 3),
     )
     with client.client_of(given) as asked:
-        edited(given, asked, octets.ADD_LIST_ELEMENT, of, [made])
+        edited(given, asked, octets.ADD_LIST_ELEMENT, class_of(asked, given.of_class), [made])
     return DONE
 
 
 def remove_recipients(given):
-    of, address = wanted(class_of, given.of_class), wanted(station_of, given.address)
+    address = wanted(station_of, given.address)
     with client.client_of(given) as asked:
+        of = class_of(asked, given.of_class)
         found = [it for it in recipients_of(asked, of) if it.address == address and given.process in (None, it.process)]
         if not found:
             raise Ends(words.REFUSED, f"{names.object_text(of)} has no recipient {given.address}")

@@ -1,12 +1,11 @@
 """alarm-console: the active alarms in the terminal or in a browser, refreshed, with acknowledgement; and commands for what nobody acknowledges."""
-import getpass
 import ipaddress
 import os
 import sys
 import threading
 import time
 
-from . import client, glance, page, web, words
+from . import audit, client, glance, page, shelf, shelf_command, web, words
 from .watch import Watch
 from .words import CANNOT_OPEN, DONE, USAGE, Ends
 
@@ -37,7 +36,9 @@ def parser():
     made = words.parser_of("alarm-console", WHAT, STATUSES, EXAMPLES)
     client.add_words(made)
     made.add_argument("--every", type=client.seconds, default=2.0, metavar="SECONDS", help="how often it asks (%(default)s)")
-    made.add_argument("--by", metavar="NAME", help="who acknowledges (the name of the user)")
+    audit.add_words(made, "acknowledges")
+    made.add_argument("--shelf", metavar="FILE", default=shelf_command.default_path(), help=shelf_command.HELP)
+    made.add_argument("--bell", action="store_true", help="ring the terminal's bell for each new alarm; the key b does too")
     made.add_argument("--web", metavar="ADDRESS:PORT", help="serve a page to browsers, as 127.0.0.1:8047")
     made.add_argument("--host", action="append", default=[], metavar="NAME", help="a name by which browsers may ask for the page, beside localhost and addresses")
     made.add_argument("--no-page", action="store_true", help="show nothing: for --on-unacknowledged alone")
@@ -61,9 +62,10 @@ def console(given):
     if given.site:
         with words.opened(given.site, "rb") as file:
             zone = glance.glance(file.read()).zone
-    by = given.by or getpass.getuser()
+    by = given.by or audit.user()
     with client.client_of(given) as asked:
-        watch = Watch(asked, steps, zone)
+        watch = Watch(asked, steps, zone, record_of(given, asked.where()))
+        keep_shelf(given)
         if given.web:
             return serve(given, watch, by)
         if given.json:
@@ -76,11 +78,34 @@ def console(given):
         if given.no_page:
             watch.go_on(given.every, threading.Event())
         os.environ.setdefault("ESCDELAY", "25")
-        page.show(watch, given.every, by)
+        threading.Thread(target=watch.read_logs, args=(given.every, threading.Event()), daemon=True).start()
+        page.show(watch, given.every, by, given.bell)
     return DONE
 
 
+def record_of(given, server):
+    """Where it is kept who acknowledged. That nothing is kept is said."""
+    record = audit.Audit(given.audit, "alarm-console", server)
+    if not record.is_kept() and not given.json and not given.no_page:
+        print("alarm-console: who acknowledges isn't kept: there is no --audit FILE, and no log of the system here", file=sys.stderr)
+    return record
+
+
+def keep_shelf(given):
+    """Brings back what is due on the shelf, beside whatever else this console does."""
+    try:
+        keeper = shelf.Keeper(given.shelf, lambda server: audit.Audit(given.audit, "alarm-console", server), given.wait)
+    except Ends as fault:
+        if given.shelf != shelf_command.default_path():
+            raise
+        print(f"alarm-console: no shelf: {fault}", file=sys.stderr)
+        return
+    threading.Thread(target=keeper.go_on, args=(threading.Event(),), daemon=True).start()
+
+
 def serve(given, watch, by):
+    if ":" not in given.web and given.web.isdigit():
+        raise Ends(USAGE, f"{given.web!r} is no address: ADDRESS:PORT is wanted, as 127.0.0.1:8047")
     try:
         address = client.address_from(given.web, 8047)
     except ValueError as error:
@@ -88,7 +113,8 @@ def serve(given, watch, by):
     if not ipaddress.ip_address(address[0]).is_loopback:
         print(f"alarm-console: whoever reaches {address[0]}:{address[1]} can acknowledge", file=sys.stderr)
     try:
-        web.serve(watch, address, given.every, by, given.host)
+        shelved = lambda server: shelf_command.shelved(given.shelf, server)
+        web.serve(watch, address, given.every, by=by, hosts=given.host, language=given.language, shelved=shelved)
     except OSError as error:
         raise Ends(CANNOT_OPEN, f"{given.web}: {error.strerror}") from None
     return DONE

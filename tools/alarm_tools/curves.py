@@ -3,11 +3,11 @@ import collections
 import random
 import re
 
-from . import names, values
+from . import finding, names, values
 
 # A curve: its object, after how many seconds it begins anew (None: it stays at its last point), how far it wavers, and its points.
 Curve = collections.namedtuple("Curve", "object repeat noise points")
-LINE = re.compile(r"(\S+)((?: +(?:repeat|noise) +\d+(?:\.\d+)?)*) *: *(.+)")
+LINE = re.compile(r"(\"(?:[^\"\\]|\\.)*\"|\S+)((?: +(?:repeat|noise) +\d+(?:\.\d+)?)*) *: *(.+)")
 NUMBERS = ("integer-value", "positive-integer-value")
 SPELLED = {
     "integer-value": "signed:{}", "positive-integer-value": "unsigned:{}", "multi-state-value": "unsigned:{}", "bitstring-value": "bits:{}",
@@ -15,26 +15,26 @@ SPELLED = {
 }
 
 
-def read(lines):
-    """The curves of a text. A line that is none is a ValueError with its number."""
+def read(lines, find=names.object_from):
+    """The curves of a text. `find` gives the object of a word. A line that is none is a ValueError with its number."""
     found = []
     for number, line in enumerate(lines, 1):
         line = line.strip()
         if not line or line.startswith("#"):
             continue
         try:
-            found.append(curve_of(line))
+            found.append(curve_of(line, find))
         except ValueError as error:
             raise ValueError(f"line {number}: {error}") from None
     return found
 
 
-def curve_of(line):
+def curve_of(line, find):
     """OBJECT [repeat SECONDS] [noise N]: SECONDS VALUE, SECONDS VALUE .."""
     parts = LINE.fullmatch(line)
     if not parts:
         raise ValueError("KIND:INSTANCE [repeat SECONDS] [noise N]: SECONDS VALUE, .. is wanted")
-    of, keys = names.object_from(parts[1]), dict(re.findall(r"(repeat|noise) +(\S+)", parts[2]))
+    of, keys = find(finding.split(parts[1])[0]), dict(re.findall(r"(repeat|noise) +(\S+)", parts[2]))
     points = []
     for text in parts[3].split(","):
         at, _, word = text.strip().partition(" ")

@@ -6,20 +6,23 @@ import sys
 import threading
 import time
 
-from . import client, curves, names, octets, values, words
+from . import client, curves, finding, names, octets, values, words
 from .client import NoAnswer, Refusal
 from .words import CANNOT_OPEN, DONE, USAGE, Ends
 
 WHAT = """\
-Writes values to a server: lines 'KIND:INSTANCE VALUE' from standard input, in their order. A value that isn't answered is written
-again until it is; of those that come meanwhile the last one of each object counts. Once somebody answers again, all last values are
-written again. One that is refused is told on standard error and left out, but for an Abort 0, where the outbox is full: that one is
-written again until it is taken.
+Writes values to a server: lines 'OBJECT VALUE' from standard input, in their order. OBJECT is KIND:INSTANCE, or its name in quotes,
+as "Flow temperature". A value that isn't answered is written again until it is; of those that come meanwhile the last one of each
+object counts. Once somebody answers again, all last values are written again. One that is refused is told on standard error and left
+out, but for an Abort 0, where the outbox is full: that one is written again until it is taken.
+
+Each minute, and with each pair of --alive, it reads back what it wrote. What differs is written again, and told on standard error, as
+where a server began on another journal. An object that is out of service is left as it is.
 
 With --keep the last value of each object is kept in a file before it is written, and all of them are written at the start.
 With --alive a binary value is set to inactive and then to active again and again, so that an alarm comes where this tool is gone.
 
-With --curves the values are those of a plant that is made up, of a file of lines 'KIND:INSTANCE [repeat SECONDS] [noise N]: SECONDS
+With --curves the values are those of a plant that is made up, of a file of lines 'OBJECT [repeat SECONDS] [noise N]: SECONDS
 VALUE, SECONDS VALUE ..'. Numbers go on a line from point to point, and other values stay until the next one."""
 STATUSES = [
     (0, "the input has ended, and all was taken"),
@@ -33,14 +36,17 @@ EXAMPLES = [
     ("alarm-feed --curves school.curves --script 1704110400000 --for 7200 > lines", "the same as a script for a session"),
     ("read-the-field | alarm-feed --alive binary-value:9 --alive-within 300", "a dead-man alarm, also where the field has gone silent"),
 ]
-AGAIN = 1.0
+# How long is waited behind a full outbox, in seconds, and of how many objects a look back tells by name.
+AGAIN, MOST_TOLD = 1.0, 5
 
 
 def parser():
     made = words.parser_of("alarm-feed", WHAT, STATUSES, EXAMPLES)
     client.add_words(made)
     made.add_argument("--keep", metavar="FILE", help="keep the last value of each object, and write all of them at the start")
-    made.add_argument("--alive", metavar="KIND:INSTANCE", help="a binary value that is set to inactive and active again and again")
+    made.add_argument("--look-every", type=client.seconds, default=60.0, metavar="SECONDS", help="how often what was written is read back (%(default)s)")
+    made.add_argument("--site", metavar="SITE", help="take names of objects from a site's text; without it the server is asked for them")
+    made.add_argument("--alive", metavar="OBJECT", help="a binary value that is set to inactive and active again and again")
     made.add_argument("--alive-every", type=client.seconds, default=60.0, metavar="SECONDS", help="how often (%(default)s)")
     made.add_argument("--alive-within", type=client.seconds, metavar="SECONDS", help="only while the last line isn't older")
     made.add_argument("--textfile", metavar="FILE", help="write how much was written and refused, for Prometheus")
@@ -113,6 +119,11 @@ class Queue:
         self.came = time.monotonic()
         self.put(of, word)
 
+    def waiting(self):
+        """The objects of which a value waits."""
+        with self.ready:
+            return {of for of, _ in self.lines}
+
     def end(self):
         with self.ready:
             self.has_ended = True
@@ -139,7 +150,7 @@ class Queue:
             self.lines = collections.deque(rest.items())
 
 
-def read_lines(queue, counts):
+def read_lines(queue, counts, find):
     """Puts the lines of standard input into the queue. A line that is none is told and counted."""
     try:
         for number, line in enumerate(sys.stdin, 1):
@@ -147,7 +158,7 @@ def read_lines(queue, counts):
             if not line.strip() or line.startswith("#"):
                 continue
             try:
-                queue.take(*parsed(line))
+                queue.take(*parsed(line, find))
             except ValueError as error:
                 counts["refused"] += 1
                 say(f"line {number}: {error}")
@@ -155,14 +166,15 @@ def read_lines(queue, counts):
         queue.end()
 
 
-def parsed(line):
-    """The object and the value of a line, which an object of its kind may have."""
+def parsed(line, find):
+    """The object and the value of a line, which an object of its kind may have. `find` gives the object of a word."""
     if not line.isascii() and any("\ud800" <= it <= "\udfff" for it in line):
         raise ValueError("it isn't UTF-8")
-    name, _, word = line.strip().partition(" ")
-    of = names.object_from(name)
+    name, word = finding.split(line)
+    of = find(name)
     if not word:
         raise ValueError(f"{line!r} has no value: KIND:INSTANCE VALUE is wanted")
+    word = word if of[0] == names.OBJECT_NUMBERS["characterstring-value"] else word.strip()
     values.element_from(of, octets.PRESENT_VALUE, word)
     return of, word
 
@@ -170,10 +182,10 @@ def parsed(line):
 # Curves.
 
 
-def read_curves(path):
+def read_curves(path, find):
     with words.opened(path, encoding="utf-8") as file:
         try:
-            return curves.read(file)
+            return curves.read(file, find)
         except ValueError as error:
             raise Ends(USAGE, f"{path}: {error}") from None
 
@@ -206,14 +218,14 @@ class Feeder:
 
     def __init__(self, given, asked, kept, queue, counts):
         self.given, self.asked, self.kept, self.queue, self.counts = given, asked, kept, queue, counts
-        self.silent, self.alive_at = False, time.monotonic()
-        self.alive = None
+        self.silent, self.alive_at, self.look_at = False, time.monotonic(), time.monotonic() + given.look_every
+        self.alive, self.left = None, {}
 
     def run(self):
         self.queue.put_again(self.kept.last)
         self.queue.came = time.monotonic()
         while not self.queue.is_done():
-            found = self.queue.next(self.alive_at if self.alive else None)
+            found = self.queue.next(min(self.alive_at, self.look_at) if self.alive else self.look_at)
             if found:
                 before = self.kept.last.get(found[0], "")
                 self.kept.keep(*found)
@@ -221,6 +233,8 @@ class Feeder:
                     self.kept.keep(found[0], before if before != found[1] else "")
             if self.alive and time.monotonic() >= self.alive_at:
                 self.show_alive()
+            if time.monotonic() >= self.look_at:
+                self.look_back()
             self.write_counts()
         return words.REFUSED if self.counts["refused"] else DONE
 
@@ -258,6 +272,53 @@ class Feeder:
         self.tell(of, word, str(refusal))
         return False
 
+    def look_back(self):
+        """Reads back what was written, and has written again what differs, as where the server began on another journal."""
+        self.look_at = time.monotonic() + self.given.look_every
+        waiting = self.queue.waiting()
+        mine = {of: word for of, word in self.kept.last.items() if of not in waiting}
+        try:
+            found = self.asked.read_many([(of, number, None) for of in mine for number in (octets.PRESENT_VALUE, octets.OUT_OF_SERVICE)])
+            self.asked.learn_names(of for of, word in mine.items() if found.get((of, octets.PRESENT_VALUE, None)) != written(of, word))
+        except NoAnswer as fault:
+            self.counts["unanswered"] += 1
+            if not self.silent:
+                say(f"{fault}; what was written is looked at again once somebody does")
+            self.silent = True
+            return
+        except (Refusal, ValueError) as fault:
+            say(f"what was written can't be read back: {fault}")
+            return
+        if self.silent:
+            self.silent = False
+            say(f"{self.asked.where()} answers again")
+        told = []
+        self.queue.put_again({of: word for of, word in mine.items() if self.differs(of, word, found, told)})
+        for line in told[:MOST_TOLD]:
+            say(line)
+        if told[MOST_TOLD:]:
+            say(f"and so of {len(told) - MOST_TOLD} objects more")
+
+    def differs(self, of, word, found, told):
+        """Whether an object has another value than was written, and isn't left as it is. What is told of it comes to a list, and is told once."""
+        has, out = (found.get((of, number, None)) for number in (octets.PRESENT_VALUE, octets.OUT_OF_SERVICE))
+        name, why = words.named(names.object_text(of), self.asked.names.get(of)), None
+        if not isinstance(has, list):
+            why = f"{name} can't be read back: {values.error_text(has) if has else 'the answer has nothing of it'}"
+        elif has == written(of, word):
+            self.left.pop(of, None)
+            return False
+        elif isinstance(out, list) and octets.number_of(out[0]):
+            why = f"{name} has {shown(of, has)} in place of {word}, and is out of service: it is left so"
+        if why is None:
+            self.left.pop(of, None)
+            self.counts["restored"] += 1
+            told.append(f"{name} has {shown(of, has)} in place of {word}: it is written again")
+            return True
+        told += [why] * (self.left.get(of) != why)
+        self.left[of] = why
+        return False
+
     def tell(self, of, word, what):
         if self.given.json:
             words.put(words.json_line({"object": names.object_text(of), "value": word, "answer": what}))
@@ -271,6 +332,7 @@ class Feeder:
         try:
             for word in ("inactive", "active"):
                 self.asked.write(self.alive, octets.PRESENT_VALUE, values.element_from(self.alive, octets.PRESENT_VALUE, word))
+            self.look_at = time.monotonic()
         except NoAnswer:
             self.counts["unanswered"] += 1
         except Refusal as refusal:
@@ -291,7 +353,18 @@ class Feeder:
 COUNTED = {
     "written": "values that the server took", "refused": "values that it refused, and lines that are none",
     "full": "writes that an Abort 0 answered, since the outbox was full", "unanswered": "writes that nobody answered",
+    "restored": "values that the server no longer had, and that were written again",
 }
+
+
+def written(of, word):
+    """The elements that a Present_Value is once a word was written to it."""
+    return octets.elements(values.element_from(of, octets.PRESENT_VALUE, word))
+
+
+def shown(of, found):
+    """A Present_Value that was read, as people read it."""
+    return words.printable(values.text_of(values.value_of(of, octets.PRESENT_VALUE, found)))
 
 
 def textfile(counts):
@@ -301,7 +374,8 @@ def textfile(counts):
 
 
 def feed(given):
-    made = read_curves(given.curves) if given.curves else None
+    finder = finding.Finder(given.site, lambda: client.client_of(given), say)
+    made = read_curves(given.curves, finder.find) if given.curves else None
     if (given.prints or given.script is not None) and made is None:
         raise Ends(USAGE, "--print and --script want --curves")
     if given.script is not None:
@@ -310,17 +384,17 @@ def feed(given):
         play_curves(given, made, lambda of, word: words.put(f"{names.object_text(of)} {word}"))
         return DONE
     counts, queue, kept = collections.Counter(), Queue(), Kept(given.keep)
-    threading.Thread(target=source, args=(given, made, queue, counts), daemon=True).start()
+    threading.Thread(target=source, args=(made or finder.find, given, queue, counts), daemon=True).start()
     with client.client_of(given) as asked:
         feeder = Feeder(given, asked, kept, queue, counts)
         if given.alive:
-            feeder.alive = alive_of(given.alive)
+            feeder.alive = alive_of(given.alive, finder.find)
         return feeder.run()
 
 
-def alive_of(text):
+def alive_of(text, find):
     try:
-        of = names.object_from(text)
+        of = find(text)
     except ValueError as error:
         raise Ends(USAGE, str(error)) from None
     if of[0] != names.OBJECT_NUMBERS["binary-value"]:
@@ -328,13 +402,13 @@ def alive_of(text):
     return of
 
 
-def source(given, made, queue, counts):
-    """Fills the queue from curves, or from standard input."""
-    if made is None:
-        read_lines(queue, counts)
+def source(of, given, queue, counts):
+    """Fills the queue from curves, or from standard input by what finds its objects."""
+    if not given.curves:
+        read_lines(queue, counts, of)
         return
     try:
-        play_curves(given, made, queue.take)
+        play_curves(given, of, queue.take)
     finally:
         queue.end()
 

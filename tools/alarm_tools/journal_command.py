@@ -4,7 +4,7 @@ import pathlib
 import sys
 import time
 
-from . import glance, journal, names, replay_command, same, site_text, words
+from . import finding, glance, journal, names, replay_command, same, site_text, words
 from .journal import NoJournal
 from .words import CANNOT_OPEN, DONE, Ends
 from .zone import moment_from
@@ -53,7 +53,7 @@ def parser():
     show.add_argument("--limit", type=float, metavar="SECONDS", help="end with 9 where the last event is further ahead of the clock")
     events = words.command_of(commands, "events", "writes each event as a line of JSON", show_events)
     events.add_argument("--since", metavar="MOMENT", help="from a moment on: 2024-01-13T02:30 by the site's clock, or 90m, 12h, 3d ago")
-    events.add_argument("--object", metavar="KIND:INSTANCE", help="of one object alone")
+    events.add_argument("--object", metavar="OBJECT", help="of one object alone: KIND:INSTANCE, or its name")
     events.add_argument("--text", action="store_true", help="as text for people in place of JSON")
     check = words.command_of(commands, "check", "looks at each record by its grammar", check_journal)
     copy = words.command_of(commands, "copy", "copies a journal, also one in use", copy_journal)
@@ -171,7 +171,7 @@ def show_events(given):
     else:
         text, rows = kept_events(given.journal)
     view = glance.glance(text)
-    wanted = None if given.object is None else object_wanted(given.object)
+    wanted = None if given.object is None else object_wanted(given.object, view)
     since = since_of(given.since, view)
     for number, record in rows:
         if (since is None or record.moment >= since) and (wanted is None or record.fields.get("object") == wanted):
@@ -198,11 +198,15 @@ def tell_gap(first, last):
         print(f"alarm-journal: {which} came with a snapshot: what it did is in the state, and no record tells it", file=sys.stderr)
 
 
-def object_wanted(text):
+def object_wanted(text, view):
+    """The object of a word: KIND:INSTANCE, or a name of the journal's own site."""
     try:
         return names.object_from(text)
-    except ValueError as error:
-        raise Ends(words.USAGE, str(error)) from None
+    except ValueError:
+        try:
+            return finding.named_in(text, view.names)
+        except ValueError as error:
+            raise Ends(words.USAGE, str(error)) from None
 
 
 def since_of(text, view):

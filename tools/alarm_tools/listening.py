@@ -5,7 +5,7 @@ import socket
 import sys
 import time
 
-from . import client, glance, names, octets, values, words
+from . import alarms, client, finding, glance, language, measure, names, octets, values, words
 from .client import NoAnswer
 from .words import CANNOT_OPEN, DONE, USAGE, Ends
 
@@ -21,8 +21,9 @@ def add_commands(commands):
     listen.add_argument("--site", metavar="SITE", help="take names from a site's text; without it the sender is asked for them")
     listen.add_argument("--count", type=int, default=0, metavar="N", help="end after N notifications")
     listen.add_argument("--json", action="store_true", help="lines of JSON")
+    language.add_words(listen)
     follow = words.command_of(commands, "follow", "writes the records of an event log as lines of JSON, on and on", follow_log)
-    follow.add_argument("log", metavar="LOG", help="KIND:INSTANCE, as event-log:1, or its instance")
+    follow.add_argument("log", metavar="LOG", help="KIND:INSTANCE, as event-log:1, its instance, or its name")
     follow.add_argument("--keep", metavar="FILE", help="keep the number of the next record in a file, and go on from it")
     first = "the first record: a number, oldest, or next, which is the next one that comes (%(default)s)"
     follow.add_argument("--first", default="oldest", metavar="NUMBER", help=first)
@@ -98,7 +99,7 @@ def hear(given, heard, known, last):
 
 
 def show_note(given, note, name, sender, confirmed):
-    told = values.notification_words(note, name)
+    told = values.notification_words(note, name, measure.measure_of(name, None))
     if given.json:
         words.put(words.json_line(told | {"sender": f"{sender[0]}:{sender[1]}", "confirmed": confirmed}))
     else:
@@ -140,21 +141,15 @@ class Position:
             raise Ends(CANNOT_OPEN, f"{self.path}: {error.strerror}") from None
 
 
-def log_of(text):
-    try:
-        return names.object_from(text if ":" in text else f"event-log:{text}")
-    except ValueError as error:
-        raise Ends(USAGE, str(error)) from None
-
-
 def follow_log(given):
     if given.first not in ("oldest", "next") and not given.first.isdigit():
         raise Ends(USAGE, f"{given.first!r} is no number, nor oldest, nor next")
-    of, position = log_of(given.log), Position(given.keep, int(given.first) if given.first.isdigit() else None)
-    silent = False
+    position = Position(given.keep, int(given.first) if given.first.isdigit() else None)
+    of, silent = None, False
     with client.client_of(given) as asked:
         while True:
             try:
+                of = of or finding.wanted_object(asked, given.log, "event-log")
                 written = write_new(given, asked, of, position)
                 silent = False
             except NoAnswer as fault:
@@ -185,8 +180,10 @@ def write_new(given, asked, of, position):
         tell_gap(position.next, oldest, total, names.object_text(of))
         position.keep(oldest)
         found = page_of(asked, of, oldest) if count else []
+    details = alarms.details_of(asked)
+    details.learn([note.object for _, _, note in found])
     for number, _, note in found:
-        told = {"log": names.object_text(of), "number": number} | values.notification_words(note, asked.name(note.object))
+        told = {"log": names.object_text(of), "number": number} | values.notification_words(note, asked.name(note.object), details.measure(note.object))
         words.put(f"{number} {coloured_note(told)}" if given.text else words.json_line({key: it for key, it in told.items() if key != "process"}))
     if found:
         position.keep(found[-1][0] + 1)

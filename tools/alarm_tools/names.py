@@ -11,11 +11,11 @@ VALUE_KINDS = ("integer-value", "positive-integer-value", "binary-value", "multi
 LAST_INSTANCE = (1 << 22) - 1
 
 PROPERTIES = {
-    0: "acked-transitions", 1: "ack-required", 6: "alarm-value", 7: "alarm-values", 8: "all", 17: "notification-class", 25: "deadband",
-    35: "event-enable", 36: "event-state", 37: "event-type", 39: "fault-values", 45: "high-limit", 52: "limit-enable", 59: "low-limit",
+    0: "acked-transitions", 1: "ack-required", 4: "active-text", 6: "alarm-value", 7: "alarm-values", 8: "all", 17: "notification-class", 25: "deadband",
+    28: "description", 35: "event-enable", 36: "event-state", 37: "event-type", 39: "fault-values", 45: "high-limit", 46: "inactive-text", 52: "limit-enable", 59: "low-limit",
     62: "max-apdu-length-accepted", 72: "notify-type", 74: "number-of-states", 75: "object-identifier", 76: "object-list",
     77: "object-name", 79: "object-type", 81: "out-of-service", 85: "present-value", 86: "priority", 102: "recipient-list",
-    103: "reliability", 107: "segmentation-supported", 111: "status-flags", 113: "time-delay", 120: "vendor-identifier",
+    103: "reliability", 107: "segmentation-supported", 110: "state-text", 111: "status-flags", 113: "time-delay", 117: "units", 120: "vendor-identifier",
     126: "buffer-size", 130: "event-time-stamps", 131: "log-buffer", 133: "enable", 141: "record-count", 144: "stop-when-full",
     145: "total-record-count", 351: "event-message-texts", 352: "event-message-texts-config", 353: "event-detection-enable",
     354: "event-algorithm-inhibit", 355: "event-algorithm-inhibit-ref", 356: "time-delay-normal", 357: "reliability-evaluation-inhibit",

@@ -15,6 +15,9 @@ ADD_LIST_ELEMENT, REMOVE_LIST_ELEMENT, READ_PROPERTY_MULTIPLE, READ_RANGE = 8, 9
 I_AM, UNCONFIRMED_EVENT_NOTIFICATION, WHO_IS = 0, 3, 8
 DEVICE, INTEGER_VALUE = 8, 45
 EVENT_ALGORITHM_INHIBIT, EVENT_STATE, PRESENT_VALUE = 354, 36, 85
+ACK_REQUIRED, EVENT_ALGORITHM_INHIBIT_REF, EVENT_MESSAGE_TEXTS, NOTIFICATION_CLASS, OUT_OF_SERVICE = 1, 355, 351, 17, 81
+DEADBAND = 25
+ACTIVE_TEXT, HIGH_LIMIT_OF, INACTIVE_TEXT, LOW_LIMIT_OF, STATE_TEXT, UNITS = 4, 45, 46, 59, 110, 117
 ALL, OBJECT_LIST, OBJECT_NAME, RECIPIENT_LIST, LOG_BUFFER, RECORD_COUNT, TOTAL_RECORD_COUNT = 8, 76, 77, 102, 131, 141, 145
 NORMAL, FAULT, OFFNORMAL, HIGH_LIMIT, LOW_LIMIT = range(5)
 SIGNED_OUT_OF_RANGE = 15
@@ -146,6 +149,17 @@ def read_property(invoke, the_object, number, index=None):
 def read_all(invoke, the_object):
     """A ReadPropertyMultiple of all properties of an object (15.7)."""
     return request(invoke, READ_PROPERTY_MULTIPLE, tagged(0, object_octets(the_object)) + between(1, tagged(0, shortest(ALL))))
+
+
+def read_many(invoke, wanted):
+    """A ReadPropertyMultiple of properties of objects (15.7), each an object, a number and an index or None; those of one object stand together."""
+    parts, last = [], None
+    for the_object, number, index in wanted:
+        if the_object != last:
+            parts += [b"\x1f"] * bool(parts) + [tagged(0, object_octets(the_object)), b"\x1e"]
+        parts += [tagged(0, shortest(number))] + ([] if index is None else [tagged(1, shortest(index))])
+        last = the_object
+    return request(invoke, READ_PROPERTY_MULTIPLE, b"".join(parts) + b"\x1f")
 
 
 def read_range(invoke, the_object, first, count):
@@ -349,10 +363,23 @@ def values_read(message):
 
 def many_read(message):
     """What the answer to a ReadPropertyMultiple of one object has: of each property its number, its index or None, and its elements or an error."""
+    found = objects_read(message)
+    want(len(found) == 1, f"no properties of one object: {message}")
+    return found[0]
+
+
+def objects_read(message):
+    """The same of several objects, each with its properties."""
     found = elements(message.parameters)
-    want([it.number for it in found] == [0, 1] and isinstance(found[1].content, list), f"no properties: {message}")
+    want(found and [it.number for it in found] == [0, 1] * (len(found) // 2), f"no properties: {message}")
+    return [(object_of(of), properties_read(results.content)) for of, results in zip(found[::2], found[1::2])]
+
+
+def properties_read(found):
+    """The results of one object in such an answer."""
+    want(isinstance(found, list) and (not found or found[0].number == 2), f"no results: {found}")
     rows = []
-    for it in found[1].content:
+    for it in found:
         if it.number == 2:
             rows.append([number_of(it), None, None, None])
         elif it.number == 3:
@@ -362,7 +389,7 @@ def many_read(message):
         else:
             want(it.number == 5, f"no property: {it}")
             rows[-1][3] = tuple(map(number_of, it.content))
-    return object_of(found[0]), rows
+    return rows
 
 
 def range_read(message):

@@ -2,14 +2,16 @@
 import pathlib
 import sys
 
-from . import archive, drawing, glance, names, replay_report, report, site_command, words
+from . import archive, audit_command, drawing, glance, names, replay_report, report, site_command, words
 from .words import CANNOT_OPEN, DONE, Ends
 from .zone import Zone
 
 UNREADABLE = 4
 WHAT = """\
 Tells a session's report in words: dates in place of moments, names beside numbers, datagrams decoded, and below it a
-timeline of the states of each object that changed. With --script each line of the script stands beside what came of it."""
+timeline of the states of each object that changed. With --script each line of the script stands beside what came of it.
+
+alarm-report audit tells another record: what people did by the tools (alarm-report audit --help)."""
 STATUSES = [
     (0, "the whole report was told"),
     (1, "a file can't be opened or written"),
@@ -199,5 +201,11 @@ def draw(path, changes, bounds, teller):
         raise Ends(CANNOT_OPEN, f"{path}: {error.strerror}") from None
 
 
+# Other reports, by the first word: each has words, help and statuses of its own.
+COMMANDS = {"audit": audit_command.parser}
+
+
 def main():
+    if sys.argv[1:2] and sys.argv[1] in COMMANDS:
+        return words.run(COMMANDS[sys.argv[1]](), sys.argv[2:])
     return words.run(parser())

@@ -1,7 +1,11 @@
 """Values of properties and notifications in words, and words as values to write."""
+import decimal
 import re
 
 from . import names, octets
+from .language import say
+from .measure import Measure
+from .measure import text_of as text_of_measured
 from .octets import BITS, BOOLEAN, DATE, ENUMERATED, NULL, OBJECT, OCTETS, REAL, SIGNED, TEXT, TIME, UNSIGNED, want
 
 NEVER = b"\xff" * 8
@@ -120,10 +124,17 @@ def destination_words(of):
     }
 
 
+def error_text(error):
+    """An Error by its two numbers and its name."""
+    return f"Error {error[0]},{error[1]}, {names.ERRORS.get(tuple(error), 'unknown')}"
+
+
 def text_of(value):
-    """A value of `value_of` as a text for people."""
+    """A value of `value_of` as a text for people. An empty text is shown as two quotes."""
     if isinstance(value, list):
         return ", ".join(map(text_of, value)) or "none"
+    if value == "":
+        return '""'
     if isinstance(value, dict):
         days = " ".join(day[:3] for day, it in zip(names.DAYS, value["days"]) if it == "1") if value["days"] != "1111111" else "every day"
         how = "confirms" if value["confirmed"] else "doesn't confirm"
@@ -164,10 +175,16 @@ def event_value(note, event_type, element):
         inner = element.content[0]
         return ("inactive", "active")[octets.number_of(inner) % 2] if inner.number == 1 else octets.number_of(inner)
     if name in ("command", "feedback"):
-        return plain(element.content[0]) if len(element.content) == 1 else None
+        return plain_of_state(element.content[0]) if len(element.content) == 1 else None
     if name == "properties":
         return properties_of(note.object, element.content)
     return int.from_bytes(element.content, "big", signed=event_type == 15 and name != "deadband")
+
+
+def plain_of_state(element):
+    """A command or a feedback: of a binary value, which is an Enumerated, by its name."""
+    value = plain(element)
+    return ("inactive", "active")[value] if element.number == ENUMERATED and not element.context and value in (0, 1) else value
 
 
 def properties_of(the_object, found):
@@ -181,13 +198,14 @@ def properties_of(the_object, found):
     return rows
 
 
-def notification_words(note, name=None):
-    """A notification by names, as a line of JSON has it."""
+def notification_words(note, name=None, measure=None):
+    """A notification by names, as a line of JSON has it. A measure tells the units of its value."""
     told = {
         "time": stamp_text(note.stamp), "object": names.object_text(note.object), "name": name, "notify": names.named(names.NOTIFY_TYPES, note.notify_type),
         "from": None if note.from_state is None else names.named(names.STATES, note.from_state), "to": names.named(names.STATES, note.to_state),
         "event_type": names.named(names.EVENT_TYPES, note.event_type), "values": event_values(note), "class": note.of_class, "priority": note.priority,
         "ack_required": None if note.ack_required is None else bool(note.ack_required), "device": note.device[1], "process": note.process, "text": note.text,
+        "units": (measure.unit or None) if measure else None, "scale": float(measure.scale) if measure and measure.scale != 1 else None,
     }
     return {key: it for key, it in told.items() if it is not None}
 
@@ -196,15 +214,23 @@ def event_value_text(value):
     return ", ".join(f"{name} {text_of(it)}" for name, it in value.items()) if isinstance(value, dict) else text_of(value)
 
 
+def measured_text(key, value, told):
+    """A value of a notification: a number with its unit, where that is known."""
+    if key in ("value", "limit", "deadband") and isinstance(value, int) and not isinstance(value, bool):
+        return text_of_measured(value, Measure(decimal.Decimal(str(told.get("scale", 1))), told.get("units", "")))
+    return event_value_text(value)
+
+
 def notification_text(told):
     """The same in words: what, of which object, from which state to which, with which values, of which class."""
     of = told["object"] + (f' "{told["name"]}"' if told.get("name") and told["name"] != told["object"] else "")
     if told["notify"] == "ack-notification":
-        return f"acknowledged: {of} {told['to']} at {told['time']}, class {told['class']}"
-    values = ", ".join(f"{key} {event_value_text(it)}" for key, it in told["values"].items() if key != "flags")
-    asks = ", to be acknowledged" if told.get("ack_required") else ""
-    says = f', "{told["text"]}"' if "text" in told else ""
-    return f"{told['notify']}: {of} {told.get('from', '?')} -> {told['to']} at {told['time']}, {values}, class {told['class']}, priority {told['priority']}{asks}{says}"
+        return say("acknowledged: {} {} at {}, class {}", of, say(told["to"]), told["time"], told["class"])
+    shown = ", ".join(f"{say(key)} {measured_text(key, it, told)}" for key, it in told["values"].items() if key != "flags")
+    moved = say(told.get("from", "?")), say(told["to"])
+    line = say("{}: {} {} -> {} at {}, {}, class {}, priority {}", say(told["notify"]), of, *moved, told["time"], shown, told["class"], told["priority"])
+    asks = f", {say('to be acknowledged')}" if told.get("ack_required") else ""
+    return line + asks + (f', "{told["text"]}"' if "text" in told else "")
 
 
 # What is to be written, from words.

@@ -6,35 +6,56 @@ import sys
 import threading
 import time
 
-from . import names, words
+from . import alarms, client, frequent, names, words
 from .client import NoAnswer, Refusal
-from .client_command import acknowledge_row, alarms_of
+from .client_command import acknowledge_row
+from .language import say
 
 # How often a command is tried that fails, and for how long it may run, in seconds.
 TRIES, SECONDS = 3, 60
 
 
-class Watch:
-    """The alarms as they were when they were last asked for. Its calls may come from several threads; one of them asks at a time."""
+# How often the logs are read for what comes most often, in seconds.
+OF_LOGS = 60
 
-    def __init__(self, asked, escalations=(), zone=None):
-        self.asked, self.asking, self.lock = asked, threading.RLock(), threading.Lock()
+
+class Watch:
+    """The alarms as they were when they were last asked for. Its calls may come from several threads; one of them asks at a time.
+
+    Each alarm has a number: the order in which this console first saw it in its state. By it a page tells what is new to who looks.
+    """
+
+    def __init__(self, asked, escalations=(), zone=None, record=None):
+        self.asked, self.asking, self.lock, self.record = asked, threading.RLock(), threading.Lock(), record
         self.alarms, self.error, self.as_of, self.device = [], "it is asked for the first time", None, None
+        self.run, self.numbers, self.last = f"{time.time_ns():x}", {}, 0
+        self.most = None
         self.escalation = Escalation(escalations, zone)
 
     def refresh(self):
         """Asks once. Where nobody answers, what was known stays, with the reason."""
         with self.asking:
             try:
-                device = self.device or self.called(self.asked.device()[0])
-                found = alarms_of(self.asked)
+                device = self.called(self.asked.device()[0])
+                found = alarms.alarms_of(self.asked)
             except (NoAnswer, Refusal, ValueError, OSError) as error:
+                alarms.details_of(self.asked).forget()
                 with self.lock:
                     self.error = str(error)
                 return
+            self.number(found)
             with self.lock:
                 self.device, self.alarms, self.error, self.as_of = device, found, None, time.time()
             self.escalation.look(found)
+
+    def number(self, found):
+        """Gives each alarm its number: the same for as long as it stays as it is."""
+        before, self.numbers = self.numbers, {}
+        for alarm in sorted(found, key=lambda it: it["since"] or ""):
+            key = alarm["object"], alarm["state"], alarm["since"]
+            if key not in before:
+                self.last += 1
+            self.numbers[key] = alarm["number"] = before.get(key, self.last)
 
     def called(self, of):
         return words.named(names.object_text(of), self.asked.name(of))
@@ -42,19 +63,40 @@ class Watch:
     def state(self):
         """All that a page shows, as it is now."""
         with self.lock:
-            return {"device": self.device, "where": self.asked.where(), "as_of": self.as_of, "error": self.error, "alarms": list(self.alarms)}
+            return {
+                "device": self.device, "where": self.asked.where(), "as_of": self.as_of, "error": self.error, "alarms": list(self.alarms), "run": self.run,
+                "last": self.last,
+            }
 
-    def acknowledge(self, object_text, by):
+    def acknowledge(self, object_text, by, address=None):
         """Acknowledges what there is to acknowledge of an object, and says in words what came of it, and whether it was done."""
         with self.asking:
             try:
                 of = names.object_from(object_text)
                 row = next((it for it in self.asked.summaries() if it.object == of), None)
-                done, called = acknowledge_row(self.asked, row, by) if row else [], self.called(of)
+                done, called = acknowledge_row(self.asked, row, (by, 0, address), self.record) if row else [], self.called(of)
             except (NoAnswer, Refusal, ValueError, OSError) as error:
-                return f"{object_text} isn't acknowledged: {error}", False
+                return say("{} isn't acknowledged: {}", object_text, error), False
             self.refresh()
-        return (f"{called}: {' and '.join(it for it, _ in done)} acknowledged" if done else f"{called}: there was nothing to acknowledge"), True
+        which = say(" and ").join(say(it) for it, _ in done)
+        return (say("{}: {} acknowledged", called, which) if done else say("{}: there was nothing to acknowledge", called)), True
+
+    def read_logs(self, every, stop):
+        """Reads the logs at once, and then each minute, until an event is set: `most` then has what came most often in a week, and since when the logs tell all."""
+        with client.Client(self.asked.address, self.asked.wait, self.asked.retries) as asked:
+            logs = frequent.Logs(asked)
+            while True:
+                try:
+                    logs.read()
+                    rows, since = logs.most()
+                    asked.learn_names([it.object for it in rows])
+                    self.most = [{"object": names.object_text(it.object), "name": asked.names.get(it.object), "times": it.count, "last": it.last} for it in rows], since
+                    pause = OF_LOGS
+                except (NoAnswer, Refusal, ValueError, OSError):
+                    asked.names.clear()
+                    pause = every
+                if stop.wait(pause):
+                    return
 
     def go_on(self, every, stop):
         """Asks at once, and then again and again, until an event is set."""

@@ -4,6 +4,8 @@ import json
 import os
 import sys
 
+from . import language
+
 # The exit statuses that all tools share; each tool's --help and manual page say which it has.
 DONE, CANNOT_OPEN, USAGE, NOBODY, REFUSED, UNREADABLE = range(6)
 COLOURS = {"red": "31;1", "yellow": "33", "green": "32", "faint": "2", "bold": "1"}
@@ -40,9 +42,20 @@ def command_of(commands, name, what, call):
     return command
 
 
+def moved_behind(words, options):
+    """The words of a tool with those of its options that stand before a command behind all that is said to it."""
+    moved = []
+    while words and words[0].partition("=")[0] in options:
+        count = 1 if "=" in words[0] or words[0] == "--json" else 2
+        moved, words = moved + words[:count], words[count:]
+    end = words.index("--") if "--" in words else len(words)
+    return words[:end] + moved + words[end:]
+
+
 def run(parser, words=None):
     """Does what the words say, and gives the exit status."""
-    given = parser.parse_args(words)
+    given = parser.parse_args(moved_behind(list(sys.argv[1:] if words is None else words), getattr(parser, "behind", ())))
+    language.choose(getattr(given, "language", None) or language.default_language())
     for stream, errors in ((sys.stdin, "surrogateescape"), (sys.stdout, "backslashreplace"), (sys.stderr, "backslashreplace")):
         # What a terminal can't take is told by its number, and what isn't text is refused where it is read: neither ends a tool.
         if hasattr(stream, "reconfigure"):
