@@ -10,7 +10,7 @@ import shutil
 import subprocess
 
 TOP = pathlib.Path(__file__).resolve().parent.parent
-SECONDS = 120
+SECONDS = 300
 # What a package is made of, as a checkout has it.
 MADE_OF = ["alarm-server", "VERSION", "HANDLES", "crates.txt", "docs", "examples", "cases", "libexec", "packaging", "tools", *(path.name for path in TOP.glob("*.md"))]
 # What Debian 12 has of the packages on which this one depends, as the status of a machine tells it.

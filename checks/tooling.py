@@ -14,7 +14,7 @@ import serving
 
 TOP = pathlib.Path(__file__).resolve().parent.parent
 TOOLS = TOP / "tools"
-NAMES = ("alarm-client", "alarm-console", "alarm-feed", "alarm-journal", "alarm-report", "alarm-site")
+NAMES = ("alarm-client", "alarm-console", "alarm-copies", "alarm-escalation", "alarm-feed", "alarm-journal", "alarm-report", "alarm-site")
 SECONDS = 60
 
 
