@@ -15,7 +15,8 @@ import serving
 TOP = pathlib.Path(__file__).resolve().parent.parent
 TOOLS = TOP / "tools"
 NAMES = ("alarm-client", "alarm-console", "alarm-copies", "alarm-escalation", "alarm-feed", "alarm-journal", "alarm-report", "alarm-site")
-SECONDS = 60
+# How long a tool may run, on a machine that has much else to do.
+SECONDS = 180
 
 
 def environment(**keys):

@@ -67,12 +67,17 @@ def of_line(octets, number, reason):
         return "it is UTF-16, as some editors write it: save it as UTF-8"
     word = line.partition("=")[2].strip()
     first = re.match(r"[^\s,\]]*", word)[0]
+    if reason.startswith("Cannot "):
+        heads = [(at, found[1]) for at, it in enumerate(lines, 1) if (found := re.match(r"\s*\[(class|destination|object|enrollment|log|binding)\]", it))]
+        if heads:
+            return f"[[{heads[0][1]}]] is wanted in line {heads[0][0]}, in two brackets, since there may be more than one ({reason})"
+        return f"a key stands twice in its table ({reason})" if "=" in line else reason
     if section := re.match(r"\s*\[([a-z_]+)\]\s*(?:#.*)?$", line):
         return f"[[{section[1]}]] is wanted, in two brackets, since there may be more than one" if section[1] != "device" else "[device] stands twice, and may stand once"
     for holds, text in [
         (any(it in line for it in CURLY), "straight quotes are wanted, as in \"Freezer\", and these are curly ones"),
         (line.lstrip().startswith(("//", ";", "--", "/*")), "a comment begins with #"),
-        (re.fullmatch(r"(?i)yes|no|on|off|true|false", first), "true or false is wanted, in small letters and without quotes"),
+        (re.search(r"(?<![\w\"'])(?:True|False|TRUE|FALSE|(?i:yes|no|on|off))(?![\w\"'])", word.split("#")[0]), "true or false is wanted, in small letters and without quotes"),
         (re.fullmatch(r"[+-]?\d+,\d+", word.split("#")[0].strip()), "a whole number is wanted, without a comma: say it in tenths or hundredths"),
         (re.match(r"[+-]?\d+ *[^\d\s,.\]}#_xob:TZ+-]", word), "a number is wanted, without a unit behind it"),
         (re.match(r"[+-]?0\d", first), "a number is wanted without a 0 before it"),
