@@ -12,7 +12,7 @@ import subprocess
 TOP = pathlib.Path(__file__).resolve().parent.parent
 SECONDS = 300
 # What a package is made of, as a checkout has it.
-MADE_OF = ["alarm-server", "VERSION", "HANDLES", "crates.txt", "docs", "examples", "cases", "libexec", "packaging", "tools", *(path.name for path in TOP.glob("*.md"))]
+MADE_OF = ["alarm-server", "VERSION", "HANDLES", "crates.txt", "docs", "examples", "bench", "libexec", "packaging", "tools", *(path.name for path in TOP.glob("*.md"))]
 # What Debian 12 has of the packages on which this one depends, as the status of a machine tells it.
 DEBIAN = {"libc6": "2.36-9+deb12u10", "python3": "3.11.2-1+b1", "passwd": "1:4.13+dfsg1-1", "adduser": "3.134", "init-system-helpers": "1.65.2"}
 STATUS = "Package: {}\nStatus: install ok installed\nPriority: required\nSection: admin\nMaintainer: Debian\nArchitecture: amd64\nVersion: {}\nDescription: a part of Debian\n\n"
