@@ -14,7 +14,7 @@ import serving
 
 TOP = pathlib.Path(__file__).resolve().parent.parent
 TOOLS = TOP / "tools"
-NAMES = ("alarm-client", "alarm-console", "alarm-copies", "alarm-escalation", "alarm-feed", "alarm-journal", "alarm-report", "alarm-site")
+NAMES = ("alarm-client", "alarm-console", "alarm-copies", "alarm-escalation", "alarm-feed", "alarm-history", "alarm-journal", "alarm-report", "alarm-site")
 # How long a tool may run, on a machine that has much else to do.
 SECONDS = 180
 

@@ -1,4 +1,5 @@
 """The parts of checks/tools that look at what runs beside a server for good: the escalation, and copies of the journal."""
+import csv
 import email
 import email.policy
 import http.server
@@ -9,6 +10,7 @@ import shutil
 import subprocess
 import threading
 import time
+import xml.etree.ElementTree
 
 import serving
 import tooling
@@ -187,6 +189,58 @@ def try_rules(told, program, folder):
     (folder / "tests.yml").write_text("rule_files: [rules.yml]\ntests:\n" + "".join(parts), encoding="utf-8")
     ended = subprocess.run(["promtool", "test", "rules", str(folder / "tests.yml")], capture_output=True, text=True, timeout=tooling.SECONDS, check=False)
     told.want(ended.returncode == 0, f"promtool says {ended.stdout}{ended.stderr}")
+
+
+# The history.
+
+
+def try_history(told, program, folder):
+    """What a log has and what was followed are one history, of the days that are asked for; its table, its page and its picture tell each record and state."""
+    with Plant(program, folder) as it:
+        for of, word in [("integer-value:1", "90"), ("binary-value:1", "active"), ("integer-value:1", "50"), ("integer-value:2", "5")]:
+            it.write(of, word)
+        followed = folder / "followed"
+        followed.write_text(it.client("follow", "1", "--once")[1], encoding="utf-8")
+        table, page, picture = folder / "table.csv", folder / "page.html", folder / "states.svg"
+        words = ["--site", it.site, "--to", it.relay.to(), "--log", "1", "--csv", table, "--page", page, "--svg", picture]
+        found, output, said = run("alarm-history", *words, followed)
+        told.same("a history", (found, output, said), (0, "", ""))
+        with open(table, encoding="utf-8", newline="") as file:
+            rows = list(csv.DictReader(file))
+        wanted = [
+            ("integer-value:1", "Freezer 1", "normal", "high-limit"), ("binary-value:1", "Door", "normal", "offnormal"),
+            ("integer-value:1", "Freezer 1", "high-limit", "normal"), ("integer-value:2", "Freezer 2", "normal", "low-limit"),
+        ]
+        told.same("its rows, each once", [tuple(row[key] for key in ("object", "name", "from", "to")) for row in rows], wanted)
+        told.want("value 90" in rows[0]["values"] and "limit 80" in rows[0]["values"], f"the values of a row are {rows[0]}")
+        titles = [title.text for title in xml.etree.ElementTree.parse(picture).iter("{http://www.w3.org/2000/svg}title")]
+        for of, state in [("integer-value:1", "high-limit"), ("binary-value:1", "offnormal"), ("integer-value:2", "low-limit"), ("integer-value:1", "normal")]:
+            told.want(any(title.startswith(f'{of} "') and f": {state} from " in title for title in titles), f"the picture has no {state} of {of}: {titles}")
+        text = page.read_text(encoding="utf-8")
+        told.want(text.count("<tr><td>") == 4 and "<svg" in text and "4 records" in text, f"the page is {text[:300]}")
+        see_days(told, followed, folder)
+        return it.relay.datagrams
+
+
+def see_days(told, followed, folder):
+    """Days and objects are chosen, without a server; what is no record is told by its line."""
+    old = {"time": "2026-01-05 12:00:00.00", "object": "binary-value:1", "name": "=Door", "from": "normal", "to": "offnormal", "notify": "alarm"}
+    lines = folder / "lines"
+    lines.write_text(json.dumps(old) + "\n" + followed.read_text(encoding="utf-8"), encoding="utf-8")
+    for words, count in [
+        ([], 5), (["--until", "2026-01-06"], 1), (["--since", "2026-01-05T12:00:00", "--until", "2026-01-05T12:00:01"], 1), (["--since", "2026-01-06"], 4), (["--object", "integer-value:1"], 2),
+        (["--object", "binary-value:1", "--since", "2026-01-06"], 1),
+    ]:
+        found, output, said = run("alarm-history", *words, "--json", lines)
+        told.same(f"records of {words}", (found, len(output.splitlines()), said), (0, count, ""))
+    told.want("'=Door" in run("alarm-history", "--csv", "-", "--until", "2026-01-06", lines)[1], "a name that a table would take for a formula stands as it is")
+    told.same("no record", run("alarm-history", "--until", "2020-01-01", lines)[:2], (0, "there is no record\n"))
+    for words, given, status, text in [
+        ([], "{}\n", 5, "line 1 is none that alarm-client follow writes"), (["--since", "yesterday"], "", 2, "is no moment"), (["--object", "door"], "", 2, "KIND:INSTANCE"),
+        (["--svg", folder / "none.svg"], "", 1, "nothing to draw"), (["--csv", folder / "none" / "x"], "", 1, "No such file"),
+    ]:
+        found, _, said = run("alarm-history", *words, given=given)
+        told.want(found == status and text in said, f"alarm-history {words}: {found}, {said}")
 
 
 # Copies.
