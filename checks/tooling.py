@@ -14,7 +14,10 @@ import serving
 
 TOP = pathlib.Path(__file__).resolve().parent.parent
 TOOLS = TOP / "tools"
-NAMES = ("alarm-carry", "alarm-client", "alarm-console", "alarm-feed", "alarm-journal", "alarm-report", "alarm-site")
+NAMES = (
+    "alarm-carry", "alarm-client", "alarm-console", "alarm-copies", "alarm-escalation", "alarm-feed", "alarm-history", "alarm-journal", "alarm-report",
+    "alarm-site",
+)
 # How long a tool may run, and how long something that is to come is waited for, on a machine that has much else to do.
 SECONDS, WAIT = 180, 60
 

@@ -15,7 +15,9 @@ import xml.etree.ElementTree
 import zoneinfo
 
 import bacnet
+import mistakes
 import serving
+import tooling
 from serving import MANY, START, Server
 from tooling import TOP, lines_of_json, run
 
@@ -124,6 +126,45 @@ def try_readings(told, *_):
             told.same(f"the line of a change of {name}", str(found[1]), line)
         count += 1
     told.want(count > 100, f"cases/ has {count} changes of sites")
+
+
+def try_mistakes(told, program, folder):
+    """alarm-site tells of each mistake the line and what is wanted, and of those that are taken the warning; the program says the same refusal in checks/commands."""
+    was, rows = (TOP / "examples" / "school.toml").read_text(encoding="utf-8"), mistakes.texts()
+    paths = [folder / f"{number}.toml" for number in range(len(rows))]
+    for path, (_, text) in zip(paths, rows):
+        path.write_text(text, encoding="utf-8")
+    warned = iter(mistakes.WARNED)
+    for path, (mistake, text), ended in zip(paths, rows, tooling.run_many("site_command", [["check", path, "--program", "none"] for path in paths])):
+        status, output, said = ended
+        if mistake.told is None:
+            kind = next(warned)
+            told.want(status == 0 and (f"[{kind}]" in output if kind else "warning" in output), f"{mistake.name}: {status}, {output}, {said}")
+            continue
+        found = re.fullmatch(rf"{re.escape(str(path))}(?::(\d+))?: site refused: (.*)", output.splitlines()[0] if output else "")
+        line = mistakes.line_of(text, mistake, was)
+        good = found and found[2] == mistake.told and found[1] and line in (None, int(found[1])) and all(it in output for it in mistake.says)
+        told.want(status == 3 and good, f"{mistake.name}: {status}, line {line} is wanted, {output}{said}")
+    told.want(len(rows) >= 93, f"{len(rows)} mistakes")
+    see_many_faults(told, folder)
+
+
+def see_many_faults(told, folder):
+    """A text with several faults has all of them told, and one that nothing is in or that isn't UTF-8 says what is wanted."""
+    path = folder / "many.toml"
+    text = (TOP / "examples" / "school.toml").read_text(encoding="utf-8")
+    for old, new in [("vendor = 999", "vendr = 999"), ("value = -200", "value = -20.0"), ('days = "0000011"', 'days = "Sat"'), ("classes = [1, 2]", "classes = [1, 7]")]:
+        text = text.replace(old, new)
+    path.write_text(text, encoding="utf-8")
+    status, output, _ = run("alarm-site", "check", path, "--program", "none")
+    lines = [int(it) for it in re.findall(r"\.toml:(\d+): site refused", output)]
+    wanted = [number for number, line in enumerate(text.splitlines(), 1) if line.startswith(("vendr", "value = -20.0", 'days = "Sat"'))]
+    log = next(number for number, line in enumerate(text.splitlines(), 1) if line == "[[log]]")
+    told.same("the lines of four faults", (status, sorted(lines)), (3, sorted([*wanted, log])))
+    for octets, says in [(b"", "[device] is wanted, with instance and start"), ("[device]\n".encode("utf-16"), "save it as UTF-8"), (b'[device]\nname = "K\xfcche"\n', "save it as UTF-8")]:
+        path.write_bytes(octets)
+        status, output, _ = run("alarm-site", "check", path, "--program", "none")
+        told.want(status == 3 and says in output, f"a text of {octets[:20]!r}: {status}, {output}")
 
 
 CLEAN = """[device]

@@ -448,7 +448,8 @@ def metrics_of(text):
 def try_metrics(told, program, folder):
     with Plant(program, folder) as it:
         it.write("integer-value:1", "90")
-        words = ["metrics", "--textfile", folder / "server.prom", "--journal", it.journal, "--site", it.site]
+        (folder / "journal-20260101T000000Z").write_bytes(b"")
+        words = ["metrics", "--textfile", folder / "server.prom", "--journal", it.journal, "--site", it.site, "--copies", folder]
         told.same("metrics", it.client(*words)[0], 0)
         found = metrics_of((folder / "server.prom").read_text())
         wanted = {

@@ -18,7 +18,7 @@ def tables_of(document, section):
 def glance(octets):
     """Names and clock of a site's text. What can't be read is left out: the program's word on a text is another matter."""
     try:
-        document = tomllib.loads(octets.decode("utf-8"))
+        document = tomllib.loads(octets.decode("utf-8-sig"))
     except ValueError:
         return Glance({}, Zone(), None, {})
     device = document.get("device") if isinstance(document.get("device"), dict) else {}

@@ -3,7 +3,7 @@ import os
 import pathlib
 import time
 
-from . import client, glance, journal, names, octets, values, words
+from . import client, copies_command, glance, journal, names, octets, values, words
 from .client import NoAnswer, Refusal
 from .words import CANNOT_OPEN, DONE, Ends
 from .zone import MachineZone, datetime_of
@@ -19,6 +19,7 @@ METRICS = {
     "log_records": ("gauge", "Total_Record_Count of each event log, which goes on over what the log drops"),
     "last_event_seconds": ("gauge", "how old the last event is that the journal, else the first log, has; below 0 it is ahead of the clock"),
     "journal_room_left_octets": ("gauge", "octets that are left in the area in use of the journal"),
+    "newest_copy_seconds": ("gauge", "how old the newest copy of the journal is, by its name; left out where there is none"),
     "datagrams_lost_total": ("counter", "datagrams that the system lost at the server's socket, as the kernel counts them for each"),
     "scrape_timestamp_seconds": ("gauge", "when this was written"),
 }
@@ -28,6 +29,7 @@ def add_command(commands):
     command = words.command_of(commands, "metrics", "writes the server's state for Prometheus", write_metrics)
     command.add_argument("--textfile", metavar="FILE", help="write to a file, which is replaced at once (standard output)")
     command.add_argument("--journal", metavar="JOURNAL", help="take the last event and the room left from the server's journal")
+    command.add_argument("--copies", metavar="FOLDER", help="tell how old the newest copy of the journal is that alarm-copies made there")
     command.add_argument("--site", metavar="SITE", help="take the clock of the device from its site's text (this machine's)")
     command.add_argument("--log", action="append", default=[], metavar="N", help="the instance of an event log; again for each (1)")
     client.add_words(command)
@@ -44,11 +46,17 @@ def write_metrics(given):
         print(text, end="")
         return DONE
     path = pathlib.Path(given.textfile)
+    if not path.parent.is_dir():
+        exporter = "install prometheus-node-exporter, or make it and have your collector read it"
+        raise Ends(CANNOT_OPEN, f"there is no folder {path.parent}: {exporter}; of the service ALARM_METRICS_FILE names another file")
     beside = path.with_name(f".{path.name}.{os.getpid()}")
     try:
         beside.write_text(text, encoding="ascii")
         beside.chmod(0o644)
         os.replace(beside, path)
+    except PermissionError:
+        who = words.user_text()
+        raise Ends(CANNOT_OPEN, f"{path.parent}: {who} may not write there: chgrp {who} {path.parent} && chmod g+w {path.parent}") from None
     except OSError as error:
         raise Ends(CANNOT_OPEN, f"{path}: {error.strerror}") from None
     return DONE
@@ -79,6 +87,7 @@ def rows_of(given):
             rows = [("up", "", 0)]
         address = asked.address
     rows += rows_of_journal(given.journal) if given.journal else last or []
+    rows += rows_of_copies(given.copies) if given.copies else []
     lost = datagrams_lost(address[1])
     rows += [] if lost is None else [("datagrams_lost_total", "", lost)]
     return [*rows, ("scrape_timestamp_seconds", "", round(now, 3))]
@@ -138,6 +147,15 @@ def rows_of_journal(path):
     last = journal.last_of(area)
     rows = [] if last is None else [("last_event_seconds", "", time.time() - last / 1000)]
     return [*rows, ("journal_room_left_octets", "", left)]
+
+
+def rows_of_copies(folder):
+    """How old the newest copy in a folder is, where there is one."""
+    try:
+        copies = copies_command.copies_in(pathlib.Path(folder))
+    except OSError:
+        return []
+    return [("newest_copy_seconds", "", copies_command.age_of(it)) for it in copies[:1]]
 
 
 def datagrams_lost(port):

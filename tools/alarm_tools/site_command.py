@@ -19,8 +19,9 @@ WHAT = """\
 Looks at a site's text before a server does.
 
 check has the program read it, where one is at hand, and else reads it by itself, by the rules of docs/SITE.md, and says which
-of both it was. A fault is told as the program tells it, with the line, the name and the reason; a site that is taken is looked
-over for what is allowed and hardly meant, and compared with the text of the journal in place. describe says in words what is an alarm and who is told of it at which hour."""
+of both it was. A fault is told as the program tells it, with the line, the name and what is wanted, and behind it all others that
+the text has; a site that is taken is looked over for what is allowed and hardly meant, and compared with the text of the journal in
+place. describe says in words what is an alarm and who is told of it at which hour."""
 STATUSES = [
     (0, "it is a site; check --strict: and there is no warning"),
     (1, "the file can't be opened, or --strict and there are warnings"),
@@ -29,7 +30,7 @@ STATUSES = [
     (5, "the program takes it, and this tool can't read it, as where it needs TOML 1.1"),
 ]
 EXAMPLES = [
-    ("alarm-site check site.toml", "its first fault, or what in it is hardly meant"),
+    ("alarm-site check site.toml", "all its faults, or what in it is hardly meant"),
     ("alarm-site describe site.toml", "what is an alarm, and a table of the week for each class"),
     ("alarm-site size site.toml", "how many octets its journal has, part by part, and whether the outbox is large enough"),
 ]
@@ -38,7 +39,7 @@ EXAMPLES = [
 def parser():
     made = words.parser_of("alarm-site", WHAT, STATUSES, EXAMPLES)
     commands = made.add_subparsers(metavar="COMMAND", required=True)
-    check = words.command_of(commands, "check", "says its first fault, and what in it is hardly meant", check_site)
+    check = words.command_of(commands, "check", "says all its faults, or what in it is hardly meant", check_site)
     check.add_argument("--strict", action="store_true", help="end with 1 where there are warnings")
     check.add_argument("--journal", metavar="JOURNAL", help="the journal with whose text it is compared; else that of this machine's server, where it is of the same device")
     describe = words.command_of(commands, "describe", "says in words what is an alarm and who is told when", describe_site)
@@ -104,7 +105,7 @@ def check_site(given):
         else:
             fault = None
     if fault:
-        show_fault(given, fault, said_by)
+        show_faults(given, octets, fault, said_by)
         return SITE_REFUSED
     found = site_lint.warnings_of(site)
     for it in found:
@@ -113,6 +114,16 @@ def check_site(given):
     if not given.json:
         print(f"{given.site}: a site, says {said_by}; {plan.counted(len(found), 'warning')}")
     return CANNOT_OPEN if given.strict and found else DONE
+
+
+def show_faults(given, octets, first, said_by):
+    """The fault that the program answers, and behind it the others that this tool's reading finds, each with its line and what is wanted."""
+    show_fault(given, first, said_by)
+    rest = [it for it in site_text.faults_of(octets) if it.told != first.told]
+    for it in rest:
+        show_fault(given, it, None if not given.json else "this tool's own reading")
+    if rest and not given.json:
+        print(f"{plan.counted(len(rest) + 1, 'fault')}; the first is what the program answers, the others are of this tool's own reading")
 
 
 def fault_of(octets, told, line, own):
@@ -132,7 +143,8 @@ def show_fault(given, fault, said_by):
     at = f":{fault.line}" if fault.line else ""
     print(words.coloured(f"{given.site}{at}: site refused: {fault.told}", "red"))
     print(f"  {fault.whose + ': ' if fault.whose else ''}{words.printable(fault.reason)}")
-    print(f"  said by {said_by}")
+    if said_by:
+        print(f"  said by {said_by}")
 
 
 def show_warning(given, it):

@@ -110,7 +110,9 @@ def first_value(value, item):
 
 
 def states(value, item):
-    return whole(item["value"], UNSIGNED)(value, item)
+    if isinstance(value, int) and not isinstance(value, bool) and isinstance(item.get("value"), int) and 1 <= value < item["value"]:
+        return f"there are {value} states, fewer than the value {item['value']}"
+    return whole(item["value"] if isinstance(item.get("value"), int) else 1, UNSIGNED)(value, item)
 
 
 def address(value, _):

@@ -117,6 +117,8 @@ def windows(site):
         elif site.zone.daylight is not None and 720_000 <= week.window(it)[0] and week.window(it)[1] <= 1_080_001:
             hour = "a window between 02:00 and 03:00 may be open twice in one night of the year, and never in another"
             yield Warning(it["line"], "window-in-the-hour", f"{whom}: {hour}")
+    for it in site.destinations:
+        yield from addresses(it)
     seen = {}
     for it in site.destinations:
         key = tuple(it[name] for name in ("class", "address", "process", "days", "from", "to", "transitions"))
@@ -124,6 +126,16 @@ def windows(site):
             again = f"{it['address']} of class {it['class']} is the recipient of line {seen[key]} again"
             yield Warning(it["line"], "recipient-twice", f"{again}: it is told everything twice")
         seen.setdefault(key, it["line"])
+
+
+def addresses(it):
+    """A recipient that can't be one: the server itself, or all of a network."""
+    host, _, port = it["address"].partition(":")
+    parts = list(map(int, host.split(".")))
+    if parts[0] == 127 and port == "47808":
+        yield Warning(it["line"], "own-address", f"{it['address']} of class {it['class']} is this machine at the server's own port: the server would tell itself")
+    elif parts[3] == 255 or parts == [0, 0, 0, 0] or 224 <= parts[0]:
+        yield Warning(it["line"], "no-station", f"{it['address']} of class {it['class']} is the address of no one station: a notification goes to one, and no broadcast goes out")
 
 
 def of_name(item):

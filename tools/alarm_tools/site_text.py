@@ -3,7 +3,7 @@ import collections
 import re
 import tomllib
 
-from . import names
+from . import names, site_hints
 from .site_keys import SECTIONS
 from .zone import Zone
 
@@ -32,7 +32,7 @@ class Places:
     def __init__(self, octets):
         self.items, self.keys, at = {}, {}, ("", 0)
         counts, quoted = collections.Counter(), None
-        for number, line in enumerate(octets.decode("utf-8", "replace").splitlines(), 1):
+        for number, line in enumerate(octets.decode("utf-8-sig", "replace").splitlines(), 1):
             was_quoted = quoted
             for mark in re.findall(r'"""|\'\'\'', line):
                 quoted = mark if quoted is None else None if quoted == mark else quoted
@@ -60,28 +60,67 @@ class Places:
 
 def read(octets):
     """The site of a text, with all defaults in their places; or SiteRefused with its first fault."""
-    if len(octets) > MOST_OCTETS:
-        raise SiteRefused("too-long", f"it has {len(octets)} octets, and at most {MOST_OCTETS} are read")
-    document, places = parsed(octets), Places(octets)
-    sections = {name: section_of(document, name, places) for name in SECTIONS}
-    site = Site(
-        sections["device"][0], sections["class"], sections["destination"], sections["object"], sections["enrollment"], sections["log"],
-        sections["binding"], zone_of(sections["device"][0]), places,
-    )
-    for fault in (too_many, duplicate, dangling, notes):
-        fault(site)
+    site, found = look_over(octets, True)
+    if found:
+        raise found[0]
     return site
+
+
+def faults_of(octets):
+    """All faults of a text, in the order in which they are answered; the first one is the program's. What rests on an item that has one isn't looked at."""
+    return look_over(octets, False)[1]
+
+
+def look_over(octets, first_alone):
+    """The site of a text without its faulty items, or None where there is no device, and its faults, or the first one alone."""
+    if len(octets) > MOST_OCTETS:
+        return None, [SiteRefused("too-long", f"it has {len(octets)} octets, and at most {MOST_OCTETS} are read")]
+    try:
+        document, places = parsed(octets), Places(octets)
+    except SiteRefused as fault:
+        return None, [fault]
+    sections, found = {}, []
+    for name in SECTIONS:
+        sections[name], faults = section_of(document, name, places)
+        found += faults
+        if found and first_alone:
+            return None, found
+    if not sections["device"]:
+        return None, found
+    device = sections["device"][0]
+    site = Site(
+        device, sections["class"], sections["destination"], sections["object"], sections["enrollment"], sections["log"], sections["binding"], zone_of(device), places,
+    )
+    given = given_in(document)
+    for look in (too_many, duplicates, danglings, notes):
+        found += look(site, given)
+        if found and first_alone:
+            break
+    return site, found
+
+
+def given_in(document):
+    """The identifiers that the text gives, also in items that have a fault: what refers to them isn't wrong."""
+    found = {section: set() for section in SECTIONS}
+    for section in SECTIONS:
+        items = document.get(section)
+        for item in items if isinstance(items, list) else []:
+            number = names.OBJECT_NUMBERS.get(SECTION_KINDS.get(section) or item.get("kind")) if isinstance(item, dict) else None
+            if number is not None and isinstance(item.get("instance"), int):
+                found[section].add((number, item["instance"]))
+    return found
 
 
 def parsed(octets):
     try:
-        document = tomllib.loads(octets.decode("utf-8"))
+        document = tomllib.loads(octets.decode("utf-8-sig"))
     except UnicodeDecodeError as error:
-        raise SiteRefused("not-toml", "an octet that isn't UTF-8", octets[: error.start].count(b"\n") + 1) from None
+        raise SiteRefused("not-toml", site_hints.of_octets(octets), octets[: error.start].count(b"\n") + 1) from None
     except tomllib.TOMLDecodeError as error:
         found = re.search(r"\(at line (\d+), column \d+\)", str(error))
         line = int(found[1]) if found else octets.rstrip().count(b"\n") + 1
-        raise SiteRefused("not-toml", re.sub(r" \(at .*\)", "", str(error)), line) from None
+        reason = re.sub(r" \(at .*\)", "", str(error))
+        raise SiteRefused("not-toml", site_hints.of_line(octets, line, reason), line) from None
     except RecursionError:
         raise SiteRefused("not-toml", "brackets within brackets, too many") from None
     if any(isinstance(it, int) and not -(1 << 63) <= it < 1 << 63 for it in numbers_in(document)):
@@ -98,39 +137,47 @@ def numbers_in(value):
 
 
 def section_of(document, section, places):
-    """The items of a section, each with its defaults, its number and its line."""
+    """The items of a section that have no fault, each with its defaults, its number and its line; and the faults."""
     found = document.get(section, {} if section == "device" else [])
     wanted = f"[{section}] is wanted, once" if section == "device" else f"[[{section}]] is wanted, in two brackets"
     good = isinstance(found, dict) if section == "device" else isinstance(found, list) and all(isinstance(it, dict) for it in found)
     if not good:
-        raise SiteRefused(f"bad-value {section} 0 {section}", wanted, places.line(section, 0))
-    if section == "device":
-        outside = [key for key in document if key not in SECTIONS]
-        return [item_of(section, 0, found, places, outside)]
-    return [item_of(section, number, it, places) for number, it in enumerate(found, 1)]
+        return [], [SiteRefused(f"bad-value {section} 0 {section}", wanted, places.line(section, 0))]
+    outside = [key for key in document if key not in SECTIONS] if section == "device" else []
+    rows = [(0, found)] if section == "device" else enumerate(found, 1)
+    items, faults = [], []
+    for number, item in rows:
+        of_item = list(item_faults(section, number, item, places, outside))
+        faults += of_item
+        if not of_item:
+            items.append(filled(section, number, item, places))
+    return items, faults
 
 
-def item_of(section, number, item, places, outside=()):
-    """An item, with the defaults of what it lacks; or its first fault."""
+def item_faults(section, number, item, places, outside=()):
+    """The faults of an item: keys that it doesn't have, and then key by key what is missing and what can't be."""
     keys = SECTIONS[section](item)
     known = {key.name for key in keys}
     whose = whose_of(section, item)
 
-    def fault(word, key, reason):
+    def fault(word, key, reason, line=None):
         told = key if len(key.encode()) <= 256 else ""
-        return SiteRefused(f"{word} {section} {number} {told}", reason, places.line(section, number, key), whose)
+        return SiteRefused(f"{word} {section} {number} {told}", reason, line or places.line(section, number, key), None if key in outside else whose)
 
-    unknown = sorted([it for it in item if it not in known] + list(outside), key=str.encode)
-    if unknown:
-        raise fault("unknown", unknown[0], unknown_reason(section, unknown[0], item, outside))
+    for key in sorted([it for it in item if it not in known] + list(outside), key=str.encode):
+        yield fault("unknown", key, unknown_reason(section, key, item, outside), places.items.get((key, 1)) or places.items.get((key, 0)) if key in outside else None)
     for key in keys:
         if key.name not in item:
             if key.needed(item):
-                raise fault("missing", key.name, "it has to be there")
+                yield fault("missing", key.name, site_hints.of_missing(section, key.name, item))
         elif reason := key.reason(item[key.name], item):
-            raise fault("bad-value", key.name, reason)
-    filled = {key.name: item.get(key.name, key.default) for key in keys}
-    return filled | {"section": section, "number": number, "line": places.line(section, number), "object": identifier(section, item)}
+            yield fault("bad-value", key.name, reason)
+
+
+def filled(section, number, item, places):
+    """An item, with the defaults of what it lacks."""
+    of = {key.name: item.get(key.name, key.default) for key in SECTIONS[section](item)}
+    return of | {"section": section, "number": number, "line": places.line(section, number), "object": identifier(section, item)}
 
 
 def identifier(section, item):
@@ -149,13 +196,14 @@ def whose_of(section, item):
 
 def unknown_reason(section, key, item, outside):
     if key in outside:
-        near = next((it for it in SECTIONS if it in key or key in it), None)
+        near = site_hints.nearest(key, SECTIONS) or next((it for it in SECTIONS if it in key or key in it), None)
         return f"there is no section {key}" + (f": {near} is one" if near else f": {', '.join(SECTIONS)} are")
     if section == "object" and "class" not in item and any(it.name == key for it in SECTIONS[section](item | {"class": 0})):
         return "it is a key of an object with a class, and this one has none"
     if section == "object" and any(it.name == key for it in SECTIONS[section]({"class": 0})):
         return f"an object of the kind {item.get('kind')} doesn't have it"
-    return f"it is no key of [[{section}]]" if section != "device" else "it is no key of [device]"
+    what = f"it is no key of [[{section}]]" if section != "device" else "it is no key of [device]"
+    return what + site_hints.of_unknown(key, [it.name for it in SECTIONS[section](item | ({"class": 0} if section == "object" else {}))])
 
 
 def zone_of(device):
@@ -178,37 +226,41 @@ def lists(site):
     return found
 
 
-def too_many(site):
+def too_many(site, _=None):
+    found = []
     for section, count, most in [
         ("class", len(site.classes), 256), ("destination", max(map(len, lists(site).values()), default=0), 32),
         ("object", len(site.objects), 2048), ("enrollment", len(site.objects) + len(site.enrollments), 2048), ("log", len(site.logs), 16),
         ("binding", len(site.bindings), 256),
     ]:
         if count > most:
-            raise SiteRefused(f"too-many {section}", f"there are {count}, and at most {most} may be")
+            found.append(SiteRefused(f"too-many {section}", f"there are {count}, and at most {most} may be"))
     records = sum(it["size"] for it in site.logs)
     if records > 16384:
-        raise SiteRefused("too-many records", f"the logs have room for {records} records together, and at most 16384 may be")
+        found.append(SiteRefused("too-many records", f"the logs have room for {records} records together, and at most 16384 may be"))
+    return found
 
 
 def identified(site):
     return [it for part in ([site.device], site.classes, site.objects, site.enrollments, site.logs) for it in part]
 
 
-def duplicate(site):
+def duplicates(site, _=None):
     # The device's own number may be bound to an address too.
     given = [*identified(site)[1:], *site.bindings]
     counts = collections.Counter(it["object"] for it in given)
-    twice = min((it for it, count in counts.items() if count > 1), default=None)
-    if twice is not None:
+    found = []
+    for twice in sorted(it for it, count in counts.items() if count > 1):
         lines = [it["line"] for it in given if it["object"] == twice]
         text = " and ".join(f"line {line}" for line in lines[:2] if line)
-        raise SiteRefused(f"duplicate {names.object_text(twice)}", f"it is given twice: {text}", lines[-1])
+        found.append(SiteRefused(f"duplicate {names.object_text(twice)}", f"it is given twice: {text}", lines[-1]))
+    return found
 
 
-def dangling(site):
-    classes = {it["instance"] for it in site.classes}
-    values = {it["object"] for it in site.objects}
+def danglings(site, given):
+    """What refers to what isn't there, the least object first."""
+    classes = {instance for _, instance in given["class"]}
+    values = given["object"]
     found = []
     for it in [*alarm_objects(site), *site.destinations]:
         if it["class"] not in classes:
@@ -220,9 +272,8 @@ def dangling(site):
             found.append((it["object"], it, f"there is no value object {it['inhibit_ref']}"))
     for it in site.enrollments:
         found += [(it["object"], it, reason) for reason in reference_faults(it, values)]
-    if found:
-        least, it, reason = min(found, key=lambda row: row[0])
-        raise SiteRefused(f"dangling {names.object_text(least)}", reason, it["line"], whose_of(it["section"], it))
+    found.sort(key=lambda row: row[0])
+    return [SiteRefused(f"dangling {names.object_text(of)}", reason, it["line"], whose_of(it["section"], it)) for of, it, reason in found]
 
 
 def reference_faults(it, values):
@@ -243,14 +294,15 @@ def reference_faults(it, values):
 def notes_at_once(site):
     """How many notifications there are where each object with a class is told once to each destination of its class."""
     of_class = lists(site)
-    return sum(len(of_class[it["class"]]) for it in alarm_objects(site))
+    return sum(len(of_class.get(it["class"], [])) for it in alarm_objects(site))
 
 
-def notes(site):
+def notes(site, _=None):
     least = notes_at_once(site)
     if least > site.device["outbox"]:
         reason = f"the outbox has room for {site.device['outbox']} notifications, and one of each object to each of its destinations are {least}"
-        raise SiteRefused("too-many notes", reason, site.places.line("device", 0, "outbox"))
+        return [SiteRefused("too-many notes", reason, site.places.line("device", 0, "outbox"))]
+    return []
 
 
 # Names and sizes.

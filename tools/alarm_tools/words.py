@@ -2,6 +2,7 @@
 import argparse
 import json
 import os
+import pwd
 import sys
 
 from . import language
@@ -142,6 +143,14 @@ def length_text(seconds):
     parts = [(seconds // 86400, "d"), (seconds // 3600 % 24, "h"), (seconds // 60 % 60, "min")]
     first = next(it for it, (number, _) in enumerate(parts) if number)
     return " ".join(f"{number} {unit}" for number, unit in parts[first : first + 2] if number)
+
+
+def user_text():
+    """Who runs this, by name where it has one."""
+    try:
+        return pwd.getpwuid(os.geteuid()).pw_name
+    except KeyError:
+        return str(os.geteuid())
 
 
 def octets_text(count):
