@@ -12,8 +12,8 @@ import time
 import bacnet
 
 HOST = "127.0.0.1"
-# For how long a server runs at most, and for how long an answer is awaited.
-SECONDS, ANSWER = 120, 10
+# For how long a server runs at most, how long it may take to listen, and for how long an answer is awaited.
+SECONDS, LISTENING, ANSWER = 120, 60, 10
 # How many datagrams a client keeps, to be decoded.
 KEPT = 5_000
 # How many datagrams a server takes at most.
@@ -138,7 +138,7 @@ class Server:
             raise
 
     def await_line(self, line):
-        until = time.monotonic() + ANSWER
+        until = time.monotonic() + LISTENING
         while line not in self.parts[1].read_bytes():
             bacnet.want(self.child.poll() is None and time.monotonic() < until, f"no line {line!r}: {self.said()}")
             time.sleep(0.002)
