@@ -264,7 +264,7 @@ def try_same(told, program, folder):
 def see_rules(told, it):
     """The rules for Prometheus name metrics that are written of both sides, and no others."""
     watched = it.folder / "standby.prom"
-    status, output, _ = tooling.run("alarm-carry", "--standby", it.standby, "--textfile", watched)
+    status, output, _ = tooling.run("alarm-carry", "--standby", it.standby, "--textfile", watched, "--limit", "3600")
     told.want(status == 0 and "15 events; the leader was heard" in output, f"--standby ended with {status}, {output}")
     written = {name for path in (it.textfile, watched) for name in re.findall(r"^(\w+) ", path.read_text(encoding="utf-8"), re.M)}
     rules = "\n".join(re.findall(r"expr: (.*)", (tooling.TOOLS / "alarm-server.rules.yml").read_text(encoding="utf-8")))

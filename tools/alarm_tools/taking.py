@@ -79,6 +79,7 @@ class Guard:
         found = self.lines.read(FIRST_SECONDS)
         if found and (asked := COMPARE.fullmatch(found[0][0])):
             self.silence = int(asked[1])
+            self.note()
             self.tell()
         return self.pass_on(found)
 
