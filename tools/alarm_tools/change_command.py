@@ -8,7 +8,7 @@ import time
 
 from . import change, glance, journal, site_command, words
 from .change import WRONG, Preparing
-from .place import FOLDER, JOURNAL, SITE, Place, as_owner, passed, text_of
+from .place import FOLDER, JOURNAL, SITE, TEXT, Place, as_owner, passed, text_of
 from .words import CANNOT_OPEN, DONE, USAGE, Ends
 
 RESTART = "systemctl restart alarm-server"
@@ -147,7 +147,7 @@ class Bringing:
                 raise Ends(CANNOT_OPEN, f"{self.place.current} has nothing before it")
             if self.given.forget:
                 return self.forget(before)
-            text = text_of(self.place.folder / before / JOURNAL)
+            text = text_of(self.place.folder / before / JOURNAL) or (self.place.folder / before / TEXT).read_bytes()
         if text == self.place.text():
             change.clear_if_left(self.place)
             print(f"{self.given.text or 'the text before'} is the text in force already: nothing is to be changed")
