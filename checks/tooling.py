@@ -16,7 +16,7 @@ TOP = pathlib.Path(__file__).resolve().parent.parent
 TOOLS = TOP / "tools"
 NAMES = ("alarm-client", "alarm-console", "alarm-feed", "alarm-journal", "alarm-report", "alarm-site")
 # How long a tool may run, and how long something that is to come is waited for, on a machine that has much else to do.
-SECONDS, WAIT = 180, 60
+SECONDS, WAIT = 600, 60
 
 
 def environment(**keys):

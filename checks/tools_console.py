@@ -18,7 +18,7 @@ import tooling
 from tooling import NAMES, TOOLS, TOP, Running, run, until
 from tools_parts import Plant
 
-SECONDS = 180
+SECONDS = 600
 # A screen of 30 rows and 110 columns.
 SIZE = {"LINES": "30", "COLUMNS": "110", "TERM": "xterm"}
 
