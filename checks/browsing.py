@@ -11,7 +11,7 @@ import time
 import tooling
 
 # For how long a browser may run, in seconds.
-SECONDS = 240
+SECONDS = 600
 
 
 def found():

@@ -13,7 +13,7 @@ import bacnet
 
 HOST = "127.0.0.1"
 # For how long a server runs at most, and for how long an answer is awaited.
-SECONDS, ANSWER = 120, 10
+SECONDS, ANSWER = 600, 10
 # How long the start of a server may take, on a machine that has much else to do.
 STARTS = 60
 # How many datagrams a client keeps, to be decoded.

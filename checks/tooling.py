@@ -19,7 +19,7 @@ NAMES = (
     "alarm-site",
 )
 # How long a tool may run, and how long something that is to come is waited for, on a machine that has much else to do.
-SECONDS, WAIT = 180, 60
+SECONDS, WAIT = 600, 60
 
 
 def environment(**keys):

@@ -18,7 +18,7 @@ import tooling
 from tooling import NAMES, TOOLS, TOP, Running, run, until
 from tools_parts import Plant
 
-SECONDS = 180
+SECONDS = 600
 # A screen of 30 rows and 110 columns.
 SIZE = {"LINES": "30", "COLUMNS": "110", "TERM": "xterm"}
 
@@ -123,6 +123,8 @@ def try_web(told, program, folder):
 
 
 def see_http(told, it, port):
+    status, _, said = run("alarm-console", "--web", "80")
+    told.want(status == 2 and "ADDRESS:PORT is wanted" in said, f"a port without an address: {status}, {said!r}")
     until(lambda: "Freezer 1" in asked(port, "GET", "/")[2])
     status, heads, text = asked(port, "GET", "/")
     told.want(status == 200 and "Freezer 1" in text and "Ann &lt;b&gt;" in text and "Ann <b>" not in text, f"the page is {text}")

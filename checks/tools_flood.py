@@ -10,7 +10,7 @@ import serving
 import tooling
 from tooling import TOP, Relay, Running, lines_of_json, until
 from tools_console import asked
-from tools_parts import Plant
+from tools_parts import PATIENT, Plant
 
 # How many alarms come at once, of at most 2,048 objects of a site.
 ALARMS = [400]
@@ -38,11 +38,11 @@ def try_flood(told, program, folder):
     """Hundreds of alarms: a list, by a filter; the console's page, whose answers stay small; and the page in a browser as wide as a phone."""
     count = ALARMS[0]
     with Farm(program, folder, count) as it:
-        status, output, said = it.client("list", "--json", "--text", "tank 2", "--class", "7")
+        status, output, said = tooling.run("alarm-client", "list", "--json", "--text", "tank 2", "--class", "7", "--to", it.relay.to(), *PATIENT)
         wanted = {f"Tank {number}" for number in range(2, count + 2) if str(number).startswith("2") and number % 3}
         told.want(status == 0 and {row["name"] for row in lines_of_json(output)} == wanted, f"a list of {count} alarms: {status}, {len(output.splitlines())} rows, {said}")
         port = tooling.free_port_of_tcp()
-        words = ["--web", f"127.0.0.1:{port}", "--by", "Ann", "--audit", folder / "record", "--shelf", folder / "shelf", "--to", it.relay.to()]
+        words = ["--web", f"127.0.0.1:{port}", "--by", "Ann", "--audit", folder / "record", "--shelf", folder / "shelf", "--to", it.relay.to(), *PATIENT]
         with Running(folder, "alarm-console", *words, given="") as console:
             told.want(until(lambda: f"http://127.0.0.1:{port}/" in console.output()), f"the console told {console.errors()}")
             told.want(until(lambda: state_of(port)["counts"] == [count, count - count_of_calm(count)]), f"the console counts {state_of(port)['counts']}")
@@ -140,4 +140,4 @@ def try_pictures(told, *_):
     for name, width in [("console-wide.png", 1280), ("console-phone.png", 420)]:
         path = pathlib.Path(TOP / "docs" / "pictures" / name)
         told.want(path.exists() and size_of(path)[0] == width, f"docs/pictures/{name} isn't {width} wide")
-        told.want(f"(pictures/{name})" in page, f"docs/TOOLS.md doesn't show {name}")
+        told.want(f"pictures/{name}" in page, f"docs/TOOLS.md doesn't show {name}")

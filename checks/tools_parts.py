@@ -18,6 +18,8 @@ from alarm_tools import client, names, values
 FREEZER, SECOND, COUNTER, DOOR = (bacnet.INTEGER_VALUE, 1), (bacnet.INTEGER_VALUE, 2), (bacnet.INTEGER_VALUE, 3), (5, 1)
 # How long a tool waits for an answer, and how often it asks again, in these parts.
 QUICK = ("--wait", "0.5", "--retries", "7")
+# The same where no server is gone for good, and a machine may have much else to do.
+PATIENT = ("--wait", "2", "--retries", "15")
 
 
 def plant(port, **keys):

@@ -13,13 +13,9 @@ import bacnet
 import serving
 import tooling
 from tooling import TOOLS, Relay, Running, lines_of_json, run, until
-from tools_parts import Plant
+from tools_parts import PATIENT, Plant
 
 from alarm_tools import alarms, client, language, names
-
-
-# How long a tool waits for an answer in these parts, in which no server is gone for good.
-PATIENT = ("--wait", "1", "--retries", "15")
 
 
 def ward(port):
@@ -31,6 +27,9 @@ def ward(port):
         serving.tank(1, 9, name="Freezer room [0.1 \u00b0C]", **texts), serving.tank(2, 8, name="Fire dampers"), serving.tank(3, 7, name="Twin"),
         serving.tank(4, 7, name="Twin"), serving.tank(5, 7, name="Pump", inhibit_ref="binary-value:2"), serving.integer(6, name="Counter"),
         ("[[object]]", {"kind": "binary-value", "instance": 2, "name": "Maintenance", "value": "inactive"}),
+        ("[[object]]", {"kind": "binary-value", "instance": 3, "name": "Valve", "value": "inactive"}),
+        ("[[object]]", {"kind": "binary-value", "instance": 4, "name": "Valve is open", "value": "inactive"}),
+        ("[[enrollment]]", {"instance": 1, "name": "Valve fails", "algorithm": "command-failure", "monitored": "binary-value:3", "feedback": "binary-value:4", "class": 8}),
         ("[[log]]", {"instance": 1, "name": "History", "size": 200, "classes": [7, 8, 9]}),
     ]
 
@@ -80,6 +79,8 @@ def try_names(told, program, folder):
         for (words, wanted, text), (status, output, said) in zip(rows, it.clients([words for words, _, _ in rows])):
             told.want(status == wanted and text in output + said, f"{words}: status {status}, {output!r}, {said!r}")
         see_list(told, it)
+        it.write("binary-value:3", "active")
+        told.want("command active, feedback inactive" in it.client("follow", "history", "--once", "--text")[1], "a command and its feedback aren't told by their names")
         journal = run("alarm-journal", "events", it.journal, "--object", "Fire dampers")
         told.same("a journal's events of a name", [row["value"] for row in lines_of_json(journal[1])], [10])
         return it.relay.datagrams
@@ -201,13 +202,14 @@ def see_no_shelf(told, it, words):
 
 def see_return(told, it, words):
     """The keeper is killed, the server is gone when the time comes, and a console that begins later brings it back."""
-    told.same("shelved once more", it.client("shelve", "integer-value:3", "2s", *words)[0], 0)
+    told.same("shelved once more", it.client("shelve", "integer-value:3", "1h", *words)[0], 0)
     keeper = pathlib.Path(f"{it.shelf}.keeper")
     told.want(until(lambda: keeper.exists() and keeper.read_text().strip()), "nobody keeps the shelf")
     os.kill(int(keeper.read_text()), signal.SIGKILL)
     it.kill()
-    time.sleep(2.1)
-    told.same("without a keeper it stays", len(json.loads(it.shelf.read_text())), 1)
+    rows = json.loads(it.shelf.read_text())
+    it.shelf.write_text(json.dumps([row | {"until": time.time() - 1} for row in rows]))
+    told.same("without a keeper it stays", len(rows), 1)
     console = ["--no-page", "--on-unacknowledged", "600", "true", "--shelf", it.shelf, "--audit", it.record, "--to", it.relay.to(), "--wait", "0.3", "--retries", "1"]
     with Running(it.folder, "alarm-console", *console, given=""):
         told.want(until(lambda: "nobody answers" in it.shelf.read_text()), f"why it doesn't come back isn't told: {it.shelf.read_text()}")
