@@ -15,8 +15,8 @@ import serving
 TOP = pathlib.Path(__file__).resolve().parent.parent
 TOOLS = TOP / "tools"
 NAMES = ("alarm-client", "alarm-console", "alarm-copies", "alarm-escalation", "alarm-feed", "alarm-history", "alarm-journal", "alarm-report", "alarm-site")
-# How long a tool may run, on a machine that has much else to do.
-SECONDS = 180
+# How long a tool may run, and how long something that is to come is waited for, on a machine that has much else to do.
+SECONDS, WAIT = 180, 60
 
 
 def environment(**keys):
@@ -71,7 +71,7 @@ def free_port_of_tcp():
     return serving.free_port(socket.SOCK_STREAM)
 
 
-def until(holds, seconds=10.0):
+def until(holds, seconds=WAIT):
     """Waits until something holds, and says whether it came to that."""
     end = time.monotonic() + seconds
     while not (found := holds()) and time.monotonic() < end:
@@ -104,7 +104,7 @@ class Running:
         self.child.kill()
         self.child.wait()
 
-    def ended(self, seconds=20):
+    def ended(self, seconds=WAIT):
         """Its status once it has ended by itself."""
         if self.child.stdin:
             self.child.stdin.close()

@@ -9,7 +9,7 @@ import threading
 import time
 import urllib.parse
 
-from . import words
+from . import web_proxy, words
 from .web_page import PAGE, SCRIPT, STYLE
 
 POLICY = "default-src 'none'; style-src 'self'; script-src 'self'; connect-src 'self'; img-src data:; form-action 'self'; base-uri 'none'; frame-ancestors 'none'"
@@ -95,6 +95,8 @@ class Handler(http.server.BaseHTTPRequestHandler):
 
     protocol_version, server_version, sys_version = "HTTP/1.1", "alarm-console", ""
     timeout = 30
+    # How the page is reached; the console may set another one.
+    front = web_proxy.Front()
 
     def log_message(self, *_):
         """Nothing is told of requests."""
@@ -110,6 +112,9 @@ class Handler(http.server.BaseHTTPRequestHandler):
 
     def refuses(self):
         """Answers a request by another name than this server goes by, and says whether it did."""
+        if text := self.front.refusal(self.headers, self.client_address[0], self.command):
+            self.answer(403, "text/plain", text, Connection="close")
+            return True
         if is_allowed(self.headers.get("Host", ""), self.server.names):
             return False
         self.answer(403, "text/plain", "another Host: ask by an address, by localhost, or by a name that --host gives\n")
@@ -128,7 +133,7 @@ class Handler(http.server.BaseHTTPRequestHandler):
             self.answer(404, "text/plain", "there is nothing here\n")
             return
         kind, make = answers[path.path]
-        self.answer(200, kind, make())
+        self.answer(200, kind, self.front.shown(make(), self.headers))
 
     do_HEAD = do_GET
 
@@ -148,7 +153,7 @@ class Handler(http.server.BaseHTTPRequestHandler):
         if self.path != "/acknowledge" or not hmac.compare_digest(of.get("token", "").encode(), self.server.token.encode()):
             self.answer(403, "text/plain", "the page is an old one: load it anew\n")
             return
-        said, done = self.server.watch.acknowledge(of.get("object", ""), of.get("by", "").strip()[:60] or self.server.by)
+        said, done = self.server.watch.acknowledge(of.get("object", ""), self.front.by(self.headers) or of.get("by", "").strip()[:60] or self.server.by)
         if "application/json" in self.headers.get("Accept", ""):
             self.answer(200, "application/json", json.dumps({"said": said, "done": done}))
         else:
