@@ -14,6 +14,7 @@ import xml.etree.ElementTree
 
 import serving
 import tooling
+import tools_console
 from tooling import Running, run, until
 from tools_parts import Plant
 
@@ -241,6 +242,65 @@ def see_days(told, followed, folder):
     ]:
         found, _, said = run("alarm-history", *words, given=given)
         told.want(found == status and text in said, f"alarm-history {words}: {found}, {said}")
+
+
+# The console behind a proxy.
+
+
+def console(folder, it, *words):
+    """A console at a port of its own, with what it said once it listens."""
+    port = tooling.free_port_of_tcp()
+    return port, Running(folder, "alarm-console", "--web", f"127.0.0.1:{port}", "--to", it.relay.to(), "--every", "0.3", *words, given="")
+
+
+def is_served(told, page, port):
+    told.want(until(lambda: f"http://127.0.0.1:{port}/" in page.output()), f"the console told {page.output()!r}, {page.errors()!r}")
+
+
+def try_proxy(told, program, folder):
+    """Who acknowledges is who the proxy's head names; nothing is answered without it or from elsewhere; a page for looking alone acknowledges nothing."""
+    for words, text in [(["--by-header", "X Remote"], "no name of a head"), (["--proxy", "192.0.2.7"], "--proxy is for --by-header"), (["--by-header", "X-User", "--proxy", "there"], "--proxy: ")]:
+        found, _, said = run("alarm-console", "--web", "127.0.0.1:45001", *words)
+        told.want(found == 2 and text in said, f"alarm-console {words}: {found}, {said}")
+    with Plant(program, folder) as it:
+        it.write("integer-value:1", "90")
+        it.write("binary-value:1", "active")
+        port, page = console(folder, it, "--by-header", "X-Remote-User")
+        with page:
+            is_served(told, page, port)
+            see_named(told, it, port)
+        port, page = console(folder, it, "--by-header", "X-Remote-User", "--proxy", "192.0.2.7")
+        with page:
+            is_served(told, page, port)
+            told.same("a request past the proxy", tools_console.asked(port, "GET", "/", **{"X-Remote-User": "Ann"})[0], 403)
+        port, page = console(folder, it, "--read-only")
+        with page:
+            is_served(told, page, port)
+            told.want(until(lambda: "Door" in tools_console.asked(port, "GET", "/")[2]), "a page for looking alone shows no alarm")
+            _, _, text = tools_console.asked(port, "GET", "/")
+            _, _, rows = tools_console.asked(port, "GET", "/alarms.json")
+            token = re.search(r'data-token="([^"]+)"', text)[1]
+            told.want("<form method=" not in text and "<form method=" not in rows and "Door" in rows, f"a page for looking alone is {text}")
+            told.same("an acknowledgement by it", tools_console.asked(port, "POST", "/acknowledge", {"object": "binary-value:1", "token": token})[0], 403)
+        told.same("what it acknowledged", tools_console.unacknowledged(it)["binary-value:1"], ["to-offnormal"])
+        return it.relay.datagrams
+
+
+def see_named(told, it, port):
+    """By a head: its name is shown and sent, and not what the browser says."""
+    told.same("a page without the head", tools_console.asked(port, "GET", "/")[0], 403)
+    told.same("one with an empty head", tools_console.asked(port, "GET", "/", **{"X-Remote-User": ""})[0], 403)
+    head = {"X-Remote-User": "J%C3%BCrgen <b>"}
+    told.want(until(lambda: "Freezer 1" in tools_console.asked(port, "GET", "/", **head)[2]), "the page shows no alarm")
+    _, _, text = tools_console.asked(port, "GET", "/", **head)
+    told.want("J\u00fcrgen &lt;b&gt;" in text and "readonly" in text, f"the page by a head is {text}")
+    token = re.search(r'data-token="([^"]+)"', text)[1]
+    fields = {"object": "integer-value:1", "token": token, "by": "Bo from the street"}
+    told.same("an acknowledgement without the head", tools_console.asked(port, "POST", "/acknowledge", fields)[0], 403)
+    told.same("one with it", tools_console.asked(port, "POST", "/acknowledge", fields, **head)[0], 303)
+    told.same("what is acknowledged by it", tools_console.unacknowledged(it)["integer-value:1"], [])
+    sent = b"".join(it.relay.sent())
+    told.want("J\u00fcrgen <b>".encode() in sent and b"from the street" not in sent, "another name was sent than the head's")
 
 
 # Copies.

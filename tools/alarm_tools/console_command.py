@@ -5,14 +5,14 @@ import sys
 import threading
 import time
 
-from . import audit, client, glance, page, shelf, shelf_command, web, words
+from . import audit, client, glance, page, shelf, shelf_command, web, web_proxy, words
 from .watch import Watch
 from .words import CANNOT_OPEN, DONE, USAGE, Ends
 
 WHAT = """\
 Shows the active alarms of a server, the most urgent first, asks again and again, and acknowledges what is chosen. Without --web it
 is a page in the terminal; with it a page for browsers, at this machine's own address unless another one is given. Who reaches that
-page can acknowledge: nobody is asked for a password.
+page can acknowledge: nobody is asked for a password. A proxy in front of it may ask, and tell by a head who it is (--by-header).
 
 With --on-unacknowledged a command is run, once, for each transition that nobody has acknowledged after so many minutes. It is told
 by variables: ALARM_OBJECT, ALARM_NAME, ALARM_STATE, ALARM_TRANSITION, ALARM_TIME, ALARM_PRIORITY, ALARM_MINUTES. One that fails is
@@ -41,6 +41,7 @@ def parser():
     made.add_argument("--bell", action="store_true", help="ring the terminal's bell for each new alarm; the key b does too")
     made.add_argument("--web", metavar="ADDRESS:PORT", help="serve a page to browsers, as 127.0.0.1:8047")
     made.add_argument("--host", action="append", default=[], metavar="NAME", help="a name by which browsers may ask for the page, beside localhost and addresses")
+    web_proxy.add_words(made)
     made.add_argument("--no-page", action="store_true", help="show nothing: for --on-unacknowledged alone")
     made.add_argument("--json", action="store_true", help="in place of a page a line of JSON each time that it has asked")
     made.add_argument(
@@ -110,7 +111,11 @@ def serve(given, watch, by):
         address = client.address_from(given.web, 8047)
     except ValueError as error:
         raise Ends(USAGE, str(error)) from None
-    if not ipaddress.ip_address(address[0]).is_loopback:
+    try:
+        web.Handler.front = web_proxy.front_of(given)
+    except ValueError as error:
+        raise Ends(USAGE, str(error)) from None
+    if not ipaddress.ip_address(address[0]).is_loopback and not given.by_header and not given.read_only:
         print(f"alarm-console: whoever reaches {address[0]}:{address[1]} can acknowledge", file=sys.stderr)
     try:
         shelved = lambda server: shelf_command.shelved(given.shelf, server)

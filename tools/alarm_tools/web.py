@@ -10,7 +10,7 @@ import threading
 import time
 import urllib.parse
 
-from . import alarms, filters, language, measure, names, shelf, words
+from . import alarms, filters, language, measure, names, shelf, web_proxy, words
 from .language import say
 from .web_page import PAGE, SCRIPT, STYLE
 
@@ -207,6 +207,8 @@ class Handler(http.server.BaseHTTPRequestHandler):
 
     protocol_version, server_version, sys_version = "HTTP/1.1", "alarm-console", ""
     timeout = 30
+    # How the page is reached; the console may set another one.
+    front = web_proxy.Front()
 
     def log_message(self, *_):
         """Nothing is told of requests."""
@@ -222,6 +224,9 @@ class Handler(http.server.BaseHTTPRequestHandler):
 
     def refuses(self):
         """Answers a request by another name than this server goes by, and says whether it did."""
+        if text := self.front.refusal(self.headers, self.client_address[0], self.command):
+            self.answer(403, "text/plain", text, Connection="close")
+            return True
         if is_allowed(self.headers.get("Host", ""), self.server.hosts):
             return False
         self.answer(403, "text/plain", "another Host: ask by an address, by localhost, or by a name that --host gives\n")
@@ -252,7 +257,7 @@ class Handler(http.server.BaseHTTPRequestHandler):
             self.answer(404, "text/plain", "there is nothing here\n")
             return
         kind, make = answers[path.path]
-        self.answer(200, kind, make())
+        self.answer(200, kind, self.front.shown(make(), self.headers))
 
     do_HEAD = do_GET
 
@@ -267,8 +272,8 @@ class Handler(http.server.BaseHTTPRequestHandler):
         return json.dumps(changes | shown | {"same": False, "have": have, "alarms": found, "as_of": state["as_of"], "error": state["error"], "where": state["where"]})
 
     def whose(self, of):
-        """Who asks: the name that the page gives, else that of the console; and the address of the browser."""
-        return of.get("by", "").strip()[:60] or self.server.by, self.client_address[0]
+        """Who asks: the name that the proxy gives, else the page, else that of the console; and the address of the browser."""
+        return self.front.by(self.headers) or of.get("by", "").strip()[:60] or self.server.by, self.client_address[0]
 
     def do_POST(self):
         if self.refuses():
