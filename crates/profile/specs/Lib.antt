@@ -1,0 +1,9 @@
+pub mod Numbers
+pub mod Sites
+pub mod Rules
+pub mod Courses
+pub mod Times
+pub mod Tables
+pub mod Histories
+pub mod Notes
+pub mod Errors
