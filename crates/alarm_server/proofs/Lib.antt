@@ -29,6 +29,7 @@ pub mod PieceLines
 pub mod Played
 pub mod Progress
 pub mod RealSessions
+pub mod RealServers
 pub mod Senders
 pub mod Sending
 pub mod ServedFaults

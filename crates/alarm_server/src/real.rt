@@ -4,7 +4,7 @@ ghost use Rattle.std.specs.Prelude.{◌≡◌, ◌↔◌, None, IfOk, IfSome, ma
 ghost use Rattle.alarm_server.specs.declared.status.Status.TheVariants as status;
 ghost use Rattle.alarm_server.specs.Commands.{command_of};
 ghost use Rattle.alarm_server.specs.Real.{RunEnds, RunsReal, ServerEnds, ServesReal};
-ghost use Rattle.alarm_server.specs.RealLaws.{SessionsAreTold, SessionsGoOn};
+ghost use Rattle.alarm_server.specs.RealLaws.{ServersAreTold, SessionsAreTold, SessionsGoOn};
 ghost use Rattle.alarm_server.specs.ServeWords.{count_in};
 
 use crate::announcing_link::AnnouncingLink;
@@ -107,4 +107,11 @@ pub fn serve_real<'a, R: Threads + Wait + Sync + Clock, W: Write + Send + Drop>(
     let device = FileGround::new(Some(journal), console, Some(socket))?;
     let (device, link, served) = serve_over(workers, rt.alloc(), words, &mut site, device, link);
     Ok((site, device, link, served))
+}
+
+/// What a server over real ends did, where these told to the end: one order of what its callers did, from the history on that
+/// its file held; what went out is a front of what that order owes, and a crash leaves what was told of.
+pub fn servers_are_told()
+    ensures law { ServersAreTold }
+{
 }
