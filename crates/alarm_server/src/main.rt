@@ -47,7 +47,7 @@ use std::thread::Threads;
 use std::time::Clock;
 use std::{env, io};
 
-const VERSION: &str = "alarm-server 0.1.0";
+const VERSION: &str = "alarm-server 0.3.0";
 
 const HELP: &str = "alarm-server trial LOW HIGH DEADBAND DELAY NORMAL < SCRIPT
 
