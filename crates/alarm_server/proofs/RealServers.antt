@@ -1,5 +1,5 @@
 -- Servers over their real ends, where these tell to the end.
-use Rattle.std.proofs.Common.{◌≡◌, ◌==◌, ◌×◌, ℕ, List, [], Option, Some, None, Result, Ok, Err, length, reverse, refl, sym, ap, ◌∙◌, subst, cond, Bool, true, false, IfSome}
+use Rattle.std.proofs.Common.{◌≡◌, ◌==◌, ℕ, List, [], Option, Some, None, Result, Ok, Err, length, reverse, refl, sym, ap, ◌∙◌, subst, cond, Bool, true, false, IfSome}
 use Rattle.std.specs.Borrow.{Bor}
 use Rattle.std.proofs.lemmas.Bool.{cases_Bool}
 use Rattle.bac_values.specs.Moments.{IsMoment}
@@ -13,7 +13,7 @@ use Rattle.alarm_journal.specs.Press.{PressState}
 use Rattle.alarm_core.specs.State.{CoreState}
 use Rattle.alarm_core.specs.declared.event.Event.{Event}
 use Rattle.alarm_core.specs.declared.site.Site.{Site}
-use Rattle.floor_desk.specs.Accounts.{Account, Due}
+use Rattle.floor_desk.specs.Accounts.{Account, Due, account}
 use Rattle.floor_desk.specs.Moves.{IsGroundOf}
 use Rattle.floor_desk.specs.Prefixes.{HasLost}
 use Rattle.floor_desk.specs.Serving.{Serves}
@@ -48,14 +48,14 @@ module _ {G : Type 0} (told : G → Option Told) (size disk_faults emit_faults :
   by_spot origin a lost (Home press) device now (loan, failed, same) has ground is =
       told_on lost (told origin.1.device) (told a.press.device) now has (ap (λ (p : PressState G). told p.device) (sym same) ∙ (ap told (sym ground) ∙ is))
   by_spot origin a lost (Out place upto) device now stands has ground is = absurd ground
-  by_spot origin a lost (Broken left place) device now (loan, failed, rose, kept, has_lost, more) has ground is =
+  by_spot origin a lost (Broken left place) device now (loan, failed, rose, kept, has_lost, sized, emitted) has ground is =
       told_on lost (told origin.1.device) (told left) now has_lost (ap told (sym ground) ∙ is)
 
   origin_told : (shows : ℕ → Type 0) (old new : Option (List Send)) (origin : CoreState × PressState G) (device : G) (closed : Closed) (now : Told) → Serves told size disk_faults emit_faults shows old new origin device closed → told device ≡ Some now
       → (was : Told) × (told origin.1.device ≡ Some was)
   origin_told shows old new origin device closed now serves is =
       let shown = serves.stands.shows in
-      let (was, at) = by_spot serves.floor.origin _ serves.floor.lost serves.floor.spot device now shown.spot shown.lost serves.ground is in
+      let (was, at) = by_spot serves.floor.origin (account serves.floor.origin serves.history) serves.floor.lost serves.floor.spot device now shown.spot shown.lost serves.ground is in
       (was, ap (λ (o : CoreState × PressState G). told o.1.device) (sym serves.from) ∙ at)
 
 -- ---- what was told at first
@@ -87,7 +87,7 @@ quiet_there first now old new was is quiet = subst (λ (o : Option Told). Emits 
 
 module _ {L : Type 0} (left : L → Option (List Send)) (faults : L → ℕ) (ends : ServerEnds) (site : Site) (history : List Event) (count : ℕ) (link : L) (served : Served) (now : Told)
     (ran : ServedToTheEnd left faults ends count link served now) (is_site : site_of ends.site ≡ Ok site) (stands : ImageStands (journal_of site ends.site) site ends.disk.first history) where
-  abbrev dressed : ServesReal left faults ends count ran.text ran.device link served
+  abbrev dressed : ServesReal left faults ends (Some count) ran.text ran.device link served
   dressed = ran.serves
 
   abbrev before : ServedGround
@@ -139,6 +139,6 @@ module _ {L : Type 0} (left : L → Option (List Send)) (faults : L → ℕ) (en
       (opened site' text (subst (λ (f : Option (List ℕ)). IsSiteIn f site' text) is is_in)
       (subst (λ (o : Option (List Send)). HasServedSite (λ (n : ServedGround). n.inner.told) (λ n. file_size n.inner) (λ n. n.inner.disk_faults) (λ n. n.inner.emit_faults) IsMoment site' text count (left dressed.asked) o before after served) same has))
 
-pub servers_are_told : ServersAreTold
+pub servers_are_told : {L : Type 0} (left : L → Option (List Send)) (faults : L → ℕ) → ServersAreTold left faults
 servers_are_told left faults ends site history count link served now ran is_site stands =
     by_file left faults ends site history count link served now ran is_site stands (still (Some ends.site) ran.text.left) (rw ran.text_tells refl) (left link) refl ran.serves.serves.serves

@@ -1,5 +1,5 @@
 -- What a program over its real ends does: over readers, a file and a socket, for each text, script, disk and datagrams that these are supposed to have. Each clause speaks where the ends still tell, which is where what came was that.
-use Rattle.std.specs.Prelude.{◌≡◌, ℕ, List, Option, Some}
+use Rattle.std.specs.Prelude.{◌≡◌, ℕ, List, Option, Some, IfSome}
 use Rattle.bac_values.specs.Moments.{IsMoment}
 use Rattle.bac_values.specs.declared.note.Send.{Send}
 use Rattle.ground_io.specs.Counts.{Rose}
@@ -50,10 +50,10 @@ pub record RunsReal (asked : Option Command) (supposed : RunEnds) (site script :
   pub keeps : (promise_of asked).keeps (still (Some supposed.site) site.left) (still (Some supposed.script) script.left) (first_told bytes supposed.disk) device.told
   pub opened : (promise_of asked).opens status (still (Some supposed.site) site.left) (still (Some supposed.script) script.left) (first_told bytes supposed.disk) device.told
 
--- A server over such ends: it is what a server does that begins with a ground over a file, which tells that disk at first, and with a link from which those datagrams are to come.
-pub record ServesReal {L : Type 0} (left : L → Option (List Send)) (faults : L → ℕ) (supposed : ServerEnds) (count : ℕ) (site : StdSourceState) (device : FileGroundState) (link : L) (served : Served) : Type 0 where
+-- A server over such ends, whose words tell how many datagrams it takes, or are of no form: it is what a server does that begins with a ground over a file, which tells that disk at first, and with a link from which those datagrams are to come.
+pub record ServesReal {L : Type 0} (left : L → Option (List Send)) (faults : L → ℕ) (supposed : ServerEnds) (counted : Option ℕ) (site : StdSourceState) (device : FileGroundState) (link : L) (served : Served) : Type 0 where
   pub began : FileGroundState
   pub asked : L
   pub disk : began.told ≡ first_told began.bytes supposed.disk
   pub datagrams : left asked ≡ Some supposed.datagrams
-  pub serves : ServesDressed Raised (λ d. d.told) file_size (λ d. d.disk_faults) (λ d. d.emit_faults) left faults IsMoment (still (Some supposed.site) site.left) count asked link began device served
+  pub serves : IfSome counted (λ count. ServesDressed Raised (λ d. d.told) file_size (λ d. d.disk_faults) (λ d. d.emit_faults) left faults IsMoment (still (Some supposed.site) site.left) count asked link began device served)

@@ -1,5 +1,5 @@
 -- What is so of a program over its real ends where they tell to the end, in the words of the one who runs it: premises first.
-use Rattle.std.specs.Prelude.{◌≡◌, ◌×◌, ◌+◌, ◌<◌, ◌≤◌, ℕ, List, [], ◌++◌, length, reverse, take, Option, Some, Ok}
+use Rattle.std.specs.Prelude.{◌≡◌, ◌+◌, ◌<◌, ◌≤◌, ℕ, List, [], ◌++◌, length, reverse, take, Option, Some, Ok}
 use Rattle.std.specs.Borrow.{Bor}
 use Rattle.bac_values.specs.Moments.{IsMoment}
 use Rattle.bac_values.specs.declared.note.Send.{Send}
@@ -95,7 +95,7 @@ ServedGround = NotingGroundState FileGroundState (Bor Raised)
 pub record ServedToTheEnd {L : Type 0} (left : L → Option (List Send)) (faults : L → ℕ) (ends : ServerEnds) (count : ℕ) (link : L) (served : Served) (now : Told) : Type 0 where
   pub text : StdSourceState
   pub device : FileGroundState
-  pub serves : ServesReal left faults ends count text device link served
+  pub serves : ServesReal left faults ends (Some count) text device link served
   pub text_left : List ℕ
   pub text_tells : text.left ≡ Some text_left
   pub size : length ends.disk.first ≡ serves.began.bytes
@@ -115,8 +115,8 @@ pub data ServesFrom (ends : ServerEnds) (site : Site) (history : List Event) (co
   Ordered : ServesOrder ends site history count later served now → ServesFrom ends site history count later served now
 
 -- Servers: where the ends told to the end, a server did this from the history on that its file held.
-abbrev pub ServersAreTold : Type 1
-ServersAreTold =
-    {L : Type 0} (left : L → Option (List Send)) (faults : L → ℕ) (ends : ServerEnds) (site : Site) (history : List Event) (count : ℕ) (link : L) (served : Served) (now : Told)
+abbrev pub ServersAreTold : {L : Type 0} → (L → Option (List Send)) → (L → ℕ) → Type 0
+ServersAreTold {L} left faults =
+    (ends : ServerEnds) (site : Site) (history : List Event) (count : ℕ) (link : L) (served : Served) (now : Told)
     → ServedToTheEnd left faults ends count link served now → site_of ends.site ≡ Ok site → ImageStands (journal_of site ends.site) site ends.disk.first history
     → ServesFrom ends site history count (left link) served now

@@ -1,6 +1,6 @@
 //! The top calls over the real ends, which are made inside, so that each is told for whatever these are supposed to have.
 
-ghost use Rattle.std.specs.Prelude.{◌≡◌, ◌↔◌, None, IfOk, IfSome, map, string_bytes};
+ghost use Rattle.std.specs.Prelude.{◌≡◌, ◌↔◌, None, IfOk, map, string_bytes};
 ghost use Rattle.alarm_server.specs.declared.status.Status.TheVariants as status;
 ghost use Rattle.alarm_server.specs.Commands.{command_of};
 ghost use Rattle.alarm_server.specs.Real.{RunEnds, RunsReal, ServerEnds, ServesReal};
@@ -12,7 +12,7 @@ use crate::dressed::serve_over;
 use crate::run::run;
 use crate::serve::Served;
 use crate::status::Status;
-use ground_io::{FileGround, StdSource, UdpLink};
+use ground_io::{FileGround, Link, StdSource, UdpLink};
 use std::alloc::Global;
 use std::fs::File;
 use std::io;
@@ -64,14 +64,12 @@ pub fn run_real<F: Read + Drop, T: Read + Drop, W: Write + Drop>(
 /// and at each moment a crash leaves that history and the events of the lines whose piece was sent by then.
 pub fn sessions_are_told()
     ensures law { SessionsAreTold }
-{
-}
+{}
 
 /// Of two sessions, where the second finds what a crash may leave of the first: it goes on from there.
 pub fn sessions_go_on()
     ensures law { SessionsGoOn }
-{
-}
+{}
 
 /// Serves the site of a file, with the journal of another, over a socket; what it says of where it listens goes to standard
 /// error. `workers` is the runtime as that which starts threads. It is what `serve` does over them, for each text, disk and
@@ -92,8 +90,8 @@ pub fn serve_real<'a, R: Threads + Wait + Sync + Clock, W: Write + Send + Drop>(
 >
     ghost supposed: { ServerEnds }
     ensures usage { IfOk result (λ ran. (ran.3.status ≡ status.Usage) ↔ (count_in (map string_bytes words.now) ≡ None)) }
-    ensures serves { IfOk result (λ ran. IfSome (count_in (map string_bytes words.now)) (λ count.
-        ServesReal (λ link. link.inner.left) (λ link. link.inner.faults) supposed count ran.0 ran.1 ran.2 ran.3)) }
+    ensures serves { IfOk result (λ ran.
+        ServesReal (λ link. link.inner.left) (λ link. link.inner.faults) supposed (count_in (map string_bytes words.now)) ran.0 ran.1 ran.2 ran.3) }
 {
     let Places {
         site,
@@ -111,7 +109,6 @@ pub fn serve_real<'a, R: Threads + Wait + Sync + Clock, W: Write + Send + Drop>(
 
 /// What a server over real ends did, where these told to the end: one order of what its callers did, from the history on that
 /// its file held; what went out is a front of what that order owes, and a crash leaves what was told of.
-pub fn servers_are_told()
-    ensures law { ServersAreTold }
-{
-}
+pub fn servers_are_told<L: Link>()
+    ensures law { ServersAreTold L.left L.faults }
+{}

@@ -1,17 +1,13 @@
 use Rattle.std.proofs.Common.{ap, ◌∙◌}
 use Rattle.ground_io.specs.InMemory.{UdpLinkState}
-use Rattle.alarm_server.proofs.DressedEnds.{some_to}
 use Rattle.alarm_server.proofs.real.serve_real.Goals as goal
 
 pub returns-clause-serves : goal.returns-clause-serves
 returns-clause-serves g c =
-    some_to _ _ _
-    (λ count serves.
     record {
       began = c.in_ok-device.device;
       asked = c.new-link.result;
       disk = c.in_ok-device.ensures.told;
       datagrams = ap (λ (l : UdpLinkState). l.left) c.new-link.ensures.inner ∙ c.in_ok-link.ensures.left;
-      serves = rw c.new-site.ensures.made at serves;
-    })
-    c.serve_over-device.ensures.serves
+      serves = rw c.new-site.ensures.made at c.serve_over-device.ensures.serves;
+    }
