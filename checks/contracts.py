@@ -109,7 +109,7 @@ def heads_in(block):
         head, clauses = [], False
         for line in lines[place:]:
             head.append(line)
-            code = "" if line.lstrip().startswith("//") else line
+            code = "" if line.lstrip().startswith(("//", "ghost ")) else line
             clauses = clauses or bool(re.match(r"\s+(?:ensures|requires) (?:\w+ )?\{", line))
             text = "\n".join(head)
             if line in (begins[1] + "{", begins[1] + "{}") or "{" in code and not clauses or code.endswith(";") and text.count("{") == text.count("}"):
@@ -143,11 +143,12 @@ def functions_of(crate):
 
 @functools.cache
 def public_names_of(crate):
-    """What others may name of a crate: what its lib hands on, and of a program without one what its main calls."""
+    """What others may name of a crate: what its lib hands on, and of a program without one what its main, and its calls over the real ends, call."""
     if lib := text_of(f"crates/{crate}/src/lib.rt"):
         uses = re.findall(r"^pub use (?:\w+::)*(?:\{([^}]*)\}|(\w+));", lib, re.M)
     else:
-        uses = re.findall(r"^use crate::(?:\w+::)*(?:\{([^}]*)\}|(\w+));", text_of(f"crates/{crate}/src/main.rt"), re.M)
+        texts = "".join(text_of(f"crates/{crate}/src/{part}.rt") for part in ("main", "real"))
+        uses = re.findall(r"^use crate::(?:\w+::)*(?:\{([^}]*)\}|(\w+));", texts, re.M)
     return {name.strip() for many, one in uses for name in (many or one).split(",") if name.strip()}
 
 

@@ -70,7 +70,7 @@ more_within start half next size snapshot batches body bodies inside long fits =
 same_after : (a b : Told) → Adds (Some a) (Some b) [] → (disk_of a).contents ≡ (disk_of b).contents
 same_after a b adds = ap (λ (k : Disk). k.contents) (sym (disk_adds a b [] adds))
 
-pub more_so_far : (start half next size whole : ℕ) (snapshot batches body : List ℕ) (bodies : List Body) (a b d : Option Told) → Shows a (IsSoFar start snapshot batches bodies next) → Adds a b [] → Shows b (IsHead (start + next) size) → Adds b d [] → Reads b (start + next + 5) body
+pub more_so_far : (start half next size whole : ℕ) (snapshot batches body : List ℕ) (bodies : List Body) (a b d : Option Told) → Shows a (IsSoFar start snapshot batches bodies next) → Adds a b [] → Shows b (IsHead (start + next) size) → Adds b d [] → Reads d (start + next + 5) body
     → HasSize whole d → IsWithin start half snapshot batches bodies next → length body ≡ size → start + next + 5 + size ≤ whole
     → Shows d (IsSoFar start snapshot (batches ++ body) (bodies ++ record { place = start + next + 5; length = size } ∷ []) (next + (5 + size)))
 more_so_far start half next size whole snapshot batches body bodies a b None so ab head bd reads sized inside long fits = tt
@@ -79,7 +79,7 @@ more_so_far start half next size whole snapshot batches body bodies None (Some b
 more_so_far start half next size whole snapshot batches body bodies (Some a) (Some b) (Some d) so ab head bd reads sized inside long fits =
     let same = same_after b d bd in
     one_more start half next size snapshot batches body bodies (disk_of d).contents (subst (IsSoFar start snapshot batches bodies next) (same_after a b ab ∙ same) so) inside (subst (IsHead (start + next) size) same head)
-    (reads ∙ ap (octets_at (start + next + 5) (length body)) same) long (subst (λ (k : ℕ). start + next + 5 + size ≤ k) (sym sized) fits)
+    reads long (subst (λ (k : ℕ). start + next + 5 + size ≤ k) (sym sized) fits)
 
 -- the next batch's length leaves the area
 head_damage : (start half next whole : ℕ) (snapshot batches : List ℕ) (bodies : List Body) (image : List ℕ) → IsSoFar start snapshot batches bodies next image → IsBadHead (start + next) (half - next) image → length image ≡ whole → start + half ≤ whole
@@ -107,7 +107,7 @@ damage_so_far start half next whole snapshot batches bodies fault a b so ab size
 damage_so_far start half next whole snapshot batches bodies fault a b so ab sized room (inr (inr (at, is, bad))) = inr (inr (at, is, bad_so_far start half next whole at snapshot batches bodies a b so ab sized room bad))
 
 -- the snapshot alone was read
-pub begun_so_far : (start half count whole : ℕ) (snapshot : List ℕ) (b d : Option Told) → Shows b (λ image. count ≡ big_number 4 (octets_at start 4 image)) → Adds b d [] → Reads b (start + 4) snapshot → length snapshot ≡ count → HasSize whole d → start + 4 + count ≤ whole
+pub begun_so_far : (start half count whole : ℕ) (snapshot : List ℕ) (b d : Option Told) → Shows b (λ image. count ≡ big_number 4 (octets_at start 4 image)) → Adds b d [] → Reads d (start + 4) snapshot → length snapshot ≡ count → HasSize whole d → start + 4 + count ≤ whole
     → Shows d (IsSoFar start snapshot [] [] (4 + count))
 begun_so_far start half count whole snapshot b None word bd reads long sized fits = tt
 begun_so_far start half count whole snapshot None (Some d) word bd reads long sized fits = absurd bd
@@ -115,7 +115,7 @@ begun_so_far start half count whole snapshot (Some b) (Some d) word bd reads lon
     let image = (disk_of d).contents in
     let same = same_after b d bd in
     let room : 4 + count ≤ length (drop start image) = omega (arith, fits, sized, length-drop start image) in
-    let stands : octets_at (start + 4) (length snapshot) image ≡ snapshot = sym (reads ∙ ap (octets_at (start + 4) (length snapshot)) same) in
+    let stands : octets_at (start + 4) (length snapshot) image ≡ snapshot = sym reads in
     let is : octets_at 4 count (drop start image) ≡ snapshot = part start 4 count image ∙ ap (λ (k : ℕ). octets_at (start + 4) k image) (sym long) ∙ stands in
     record {
       reads = subst (λ (l : List ℕ). BeginsWith (octets_at start (4 + count) image) (only_snapshot l) []) is

@@ -96,12 +96,16 @@ sound size layout inner fits header word behind within = record { fits = fits; b
 same_disk : (a d : Told) → Adds (Some a) (Some d) [] → disk_of d ≡ disk_of a
 same_disk a d adds = disk_adds a d [] adds
 
+-- what was read stood there before
+read_before : (a d : Told) (octets : List ℕ) → Adds (Some a) (Some d) [] → Reads (Some d) 0 octets → Reads (Some a) 0 octets
+read_before a d octets adds reads = reads ∙ ap (λ (k : Disk). octets_at 0 (length octets) k.contents) (same_disk a d adds)
+
 pub settled : (site : Site) (size : ℕ) (header : List ℕ) (content : Content) (formatted inner : ℕ) (layout : Layout) (a d : Option Told) → Found site size header formatted layout → HasSize size a → Adds a d []
-    → Reads a 0 header → Shows d (IsRead (start_of layout) layout.half inner content) → Begun a → Settled site (at_next layout (start_of layout + inner)) d content
+    → Reads d 0 header → Shows d (IsRead (start_of layout) layout.half inner content) → Begun a → Settled site (at_next layout (start_of layout + inner)) d content
 settled site size header content formatted inner layout a None found whole ad first read begun = tt
 settled site size header content formatted inner layout None (Some d) found whole ad first read begun = absurd ad
 settled site size header content formatted inner layout (Some a) (Some d) found whole ad first read begun =
-    let head = heads site size header (disk_of a).contents formatted layout found whole begun.gate first in
+    let head = heads site size header (disk_of a).contents formatted layout found whole begun.gate (read_before a d header ad first) in
     let same : disk_of d ≡ disk_of a = same_disk a d ad in
     record {
       stands = stands site layout (disk_of d).contents content inner (subst (λ (k : Disk). Heads site layout k.contents) (sym same) head) read;
@@ -109,22 +113,22 @@ settled site size header content formatted inner layout (Some a) (Some d) found 
     }
 
 -- the header is refused
-pub bad_header : (site : Site) (size : ℕ) (header : List ℕ) (fault : OpenFault) (a b : Option Told) → checked_header site size header ≡ Err fault → length header ≡ 22 + length site.text → HasSize size a → site.need ≤ size → Adds a b [] → Reads a 0 header → Begun a → Answers site a b (Err fault)
+pub bad_header : (site : Site) (size : ℕ) (header : List ℕ) (fault : OpenFault) (a b : Option Told) → checked_header site size header ≡ Err fault → length header ≡ 22 + length site.text → HasSize size a → site.need ≤ size → Adds a b [] → Reads b 0 header → Begun a → Answers site a b (Err fault)
 bad_header site size header fault a None checked long whole enough ab first begun = tt
 bad_header site size header fault None (Some b) checked long whole enough ab first begun = absurd ab
 bad_header site size header fault (Some a) (Some b) checked long whole enough ab first begun =
     let c = (disk_of a).contents in
-    let as_read : checked_header site (length c) c ≡ Err fault = ap (λ (k : ℕ). checked_header site k c) whole ∙ header_same site size header c (front site header c first long) ∙ checked in
+    let as_read : checked_header site (length c) c ≡ Err fault = ap (λ (k : ℕ). checked_header site k c) whole ∙ header_same site size header c (front site header c (read_before a b header ab first) long) ∙ checked in
     inr (inr (computed_refused site c fault (opens_by_header site c (subst (λ (k : ℕ). site.need ≤ k) (sym whole) enough) begun.gate ∙ ap (selected_content site c) as_read)))
 
 -- a length leaves the area
 bad_area : (site : Site) (size : ℕ) (header : List ℕ) (formatted at : ℕ) (layout : Layout) (a d : Option Told) → Found site size header formatted layout → HasSize size a → Adds a d []
-    → Reads a 0 header → Shows d (λ image. LeavesAt (start_of layout) (octets_at (start_of layout) layout.half image) at) → Begun a → Answers site a d (Err (Damaged at))
+    → Reads d 0 header → Shows d (λ image. LeavesAt (start_of layout) (octets_at (start_of layout) layout.half image) at) → Begun a → Answers site a d (Err (Damaged at))
 bad_area site size header formatted at layout a None found whole ad first bad begun = tt
 bad_area site size header formatted at layout None (Some d) found whole ad first bad begun = absurd ad
 bad_area site size header formatted at layout (Some a) (Some d) found whole ad first bad begun =
     let c = (disk_of a).contents in
-    let head = heads site size header c formatted layout found whole begun.gate first in
+    let head = heads site size header c formatted layout found whole begun.gate (read_before a d header ad first) in
     let here : LeavesAt (start_of layout) (octets_at (start_of layout) layout.half c) at =
     subst (λ (k : Disk). LeavesAt (start_of layout) (octets_at (start_of layout) layout.half k.contents) at) (same_disk a d ad) bad in
     inr (inr (computed_refused site c (Damaged at) (area_opens site layout c head ∙ ap or_damaged (leaves_computed (start_of layout) (octets_at (start_of layout) layout.half c) at here))))
@@ -138,7 +142,7 @@ no_answer site fault (Some a) (Some b) entries (inr is) adds = inr (inl is)
 
 -- whatever came in the way of reading the area
 pub no_area : (site : Site) (size : ℕ) (header : List ℕ) (formatted : ℕ) (layout : Layout) (fault : OpenFault) (a d : Option Told) → Found site size header formatted layout → HasSize size a → Adds a d []
-    → Reads a 0 header → IsDamage d (λ at image. LeavesAt (start_of layout) (octets_at (start_of layout) layout.half image) at) fault → Begun a → Answers site a d (Err fault)
+    → Reads d 0 header → IsDamage d (λ at image. LeavesAt (start_of layout) (octets_at (start_of layout) layout.half image) at) fault → Begun a → Answers site a d (Err fault)
 no_area site size header formatted layout fault a d found whole ad first (inl disk) begun = no_answer site fault a d [] (inl disk) ad
 no_area site size header formatted layout fault a d found whole ad first (inr (inl memory)) begun = no_answer site fault a d [] (inr memory) ad
 no_area site size header formatted layout fault a d found whole ad first (inr (inr (at, is, bad))) begun =

@@ -11,11 +11,11 @@ kept P a None adds shows = tt
 kept P None (Some b) adds shows = absurd adds
 kept P (Some a) (Some b) adds shows = subst (λ (k : Disk). P k.contents) (sym (disk_adds a b [] adds)) shows
 
--- what was read stands there
-pub read_now : (a b : Option Told) (place : ℕ) (octets : List ℕ) → Adds a b [] → Reads a place octets → Shows b (λ image. octets ≡ octets_at place (length octets) image)
-read_now a None place octets adds reads = tt
-read_now None (Some b) place octets adds reads = absurd adds
-read_now (Some a) (Some b) place octets adds reads = reads ∙ ap (λ (k : Disk). octets_at place (length octets) k.contents) (sym (disk_adds a b [] adds))
+-- what was read is read again
+pub reads_on : (a b : Option Told) (place : ℕ) (octets : List ℕ) → Adds a b [] → Reads a place octets → Reads b place octets
+reads_on a None place octets adds reads = tt
+reads_on None (Some b) place octets adds reads = absurd adds
+reads_on (Some a) (Some b) place octets adds reads = reads ∙ ap (λ (k : Disk). octets_at place (length octets) k.contents) (sym (disk_adds a b [] adds))
 
 pub sized_now : (size : ℕ) (a : Option Told) → HasSize size a → Shows a (λ image. length image ≡ size)
 sized_now size None has = tt

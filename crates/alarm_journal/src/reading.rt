@@ -27,7 +27,7 @@ pub fn read_piece<G: Ground>(
     ensures emitted { G.emit_faults device.new ≡ G.emit_faults device.old }
     ensures faults { IfErr result (λ fault. (fault ≡ DiskFault) ⊎ (fault ≡ NoMemory)) }
     ensures told { Adds (G.told device.old) (G.told device.new) [] }
-    ensures octets { IfOk result (λ octets. Reads (G.told device.old) place octets.items) }
+    ensures octets { IfOk result (λ octets. Reads (G.told device.new) place octets.items) }
     ensures length { IfOk result (λ octets. length octets.items ≡ count) }
 {
     let mut octets = vec![in alloc; 0u8; count]?;

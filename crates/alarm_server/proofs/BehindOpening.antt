@@ -125,8 +125,8 @@ module _ (journal : Journal) (site : Site) (is : IsSite site) (core : CoreState)
       ends_behind piece_text ended (report_of site history t) old mid new quiet (subst (λ ps. Ends Emits piece_text ended ps mid new) (reports site is history core stands own t) ends)
 
   pub stops_session : (text left : Option (List ℕ)) → WhereTold text left (λ t rest. StopsReading Emits piece_text (state_front core) (line_says Session) t rest mid new) → WhereTold text left (λ t rest. StopsReading Emits piece_text (front_pieces site history) (line_says Session) t rest old new)
-  stops_session None left stops = tt
-  stops_session (Some t) None stops = absurd stops
+  stops_session text None stops = tt
+  stops_session None (Some rest) stops = absurd stops
   stops_session (Some t) (Some rest) stops =
       let stands = represents (tells_before journal site history old mid new (sent piece_text (state_front core stops.whole)) stops.emitted stood) in
       let by = stops_by_history site is history core stands own Emits t rest mid new stops in

@@ -10,7 +10,7 @@ use Rattle.bac_values.specs.declared.report.ReportLine.{ReportLine}
 use Rattle.bac_values.specs.declared.report.ReportLine.TheVariants as say
 use Rattle.ground_io.specs.declared.entry.Entry.{Entry}
 use Rattle.ground_io.specs.declared.entry.Entry.TheVariants as entry
-use Rattle.ground_io.specs.Trace.{Told, Adds, WhereTold}
+use Rattle.ground_io.specs.Trace.{Told, Adds, WhereTold, still}
 use Rattle.script_lines.specs.declared.packet_line.PacketLine.{PacketLine}
 use Rattle.script_lines.specs.declared.lines.LineFault.{LineFault}
 use Rattle.script_lines.specs.declared.lines.LineFault.TheVariants.{Grammar, Read, NoMemory}
@@ -257,9 +257,9 @@ reports_more (one ∷ packets) (line ∷ lines) packet took old now next (first,
 
 -- what is told at two steps is told over both
 where_then : {A : Type 0} (a b c : Option A) (P Q R : A → A → Type 0) → ((x y z : A) → P x y → Q y z → R x z) → WhereTold a b P → WhereTold b c Q → WhereTold a c R
-where_then None b c P Q R f first second = tt
-where_then (Some x) None c P Q R f first second = absurd first
-where_then (Some x) (Some y) None P Q R f first second = second
+where_then a b None P Q R f first second = tt
+where_then a None (Some z) P Q R f first second = absurd second
+where_then None (Some y) (Some z) P Q R f first second = absurd first
 where_then (Some x) (Some y) (Some z) P Q R f first second = f x y z first second
 
 remains_all : (text : Option (List ℕ)) → WhereTold text (prepend_known [] text) (Remains [] 0)
@@ -326,11 +326,12 @@ module _ (start : CoreState) (is_site : IsSite start.site) (typed : FitsSite sta
 
 -- ---- how it ends
 
--- at a place of its script
-at_script : (packets : List PacketLine) (number : ℕ) (text come : Option (List ℕ)) (P : List ℕ → Type 0) → WhereTold text come (Remains packets number) → ((script octets : List ℕ) → Remains packets number script octets → P script) → IfSome text P
-at_script packets number None come P remains to = tt
-at_script packets number (Some script) None P remains to = absurd remains
-at_script packets number (Some script) (Some octets) P remains to = to script octets remains
+-- at a place of its script, from which something more was read
+at_script : (packets : List PacketLine) (number : ℕ) (text come come' : Option (List ℕ)) (P : List ℕ → Type 0) (Q : List ℕ → List ℕ → Type 0) → WhereTold text come (Remains packets number) → WhereTold come come' Q → ((script octets : List ℕ) → Remains packets number script octets → P script) → IfSome (still text come') P
+at_script packets number text come None P Q remains read to = tt
+at_script packets number None come (Some rest) P Q remains read to = tt
+at_script packets number (Some script) None (Some rest) P Q remains read to = absurd read
+at_script packets number (Some script) (Some octets) (Some rest) P Q remains read to = to script octets remains
 
 -- what went out, where it may be a front of the report
 module _ (start : CoreState) (text come : Option (List ℕ)) (first layout : Layout) (old new : Option Told) (number : ℕ) (ended : Bool) (now : Following) (p : Progress start text come first layout old new number ended now) where
@@ -340,9 +341,9 @@ module _ (start : CoreState) (text come : Option (List ℕ)) (first layout : Lay
   abbrev closing_at : List ℕ → List ℕ → List ReportLine
   closing_at script octets = closing_lines (spelled_in packet_says number (lines_of octets)) (refused_line packet_says script) (length (lines_of script)) now
 
-  front_follows : (status : Status) → ((left : List PacketLine) → TakesEach status left) → ((pieces back : List ReportLine) → pieces ≡ so_far ++ back → Ends Emits report_text status pieces old new) → IfSome text (λ t. Follows Emits status start t old new)
-  front_follows status each goes =
-      at_script p.packets number text come (λ t. Follows Emits status start t old new) p.remains
+  front_follows : (come' : Option (List ℕ)) (Q : List ℕ → List ℕ → Type 0) → WhereTold come come' Q → (status : Status) → ((left : List PacketLine) → TakesEach status left) → ((pieces back : List ReportLine) → pieces ≡ so_far ++ back → Ends Emits report_text status pieces old new) → IfSome (still text come') (λ t. Follows Emits status start t old new)
+  front_follows come' Q read status each goes =
+      at_script p.packets number text come come' (λ t. Follows Emits status start t old new) Q p.remains read
       (λ script octets remains. record {
         packets = p.packets;
         left = spelled_in packet_says number (lines_of octets);
@@ -355,22 +356,22 @@ module _ (start : CoreState) (text come : Option (List ℕ)) (first layout : Lay
       })
 
   -- a call failed between two packets, or memory was refused
-  pub ends_between_memory : IfSome text (λ t. Follows Emits status.NoMemory start t old new)
-  ends_between_memory = front_follows status.NoMemory (λ left. tt) (λ pieces back is. (so_far, back, is, p.out))
+  pub ends_between_memory : (come' : Option (List ℕ)) (Q : List ℕ → List ℕ → Type 0) → WhereTold come come' Q → IfSome (still text come') (λ t. Follows Emits status.NoMemory start t old new)
+  ends_between_memory come' Q read = front_follows come' Q read status.NoMemory (λ left. tt) (λ pieces back is. (so_far, back, is, p.out))
 
-  ends_between_read : IfSome text (λ t. Follows Emits status.ReadFault start t old new)
-  ends_between_read = front_follows status.ReadFault (λ left. tt) (λ pieces back is. (so_far, back, is, p.out))
+  ends_between_read : (come' : Option (List ℕ)) (Q : List ℕ → List ℕ → Type 0) → WhereTold come come' Q → IfSome (still text come') (λ t. Follows Emits status.ReadFault start t old new)
+  ends_between_read come' Q read = front_follows come' Q read status.ReadFault (λ left. tt) (λ pieces back is. (so_far, back, is, p.out))
 
   -- nothing was sent behind it
-  pub ends_at_packet : (new' : Option Told) (fault : Status) → IsKeepFault fault → Emits new new' [] → IfSome text (λ t. Follows Emits fault start t old new')
-  ends_at_packet new' fault is quiet = by fault is
+  pub ends_at_packet : (come' : Option (List ℕ)) (number' : ℕ) (packet : PacketLine) → WhereTold come come' (ReadsLine packet_says number number' (Ok (Some packet))) → (new' : Option Told) (fault : Status) → IsKeepFault fault → Emits new new' [] → IfSome (still text come') (λ t. Follows Emits fault start t old new')
+  ends_at_packet come' number' packet read new' fault is quiet = by fault is
     where
       out : Emits old new' (sent report_text so_far)
       out = subst (λ (l : List Entry). Emits old new' l) (append-nil (sent report_text so_far)) (emits.followed old new new' (sent report_text so_far) [] p.out quiet)
 
-      follows : (status : Status) → ((left : List PacketLine) → TakesEach status left) → ((pieces back : List ReportLine) → pieces ≡ so_far ++ back → Ends Emits report_text status pieces old new') → IfSome text (λ t. Follows Emits status start t old new')
+      follows : (status : Status) → ((left : List PacketLine) → TakesEach status left) → ((pieces back : List ReportLine) → pieces ≡ so_far ++ back → Ends Emits report_text status pieces old new') → IfSome (still text come') (λ t. Follows Emits status start t old new')
       follows status each goes =
-          at_script p.packets number text come (λ t. Follows Emits status start t old new') p.remains
+          at_script p.packets number text come come' (λ t. Follows Emits status start t old new') (ReadsLine packet_says number number' (Ok (Some packet))) p.remains read
           (λ script octets remains. record {
             packets = p.packets;
             left = spelled_in packet_says number (lines_of octets);
@@ -382,7 +383,7 @@ module _ (start : CoreState) (text come : Option (List ℕ)) (first layout : Lay
             went = goes (so_far ++ closing_at script octets) (closing_at script octets) refl;
           })
 
-      by : (fault : Status) → IsKeepFault fault → IfSome text (λ t. Follows Emits fault start t old new')
+      by : (fault : Status) → IsKeepFault fault → IfSome (still text come') (λ t. Follows Emits fault start t old new')
       by status.DiskFault is = follows status.DiskFault (λ left. tt) (λ pieces back same. (so_far, back, same, out))
       by status.NoMemory is = follows status.NoMemory (λ left. tt) (λ pieces back same. (so_far, back, same, out))
       by status.Done is = absurd is
@@ -412,30 +413,30 @@ module _ (start : CoreState) (text come : Option (List ℕ)) (first layout : Lay
       }
 
   -- a fault while a packet is read
-  pub ends_at_line : (come' : Option (List ℕ)) (number' : ℕ) (fault : LineFault) → WhereTold come come' (ReadsLine packet_says number number' (Err fault)) → IfSome text (λ t. Follows Emits (of_line_fault fault) start t old new)
-  ends_at_line come' number' Read read = ends_between_read
-  ends_at_line come' number' NoMemory read = ends_between_memory
+  pub ends_at_line : (come' : Option (List ℕ)) (number' : ℕ) (fault : LineFault) → WhereTold come come' (ReadsLine packet_says number number' (Err fault)) → IfSome (still text come') (λ t. Follows Emits (of_line_fault fault) start t old new)
+  ends_at_line come' number' Read read = ends_between_read come' (ReadsLine packet_says number number' (Err Read)) read
+  ends_at_line come' number' NoMemory read = ends_between_memory come' (ReadsLine packet_says number number' (Err NoMemory)) read
   ends_at_line come' number' (Grammar line) read = by text come come' p.remains read
     where
-      by : (text come come' : Option (List ℕ)) → WhereTold text come (Remains p.packets number) → WhereTold come come' (ReadsLine packet_says number number' (Err (Grammar line))) → IfSome text (λ t. Follows Emits (status.ScriptRefused line) start t old new)
-      by None come come' remains read = tt
-      by (Some t) None come' remains read = absurd remains
-      by (Some t) (Some octets) None remains read = absurd read
+      by : (text come come' : Option (List ℕ)) → WhereTold text come (Remains p.packets number) → WhereTold come come' (ReadsLine packet_says number number' (Err (Grammar line))) → IfSome (still text come') (λ t. Follows Emits (status.ScriptRefused line) start t old new)
+      by text come None remains read = tt
+      by None come (Some rest) remains read = tt
+      by (Some t) None (Some rest) remains read = absurd read
       by (Some t) (Some octets) (Some rest) remains read = refuses_line octets rest number' line t remains read
 
   -- the line that is refused is the first outside the grammar
-  pub refused_first : (come' : Option (List ℕ)) (number' line : ℕ) → WhereTold come come' (ReadsLine packet_says number number' (Err (Grammar line))) → IfSome text (λ t. refused_line packet_says t ≡ Some line)
+  pub refused_first : (come' : Option (List ℕ)) (number' line : ℕ) → WhereTold come come' (ReadsLine packet_says number number' (Err (Grammar line))) → IfSome (still text come') (λ t. refused_line packet_says t ≡ Some line)
   refused_first come' number' line read = by text come come' p.remains read
     where
-      by : (text come come' : Option (List ℕ)) → WhereTold text come (Remains p.packets number) → WhereTold come come' (ReadsLine packet_says number number' (Err (Grammar line))) → IfSome text (λ t. refused_line packet_says t ≡ Some line)
-      by None come come' remains read = tt
-      by (Some t) None come' remains read = absurd remains
-      by (Some t) (Some octets) None remains read = absurd read
+      by : (text come come' : Option (List ℕ)) → WhereTold text come (Remains p.packets number) → WhereTold come come' (ReadsLine packet_says number number' (Err (Grammar line))) → IfSome (still text come') (λ t. refused_line packet_says t ≡ Some line)
+      by text come None remains read = tt
+      by None come (Some rest) remains read = tt
+      by (Some t) None (Some rest) remains read = absurd read
       by (Some t) (Some octets) (Some rest) remains read = remains.refused ∙ (spells_refused packet_says (lines_of octets) number line read.0).refused
 
   -- the line of a packet is in the way
   pub ends_at_telling : (come' : Option (List ℕ)) (number' : ℕ) (packet : PacketLine) (took : Took) (next : Following) (line : ReportLine) (new' new'' : Option Told) (fault : Unsent) → WhereTold come come' (ReadsLine packet_says number number' (Ok (Some packet)))
-      → Takes now packet.packet took next → Emits new new' [] → line ≡ line_of packet.number took → TellsUpTo fault line new' new'' → IfSome text (λ t. Follows Emits (of_unsent fault) start t old new'')
+      → Takes now packet.packet took next → Emits new new' [] → line ≡ line_of packet.number took → TellsUpTo fault line new' new'' → IfSome (still text come') (λ t. Follows Emits (of_unsent fault) start t old new'')
   ends_at_telling come' number' packet took next line new' new'' fault read takes quiet same tells = by text come come' p.remains read
     where
       out : Emits old new' (sent report_text so_far)
@@ -450,10 +451,10 @@ module _ (start : CoreState) (text come : Option (List ℕ)) (first layout : Lay
       each unsent.Lost left = tt
       each unsent.NoMemory left = tt
 
-      by : (text come come' : Option (List ℕ)) → WhereTold text come (Remains p.packets number) → WhereTold come come' (ReadsLine packet_says number number' (Ok (Some packet))) → IfSome text (λ t. Follows Emits (of_unsent fault) start t old new'')
-      by None come come' remains read = tt
-      by (Some t) None come' remains read = absurd remains
-      by (Some t) (Some octets) None remains read = absurd read
+      by : (text come come' : Option (List ℕ)) → WhereTold text come (Remains p.packets number) → WhereTold come come' (ReadsLine packet_says number number' (Ok (Some packet))) → IfSome (still text come') (λ t. Follows Emits (of_unsent fault) start t old new'')
+      by text come None remains read = tt
+      by None come (Some rest) remains read = tt
+      by (Some t) None (Some rest) remains read = absurd read
       by (Some t) (Some octets) (Some rest) remains read =
           let more = remains_next p.packets number number' packet t octets rest remains read in
           let left : List PacketLine = spelled_in packet_says number' (lines_of rest) in
@@ -494,20 +495,20 @@ module _ (start : CoreState) (text come : Option (List ℕ)) (first layout : Lay
       }
 
   over_end : (status : Status) (come' : Option (List ℕ)) (new' : Option Told) (number' : ℕ) (line : ReportLine) → WhereTold come come' (ReadsLine packet_says number number' (Ok None)) → line ≡ say.End number' now.core.events → ((left : List PacketLine) → left ≡ [] → TakesEach status left)
-      → Ends Emits report_text status (so_far ++ line ∷ []) old new' → IfSome text (λ t. Follows Emits status start t old new')
+      → Ends Emits report_text status (so_far ++ line ∷ []) old new' → IfSome (still text come') (λ t. Follows Emits status start t old new')
   over_end status come' new' number' line read same each goes = by text come come' p.remains read
     where
-      by : (text come come' : Option (List ℕ)) → WhereTold text come (Remains p.packets number) → WhereTold come come' (ReadsLine packet_says number number' (Ok None)) → IfSome text (λ t. Follows Emits status start t old new')
-      by None come come' remains read = tt
-      by (Some t) None come' remains read = absurd remains
-      by (Some t) (Some octets) None remains read = absurd read
+      by : (text come come' : Option (List ℕ)) → WhereTold text come (Remains p.packets number) → WhereTold come come' (ReadsLine packet_says number number' (Ok None)) → IfSome (still text come') (λ t. Follows Emits status start t old new')
+      by text come None remains read = tt
+      by None come (Some rest) remains read = tt
+      by (Some t) None (Some rest) remains read = absurd read
       by (Some t) (Some octets) (Some rest) remains read = at_end status new' number' line same each goes t octets rest remains read
 
-  pub ends : (come' : Option (List ℕ)) (new' : Option Told) (number' : ℕ) (line : ReportLine) → WhereTold come come' (ReadsLine packet_says number number' (Ok None)) → line ≡ say.End number' now.core.events → Adds new new' (sent report_text (line ∷ [])) → IfSome text (λ t. Follows Emits status.Done start t old new')
+  pub ends : (come' : Option (List ℕ)) (new' : Option Told) (number' : ℕ) (line : ReportLine) → WhereTold come come' (ReadsLine packet_says number number' (Ok None)) → line ≡ say.End number' now.core.events → Adds new new' (sent report_text (line ∷ [])) → IfSome (still text come') (λ t. Follows Emits status.Done start t old new')
   ends come' new' number' line read same adds =
       over_end status.Done come' new' number' line read same (λ left none. none) (sent_then Emits emits report_text old new new' so_far (line ∷ []) p.out (emits_sent report_text (line ∷ []) new new' adds))
 
-  pub ends_at_end : (come' : Option (List ℕ)) (new' : Option Told) (number' : ℕ) (line : ReportLine) (fault : Unsent) → WhereTold come come' (ReadsLine packet_says number number' (Ok None)) → line ≡ say.End number' now.core.events → TellsUpTo fault line new new' → IfSome text (λ t. Follows Emits (of_unsent fault) start t old new')
+  pub ends_at_end : (come' : Option (List ℕ)) (new' : Option Told) (number' : ℕ) (line : ReportLine) (fault : Unsent) → WhereTold come come' (ReadsLine packet_says number number' (Ok None)) → line ≡ say.End number' now.core.events → TellsUpTo fault line new new' → IfSome (still text come') (λ t. Follows Emits (of_unsent fault) start t old new')
   ends_at_end come' new' number' line unsent.Lost read same tells =
       over_end status.EmitFault come' new' number' line read same (λ left none. tt) (so_far, line, [], refl, emits.followed old new new' (sent report_text so_far) (lost report_text line) p.out (emits_lost line new new' tells))
   ends_at_end come' new' number' line unsent.NoMemory read same tells =
@@ -515,13 +516,13 @@ module _ (start : CoreState) (text come : Option (List ℕ)) (first layout : Lay
       (so_far, line ∷ [], refl, subst (λ (l : List Entry). Emits old new' l) (append-nil (sent report_text so_far)) (emits.followed old new new' (sent report_text so_far) [] p.out (emits_none new new' tells)))
 
   -- all lines are in the grammar
-  pub accepts : (come' : Option (List ℕ)) (number' : ℕ) → WhereTold come come' (ReadsLine packet_says number number' (Ok None)) → IfSome text (λ t. refused_line packet_says t ≡ None)
+  pub accepts : (come' : Option (List ℕ)) (number' : ℕ) → WhereTold come come' (ReadsLine packet_says number number' (Ok None)) → IfSome (still text come') (λ t. refused_line packet_says t ≡ None)
   accepts come' number' read = by text come come' p.remains read
     where
-      by : (text come come' : Option (List ℕ)) → WhereTold text come (Remains p.packets number) → WhereTold come come' (ReadsLine packet_says number number' (Ok None)) → IfSome text (λ t. refused_line packet_says t ≡ None)
-      by None come come' remains read = tt
-      by (Some t) None come' remains read = absurd remains
-      by (Some t) (Some octets) None remains read = absurd read
+      by : (text come come' : Option (List ℕ)) → WhereTold text come (Remains p.packets number) → WhereTold come come' (ReadsLine packet_says number number' (Ok None)) → IfSome (still text come') (λ t. refused_line packet_says t ≡ None)
+      by text come None remains read = tt
+      by None come (Some rest) remains read = tt
+      by (Some t) None (Some rest) remains read = absurd read
       by (Some t) (Some octets) (Some rest) remains read = remains.refused ∙ (spells_none packet_says (lines_of octets) number number' read.0).refused
 
   -- ---- where the script stops being read
@@ -554,9 +555,10 @@ module _ (start : CoreState) (text come : Option (List ℕ)) (first layout : Lay
     where
       by : (text come left : Option (List ℕ)) → WhereTold text come (Remains p.packets number) → WhereTold come (prepend_known pending left) (ReadsLine packet_says number number' (Err Read)) → WhereTold text come (TakesLines 0 number) → WhereTold come (prepend_known pending left) (TakesLines number number')
           → WhereTold text left (λ t rest. StopsFollowing Emits start t rest old new)
-      by None come left remains read whole more = tt
-      by (Some t) None left remains read whole more = absurd remains
-      by (Some t) (Some octets) None remains read whole more = absurd read
+      by text come None remains read whole more = tt
+      by None None (Some rest) remains read whole more = absurd read
+      by None (Some octets) (Some rest) remains read whole more = absurd remains
+      by (Some t) None (Some rest) remains read whole more = absurd read
       by (Some t) (Some octets) (Some rest) remains read whole more = stops_where number' pending t octets rest remains read (takes_then 0 number number' t octets (pending ++ rest) whole more) waits.1
 
   -- ---- what a crash leaves
@@ -569,32 +571,32 @@ module _ (start : CoreState) (text come : Option (List ℕ)) (first layout : Lay
         stands holds
 
     -- it ends between two packets
-    pub kept_between : IfSome text (λ t. IsSent start.site sender older t → KeepsAlong (LeavesFollower journal start.site sender older) old new)
-    kept_between = at_script p.packets number text come (λ t. IsSent start.site sender older t → KeepsAlong (LeavesFollower journal start.site sender older) old new) p.remains (λ t octets remains leads. (kept_so_far t octets remains leads).keeps)
+    pub kept_between : (come' : Option (List ℕ)) (number' : ℕ) (fault : LineFault) → WhereTold come come' (ReadsLine packet_says number number' (Err fault)) → IfSome (still text come') (λ t. IsSent start.site sender older t → KeepsAlong (LeavesFollower journal start.site sender older) old new)
+    kept_between come' number' fault read = at_script p.packets number text come come' (λ t. IsSent start.site sender older t → KeepsAlong (LeavesFollower journal start.site sender older) old new) (ReadsLine packet_says number number' (Err fault)) p.remains read (λ t octets remains leads. (kept_so_far t octets remains leads).keeps)
 
     -- the end is told, or in the way
-    pub kept_at_end : (new' : Option Told) (layout' : Layout) (lines events : ℕ) → Adds new new' (sent report_text (say.End lines events ∷ [])) → ((content : Content) → Rests journal layout new content → Throughout journal content new new') → ((content : Content) → Rests journal layout new content → Rests journal layout' new' content)
-        → IfSome text (λ t. IsSent start.site sender older t → KeepsAlong (LeavesFollower journal start.site sender older) old new')
-    kept_at_end new' layout' lines events adds all rests =
-        at_script p.packets number text come (λ t. IsSent start.site sender older t → KeepsAlong (LeavesFollower journal start.site sender older) old new') p.remains
+    pub kept_at_end : (come' : Option (List ℕ)) (number' : ℕ) → WhereTold come come' (ReadsLine packet_says number number' (Ok None)) → (new' : Option Told) (layout' : Layout) (lines events : ℕ) → Adds new new' (sent report_text (say.End lines events ∷ [])) → ((content : Content) → Rests journal layout new content → Throughout journal content new new') → ((content : Content) → Rests journal layout new content → Rests journal layout' new' content)
+        → IfSome (still text come') (λ t. IsSent start.site sender older t → KeepsAlong (LeavesFollower journal start.site sender older) old new')
+    kept_at_end come' number' read new' layout' lines events adds all rests =
+        at_script p.packets number text come come' (λ t. IsSent start.site sender older t → KeepsAlong (LeavesFollower journal start.site sender older) old new') (ReadsLine packet_says number number' (Ok None)) p.remains read
         (λ t octets remains leads. let k = kept_so_far t octets remains leads in (kept_told journal start.site sender older so_far (say.End lines events) old new new' layout layout' now k (All-nil (λ (known : ℕ). known ≤ length k.older)) p.out adds all rests).keeps)
 
-    pub kept_before_end : (new' : Option Told) (lines events : ℕ) (fault : Unsent) → TellsUpTo fault (say.End lines events) new new' → ((content : Content) → Rests journal layout new content → Throughout journal content new new')
-        → IfSome text (λ t. IsSent start.site sender older t → KeepsAlong (LeavesFollower journal start.site sender older) old new')
-    kept_before_end new' lines events fault tells all =
-        at_script p.packets number text come (λ t. IsSent start.site sender older t → KeepsAlong (LeavesFollower journal start.site sender older) old new') p.remains
+    pub kept_before_end : (come' : Option (List ℕ)) (number' : ℕ) → WhereTold come come' (ReadsLine packet_says number number' (Ok None)) → (new' : Option Told) (lines events : ℕ) (fault : Unsent) → TellsUpTo fault (say.End lines events) new new' → ((content : Content) → Rests journal layout new content → Throughout journal content new new')
+        → IfSome (still text come') (λ t. IsSent start.site sender older t → KeepsAlong (LeavesFollower journal start.site sender older) old new')
+    kept_before_end come' number' read new' lines events fault tells all =
+        at_script p.packets number text come come' (λ t. IsSent start.site sender older t → KeepsAlong (LeavesFollower journal start.site sender older) old new') (ReadsLine packet_says number number' (Ok None)) p.remains read
         (λ t octets remains leads. let k = kept_so_far t octets remains leads in kept_unsent journal start.site sender older so_far (say.End lines events) old new new' layout now k (All-nil (λ (known : ℕ). known ≤ length k.older)) p.out fault tells all)
 
     -- a packet is in the way, or its line
     module _ (is_site : IsSite start.site) (typed : FitsSite start.site) (one : OneSnapshot) (low : BoundsAreLow) (come' : Option (List ℕ)) (number' : ℕ) (packet : PacketLine) (read : WhereTold come come' (ReadsLine packet_says number number' (Ok (Some packet)))) where
       at_packet : (new' : Option Told) → (MayBegin start.site sender older → Kept journal start.site sender older so_far old new layout now → MaySend start.site sender packet.packet → KeepsAlong (LeavesFollower journal start.site sender older) old new')
-          → IfSome text (λ t. IsSent start.site sender older t → KeepsAlong (LeavesFollower journal start.site sender older) old new')
+          → IfSome (still text come') (λ t. IsSent start.site sender older t → KeepsAlong (LeavesFollower journal start.site sender older) old new')
       at_packet new' to = by text come come' p.remains read
         where
-          by : (text come come' : Option (List ℕ)) → WhereTold text come (Remains p.packets number) → WhereTold come come' (ReadsLine packet_says number number' (Ok (Some packet))) → IfSome text (λ t. IsSent start.site sender older t → KeepsAlong (LeavesFollower journal start.site sender older) old new')
-          by None come come' remains read = tt
-          by (Some t) None come' remains read = absurd remains
-          by (Some t) (Some octets) None remains read = absurd read
+          by : (text come come' : Option (List ℕ)) → WhereTold text come (Remains p.packets number) → WhereTold come come' (ReadsLine packet_says number number' (Ok (Some packet))) → IfSome (still text come') (λ t. IsSent start.site sender older t → KeepsAlong (LeavesFollower journal start.site sender older) old new')
+          by text come None remains read = tt
+          by None come (Some rest) remains read = tt
+          by (Some t) None (Some rest) remains read = absurd read
           by (Some t) (Some octets) (Some rest) remains read = λ leads.
               let more = remains_next p.packets number number' packet t octets rest remains read in
               let P = λ (line : PacketLine). MaySend start.site sender line.packet in
@@ -602,11 +604,11 @@ module _ (start : CoreState) (text come : Option (List ℕ)) (first layout : Lay
               let each = All-parted P p.packets packet (All-front P (p.packets ++ packet ∷ []) (spelled_in packet_says number' (lines_of rest)) all) in
               to leads.begins (kept_so_far t octets remains leads) each.1
 
-      pub kept_at_packet : (new' : Option Told) → Breaking start.site now packet.packet layout new new' → IfSome text (λ t. IsSent start.site sender older t → KeepsAlong (LeavesFollower journal start.site sender older) old new')
+      pub kept_at_packet : (new' : Option Told) → Breaking start.site now packet.packet layout new new' → IfSome (still text come') (λ t. IsSent start.site sender older t → KeepsAlong (LeavesFollower journal start.site sender older) old new')
       kept_at_packet new' breaking = at_packet new' (λ begins k sends. kept_broken journal start.site sender older is_site typed one low begins so_far old new new' layout now packet.packet k p.out sends breaking)
 
       pub kept_at_telling : (new' new'' : Option Told) (layout' : Layout) (took : Took) (next : Following) (line : ReportLine) (fault : Unsent) → Takes now packet.packet took next → Emits new new' [] → Taking start.site now next packet.packet took layout layout' new new' → line ≡ line_of packet.number took
-          → TellsUpTo fault line new' new'' → ((content : Content) → Rests journal layout' new' content → Throughout journal content new' new'') → IfSome text (λ t. IsSent start.site sender older t → KeepsAlong (LeavesFollower journal start.site sender older) old new'')
+          → TellsUpTo fault line new' new'' → ((content : Content) → Rests journal layout' new' content → Throughout journal content new' new'') → IfSome (still text come') (λ t. IsSent start.site sender older t → KeepsAlong (LeavesFollower journal start.site sender older) old new'')
       kept_at_telling new' new'' layout' took next line fault takes quiet taking same tells all =
           at_packet new''
           (λ begins k sends.

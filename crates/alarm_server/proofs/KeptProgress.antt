@@ -1,13 +1,14 @@
 -- How far a session has come that keeps its journal.
-use Rattle.std.proofs.Common.{◌≡◌, ℕ, ◌+◌, ◌≤◌, Option, Some, None, Ok, Bool, false, List, [], ◌∷◌, ◌++◌, IfSome, length, refl, ap, ◌∙◌, sym, subst, arith}
+use Rattle.std.proofs.Common.{◌≡◌, ℕ, ◌+◌, ◌≤◌, Option, Some, None, Ok, Err, Bool, false, List, [], ◌∷◌, ◌++◌, IfSome, length, refl, ap, ◌∙◌, sym, subst, arith}
 use Rattle.std.proofs.lemmas.List.{append-nil, length-append}
 use Rattle.std.specs.Io.KnownBytes.{prepend_known}
 use Rattle.bac_values.specs.declared.report.ReportLine.{ReportLine}
 use Rattle.ground_io.specs.declared.entry.Entry.{Entry}
-use Rattle.ground_io.specs.Trace.{Told, Adds, WhereTold}
+use Rattle.ground_io.specs.Trace.{Told, Adds, WhereTold, still}
 use Rattle.script_lines.specs.declared.line.Grammar.TheVariants.{Session}
 use Rattle.script_lines.specs.Line.{line_says}
 use Rattle.script_lines.specs.declared.line.Line.{Line}
+use Rattle.script_lines.specs.declared.lines.LineFault.{LineFault}
 use Rattle.script_lines.specs.Script.{lines_of, ReadsLine, TakesLines}
 use Rattle.alarm_journal.specs.Journal.{Content}
 use Rattle.alarm_journal.specs.Journal.{Site as Journal}
@@ -135,21 +136,22 @@ module _ (start : CoreState) (text come : Option (List ℕ)) (first layout : Lay
   kept_now : Kept journal start.site history p.progress.lines old new layout state
   kept_now = p.kept journal history stands holds
 
-  -- it ends between two lines
-  pub kept_between : IfSome text (λ t. KeepsReport journal start.site history (spelled_in (line_says Session) 0 (lines_of t)) 1 old new)
-  kept_between = between text come p.progress.remains
+  -- it ends where a line can't be read
+  pub kept_between : (come' : Option (List ℕ)) (number' : ℕ) (fault : LineFault) → WhereTold come come' (ReadsLine (line_says Session) number number' (Err fault)) → IfSome (still text come') (λ t. KeepsReport journal start.site history (spelled_in (line_says Session) 0 (lines_of t)) 1 old new)
+  kept_between come' number' fault read = between text come come' p.progress.remains read
     where
-      between : (text come : Option (List ℕ)) → WhereTold text come (Remains p.progress.lines number) → IfSome text (λ t. KeepsReport journal start.site history (spelled_in (line_says Session) 0 (lines_of t)) 1 old new)
-      between None come remains = tt
-      between (Some t) None remains = absurd remains
-      between (Some t) (Some octets) remains =
+      between : (text come come' : Option (List ℕ)) → WhereTold text come (Remains p.progress.lines number) → WhereTold come come' (ReadsLine (line_says Session) number number' (Err fault)) → IfSome (still text come') (λ t. KeepsReport journal start.site history (spelled_in (line_says Session) 0 (lines_of t)) 1 old new)
+      between text come None remains read = tt
+      between None come (Some rest) remains read = tt
+      between (Some t) None (Some rest) remains read = absurd read
+      between (Some t) (Some octets) (Some rest) remains read =
           subst (λ (ls : List Line). KeepsReport journal start.site history ls 1 old new) (sym remains.spelled)
           (front_kept journal start.site history p.progress.lines (spelled_in (line_says Session) number (lines_of octets)) 1 old new kept_now.keeps)
 
   -- a line is in the way, whose event may be kept
   pub kept_at_line : (come' : Option (List ℕ)) (new' : Option Told) (number' : ℕ) (line : Line) → WhereTold come come' (ReadsLine (line_says Session) number number' (Ok (Some line)))
       → ((journal : Journal) (history : List Event) → Represents state history → HoldsHistory journal start.site history layout new → KeepsLines journal start.site history (line ∷ []) 0 new new')
-      → IfSome text (λ t. KeepsReport journal start.site history (spelled_in (line_says Session) 0 (lines_of t)) 1 old new')
+      → IfSome (still text come') (λ t. KeepsReport journal start.site history (spelled_in (line_says Session) 0 (lines_of t)) 1 old new')
   kept_at_line come' new' number' line read next = at_line text come come' p.progress.remains read
     where
       lines : List Line
@@ -158,10 +160,10 @@ module _ (start : CoreState) (text come : Option (List ℕ)) (first layout : Lay
       keeps : KeepsLines journal start.site history (lines ++ line ∷ []) 1 old new'
       keeps = lines_then journal start.site history lines (line ∷ []) 1 old new new' (sent piece_text (front start lines)) p.progress.out (front-length start lines) kept_now.keeps (next journal (history_over start.site history lines) kept_now.stands kept_now.holds)
 
-      at_line : (text come come' : Option (List ℕ)) → WhereTold text come (Remains lines number) → WhereTold come come' (ReadsLine (line_says Session) number number' (Ok (Some line))) → IfSome text (λ t. KeepsReport journal start.site history (spelled_in (line_says Session) 0 (lines_of t)) 1 old new')
-      at_line None come come' remains read = tt
-      at_line (Some t) None come' remains read = absurd remains
-      at_line (Some t) (Some octets) None remains read = absurd read
+      at_line : (text come come' : Option (List ℕ)) → WhereTold text come (Remains lines number) → WhereTold come come' (ReadsLine (line_says Session) number number' (Ok (Some line))) → IfSome (still text come') (λ t. KeepsReport journal start.site history (spelled_in (line_says Session) 0 (lines_of t)) 1 old new')
+      at_line text come None remains read = tt
+      at_line None come (Some rest) remains read = tt
+      at_line (Some t) None (Some rest) remains read = absurd read
       at_line (Some t) (Some octets) (Some rest) remains read =
           let next_remains = remains_next Emits emits lines number number' line t octets rest remains read in
           subst (λ (ls : List Line). KeepsReport journal start.site history ls 1 old new') (sym next_remains.spelled)
@@ -169,7 +171,7 @@ module _ (start : CoreState) (text come : Option (List ℕ)) (first layout : Lay
 
   -- the end piece is sent, or is in the way
   pub kept_at_end : (come' : Option (List ℕ)) (new' : Option Told) (number' : ℕ) → WhereTold come come' (ReadsLine (line_says Session) number number' (Ok None)) → ((content : Content) → Rests journal layout new content → Throughout journal content new new')
-      → IfSome text (λ t. KeepsReport journal start.site history (spelled_in (line_says Session) 0 (lines_of t)) 1 old new')
+      → IfSome (still text come') (λ t. KeepsReport journal start.site history (spelled_in (line_says Session) 0 (lines_of t)) 1 old new')
   kept_at_end come' new' number' read throughout = at_end text come come' p.progress.remains read
     where
       lines : List Line
@@ -178,10 +180,10 @@ module _ (start : CoreState) (text come : Option (List ℕ)) (first layout : Lay
       keeps : KeepsReport journal start.site history lines 1 old new'
       keeps = let (content, rests, stood) = kept_now.holds in all_kept journal start.site history lines 1 content old new new' (sent piece_text (front start lines)) p.progress.out (front-length start lines) stood kept_now.keeps (throughout content rests)
 
-      at_end : (text come come' : Option (List ℕ)) → WhereTold text come (Remains lines number) → WhereTold come come' (ReadsLine (line_says Session) number number' (Ok None)) → IfSome text (λ t. KeepsReport journal start.site history (spelled_in (line_says Session) 0 (lines_of t)) 1 old new')
-      at_end None come come' remains read = tt
-      at_end (Some t) None come' remains read = absurd remains
-      at_end (Some t) (Some octets) None remains read = absurd read
+      at_end : (text come come' : Option (List ℕ)) → WhereTold text come (Remains lines number) → WhereTold come come' (ReadsLine (line_says Session) number number' (Ok None)) → IfSome (still text come') (λ t. KeepsReport journal start.site history (spelled_in (line_says Session) 0 (lines_of t)) 1 old new')
+      at_end text come None remains read = tt
+      at_end None come (Some rest) remains read = tt
+      at_end (Some t) None (Some rest) remains read = absurd read
       at_end (Some t) (Some octets) (Some rest) remains read =
           let none = (spells_none (line_says Session) (lines_of octets) number number' read.0).spelled in
           subst (λ (ls : List Line). KeepsReport journal start.site history ls 1 old new') (sym (remains.spelled ∙ (ap (λ (l : List Line). lines ++ l) none ∙ append-nil lines))) keeps

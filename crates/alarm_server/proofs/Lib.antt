@@ -5,7 +5,8 @@ pub mod Comings
 pub mod Course
 pub mod DressedEnds
 pub mod Emitting
-pub mod Entering
+pub mod Ending
+mod Entering
 pub mod FollowSteps
 pub mod Followed
 pub mod Fronts
@@ -27,6 +28,8 @@ pub mod OneEmission
 pub mod PieceLines
 pub mod Played
 pub mod Progress
+pub mod RealSessions
+pub mod RealServers
 pub mod Senders
 pub mod Sending
 pub mod ServedFaults

@@ -107,8 +107,8 @@ each_script P Q None all = tt
 each_script P Q (Some t) all = all
 
 pub each_told : {A B : Type 0} (P : A → Type 0) (Q : B → B → A → Type 0) (script left : Option B) → WhereTold script left (λ t rest. Unit {0}) → ((a : A) → P a → WhereTold script left (λ t rest. Q t rest a)) → WhereTold script left (λ t rest. (a : A) → P a → Q t rest a)
-each_told P Q None left told all = tt
-each_told P Q (Some t) None told all = absurd told
+each_told P Q script None told all = tt
+each_told P Q None (Some rest) told all = absurd told
 each_told P Q (Some t) (Some rest) told all = all
 
 -- the same where the text was handed on
@@ -123,8 +123,8 @@ on_ok_more P Q (Err fault) to p = tt
 
 -- where it was told before and is told now
 pub told_more : {A : Type 0} (P : A → A → Type 0) (before now : Option A) → WhereTold before now P → WhereTold before now (λ t rest. Unit {0})
-told_more P None now p = tt
-told_more P (Some t) None p = p
+told_more P before None p = tt
+told_more P None (Some rest) p = p
 told_more P (Some t) (Some rest) p = tt
 
 -- ---- what is read is as good as the whole text

@@ -7,7 +7,7 @@ use Rattle.std.specs.Io.KnownBytes.{prepend_known}
 use Rattle.std.proofs.lemmas.List.{append-nil}
 use Rattle.bac_values.specs.declared.report.ReportLine.{ReportLine}
 use Rattle.bac_values.specs.declared.report.ReportLine.TheVariants.{TrialEnd}
-use Rattle.ground_io.specs.Trace.{Told, Adds, WhereTold}
+use Rattle.ground_io.specs.Trace.{Told, Adds, WhereTold, still}
 use Rattle.script_lines.specs.declared.line.Grammar.TheVariants.{Trial}
 use Rattle.script_lines.specs.Line.{line_says}
 use Rattle.script_lines.specs.declared.line.Line.{Line}
@@ -48,9 +48,9 @@ pub record Progress (settings : Settings) (text come : Option (List ℕ)) (old n
 
 -- what is told at two steps is told over both
 where_then : {A : Type 0} (a b c : Option A) (P Q R : A → A → Type 0) → ((x y z : A) → P x y → Q y z → R x z) → WhereTold a b P → WhereTold b c Q → WhereTold a c R
-where_then None b c P Q R f first second = tt
-where_then (Some x) None c P Q R f first second = absurd first
-where_then (Some x) (Some y) None P Q R f first second = second
+where_then a b None P Q R f first second = tt
+where_then a None (Some z) P Q R f first second = absurd second
+where_then None (Some y) (Some z) P Q R f first second = absurd first
 where_then (Some x) (Some y) (Some z) P Q R f first second = f x y z first second
 
 remains_all : (text : Option (List ℕ)) → WhereTold text (prepend_known [] text) (Remains [] 0)
@@ -107,10 +107,10 @@ ends_at_once settings None told = tt
 ends_at_once settings (Some script) told = ([], report_over settings (lines_of script), refl, adds.nothing told)
 
 -- a fault while a line is read
-pub ends_at_line : (settings : Settings) (text come come' : Option (List ℕ)) (old new : Option Told) (number number' : ℕ) (ended : Bool) (watched : WatchState) (fault : LineFault) → Progress settings text come old new number ended watched → WhereTold come come' (ReadsLine (line_says Trial) number number' (Err fault)) → IfSome text (λ t. Ends Adds report_text (of_line_fault fault) (report_over settings (lines_of t)) old new)
-ends_at_line settings None come come' old new number number' ended watched fault p read = tt
-ends_at_line settings (Some t) None come' old new number number' ended watched fault p read = absurd p.remains
-ends_at_line settings (Some t) (Some octets) None old new number number' ended watched fault p read = absurd read
+pub ends_at_line : (settings : Settings) (text come come' : Option (List ℕ)) (old new : Option Told) (number number' : ℕ) (ended : Bool) (watched : WatchState) (fault : LineFault) → Progress settings text come old new number ended watched → WhereTold come come' (ReadsLine (line_says Trial) number number' (Err fault)) → IfSome (still text come') (λ t. Ends Adds report_text (of_line_fault fault) (report_over settings (lines_of t)) old new)
+ends_at_line settings text come None old new number number' ended watched fault p read = tt
+ends_at_line settings None come (Some rest) old new number number' ended watched fault p read = tt
+ends_at_line settings (Some t) None (Some rest) old new number number' ended watched fault p read = absurd read
 ends_at_line settings (Some t) (Some octets) (Some rest) old new number number' ended watched (Grammar line) p read =
     let h = spells_refused (line_says Trial) (lines_of octets) number line read.0 in
     let moves = transitions_of (first_point settings) p.later in
@@ -125,10 +125,10 @@ ends_at_line settings (Some t) (Some octets) (Some rest) old new number number' 
     (transitions_of (first_point settings) p.later, front.0, front.1, p.out)
 
 -- the line that is refused is the first outside the grammar
-pub refused_first : (settings : Settings) (text come come' : Option (List ℕ)) (old new : Option Told) (number number' : ℕ) (ended : Bool) (watched : WatchState) (line : ℕ) → Progress settings text come old new number ended watched → WhereTold come come' (ReadsLine (line_says Trial) number number' (Err (Grammar line))) → IfSome text (λ t. refused_line (line_says Trial) t ≡ Some line)
-refused_first settings None come come' old new number number' ended watched line p read = tt
-refused_first settings (Some t) None come' old new number number' ended watched line p read = absurd p.remains
-refused_first settings (Some t) (Some octets) None old new number number' ended watched line p read = absurd read
+pub refused_first : (settings : Settings) (text come come' : Option (List ℕ)) (old new : Option Told) (number number' : ℕ) (ended : Bool) (watched : WatchState) (line : ℕ) → Progress settings text come old new number ended watched → WhereTold come come' (ReadsLine (line_says Trial) number number' (Err (Grammar line))) → IfSome (still text come') (λ t. refused_line (line_says Trial) t ≡ Some line)
+refused_first settings text come None old new number number' ended watched line p read = tt
+refused_first settings None come (Some rest) old new number number' ended watched line p read = tt
+refused_first settings (Some t) None (Some rest) old new number number' ended watched line p read = absurd read
 refused_first settings (Some t) (Some octets) (Some rest) old new number number' ended watched line p read =
     p.remains.refused ∙ (spells_refused (line_says Trial) (lines_of octets) number line read.0).refused
 
@@ -157,10 +157,10 @@ remains_next lines number number' line script octets rest r next =
     }
 
 -- a fault while the moves of a line go out
-pub ends_at_event : (settings : Settings) (text come come' : Option (List ℕ)) (old new new' : Option Told) (number number' : ℕ) (ended : Bool) (watched : WatchState) (line : Line) (fault : Unsent) → Progress settings text come old new number ended watched → WhereTold come come' (ReadsLine (line_says Trial) number number' (Ok (Some line))) → ((later : List Incident) → HasSeen (first_point settings) later watched → SendsTransitions {A = Unit {0}} Adds (Err fault) (first_point settings) later (looks_after line.moment line.input (first_point settings) later) new new') → IfSome text (λ t. Ends Adds report_text (of_unsent fault) (report_over settings (lines_of t)) old new')
-ends_at_event settings None come come' old new new' number number' ended watched line fault p read sends = tt
-ends_at_event settings (Some t) None come' old new new' number number' ended watched line fault p read sends = absurd p.remains
-ends_at_event settings (Some t) (Some octets) None old new new' number number' ended watched line fault p read sends = absurd read
+pub ends_at_event : (settings : Settings) (text come come' : Option (List ℕ)) (old new new' : Option Told) (number number' : ℕ) (ended : Bool) (watched : WatchState) (line : Line) (fault : Unsent) → Progress settings text come old new number ended watched → WhereTold come come' (ReadsLine (line_says Trial) number number' (Ok (Some line))) → ((later : List Incident) → HasSeen (first_point settings) later watched → SendsTransitions {A = Unit {0}} Adds (Err fault) (first_point settings) later (looks_after line.moment line.input (first_point settings) later) new new') → IfSome (still text come') (λ t. Ends Adds report_text (of_unsent fault) (report_over settings (lines_of t)) old new')
+ends_at_event settings text come None old new new' number number' ended watched line fault p read sends = tt
+ends_at_event settings None come (Some rest) old new new' number number' ended watched line fault p read sends = tt
+ends_at_event settings (Some t) None (Some rest) old new new' number number' ended watched line fault p read sends = absurd read
 ends_at_event settings (Some t) (Some octets) (Some rest) old new new' number number' ended watched line fault p read sends =
     let first = first_point settings in
     let event = sends p.later p.seen in
@@ -200,27 +200,27 @@ report_end settings octets script number number' lines later points r next =
     ∙ (ap (λ o. moves ++ end_by o (number + length (lines_of octets))) h.refused ∙ ap (λ n. moves ++ TrialEnd n ∷ []) h.count)
 
 -- the script's end
-pub ends : (settings : Settings) (text come come' : Option (List ℕ)) (old new new' : Option Told) (number number' : ℕ) (ended : Bool) (watched : WatchState) → Progress settings text come old new number ended watched → WhereTold come come' (ReadsLine (line_says Trial) number number' (Ok None)) → Adds new new' (sent report_text (TrialEnd number' ∷ [])) → IfSome text (λ t. Ends Adds report_text status.Done (report_over settings (lines_of t)) old new')
-ends settings None come come' old new new' number number' ended watched p read last = tt
-ends settings (Some t) None come' old new new' number number' ended watched p read last = absurd p.remains
-ends settings (Some t) (Some octets) None old new new' number number' ended watched p read last = absurd read
+pub ends : (settings : Settings) (text come come' : Option (List ℕ)) (old new new' : Option Told) (number number' : ℕ) (ended : Bool) (watched : WatchState) → Progress settings text come old new number ended watched → WhereTold come come' (ReadsLine (line_says Trial) number number' (Ok None)) → Adds new new' (sent report_text (TrialEnd number' ∷ [])) → IfSome (still text come') (λ t. Ends Adds report_text status.Done (report_over settings (lines_of t)) old new')
+ends settings text come None old new new' number number' ended watched p read last = tt
+ends settings None come (Some rest) old new new' number number' ended watched p read last = tt
+ends settings (Some t) None (Some rest) old new new' number number' ended watched p read last = absurd read
 ends settings (Some t) (Some octets) (Some rest) old new new' number number' ended watched p read last =
     let all = report_end settings octets t number number' p.lines p.later p.points p.remains read.0 in
     subst (λ lines. Adds old new' (sent report_text lines)) (sym all) (sent_then Adds adds report_text old new new' (transitions_of (first_point settings) p.later) (TrialEnd number' ∷ []) p.out last)
 
 -- at its end, every line of the script is in the grammar
-pub accepts : (settings : Settings) (text come come' : Option (List ℕ)) (old new : Option Told) (number number' : ℕ) (ended : Bool) (watched : WatchState) → Progress settings text come old new number ended watched → WhereTold come come' (ReadsLine (line_says Trial) number number' (Ok None)) → IfSome text (λ t. refused_line (line_says Trial) t ≡ None)
-accepts settings None come come' old new number number' ended watched p read = tt
-accepts settings (Some t) None come' old new number number' ended watched p read = absurd p.remains
-accepts settings (Some t) (Some octets) None old new number number' ended watched p read = absurd read
+pub accepts : (settings : Settings) (text come come' : Option (List ℕ)) (old new : Option Told) (number number' : ℕ) (ended : Bool) (watched : WatchState) → Progress settings text come old new number ended watched → WhereTold come come' (ReadsLine (line_says Trial) number number' (Ok None)) → IfSome (still text come') (λ t. refused_line (line_says Trial) t ≡ None)
+accepts settings text come None old new number number' ended watched p read = tt
+accepts settings None come (Some rest) old new number number' ended watched p read = tt
+accepts settings (Some t) None (Some rest) old new number number' ended watched p read = absurd read
 accepts settings (Some t) (Some octets) (Some rest) old new number number' ended watched p read =
     p.remains.refused ∙ (spells_none (line_says Trial) (lines_of octets) number number' read.0).refused
 
 -- a fault while the last line goes out
-pub ends_at_end : (settings : Settings) (text come come' : Option (List ℕ)) (old new new' : Option Told) (number number' : ℕ) (ended : Bool) (watched : WatchState) (fault : Unsent) → Progress settings text come old new number ended watched → WhereTold come come' (ReadsLine (line_says Trial) number number' (Ok None)) → SendsUpTo Adds report_text fault (TrialEnd number' ∷ []) new new' → IfSome text (λ t. Ends Adds report_text (of_unsent fault) (report_over settings (lines_of t)) old new')
-ends_at_end settings None come come' old new new' number number' ended watched fault p read last = tt
-ends_at_end settings (Some t) None come' old new new' number number' ended watched fault p read last = absurd p.remains
-ends_at_end settings (Some t) (Some octets) None old new new' number number' ended watched fault p read last = absurd read
+pub ends_at_end : (settings : Settings) (text come come' : Option (List ℕ)) (old new new' : Option Told) (number number' : ℕ) (ended : Bool) (watched : WatchState) (fault : Unsent) → Progress settings text come old new number ended watched → WhereTold come come' (ReadsLine (line_says Trial) number number' (Ok None)) → SendsUpTo Adds report_text fault (TrialEnd number' ∷ []) new new' → IfSome (still text come') (λ t. Ends Adds report_text (of_unsent fault) (report_over settings (lines_of t)) old new')
+ends_at_end settings text come None old new new' number number' ended watched fault p read last = tt
+ends_at_end settings None come (Some rest) old new new' number number' ended watched fault p read last = tt
+ends_at_end settings (Some t) None (Some rest) old new new' number number' ended watched fault p read last = absurd read
 ends_at_end settings (Some t) (Some octets) (Some rest) old new new' number number' ended watched fault p read last =
     let all = report_end settings octets t number number' p.lines p.later p.points p.remains read.0 in
     ends_front fault (report_over settings (lines_of t)) old new'
@@ -248,9 +248,10 @@ stops_where settings t octets rest pending old new number number' lines later po
     }
 
 pub stops_reading : (settings : Settings) (text come left : Option (List ℕ)) (pending : List ℕ) (old new : Option Told) (number number' : ℕ) (ended ended' : Bool) (watched : WatchState) → Progress settings text come old new number ended watched → WhereTold come (prepend_known pending left) (ReadsLine (line_says Trial) number number' (Err Read)) → (ended' ≡ false → ended ≡ false) → (ended' ≡ false → WhereTold come (prepend_known pending left) (TakesLines number number')) → (ended' ≡ false) × (position is_line_feed pending ≡ None) → WhereTold text left (λ t rest. StopsReading Adds report_text (front_transitions settings) (line_says Trial) t rest old new)
-stops_reading settings None come left pending old new number number' ended ended' watched p read stays taken waits = tt
-stops_reading settings (Some t) None left pending old new number number' ended ended' watched p read stays taken waits = absurd p.remains
-stops_reading settings (Some t) (Some octets) None pending old new number number' ended ended' watched p read stays taken waits = absurd read
+stops_reading settings text come None pending old new number number' ended ended' watched p read stays taken waits = tt
+stops_reading settings None None (Some rest) pending old new number number' ended ended' watched p read stays taken waits = absurd read
+stops_reading settings None (Some octets) (Some rest) pending old new number number' ended ended' watched p read stays taken waits = absurd p.remains
+stops_reading settings (Some t) None (Some rest) pending old new number number' ended ended' watched p read stays taken waits = absurd read
 stops_reading settings (Some t) (Some octets) (Some rest) pending old new number number' ended ended' watched p read stays taken waits =
     stops_where settings t octets rest pending old new number number' p.lines p.later p.points p.out p.remains read
     (takes_then 0 number number' t octets (pending ++ rest) (p.whole (stays waits.0)) (taken waits.0)) waits.1

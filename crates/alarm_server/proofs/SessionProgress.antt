@@ -4,7 +4,7 @@ use Rattle.std.specs.List.{position}
 use Rattle.std.specs.Io.KnownBytes.{prepend_known}
 use Rattle.std.proofs.lemmas.List.{append-nil}
 use Rattle.bac_values.specs.declared.report.ReportLine.{ReportLine}
-use Rattle.ground_io.specs.Trace.{Told, WhereTold}
+use Rattle.ground_io.specs.Trace.{Told, WhereTold, still}
 use Rattle.script_lines.specs.declared.line.Grammar.TheVariants.{Session}
 use Rattle.script_lines.specs.Line.{line_says}
 use Rattle.script_lines.specs.declared.line.Line.{Line}
@@ -50,9 +50,9 @@ pub record Progress (Goes : Going) (start : CoreState) (text come : Option (List
 
 -- what is told at two steps is told over both
 pub where_then : {A : Type 0} (a b c : Option A) (P Q R : A → A → Type 0) → ((x y z : A) → P x y → Q y z → R x z) → WhereTold a b P → WhereTold b c Q → WhereTold a c R
-where_then None b c P Q R f first second = tt
-where_then (Some x) None c P Q R f first second = absurd first
-where_then (Some x) (Some y) None P Q R f first second = second
+where_then a b None P Q R f first second = tt
+where_then a None (Some z) P Q R f first second = absurd second
+where_then None (Some y) (Some z) P Q R f first second = absurd first
 where_then (Some x) (Some y) (Some z) P Q R f first second = f x y z first second
 
 pub remains_all : (text : Option (List ℕ)) → WhereTold text (prepend_known [] text) (Remains [] 0)
@@ -129,10 +129,10 @@ module _ (Goes : Going) (composes : Composes Goes) where
 
   -- a fault while a line is read
   pub ends_at_line : (start : CoreState) (text come come' : Option (List ℕ)) (old new : Option Told) (number number' : ℕ) (ended : Bool) (state : CoreState) (tally : Tally) (fault : LineFault) → Progress Goes start text come old new number ended state tally → WhereTold come come' (ReadsLine (line_says Session) number number' (Err fault)) →
-      IfSome text (λ t. Ends Goes piece_text (of_line_fault fault) (session_over start (lines_of t)) old new)
-  ends_at_line start None come come' old new number number' ended state tally fault p read = tt
-  ends_at_line start (Some t) None come' old new number number' ended state tally fault p read = absurd p.remains
-  ends_at_line start (Some t) (Some octets) None old new number number' ended state tally fault p read = absurd read
+      IfSome (still text come') (λ t. Ends Goes piece_text (of_line_fault fault) (session_over start (lines_of t)) old new)
+  ends_at_line start text come None old new number number' ended state tally fault p read = tt
+  ends_at_line start None come (Some rest) old new number number' ended state tally fault p read = tt
+  ends_at_line start (Some t) None (Some rest) old new number number' ended state tally fault p read = absurd read
   ends_at_line start (Some t) (Some octets) (Some rest) old new number number' ended state tally (Grammar line) p read =
       let h = spells_refused (line_says Session) (lines_of octets) number line read.0 in
       let all = report_all start p.lines number t octets p.remains h.spelled
@@ -143,20 +143,12 @@ module _ (Goes : Going) (composes : Composes Goes) where
   ends_at_line start (Some t) (Some octets) (Some rest) old new number number' ended state tally NoMemory p read =
       (front start p.lines, rest_of start p.lines number octets, after start p.lines number t octets p.remains, p.out)
 
-  -- want of memory behind these lines
-  pub ends_between : (start : CoreState) (text come : Option (List ℕ)) (old new : Option Told) (number : ℕ) (ended : Bool) (state : CoreState) (tally : Tally) → Progress Goes start text come old new number ended state tally →
-      IfSome text (λ t. Ends Goes piece_text status.NoMemory (session_over start (lines_of t)) old new)
-  ends_between start None come old new number ended state tally p = tt
-  ends_between start (Some t) None old new number ended state tally p = absurd p.remains
-  ends_between start (Some t) (Some octets) old new number ended state tally p =
-      (front start p.lines, rest_of start p.lines number octets, after start p.lines number t octets p.remains, p.out)
-
   -- the line that is refused is the first outside the grammar
   pub refused_first : (start : CoreState) (text come come' : Option (List ℕ)) (old new : Option Told) (number number' : ℕ) (ended : Bool) (state : CoreState) (tally : Tally) (line : ℕ) → Progress Goes start text come old new number ended state tally → WhereTold come come' (ReadsLine (line_says Session) number number' (Err (Grammar line))) →
-      IfSome text (λ t. refused_line (line_says Session) t ≡ Some line)
-  refused_first start None come come' old new number number' ended state tally line p read = tt
-  refused_first start (Some t) None come' old new number number' ended state tally line p read = absurd p.remains
-  refused_first start (Some t) (Some octets) None old new number number' ended state tally line p read = absurd read
+      IfSome (still text come') (λ t. refused_line (line_says Session) t ≡ Some line)
+  refused_first start text come None old new number number' ended state tally line p read = tt
+  refused_first start None come (Some rest) old new number number' ended state tally line p read = tt
+  refused_first start (Some t) None (Some rest) old new number number' ended state tally line p read = absurd read
   refused_first start (Some t) (Some octets) (Some rest) old new number number' ended state tally line p read =
       p.remains.refused ∙ (spells_refused (line_says Session) (lines_of octets) number line read.0).refused
 
@@ -177,10 +169,10 @@ module _ (Goes : Going) (composes : Composes Goes) where
 
   -- a fault while the piece of a line goes out
   pub ends_at_piece : (start : CoreState) (text come come' : Option (List ℕ)) (old new new' : Option Told) (number number' : ℕ) (ended : Bool) (state : CoreState) (tally : Tally) (line : Line) (piece : List ReportLine) (fault : Unsent) → Progress Goes start text come old new number ended state tally → WhereTold come come' (ReadsLine (line_says Session) number number' (Ok (Some line))) →
-      piece ≡ piece_of state line → SendsUpTo Goes piece_text fault (piece ∷ []) new new' → IfSome text (λ t. Ends Goes piece_text (of_unsent fault) (session_over start (lines_of t)) old new')
-  ends_at_piece start None come come' old new new' number number' ended state tally line piece fault p read same sends = tt
-  ends_at_piece start (Some t) None come' old new new' number number' ended state tally line piece fault p read same sends = absurd p.remains
-  ends_at_piece start (Some t) (Some octets) None old new new' number number' ended state tally line piece fault p read same sends = absurd read
+      piece ≡ piece_of state line → SendsUpTo Goes piece_text fault (piece ∷ []) new new' → IfSome (still text come') (λ t. Ends Goes piece_text (of_unsent fault) (session_over start (lines_of t)) old new')
+  ends_at_piece start text come None old new new' number number' ended state tally line piece fault p read same sends = tt
+  ends_at_piece start None come (Some rest) old new new' number number' ended state tally line piece fault p read same sends = tt
+  ends_at_piece start (Some t) None (Some rest) old new new' number number' ended state tally line piece fault p read same sends = absurd read
   ends_at_piece start (Some t) (Some octets) (Some rest) old new new' number number' ended state tally line piece fault p read same sends =
       let next = remains_next p.lines number number' line t octets rest p.remains read in
       let more = rest_of start (p.lines ++ line ∷ []) number' rest in
@@ -224,48 +216,48 @@ module _ (Goes : Going) (composes : Composes Goes) where
 
   -- the script's end
   pub ends : (start : CoreState) (text come come' : Option (List ℕ)) (old new new' : Option Told) (number number' : ℕ) (ended : Bool) (state : CoreState) (tally : Tally) (piece : List ReportLine) → Progress Goes start text come old new number ended state tally → WhereTold come come' (ReadsLine (line_says Session) number number' (Ok None)) →
-      piece ≡ end_piece number' state → Goes new new' (sent piece_text (piece ∷ [])) → IfSome text (λ t. Ends Goes piece_text status.Done (session_over start (lines_of t)) old new')
-  ends start None come come' old new new' number number' ended state tally piece p read same last = tt
-  ends start (Some t) None come' old new new' number number' ended state tally piece p read same last = absurd p.remains
-  ends start (Some t) (Some octets) None old new new' number number' ended state tally piece p read same last = absurd read
+      piece ≡ end_piece number' state → Goes new new' (sent piece_text (piece ∷ [])) → IfSome (still text come') (λ t. Ends Goes piece_text status.Done (session_over start (lines_of t)) old new')
+  ends start text come None old new new' number number' ended state tally piece p read same last = tt
+  ends start None come (Some rest) old new new' number number' ended state tally piece p read same last = tt
+  ends start (Some t) None (Some rest) old new new' number number' ended state tally piece p read same last = absurd read
   ends start (Some t) (Some octets) (Some rest) old new new' number number' ended state tally piece p read same last =
       let all = report_end start octets t number number' p.lines state p.reached p.remains read.0 ∙ ap (λ x. front start p.lines ++ x ∷ []) (sym same) in
       subst (λ ps. Goes old new' (sent piece_text ps)) (sym all) (sent_then Goes composes piece_text old new new' (front start p.lines) (piece ∷ []) p.out last)
 
   -- at the script's end, the tally is that of the whole report
   pub tallies : (start : CoreState) (text come come' : Option (List ℕ)) (old new : Option Told) (number number' : ℕ) (ended : Bool) (state : CoreState) (tally : Tally) → Progress Goes start text come old new number ended state tally → WhereTold come come' (ReadsLine (line_says Session) number number' (Ok None)) →
-      IfSome text (λ t. tally ≡ tally_of (session_over start (lines_of t)))
-  tallies start None come come' old new number number' ended state tally p read = tt
-  tallies start (Some t) None come' old new number number' ended state tally p read = absurd p.remains
-  tallies start (Some t) (Some octets) None old new number number' ended state tally p read = absurd read
+      IfSome (still text come') (λ t. tally ≡ tally_of (session_over start (lines_of t)))
+  tallies start text come None old new number number' ended state tally p read = tt
+  tallies start None come (Some rest) old new number number' ended state tally p read = tt
+  tallies start (Some t) None (Some rest) old new number number' ended state tally p read = absurd read
   tallies start (Some t) (Some octets) (Some rest) old new number number' ended state tally p read =
       p.counted
       ∙ (sym (tally-end (front start p.lines) number' state) ∙ ap tally_of (sym (report_end start octets t number number' p.lines state p.reached p.remains read.0)))
 
   -- and the state is that of all its lines
   pub reaches : (start : CoreState) (text come come' : Option (List ℕ)) (old new : Option Told) (number number' : ℕ) (ended : Bool) (state : CoreState) (tally : Tally) → Progress Goes start text come old new number ended state tally → WhereTold come come' (ReadsLine (line_says Session) number number' (Ok None)) →
-      IfSome text (λ t. state ≡ state_over start (spelled_in (line_says Session) 0 (lines_of t)))
-  reaches start None come come' old new number number' ended state tally p read = tt
-  reaches start (Some t) None come' old new number number' ended state tally p read = absurd p.remains
-  reaches start (Some t) (Some octets) None old new number number' ended state tally p read = absurd read
+      IfSome (still text come') (λ t. state ≡ state_over start (spelled_in (line_says Session) 0 (lines_of t)))
+  reaches start text come None old new number number' ended state tally p read = tt
+  reaches start None come (Some rest) old new number number' ended state tally p read = tt
+  reaches start (Some t) None (Some rest) old new number number' ended state tally p read = absurd read
   reaches start (Some t) (Some octets) (Some rest) old new number number' ended state tally p read =
       let none = (spells_none (line_says Session) (lines_of octets) number number' read.0).spelled in
       p.reached ∙ ap (state_over start) (sym (p.remains.spelled ∙ (ap (λ l. p.lines ++ l) none ∙ append-nil p.lines)))
 
   -- at its end, every line of the script is in the grammar
-  pub accepts : (start : CoreState) (text come come' : Option (List ℕ)) (old new : Option Told) (number number' : ℕ) (ended : Bool) (state : CoreState) (tally : Tally) → Progress Goes start text come old new number ended state tally → WhereTold come come' (ReadsLine (line_says Session) number number' (Ok None)) → IfSome text (λ t. refused_line (line_says Session) t ≡ None)
-  accepts start None come come' old new number number' ended state tally p read = tt
-  accepts start (Some t) None come' old new number number' ended state tally p read = absurd p.remains
-  accepts start (Some t) (Some octets) None old new number number' ended state tally p read = absurd read
+  pub accepts : (start : CoreState) (text come come' : Option (List ℕ)) (old new : Option Told) (number number' : ℕ) (ended : Bool) (state : CoreState) (tally : Tally) → Progress Goes start text come old new number ended state tally → WhereTold come come' (ReadsLine (line_says Session) number number' (Ok None)) → IfSome (still text come') (λ t. refused_line (line_says Session) t ≡ None)
+  accepts start text come None old new number number' ended state tally p read = tt
+  accepts start None come (Some rest) old new number number' ended state tally p read = tt
+  accepts start (Some t) None (Some rest) old new number number' ended state tally p read = absurd read
   accepts start (Some t) (Some octets) (Some rest) old new number number' ended state tally p read =
       p.remains.refused ∙ (spells_none (line_says Session) (lines_of octets) number number' read.0).refused
 
   -- a fault while the last piece goes out
   pub ends_at_end : (start : CoreState) (text come come' : Option (List ℕ)) (old new new' : Option Told) (number number' : ℕ) (ended : Bool) (state : CoreState) (tally : Tally) (piece : List ReportLine) (fault : Unsent) → Progress Goes start text come old new number ended state tally → WhereTold come come' (ReadsLine (line_says Session) number number' (Ok None)) →
-      piece ≡ end_piece number' state → SendsUpTo Goes piece_text fault (piece ∷ []) new new' → IfSome text (λ t. Ends Goes piece_text (of_unsent fault) (session_over start (lines_of t)) old new')
-  ends_at_end start None come come' old new new' number number' ended state tally piece fault p read same last = tt
-  ends_at_end start (Some t) None come' old new new' number number' ended state tally piece fault p read same last = absurd p.remains
-  ends_at_end start (Some t) (Some octets) None old new new' number number' ended state tally piece fault p read same last = absurd read
+      piece ≡ end_piece number' state → SendsUpTo Goes piece_text fault (piece ∷ []) new new' → IfSome (still text come') (λ t. Ends Goes piece_text (of_unsent fault) (session_over start (lines_of t)) old new')
+  ends_at_end start text come None old new new' number number' ended state tally piece fault p read same last = tt
+  ends_at_end start None come (Some rest) old new new' number number' ended state tally piece fault p read same last = tt
+  ends_at_end start (Some t) None (Some rest) old new new' number number' ended state tally piece fault p read same last = absurd read
   ends_at_end start (Some t) (Some octets) (Some rest) old new new' number number' ended state tally piece fault p read same last =
       let all = report_end start octets t number number' p.lines state p.reached p.remains read.0 ∙ ap (λ x. front start p.lines ++ x ∷ []) (sym same) in
       ends_front fault (session_over start (lines_of t)) old new'
@@ -295,9 +287,10 @@ module _ (Goes : Going) (composes : Composes Goes) where
   pub stops_reading : (start : CoreState) (text come left : Option (List ℕ)) (pending : List ℕ) (old new : Option Told) (number number' : ℕ) (ended ended' : Bool) (state : CoreState) (tally : Tally) → Progress Goes start text come old new number ended state tally → WhereTold come (prepend_known pending left) (ReadsLine (line_says Session) number number' (Err Read)) →
       (ended' ≡ false → ended ≡ false) → (ended' ≡ false → WhereTold come (prepend_known pending left) (TakesLines number number')) → (ended' ≡ false) × (position is_line_feed pending ≡ None) →
       WhereTold text left (λ t rest. StopsReading Goes piece_text (state_front start) (line_says Session) t rest old new)
-  stops_reading start None come left pending old new number number' ended ended' state tally p read stays taken waits = tt
-  stops_reading start (Some t) None left pending old new number number' ended ended' state tally p read stays taken waits = absurd p.remains
-  stops_reading start (Some t) (Some octets) None pending old new number number' ended ended' state tally p read stays taken waits = absurd read
+  stops_reading start text come None pending old new number number' ended ended' state tally p read stays taken waits = tt
+  stops_reading start None None (Some rest) pending old new number number' ended ended' state tally p read stays taken waits = absurd read
+  stops_reading start None (Some octets) (Some rest) pending old new number number' ended ended' state tally p read stays taken waits = absurd p.remains
+  stops_reading start (Some t) None (Some rest) pending old new number number' ended ended' state tally p read stays taken waits = absurd read
   stops_reading start (Some t) (Some octets) (Some rest) pending old new number number' ended ended' state tally p read stays taken waits =
       stops_where start t octets rest pending old new number number' p.lines p.out p.remains read
       (takes_then 0 number number' t octets (pending ++ rest) (p.whole (stays waits.0)) (taken waits.0)) waits.1

@@ -1,7 +1,7 @@
 -- A standby on a site's file: behind the opening of its journal, at which nothing goes out, and where it wasn't opened.
 use Rattle.std.proofs.Common.{◌≡◌, ◌⊎◌, ℕ, ◌≤◌, Option, Some, None, Result, Ok, Err, List, [], ◌∷◌, ◌++◌, IfSome, length, refl, ap, ◌∙◌, sym, subst, inl, inr}
 use Rattle.std.proofs.lemmas.List.Elements.{All-nil}
-use Rattle.ground_io.specs.Trace.{Told, WhereTold}
+use Rattle.ground_io.specs.Trace.{Told, WhereTold, still}
 use Rattle.ground_io.specs.declared.entry.Entry.{Entry}
 use Rattle.ground_io.proofs.Crashes.{adds_none}
 use Rattle.bac_values.specs.declared.report.ReportLine.{ReportLine}
@@ -147,9 +147,9 @@ module _ (journal : Journal) (site : Site) (core : CoreState) (own : core.site �
     went = emits.followed old mid new [] (sent report_text (opening_line core ∷ s.lines)) quiet s.went;
   }
 
-  pub stops_standby : (text left : Option (List ℕ)) → IfSome text (λ t. Follows Emits ended core t mid new) → WhereTold text left (λ t rest. StopsFollowing Emits core t rest mid new) → WhereTold text left (λ t rest. StopsFollowing Emits (state_of site older) t rest old new)
-  stops_standby None left follows stops = tt
-  stops_standby (Some t) None follows stops = absurd stops
+  pub stops_standby : (text left : Option (List ℕ)) → IfSome (still text left) (λ t. Follows Emits ended core t mid new) → WhereTold text left (λ t rest. StopsFollowing Emits core t rest mid new) → WhereTold text left (λ t rest. StopsFollowing Emits (state_of site older) t rest old new)
+  stops_standby text None follows stops = tt
+  stops_standby None (Some rest) follows stops = absurd stops
   stops_standby (Some t) (Some rest) f stops = subst (λ (s : CoreState). StopsFollowing Emits s t rest old new) (state_is (stood_mid t f)) (stops_by t rest stops)
 
   -- and what a crash may leave does so from the opening's first sync on

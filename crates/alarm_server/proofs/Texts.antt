@@ -1,7 +1,9 @@
 -- The front of a site's text that is read is as good as the whole of it.
 use Rattle.bac_values.specs.Limits.{most_site_octets}
 use Rattle.std.proofs.Common.{◌≡◌, ◌≤◌, ◌<◌, ℕ, true, nat_lt, if◌then◌else◌, Option, Some, None, Ok, Err, List, [], ◌++◌, IfSome, length, take, ap, ◌∙◌, sym, arith, append-nil, inl, inr}
-use Rattle.std.specs.Io.KnownBytes.{IsAtEnd, Keeps, prepend_known}
+use Rattle.std.specs.Io.KnownBytes.{IsAtEnd, prepend_known}
+use Rattle.ground_io.specs.Source.{Keeps}
+use Rattle.ground_io.specs.Trace.{still}
 use Rattle.std.proofs.lemmas.Bool.{cases_Bool, ltb-false, ltb-true}
 use Rattle.std.proofs.lemmas.List.{length-take, take-append-le, take_all}
 use Rattle.alarm_core.specs.declared.site.Site.{Site}
@@ -10,17 +12,17 @@ use Rattle.site_config.specs.Sites.{document_of, site_of, site_or_no_toml}
 use Rattle.alarm_server.specs.Text.{octets_read}
 
 -- the source came to its end
-pub reads_all : (source left : Option (List ℕ)) (text : List ℕ) → Keeps (prepend_known [] source) (prepend_known text left) → IsAtEnd left → length text ≤ octets_read → IfSome source (λ octets. text ≡ take octets_read octets)
-reads_all None left text kept end short = tt
-reads_all (Some octets) None text kept end short = absurd kept
+pub reads_all : (source left : Option (List ℕ)) (text : List ℕ) → Keeps (prepend_known [] source) (prepend_known text left) → IsAtEnd left → length text ≤ octets_read → IfSome (still source left) (λ octets. text ≡ take octets_read octets)
+reads_all source None text kept end short = tt
+reads_all None (Some rest) text kept end short = tt
 reads_all (Some octets) (Some rest) text kept end short =
     let same : text ≡ octets = sym (append-nil text) ∙ (ap (λ l. text ++ l) (sym end) ∙ kept) in
     sym (take_all octets_read text short) ∙ ap (take octets_read) same
 
 -- as many octets were read as tell that the text is too long
-pub reads_front : (source left : Option (List ℕ)) (text : List ℕ) → Keeps (prepend_known [] source) (prepend_known text left) → octets_read ≤ length text → length text ≤ octets_read → IfSome source (λ octets. text ≡ take octets_read octets)
-reads_front None left text kept long short = tt
-reads_front (Some octets) None text kept long short = absurd kept
+pub reads_front : (source left : Option (List ℕ)) (text : List ℕ) → Keeps (prepend_known [] source) (prepend_known text left) → octets_read ≤ length text → length text ≤ octets_read → IfSome (still source left) (λ octets. text ≡ take octets_read octets)
+reads_front source None text kept long short = tt
+reads_front None (Some rest) text kept long short = tt
 reads_front (Some octets) (Some rest) text kept long short =
     sym (take_all octets_read text short) ∙ (sym (take-append-le octets_read text rest long) ∙ ap (take octets_read) kept)
 

@@ -13,6 +13,8 @@ pub mod Openings
 pub mod Paths
 pub mod Pieces
 pub mod Promises
+pub mod Real
+pub mod RealLaws
 pub mod Report
 pub mod Script
 pub mod ServeWords

@@ -18,7 +18,9 @@ pub struct AnnouncingLink<'a, L: AskedLink> {
 
 impl<'a, L: AskedLink> AnnouncingLink<'a, L> {
     /// The inner link, which listens at this place.
-    pub fn new(inner: L, rt: &'a HostRuntime, place: String) -> AnnouncingLink<'a, L> {
+    pub fn new(inner: L, rt: &'a HostRuntime, place: String) -> AnnouncingLink<'a, L>
+        ensures inner { result.inner ≡ inner }
+    {
         AnnouncingLink {
             inner,
             rt,

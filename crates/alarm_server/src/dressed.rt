@@ -4,6 +4,7 @@ ghost use Rattle.std.specs.Prelude.{◌≡◌, ◌↔◌, ◌<◌, None, IfSome,
 ghost use Rattle.bac_values.specs.Moments.{IsMoment};
 ghost use Rattle.ending_link.specs.declared.flag.SharedFlag.{SharedFlag as Raised};
 ghost use Rattle.ground_io.specs.Counts.{HasCause, Rose};
+ghost use Rattle.ground_io.specs.Trace.{still};
 ghost use Rattle.alarm_server.specs.declared.status.Status.TheVariants as status;
 ghost use Rattle.alarm_server.specs.Dressed.{ServesDressed};
 ghost use Rattle.alarm_server.specs.ServeWords.{count_in};
@@ -36,7 +37,7 @@ pub fn serve_over<
     // It is what a server does over a ground that raises a flag where a call of the disk fails, and a link that ends by it,
     // whose inner ones are these.
     ensures serves { IfSome (count_in (map string_bytes words.now)) (λ count.
-        ServesDressed Raised G.told G.size G.disk_faults G.emit_faults L.left L.faults IsMoment (S.left site.old) count link result.1 device result.0 result.2) }
+        ServesDressed Raised G.told G.size G.disk_faults G.emit_faults L.left L.faults IsMoment (still (S.left site.old) (S.left site.new)) count link result.1 device result.0 result.2) }
 
     // A fault comes only where its count rose, and so does a datagram that was sent and lost.
     ensures read_cause { HasCause (S.faults site.old) (S.faults site.new) (result.2.status ≡ status.ReadFault) }

@@ -3,7 +3,7 @@
 ghost use Rattle.std.specs.Prelude.{◌≡◌, ℕ, List, [], ◌∷◌, None, Ok, Err, IfErr, IfOk, IfSome, IsErrOf, MatchResult, OnOk};
 ghost use Rattle.std.specs.Io.KnownBytes.{IsAtEnd};
 ghost use Rattle.ground_io.specs.Counts.{HasCause};
-ghost use Rattle.ground_io.specs.Trace.{WhereTold};
+ghost use Rattle.ground_io.specs.Trace.{WhereTold, still};
 ghost use Rattle.script_lines.specs.PacketLine.{packet_says};
 ghost use Rattle.alarm_journal.specs.Journal.{Content};
 ghost use Rattle.alarm_journal.specs.Journal.{Site as Journal};
@@ -163,17 +163,17 @@ pub fn follow_packets<T: Source, G: Ground>(
     requires areas { HasRoomyAreas site.now press.layout }
 
     // What went out: the table's lines over the packets, or a front of them, as the status says.
-    ensures ends { IfSome (T.left script.old) (λ text. Follows Emits (status_of result.1) core text (G.told press.device) (G.told result.0)) }
+    ensures ends { IfSome (still (T.left script.old) (T.left script.new)) (λ text. Follows Emits (status_of result.1) core text (G.told press.device) (G.told result.0)) }
 
     // Of whoever sent these packets: at each moment, what a crash may leave stands for a history to which the leader's goes
     // back, or which goes on from the one before, at least as long as each number that was acknowledged by then.
     ensures keeps { (journal : Journal) (sender : Sender) (begun : List Happening) → Represents core begun → HoldsHistory journal core.site begun press.layout (G.told press.device)
-        → IfSome (T.left script.old) (λ text. IsSent core.site sender begun text
+        → IfSome (still (T.left script.old) (T.left script.new)) (λ text. IsSent core.site sender begun text
         → KeepsAlong (LeavesFollower journal core.site sender begun) (G.told press.device) (G.told result.0)) }
     ensures to_end { OnOk result.1 (IsAtEnd (T.left script.new)) }
-    ensures accepted { OnOk result.1 (IfSome (T.left script.old) (λ text. refused_line packet_says text ≡ None)) }
+    ensures accepted { OnOk result.1 (IfSome (still (T.left script.old) (T.left script.new)) (λ text. refused_line packet_says text ≡ None)) }
     ensures refused { (line : ℕ) → result.1 ≡ Err (Status.ScriptRefused line) →
-        IfSome (T.left script.old) (λ text. refused_line packet_says text ≡ Some line) }
+        IfSome (still (T.left script.old) (T.left script.new)) (λ text. refused_line packet_says text ≡ Some line) }
     ensures stops { result.1 ≡ Err Status.ReadFault → WhereTold (T.left script.old) (T.left script.new)
         (λ text rest. StopsFollowing Emits core text rest (G.told press.device) (G.told result.0)) }
     ensures fault { IfErr result.1 IsPlayFault }

@@ -1,7 +1,7 @@
 //! The alarm server: a server, a session or a standby on a site's file, an integer value on trial, or a generated site.
 //!
 //! `run` and `serve` are the top calls. They stand over any source of octets, any ground and any link, so that their
-//! contracts say all that the program does; `main` hands them the real ones. Where a text can't be printed, the status is
+//! contracts say all that the program does; `run_real` and `serve_real` make the real ones for them, for `main`. Where a text can't be printed, the status is
 //! told by its number alone.
 #![tactic(auto)]
 
@@ -13,6 +13,7 @@ mod following;
 mod on_file;
 mod paths;
 mod pieces;
+mod real;
 mod run;
 mod serve;
 mod session;
@@ -29,14 +30,12 @@ mod waking_link;
 mod watch;
 mod workload;
 
-use crate::announcing_link::AnnouncingLink;
-use crate::dressed::serve_over;
 use crate::paths::paths_of;
-use crate::run::run;
+use crate::real::{Places, run_real, serve_real};
 use crate::serve::Served;
 use crate::status::Status;
 use crate::text::read_text;
-use ground_io::{FileGround, StdSource, UdpLink};
+use ground_io::StdSource;
 use site_config::{SiteFault, line_of_refusal};
 use std::env::VarError;
 use std::fs::{File, OpenOptions};
@@ -45,7 +44,7 @@ use std::net::UdpSocket;
 use std::process::ExitCode;
 use std::sync::Wait;
 use std::thread::Threads;
-use std::time::{Clock, Duration};
+use std::time::Clock;
 use std::{env, io};
 
 const VERSION: &str = "alarm-server 0.3.0";
@@ -143,10 +142,17 @@ fn run_with<R: Read + Drop>(
     site: R,
     journal: Option<File>,
 ) -> io::Result<Status> {
-    let mut site = StdSource::new(site);
-    let mut script = StdSource::new(rt.reader());
-    let device = FileGround::new(journal, io::writer(rt), None)?;
-    let (device, status) = run(rt.alloc(), words, &mut site, &mut script, device);
+    let alloc = rt.alloc();
+    let (site, script, device, status) = run_real(
+        alloc,
+        words,
+        site,
+        rt.reader(),
+        journal,
+        io::writer(rt),
+    )?;
+    drop(site);
+    drop(script);
     drop(device);
     Ok(status)
 }
@@ -202,9 +208,6 @@ fn run_on_files(
     Ok(ends_on_file(rt, path, status))
 }
 
-/// So many milliseconds a call for a datagram waits for one.
-const PATIENCE: u64 = 200;
-
 // What the environment has under a name, or this where it has nothing there.
 fn set_or(rt: &HostRuntime, name: &str, other: &str) -> io::Result<String> {
     match env::var(rt, name) {
@@ -223,15 +226,6 @@ fn bound(rt: &HostRuntime) -> io::Result<(UdpSocket, String)> {
     place.push_str(port.as_str())?;
     let socket = UdpSocket::bind(rt, place.as_str())?;
     Ok((socket, place))
-}
-
-// The files of a server, its socket, and where that is bound.
-#[derive(Drop)]
-struct Places {
-    site: File,
-    journal: File,
-    socket: UdpSocket,
-    place: String,
 }
 
 // Opens the files of a server and its socket, if they are all there.
@@ -277,17 +271,9 @@ fn serve_on_files<R: Threads + Wait + Sync + Clock>(
     path: &str,
     journal: &str,
 ) -> io::Result<ExitCode> {
-    let Places {
-        site,
-        journal,
-        socket,
-        place,
-    } = open_places(rt, path, journal)?;
-    let mut source = StdSource::new(site);
-    let link = UdpLink::new(&socket, Duration::from_millis(PATIENCE))?;
-    let link = AnnouncingLink::new(link, rt, place);
-    let device = FileGround::new(Some(journal), io::writer(rt), Some(socket))?;
-    let (device, link, served) = serve_over(workers, rt.alloc(), words, &mut source, device, link);
+    let places = open_places(rt, path, journal)?;
+    let (source, device, link, served) = serve_real(rt, workers, words, places, io::writer(rt))?;
+    drop(source);
     drop(device);
     drop(link);
     Ok(ends_serving(rt, path, served))

@@ -3,7 +3,7 @@
 ghost use Rattle.std.specs.Prelude.{◌≡◌, ◌≢◌, ◌<◌, ◌≤◌, ⊤, ℕ, List, length, [], ◌∷◌, None, Ok, Err, OnOk, OnErr, IfErr, IfOk, IfSome, IsErrOf};
 ghost use Rattle.std.specs.Io.KnownBytes.{IsAtEnd};
 ghost use Rattle.ground_io.specs.Counts.{HasCause, Rose};
-ghost use Rattle.ground_io.specs.Trace.{Adds, WhereTold};
+ghost use Rattle.ground_io.specs.Trace.{Adds, WhereTold, still};
 ghost use Rattle.ground_io.specs.declared.entry.Entry.TheVariants.{Synced};
 ghost use Rattle.script_lines.specs.declared.line.Grammar.TheVariants.{Session};
 ghost use Rattle.script_lines.specs.Line.{line_says};
@@ -41,10 +41,10 @@ use std::alloc::Global;
 
 // The site whose text a source has, with the text.
 pub(crate) fn open_site<S: Source>(alloc: Global, source: &mut S) -> Result<(Site, Vec<u8>), Status>
-    ensures site { IfOk result (λ read. IfSome (S.left source.old) (λ octets. (site_of octets ≡ Ok read.0) × (octets ≡ read.1.items))) }
+    ensures site { IfOk result (λ read. IfSome (still (S.left source.old) (S.left source.new)) (λ octets. (site_of octets ≡ Ok read.0) × (octets ≡ read.1.items))) }
     ensures keeps { IfOk result (λ read. IsSite read.0) }
     ensures short { IfOk result (λ read. length read.1.items ≤ most_text) }
-    ensures refused { (fault : SiteFault) → result ≡ Err (Status.SiteRefused fault) → RefusesFile (S.left source.old) fault }
+    ensures refused { (fault : SiteFault) → result ≡ Err (Status.SiteRefused fault) → RefusesFile (still (S.left source.old) (S.left source.new)) fault }
     ensures fault { IfErr result IsSiteFault }
     ensures cause { HasCause (S.faults source.old) (S.faults source.new) (IsErrOf result Status.ReadFault) }
     ensures uncounted { OnOk result (S.faults source.new ≡ S.faults source.old) }
@@ -68,16 +68,16 @@ fn play_site<T: Source, G: Ground>(
 
     // Of each history that the device's octets stood for: the report goes on from it, and a crash at any moment leaves it
     // with the events of some lines.
-    ensures ends { (history : List Happening) → StoodFor (journal_of site.now text.now) site.now history (G.told device) (G.told result.0) → IfSome (T.left script.old) (λ text.
+    ensures ends { (history : List Happening) → StoodFor (journal_of site.now text.now) site.now history (G.told device) (G.told result.0) → IfSome (still (T.left script.old) (T.left script.new)) (λ text.
         Ends Emits piece_text (status_of result.1) (report_of site.now history text) (G.told device) (G.told result.0)) }
-    ensures keeps { (history : List Happening) → StoodFor (journal_of site.now text.now) site.now history (G.told device) (G.told result.0) → IfSome (T.left script.old) (λ script.
+    ensures keeps { (history : List Happening) → StoodFor (journal_of site.now text.now) site.now history (G.told device) (G.told result.0) → IfSome (still (T.left script.old) (T.left script.new)) (λ script.
         KeepsOpened (journal_of site.now text.now) site.now history (spelled_in (line_says Session) 0 (lines_of script)) 1 (G.told device) (G.told result.0)) }
     ensures stops { (history : List Happening) → StoodFor (journal_of site.now text.now) site.now history (G.told device) (G.told result.0) → result.1 ≡ Err Status.ReadFault → WhereTold (T.left script.old) (T.left script.new)
         (λ text rest. StopsReading Emits piece_text (front_pieces site.now history) (line_says Session) text rest (G.told device) (G.told result.0)) }
     ensures script_told { result.1 ≡ Err Status.ReadFault → WhereTold (T.left script.old) (T.left script.new) (λ text rest. ⊤) }
 
     // The journal's octets opened and lead to a state, from which the report goes on; or nothing went out.
-    ensures opened { IfSome (T.left script.old) (λ script. OpensOnSite text.now (Ok site.now) (status_of result.1) script (G.told device) (G.told result.0)) }
+    ensures opened { IfSome (still (T.left script.old) (T.left script.new)) (λ script. OpensOnSite text.now (Ok site.now) (status_of result.1) script (G.told device) (G.told result.0)) }
 
     // The journal is refused for what its octets are, and never where they stood for a history; then it was synced, nothing
     // else was done, and the script isn't read.
@@ -87,9 +87,9 @@ fn play_site<T: Source, G: Ground>(
     ensures unplayed { (fault : Refusal) → result.1 ≡ Err (Status.JournalRefused fault) → script.new ≡ script.old }
     ensures stands { (history : List Happening) (fault : Refusal) → StoodFor (journal_of site.now text.now) site.now history (G.told device) (G.told result.0) → result.1 ≢ Err (Status.JournalRefused fault) }
     ensures to_end { OnOk result.1 (IsAtEnd (T.left script.new)) }
-    ensures accepted { OnOk result.1 (IfSome (T.left script.old) (λ text. refused_line (line_says Session) text ≡ None)) }
+    ensures accepted { OnOk result.1 (IfSome (still (T.left script.old) (T.left script.new)) (λ text. refused_line (line_says Session) text ≡ None)) }
     ensures refused { (line : ℕ) → result.1 ≡ Err (Status.ScriptRefused line) →
-        IfSome (T.left script.old) (λ text. refused_line (line_says Session) text ≡ Some line) }
+        IfSome (still (T.left script.old) (T.left script.new)) (λ text. refused_line (line_says Session) text ≡ Some line) }
     ensures fault { IfErr result.1 IsSessionFault }
     ensures size { G.size result.0 ≡ G.size device }
     ensures read_cause { HasCause (T.faults script.old) (T.faults script.new) (IsErrOf result.1 Status.ReadFault) }
@@ -118,36 +118,36 @@ pub fn session<S: Source, T: Source, G: Ground>(
     device: G,
 ) -> (G, Result<(), Status>)
     // What went out: the whole report from a history of the journal's on, or a front of it, as the status says.
-    ensures ends { EndsOnFile Emits (status_of result.1) (S.left site.old) (T.left script.old) (G.told device) (G.told result.0) }
+    ensures ends { EndsOnFile Emits (status_of result.1) (still (S.left site.old) (S.left site.new)) (still (T.left script.old) (T.left script.new)) (G.told device) (G.told result.0) }
 
     // A crash at any moment leaves the history and the events of some lines: of each at least whose piece went out.
-    ensures keeps { KeepsOnFile (S.left site.old) (T.left script.old) (G.told device) (G.told result.0) }
+    ensures keeps { KeepsOnFile (still (S.left site.old) (S.left site.new)) (still (T.left script.old) (T.left script.new)) (G.told device) (G.told result.0) }
 
     // The journal's octets opened and lead to a state, from which the report goes on; or nothing went out.
-    ensures opened { OpensOnFile (S.left site.old) (status_of result.1) (T.left script.old) (G.told device) (G.told result.0) }
+    ensures opened { OpensOnFile (still (S.left site.old) (S.left site.new)) (status_of result.1) (still (T.left script.old) (T.left script.new)) (G.told device) (G.told result.0) }
 
     // A session that is played to its end has a site, and no line that is refused.
     ensures to_end { OnOk result.1 (IsAtEnd (T.left script.new)) }
-    ensures accepted { OnOk result.1 (AcceptsOnFile (S.left site.old) (T.left script.old)) }
+    ensures accepted { OnOk result.1 (AcceptsOnFile (still (S.left site.old) (S.left site.new)) (still (T.left script.old) (T.left script.new))) }
 
     // The line that is refused is the first outside the grammar; the text that is refused is no site; and the journal is
     // refused for what its octets are.
     ensures refused { (line : ℕ) → result.1 ≡ Err (Status.ScriptRefused line) →
-        IfSome (T.left script.old) (λ text. refused_line (line_says Session) text ≡ Some line) }
-    ensures refuses_site { (fault : SiteFault) → result.1 ≡ Err (Status.SiteRefused fault) → RefusesFile (S.left site.old) fault }
-    ensures refuses_journal { (fault : Refusal) → result.1 ≡ Err (Status.JournalRefused fault) → RefusesJournal (S.left site.old) (G.told device) (G.told result.0) fault }
+        IfSome (still (T.left script.old) (T.left script.new)) (λ text. refused_line (line_says Session) text ≡ Some line) }
+    ensures refuses_site { (fault : SiteFault) → result.1 ≡ Err (Status.SiteRefused fault) → RefusesFile (still (S.left site.old) (S.left site.new)) fault }
+    ensures refuses_journal { (fault : Refusal) → result.1 ≡ Err (Status.JournalRefused fault) → RefusesJournal (still (S.left site.old) (S.left site.new)) (G.told device) (G.told result.0) fault }
 
     // A device that is smaller than it must be is refused as such, or fails, whether it tells its octets or not.
     ensures small { (fault : Refusal) → result.1 ≡ Err (Status.JournalRefused fault) → IsSmall (G.size device) fault }
-    ensures below { RefusesSmall (G.size device) (S.left site.old) (status_of result.1) }
+    ensures below { RefusesSmall (G.size device) (still (S.left site.old) (S.left site.new)) (status_of result.1) }
     ensures unplayed { (fault : Refusal) → result.1 ≡ Err (Status.JournalRefused fault) → script.new ≡ script.old }
-    ensures unread { IfSome (S.left site.old) (λ octets. OnErr (site_of octets) (script.new ≡ script.old)) }
+    ensures unread { IfSome (still (S.left site.old) (S.left site.new)) (λ octets. OnErr (site_of octets) (script.new ≡ script.old)) }
 
     // With ReadFault either the site's source failed and nothing else was done, or the script's failed.
     ensures stops { result.1 ≡ Err Status.ReadFault → StopsOnFile Emits
         ((script.new ≡ script.old) × Rose (S.faults site.old) (S.faults site.new))
         (Rose (T.faults script.old) (T.faults script.new))
-        (S.left site.old) (T.left script.old) (T.left script.new) (G.told device) (G.told result.0) }
+        (still (S.left site.old) (S.left site.new)) (T.left script.old) (T.left script.new) (G.told device) (G.told result.0) }
     ensures fault { IfErr result.1 IsFault }
     ensures size { G.size result.0 ≡ G.size device }
     ensures read_cause { HasCauseInEither (S.faults site.old) (S.faults site.new) (T.faults script.old) (T.faults script.new) (IsErrOf result.1 Status.ReadFault) }

@@ -1,6 +1,7 @@
 //! The top call of all commands but `serve`.
 
 ghost use Rattle.std.specs.Prelude.{◌≡◌, ◌≢◌, ◌↔◌, ℕ, map, None, OnOk, IfErr, IsErrOf, string_bytes};
+ghost use Rattle.ground_io.specs.Trace.{still};
 ghost use Rattle.ground_io.specs.Counts.{HasCause, Rose};
 ghost use Rattle.alarm_journal.specs.Press.{IsSmall};
 ghost use Rattle.alarm_journal.specs.declared.open_fault.OpenFault.{OpenFault as Refusal};
@@ -28,23 +29,23 @@ fn carry_out<S: Source, T: Source, G: Ground>(
     script: &mut T,
     mut device: G,
 ) -> (G, Result<(), Status>)
-    ensures ends { (promise_of (Some command.now)).ends (status_of result.1) (S.left site.old) (T.left script.old) (G.told device) (G.told result.0) }
+    ensures ends { (promise_of (Some command.now)).ends (status_of result.1) (still (S.left site.old) (S.left site.new)) (still (T.left script.old) (T.left script.new)) (G.told device) (G.told result.0) }
     ensures to_end { OnOk result.1 ((promise_of (Some command.now)).to_end (T.left script.new)) }
-    ensures accepted { OnOk result.1 ((promise_of (Some command.now)).accepts (S.left site.old) (T.left script.old)) }
-    ensures refused { (line : ℕ) → result.1 ≡ Err (Status.ScriptRefused line) → (promise_of (Some command.now)).refuses (T.left script.old) line }
-    ensures refuses_site { (fault : SiteFault) → result.1 ≡ Err (Status.SiteRefused fault) → (promise_of (Some command.now)).refuses_site (S.left site.old) fault }
+    ensures accepted { OnOk result.1 ((promise_of (Some command.now)).accepts (still (S.left site.old) (S.left site.new)) (still (T.left script.old) (T.left script.new))) }
+    ensures refused { (line : ℕ) → result.1 ≡ Err (Status.ScriptRefused line) → (promise_of (Some command.now)).refuses (still (T.left script.old) (T.left script.new)) line }
+    ensures refuses_site { (fault : SiteFault) → result.1 ≡ Err (Status.SiteRefused fault) → (promise_of (Some command.now)).refuses_site (still (S.left site.old) (S.left site.new)) fault }
     ensures stops { result.1 ≡ Err Status.ReadFault → (promise_of (Some command.now)).stops
         ((script.new ≡ script.old) × Rose (S.faults site.old) (S.faults site.new))
         (Rose (T.faults script.old) (T.faults script.new))
-        (S.left site.old) (T.left script.old) (T.left script.new) (G.told device) (G.told result.0) }
+        (still (S.left site.old) (S.left site.new)) (T.left script.old) (T.left script.new) (G.told device) (G.told result.0) }
     ensures site { (promise_of (Some command.now)).leaves_site (site.new ≡ site.old) }
-    ensures unread { (promise_of (Some command.now)).leaves_script (S.left site.old) (script.new ≡ script.old) }
-    ensures keeps { (promise_of (Some command.now)).keeps (S.left site.old) (T.left script.old) (G.told device) (G.told result.0) }
-    ensures opened { (promise_of (Some command.now)).opens (status_of result.1) (S.left site.old) (T.left script.old) (G.told device) (G.told result.0) }
+    ensures unread { (promise_of (Some command.now)).leaves_script (still (S.left site.old) (S.left site.new)) (script.new ≡ script.old) }
+    ensures keeps { (promise_of (Some command.now)).keeps (still (S.left site.old) (S.left site.new)) (still (T.left script.old) (T.left script.new)) (G.told device) (G.told result.0) }
+    ensures opened { (promise_of (Some command.now)).opens (status_of result.1) (still (S.left site.old) (S.left site.new)) (still (T.left script.old) (T.left script.new)) (G.told device) (G.told result.0) }
     ensures small { (fault : Refusal) → result.1 ≡ Err (Status.JournalRefused fault) → IsSmall (G.size device) fault }
-    ensures below { (promise_of (Some command.now)).refuses_small (G.size device) (S.left site.old) (status_of result.1) }
+    ensures below { (promise_of (Some command.now)).refuses_small (G.size device) (still (S.left site.old) (S.left site.new)) (status_of result.1) }
     ensures unplayed { (fault : Refusal) → result.1 ≡ Err (Status.JournalRefused fault) → script.new ≡ script.old }
-    ensures refuses_journal { (fault : Refusal) → result.1 ≡ Err (Status.JournalRefused fault) → (promise_of (Some command.now)).refuses_journal (S.left site.old) (G.told device) (G.told result.0) fault }
+    ensures refuses_journal { (fault : Refusal) → result.1 ≡ Err (Status.JournalRefused fault) → (promise_of (Some command.now)).refuses_journal (still (S.left site.old) (S.left site.new)) (G.told device) (G.told result.0) fault }
     ensures fault { IfErr result.1 IsFault }
     ensures size { G.size result.0 ≡ G.size device }
     ensures disk { (promise_of (Some command.now)).leaves_disk (G.disk_faults result.0 ≡ G.disk_faults device) }
@@ -93,31 +94,31 @@ pub fn run<S: Source, T: Source, G: Ground>(
     // What isn't read is left as it was: the site's source but for a session, a ship and a standby, the script where nothing is
     // played from it.
     ensures site { (promise_of (command_of (map string_bytes words.now))).leaves_site (site.new ≡ site.old) }
-    ensures unread { (promise_of (command_of (map string_bytes words.now))).leaves_script (S.left site.old) (script.new ≡ script.old) }
+    ensures unread { (promise_of (command_of (map string_bytes words.now))).leaves_script (still (S.left site.old) (S.left site.new)) (script.new ≡ script.old) }
 
     // What went out: the whole report, or a front of it, as the status says.
-    ensures ends { (promise_of (command_of (map string_bytes words.now))).ends result.1 (S.left site.old) (T.left script.old) (G.told device) (G.told result.0) }
+    ensures ends { (promise_of (command_of (map string_bytes words.now))).ends result.1 (still (S.left site.old) (S.left site.new)) (still (T.left script.old) (T.left script.new)) (G.told device) (G.told result.0) }
 
     // The events that were told of are numbered without a gap, behind the number that the first line tells.
-    ensures numbered { (promise_of (command_of (map string_bytes words.now))).numbers (S.left site.old) (T.left script.old) (G.told device) (G.told result.0) }
+    ensures numbered { (promise_of (command_of (map string_bytes words.now))).numbers (still (S.left site.old) (S.left site.new)) (still (T.left script.old) (T.left script.new)) (G.told device) (G.told result.0) }
 
     // With Done the script was read to its end, the site's text is a site, and each line is in the grammar: of what a command
     // reads.
     ensures to_end { result.1 ≡ Status.Done → (promise_of (command_of (map string_bytes words.now))).to_end (T.left script.new) }
-    ensures accepted { result.1 ≡ Status.Done → (promise_of (command_of (map string_bytes words.now))).accepts (S.left site.old) (T.left script.old) }
+    ensures accepted { result.1 ≡ Status.Done → (promise_of (command_of (map string_bytes words.now))).accepts (still (S.left site.old) (S.left site.new)) (still (T.left script.old) (T.left script.new)) }
 
     // The line that is refused is the first outside the grammar; the site's text that is refused has this fault.
     ensures refused { (line : ℕ) → result.1 ≡ Status.ScriptRefused line →
-        (promise_of (command_of (map string_bytes words.now))).refuses (T.left script.old) line }
+        (promise_of (command_of (map string_bytes words.now))).refuses (still (T.left script.old) (T.left script.new)) line }
     ensures refuses_site { (fault : SiteFault) → result.1 ≡ Status.SiteRefused fault →
-        (promise_of (command_of (map string_bytes words.now))).refuses_site (S.left site.old) fault }
+        (promise_of (command_of (map string_bytes words.now))).refuses_site (still (S.left site.old) (S.left site.new)) fault }
 
     // With ReadFault of the script all of the report went out that the lines give whose line feed was read, and none of these
     // is refused; with one of the site nothing went out, and the script is as it was.
     ensures stops { result.1 ≡ Status.ReadFault → (promise_of (command_of (map string_bytes words.now))).stops
         ((script.new ≡ script.old) × Rose (S.faults site.old) (S.faults site.new))
         (Rose (T.faults script.old) (T.faults script.new))
-        (S.left site.old) (T.left script.old) (T.left script.new) (G.told device) (G.told result.0) }
+        (still (S.left site.old) (S.left site.new)) (T.left script.old) (T.left script.new) (G.told device) (G.told result.0) }
 
     // A fault comes only where its count rose.
     ensures read_cause { HasCauseInEither (S.faults site.old) (S.faults site.new) (T.faults script.old) (T.faults script.new) (result.1 ≡ Status.ReadFault) }
@@ -134,20 +135,20 @@ pub fn run<S: Source, T: Source, G: Ground>(
     // those whose piece was emitted by then. Of what is shipped it leaves what opens as the device did; and of a standby a
     // history to which its leader's goes back, or, of packets that anybody sent and that bring no snapshot, one that goes on
     // from the one before; at least as long as each number that was acknowledged by then.
-    ensures keeps { (promise_of (command_of (map string_bytes words.now))).keeps (S.left site.old) (T.left script.old) (G.told device) (G.told result.0) }
+    ensures keeps { (promise_of (command_of (map string_bytes words.now))).keeps (still (S.left site.old) (S.left site.new)) (still (T.left script.old) (T.left script.new)) (G.told device) (G.told result.0) }
 
     // A session's or a standby's journal opened, its octets lead to a state, and the report goes on from that, whether a history
     // leads to it or not; or nothing went out.
-    ensures opened { (promise_of (command_of (map string_bytes words.now))).opens result.1 (S.left site.old) (T.left script.old) (G.told device) (G.told result.0) }
+    ensures opened { (promise_of (command_of (map string_bytes words.now))).opens result.1 (still (S.left site.old) (S.left site.new)) (still (T.left script.old) (T.left script.new)) (G.told device) (G.told result.0) }
 
     // The journal is refused for what its octets are: it was synced, and nothing else was done, and the script isn't read.
     ensures unplayed { (fault : Refusal) → result.1 ≡ Status.JournalRefused fault → script.new ≡ script.old }
     ensures refuses_journal { (fault : Refusal) → result.1 ≡ Status.JournalRefused fault →
-        (promise_of (command_of (map string_bytes words.now))).refuses_journal (S.left site.old) (G.told device) (G.told result.0) fault }
+        (promise_of (command_of (map string_bytes words.now))).refuses_journal (still (S.left site.old) (S.left site.new)) (G.told device) (G.told result.0) fault }
 
     // A device that is smaller than the journal on it has to be is refused as such, with its size, or fails.
     ensures small { (fault : Refusal) → result.1 ≡ Status.JournalRefused fault → IsSmall (G.size device) fault }
-    ensures below { (promise_of (command_of (map string_bytes words.now))).refuses_small (G.size device) (S.left site.old) result.1 }
+    ensures below { (promise_of (command_of (map string_bytes words.now))).refuses_small (G.size device) (still (S.left site.old) (S.left site.new)) result.1 }
 
     // A server's fault is none of these.
     ensures outside { result.1 ≢ Status.LinkFault }

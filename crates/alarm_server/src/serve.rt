@@ -2,6 +2,7 @@
 
 ghost use Rattle.std.specs.Prelude.{◌≡◌, ◌↔◌, ◌<◌, ◌≤◌, None, IfSome, length, map, string_bytes};
 ghost use Rattle.ground_io.specs.Counts.{HasCause, Rose};
+ghost use Rattle.ground_io.specs.Trace.{still};
 ghost use Rattle.alarm_core.specs.Sites.{IsSite};
 ghost use Rattle.state_codec.specs.Sizes.{most_text};
 ghost use Rattle.alarm_server.specs.ServedSites.{IsUnserved, LeavesLink, of_end, served_of};
@@ -140,7 +141,7 @@ pub fn serve<
     // It goes one of five ways: a desk was opened on the site whose text the source has, and served; or none was, and nothing
     // was sent.
     ensures serves { IfSome (count_in (map string_bytes words.now)) (λ count.
-        ServesFile G.told G.size G.disk_faults G.emit_faults (K.shows clock.now) (S.left site.old) count link result.1 (L.left link) (L.left result.1) device result.0 result.2) }
+        ServesFile G.told G.size G.disk_faults G.emit_faults (K.shows clock.now) (still (S.left site.old) (S.left site.new)) count link result.1 (L.left link) (L.left result.1) device result.0 result.2) }
 
     // A fault comes only where its count rose, and so does a datagram that was sent and lost.
     ensures read_cause { HasCause (S.faults site.old) (S.faults site.new) (result.2.status ≡ Status.ReadFault) }

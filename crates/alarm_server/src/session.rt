@@ -4,7 +4,7 @@ ghost use Rattle.std.specs.Prelude.{◌≡◌, ℕ, ◌≤◌, ◌∷◌, [], Li
 ghost use Rattle.std.specs.Io.KnownBytes.{IsAtEnd};
 ghost use Rattle.bac_values.specs.Moments.{IsMoment};
 ghost use Rattle.ground_io.specs.Counts.{HasCause};
-ghost use Rattle.ground_io.specs.Trace.{Adds, WhereTold};
+ghost use Rattle.ground_io.specs.Trace.{Adds, WhereTold, still};
 ghost use Rattle.script_lines.specs.declared.line.Grammar.TheVariants.{Session};
 ghost use Rattle.script_lines.specs.Line.{line_says};
 ghost use Rattle.script_lines.specs.Script.{lines_of};
@@ -182,18 +182,18 @@ pub fn play_session<T: Source, G: Ground>(
     core: &mut Core,
     script: &mut T,
 ) -> (G, Result<Tally, Status>)
-    ensures ends { IfSome (T.left script.old) (λ text.
+    ensures ends { IfSome (still (T.left script.old) (T.left script.new)) (λ text.
         Ends Emits piece_text (status_of result.1) (session_over core.old (lines_of text)) (G.told press.device) (G.told result.0)) }
-    ensures tally { IfOk result.1 (λ tally. IfSome (T.left script.old) (λ text. tally ≡ tally_of (session_over core.old (lines_of text)))) }
-    ensures state { OnOk result.1 (IfSome (T.left script.old) (λ text. core.new ≡ state_over core.old (spelled_in (line_says Session) 0 (lines_of text)))) }
+    ensures tally { IfOk result.1 (λ tally. IfSome (still (T.left script.old) (T.left script.new)) (λ text. tally ≡ tally_of (session_over core.old (lines_of text)))) }
+    ensures state { OnOk result.1 (IfSome (still (T.left script.old) (T.left script.new)) (λ text. core.new ≡ state_over core.old (spelled_in (line_says Session) 0 (lines_of text)))) }
 
     // At each moment, what a crash may leave stands for the history that the press held, and the events of some lines.
     ensures keeps { (journal : Journal) (history : List Happening) → Represents core.old history → HoldsHistory journal core.old.site history press.layout (G.told press.device)
-        → IfSome (T.left script.old) (λ text. KeepsReport journal core.old.site history (spelled_in (line_says Session) 0 (lines_of text)) 1 (G.told press.device) (G.told result.0)) }
+        → IfSome (still (T.left script.old) (T.left script.new)) (λ text. KeepsReport journal core.old.site history (spelled_in (line_says Session) 0 (lines_of text)) 1 (G.told press.device) (G.told result.0)) }
     ensures to_end { OnOk result.1 (IsAtEnd (T.left script.new)) }
-    ensures accepted { OnOk result.1 (IfSome (T.left script.old) (λ text. refused_line (line_says Session) text ≡ None)) }
+    ensures accepted { OnOk result.1 (IfSome (still (T.left script.old) (T.left script.new)) (λ text. refused_line (line_says Session) text ≡ None)) }
     ensures refused { (line : ℕ) → result.1 ≡ Err (Status.ScriptRefused line) →
-        IfSome (T.left script.old) (λ text. refused_line (line_says Session) text ≡ Some line) }
+        IfSome (still (T.left script.old) (T.left script.new)) (λ text. refused_line (line_says Session) text ≡ Some line) }
     ensures stops { result.1 ≡ Err Status.ReadFault → WhereTold (T.left script.old) (T.left script.new)
         (λ text rest. StopsReading Emits piece_text (state_front core.old) (line_says Session) text rest (G.told press.device) (G.told result.0)) }
     ensures fault { IfErr result.1 IsPlayFault }

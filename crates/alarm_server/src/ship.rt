@@ -2,7 +2,7 @@
 
 ghost use Rattle.std.specs.Prelude.{◌≡◌, ◌≢◌, ◌≤◌, ◌<◌, ◌+◌, ◌^◌, ℕ, List, length, [], ◌∷◌, Ok, Err, OnOk, IfErr, IfSome, IsErrOf, IsOk};
 ghost use Rattle.ground_io.specs.Counts.{HasCause, Rose};
-ghost use Rattle.ground_io.specs.Trace.{Adds};
+ghost use Rattle.ground_io.specs.Trace.{Adds, still};
 ghost use Rattle.ground_io.specs.declared.entry.Entry.TheVariants.{Synced};
 ghost use Rattle.bac_values.specs.declared.report.ReportLine.TheVariants as say;
 ghost use Rattle.script_lines.specs.Report.{report_text};
@@ -145,19 +145,19 @@ pub fn ship<S: Source, G: Ground>(
 ) -> (G, Result<(), Status>)
     // What went out: the packets of what the journal opened to, and their number, or a front of these lines, as the status
     // says.
-    ensures ships { ShipsOnFile from (S.left site.old) (status_of result.1) (G.told device) (G.told result.0) }
+    ensures ships { ShipsOnFile from (still (S.left site.old) (S.left site.new)) (status_of result.1) (G.told device) (G.told result.0) }
 
     // A crash at any moment leaves what opens as the device did.
-    ensures keeps { KeepsShipped (S.left site.old) (G.told device) (G.told result.0) }
+    ensures keeps { KeepsShipped (still (S.left site.old) (S.left site.new)) (G.told device) (G.told result.0) }
 
     // What is shipped has a site; the text that is refused is none, and the journal is refused for what its octets are.
-    ensures accepted { OnOk result.1 (IfSome (S.left site.old) (λ octets. IsOk (site_of octets))) }
-    ensures refuses_site { (fault : SiteFault) → result.1 ≡ Err (Status.SiteRefused fault) → RefusesFile (S.left site.old) fault }
-    ensures refuses_journal { (fault : Refusal) → result.1 ≡ Err (Status.JournalRefused fault) → RefusesJournal (S.left site.old) (G.told device) (G.told result.0) fault }
+    ensures accepted { OnOk result.1 (IfSome (still (S.left site.old) (S.left site.new)) (λ octets. IsOk (site_of octets))) }
+    ensures refuses_site { (fault : SiteFault) → result.1 ≡ Err (Status.SiteRefused fault) → RefusesFile (still (S.left site.old) (S.left site.new)) fault }
+    ensures refuses_journal { (fault : Refusal) → result.1 ≡ Err (Status.JournalRefused fault) → RefusesJournal (still (S.left site.old) (S.left site.new)) (G.told device) (G.told result.0) fault }
 
     // A device that is smaller than it must be is refused as such, or fails, whether it tells its octets or not.
     ensures small { (fault : Refusal) → result.1 ≡ Err (Status.JournalRefused fault) → IsSmall (G.size device) fault }
-    ensures below { RefusesSmall (G.size device) (S.left site.old) (status_of result.1) }
+    ensures below { RefusesSmall (G.size device) (still (S.left site.old) (S.left site.new)) (status_of result.1) }
 
     // With ReadFault the site's source failed, and nothing was done.
     ensures stops { result.1 ≡ Err Status.ReadFault → Rose (S.faults site.old) (S.faults site.new) × Adds (G.told device) (G.told result.0) [] }

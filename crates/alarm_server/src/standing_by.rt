@@ -3,7 +3,7 @@
 ghost use Rattle.std.specs.Prelude.{◌≡◌, ◌≢◌, ◌<◌, ◌≤◌, ⊤, ℕ, List, length, [], ◌∷◌, None, Ok, Err, OnOk, OnErr, IfErr, IfSome, IsErrOf};
 ghost use Rattle.std.specs.Io.KnownBytes.{IsAtEnd};
 ghost use Rattle.ground_io.specs.Counts.{HasCause, Rose};
-ghost use Rattle.ground_io.specs.Trace.{Adds, WhereTold};
+ghost use Rattle.ground_io.specs.Trace.{Adds, WhereTold, still};
 ghost use Rattle.ground_io.specs.declared.entry.Entry.TheVariants.{Synced};
 ghost use Rattle.script_lines.specs.PacketLine.{packet_says};
 ghost use Rattle.alarm_journal.specs.Press.{IsSmall};
@@ -50,16 +50,16 @@ fn follow_site<T: Source, G: Ground>(
     // Of each history that the device's octets stood for: the table's lines go on from its state; and of each sender of the
     // packets, what a crash may leave is what the follower may come to from there.
     ensures ends { (older : List Happening) → StoodFor (journal_of site.now text.now) site.now older (G.told device) (G.told result.0)
-        → IfSome (T.left script.old) (λ script. Follows Emits (status_of result.1) (state_of site.now older) script (G.told device) (G.told result.0)) }
+        → IfSome (still (T.left script.old) (T.left script.new)) (λ script. Follows Emits (status_of result.1) (state_of site.now older) script (G.told device) (G.told result.0)) }
     ensures keeps { (sender : Sender) (begun : List Happening) → StoodFor (journal_of site.now text.now) site.now begun (G.told device) (G.told result.0)
-        → IfSome (T.left script.old) (λ script. IsSent site.now sender begun script
+        → IfSome (still (T.left script.old) (T.left script.new)) (λ script. IsSent site.now sender begun script
         → KeepsFromSync (LeavesFollower (journal_of site.now text.now) site.now sender begun) (G.told device) (G.told result.0)) }
     ensures stops { (older : List Happening) → StoodFor (journal_of site.now text.now) site.now older (G.told device) (G.told result.0) → result.1 ≡ Err Status.ReadFault
         → WhereTold (T.left script.old) (T.left script.new) (λ text rest. StopsFollowing Emits (state_of site.now older) text rest (G.told device) (G.told result.0)) }
     ensures script_told { result.1 ≡ Err Status.ReadFault → WhereTold (T.left script.old) (T.left script.new) (λ text rest. ⊤) }
 
     // The journal's octets opened and lead to a state, from which the table's lines go on; or nothing went out.
-    ensures opened { IfSome (T.left script.old) (λ script. GoesOnFromSite (status_of result.1) text.now (Ok site.now) script (G.told device) (G.told result.0)) }
+    ensures opened { IfSome (still (T.left script.old) (T.left script.new)) (λ script. GoesOnFromSite (status_of result.1) text.now (Ok site.now) script (G.told device) (G.told result.0)) }
 
     // The journal is refused for what its octets are, and never where they stood for a history; then it was synced, nothing
     // else was done, and the script isn't read.
@@ -69,9 +69,9 @@ fn follow_site<T: Source, G: Ground>(
     ensures unplayed { (fault : Refusal) → result.1 ≡ Err (Status.JournalRefused fault) → script.new ≡ script.old }
     ensures stands { (history : List Happening) (fault : Refusal) → StoodFor (journal_of site.now text.now) site.now history (G.told device) (G.told result.0) → result.1 ≢ Err (Status.JournalRefused fault) }
     ensures to_end { OnOk result.1 (IsAtEnd (T.left script.new)) }
-    ensures accepted { OnOk result.1 (IfSome (T.left script.old) (λ text. refused_line packet_says text ≡ None)) }
+    ensures accepted { OnOk result.1 (IfSome (still (T.left script.old) (T.left script.new)) (λ text. refused_line packet_says text ≡ None)) }
     ensures refused { (line : ℕ) → result.1 ≡ Err (Status.ScriptRefused line) →
-        IfSome (T.left script.old) (λ text. refused_line packet_says text ≡ Some line) }
+        IfSome (still (T.left script.old) (T.left script.new)) (λ text. refused_line packet_says text ≡ Some line) }
     ensures fault { IfErr result.1 IsSessionFault }
     ensures size { G.size result.0 ≡ G.size device }
     ensures read_cause { HasCause (T.faults script.old) (T.faults script.new) (IsErrOf result.1 Status.ReadFault) }
@@ -95,37 +95,37 @@ pub fn stand_by<S: Source, T: Source, G: Ground>(
     device: G,
 ) -> (G, Result<(), Status>)
     // What went out: the table's lines from the state of a history of the journal's on, or a front of them, as the status says.
-    ensures ends { FollowsOnFile (status_of result.1) (S.left site.old) (T.left script.old) (G.told device) (G.told result.0) }
+    ensures ends { FollowsOnFile (status_of result.1) (still (S.left site.old) (S.left site.new)) (still (T.left script.old) (T.left script.new)) (G.told device) (G.told result.0) }
 
     // A crash at any moment leaves a history to which the leader's goes back, or, of packets that anybody sent and that bring
     // no snapshot, one that goes on from the one before; and it has all that was acknowledged by then.
-    ensures keeps { KeepsBehindFile (S.left site.old) (T.left script.old) (G.told device) (G.told result.0) }
+    ensures keeps { KeepsBehindFile (still (S.left site.old) (S.left site.new)) (still (T.left script.old) (T.left script.new)) (G.told device) (G.told result.0) }
 
     // The journal's octets opened and lead to a state, from which the table's lines go on; or nothing went out.
-    ensures opened { GoesOnFromFile (status_of result.1) (S.left site.old) (T.left script.old) (G.told device) (G.told result.0) }
+    ensures opened { GoesOnFromFile (status_of result.1) (still (S.left site.old) (S.left site.new)) (still (T.left script.old) (T.left script.new)) (G.told device) (G.told result.0) }
 
     // A standby that took its script to the end has a site, and no line that is refused.
     ensures to_end { OnOk result.1 (IsAtEnd (T.left script.new)) }
-    ensures accepted { OnOk result.1 (AcceptsPackets (S.left site.old) (T.left script.old)) }
+    ensures accepted { OnOk result.1 (AcceptsPackets (still (S.left site.old) (S.left site.new)) (still (T.left script.old) (T.left script.new))) }
 
     // The line that is refused is the first outside the grammar; the text that is refused is no site; and the journal is
     // refused for what its octets are.
     ensures refused { (line : ℕ) → result.1 ≡ Err (Status.ScriptRefused line) →
-        IfSome (T.left script.old) (λ text. refused_line packet_says text ≡ Some line) }
-    ensures refuses_site { (fault : SiteFault) → result.1 ≡ Err (Status.SiteRefused fault) → RefusesFile (S.left site.old) fault }
-    ensures refuses_journal { (fault : Refusal) → result.1 ≡ Err (Status.JournalRefused fault) → RefusesJournal (S.left site.old) (G.told device) (G.told result.0) fault }
+        IfSome (still (T.left script.old) (T.left script.new)) (λ text. refused_line packet_says text ≡ Some line) }
+    ensures refuses_site { (fault : SiteFault) → result.1 ≡ Err (Status.SiteRefused fault) → RefusesFile (still (S.left site.old) (S.left site.new)) fault }
+    ensures refuses_journal { (fault : Refusal) → result.1 ≡ Err (Status.JournalRefused fault) → RefusesJournal (still (S.left site.old) (S.left site.new)) (G.told device) (G.told result.0) fault }
 
     // A device that is smaller than it must be is refused as such, or fails, whether it tells its octets or not.
     ensures small { (fault : Refusal) → result.1 ≡ Err (Status.JournalRefused fault) → IsSmall (G.size device) fault }
-    ensures below { RefusesSmall (G.size device) (S.left site.old) (status_of result.1) }
+    ensures below { RefusesSmall (G.size device) (still (S.left site.old) (S.left site.new)) (status_of result.1) }
     ensures unplayed { (fault : Refusal) → result.1 ≡ Err (Status.JournalRefused fault) → script.new ≡ script.old }
-    ensures unread { IfSome (S.left site.old) (λ octets. OnErr (site_of octets) (script.new ≡ script.old)) }
+    ensures unread { IfSome (still (S.left site.old) (S.left site.new)) (λ octets. OnErr (site_of octets) (script.new ≡ script.old)) }
 
     // With ReadFault either the site's source failed and nothing else was done, or the script's failed.
     ensures stops { result.1 ≡ Err Status.ReadFault → StopsStandingBy
         ((script.new ≡ script.old) × Rose (S.faults site.old) (S.faults site.new))
         (Rose (T.faults script.old) (T.faults script.new))
-        (S.left site.old) (T.left script.old) (T.left script.new) (G.told device) (G.told result.0) }
+        (still (S.left site.old) (S.left site.new)) (T.left script.old) (T.left script.new) (G.told device) (G.told result.0) }
     ensures fault { IfErr result.1 IsFault }
     ensures size { G.size result.0 ≡ G.size device }
     ensures read_cause { HasCauseInEither (S.faults site.old) (S.faults site.new) (T.faults script.old) (T.faults script.new) (IsErrOf result.1 Status.ReadFault) }

@@ -1,7 +1,9 @@
 //! The text of a site is read from its source.
 
 ghost use Rattle.std.specs.Prelude.{◌≡◌, ◌<◌, ◌≤◌, ◌+◌, IfErr, IfOk, IfSome, IsErrOf, MatchBool, OnOk, length, take};
-ghost use Rattle.std.specs.Io.KnownBytes.{IsAtEnd, Keeps, prepend_known};
+ghost use Rattle.std.specs.Io.KnownBytes.{IsAtEnd, prepend_known};
+ghost use Rattle.ground_io.specs.Source.{Keeps};
+ghost use Rattle.ground_io.specs.Trace.{still};
 ghost use Rattle.ground_io.specs.Counts.{HasCause};
 ghost use Rattle.alarm_server.specs.Status.{IsTextFault};
 ghost use Rattle.alarm_server.specs.Text.{octets_read};
@@ -38,7 +40,7 @@ fn read_more<S: Source>(source: &mut S, text: &mut Vec<u8>, most: usize) -> Resu
 
 /// The octets of a source, to its end or as many as tell that it is too long for a site.
 pub fn read_text<S: Source>(alloc: Global, source: &mut S) -> Result<Vec<u8>, Status>
-    ensures text { IfOk result (λ text. IfSome (S.left source.old) (λ octets. text.items ≡ take octets_read octets)) }
+    ensures text { IfOk result (λ text. IfSome (still (S.left source.old) (S.left source.new)) (λ octets. text.items ≡ take octets_read octets)) }
     ensures fault { IfErr result IsTextFault }
     ensures cause { HasCause (S.faults source.old) (S.faults source.new) (IsErrOf result Status.ReadFault) }
     ensures uncounted { OnOk result (S.faults source.new ≡ S.faults source.old) }

@@ -8,7 +8,7 @@ ghost use Rattle.script_lines.specs.Report.{report_text};
 ghost use Rattle.alarm_server.specs.Stopping.{StopsReading};
 ghost use Rattle.std.specs.Io.KnownBytes.{IsAtEnd};
 ghost use Rattle.ground_io.specs.Counts.{HasCause};
-ghost use Rattle.ground_io.specs.Trace.{Adds, WhereTold};
+ghost use Rattle.ground_io.specs.Trace.{Adds, WhereTold, still};
 ghost use Rattle.script_lines.specs.Line.{IsTrialLine, line_says};
 ghost use Rattle.script_lines.specs.Script.{lines_of};
 ghost use Rattle.bac_values.specs.Moments.{IsMoment};
@@ -134,12 +134,12 @@ pub fn play<T: Source, G: Ground>(
     script: &mut T,
     device: &mut G,
 ) -> Result<(), Status>
-    ensures ends { IfSome (T.left script.old) (λ text.
+    ensures ends { IfSome (still (T.left script.old) (T.left script.new)) (λ text.
         Ends Adds report_text (status_of result) (report_over settings (lines_of text)) (G.told device.old) (G.told device.new)) }
     ensures to_end { OnOk result (IsAtEnd (T.left script.new)) }
-    ensures accepted { OnOk result (IfSome (T.left script.old) (λ text. refused_line (line_says Trial) text ≡ None)) }
+    ensures accepted { OnOk result (IfSome (still (T.left script.old) (T.left script.new)) (λ text. refused_line (line_says Trial) text ≡ None)) }
     ensures refused { (line : ℕ) → result ≡ Err (Status.ScriptRefused line) →
-        IfSome (T.left script.old) (λ text. refused_line (line_says Trial) text ≡ Some line) }
+        IfSome (still (T.left script.old) (T.left script.new)) (λ text. refused_line (line_says Trial) text ≡ Some line) }
     ensures stops { result ≡ Err Status.ReadFault → WhereTold (T.left script.old) (T.left script.new)
         (λ text rest. StopsReading Adds report_text (front_transitions settings) (line_says Trial) text rest (G.told device.old) (G.told device.new)) }
     ensures fault { IfErr result IsTrialFault }

@@ -90,7 +90,7 @@ impl<G: Ground, F: Flag> Ground for NotingGround<G, F> {
 
     fn read_at(&mut self, place: u64, into: &mut [u8]) -> Result<(), Failed>
         requires { place + length into.old ≤ G.size self.old.inner }
-        ensures octets { OnOk result (Reads (G.told self.old.inner) place into.new) }
+        ensures octets { OnOk result (Reads (G.told self.new.inner) place into.new) }
         ensures same { G.size self.new.inner ≡ G.size self.old.inner }
         ensures told { Adds (G.told self.old.inner) (G.told self.new.inner) [] }
         ensures cause { HasCause (G.disk_faults self.old.inner) (G.disk_faults self.new.inner) (IsErr result) }

@@ -6,7 +6,7 @@ use Rattle.ground_io.specs.Trace.{Told}
 use Rattle.turnstile.specs.Histories.{entries_under}
 use Rattle.turnstile.specs.Passes.{Identity, IsOf, Known, Sees, with_entry}
 use Rattle.turnstile.proofs.Counts.{under_append, under_same}
-use Rattle.turnstile.specs.declared.memo.Memo.{Memo}
+use Rattle.noted.specs.declared.noted.Noted.{Noted}
 use Rattle.alarm_core.specs.State.{CoreState}
 use Rattle.alarm_journal.specs.Press.{PressState}
 use Rattle.floor_desk.specs.declared.entry.Entry.{Entry}
@@ -140,7 +140,7 @@ module _ {G : Type 0} (told : G → Option Told) (size disk_faults emit_faults :
   mark_stays origin p q r upto e t a = ap (λ (k : K). k.mark) a.same ∙ ap (λ (k : K). k.mark) t.adds.same
 
   -- a commit whose press came back, and its mark
-  pub writes : (origin : CoreState × PressState G) (p q r s : K) (to upto : ℕ) (e : Entry G) (memo : Memo (PressState G)) → TakesPress told size disk_faults emit_faults origin p q to → MakesEntry told size disk_faults emit_faults origin q r e → e ≡ Returned upto memo → upto ≡ to
+  pub writes : (origin : CoreState × PressState G) (p q r s : K) (to upto : ℕ) (e : Entry G) (memo : Noted (PressState G)) → TakesPress told size disk_faults emit_faults origin p q to → MakesEntry told size disk_faults emit_faults origin q r e → e ≡ Returned upto memo → upto ≡ to
       → s ≡ record r { mark = max r.mark upto } → Leaves told size disk_faults emit_faults origin p s upto (Returned upto memo) (max p.mark upto)
   writes origin p q r s to upto e memo t a is same marked =
       let t' : TakesPress told size disk_faults emit_faults origin p q upto = subst (λ u. TakesPress told size disk_faults emit_faults origin p q u) (sym same) t in
@@ -148,7 +148,7 @@ module _ {G : Type 0} (told : G → Option Told) (size disk_faults emit_faults :
       leaves origin p q r s upto (Returned upto memo) (max p.mark upto) t' a' (marked ∙ ap (λ z. record r { mark = max z upto }) (mark_stays origin p q r upto (Returned upto memo) t' a'))
 
   -- a commit whose disk failed
-  pub fails : (origin : CoreState × PressState G) (p q r : K) (to upto : ℕ) (e : Entry G) (memo : Memo G) → TakesPress told size disk_faults emit_faults origin p q to → MakesEntry told size disk_faults emit_faults origin q r e → e ≡ Failed upto memo → upto ≡ to → Leaves told size disk_faults emit_faults origin p r upto (Failed upto memo) p.mark
+  pub fails : (origin : CoreState × PressState G) (p q r : K) (to upto : ℕ) (e : Entry G) (memo : Noted G) → TakesPress told size disk_faults emit_faults origin p q to → MakesEntry told size disk_faults emit_faults origin q r e → e ≡ Failed upto memo → upto ≡ to → Leaves told size disk_faults emit_faults origin p r upto (Failed upto memo) p.mark
   fails origin p q r to upto e memo t a is same =
       let t' : TakesPress told size disk_faults emit_faults origin p q upto = subst (λ u. TakesPress told size disk_faults emit_faults origin p q u) (sym same) t in
       let a' : MakesEntry told size disk_faults emit_faults origin q r (Failed upto memo) = subst (λ (x : Entry G). MakesEntry told size disk_faults emit_faults origin q r x) is a in

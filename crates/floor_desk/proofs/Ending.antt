@@ -2,7 +2,7 @@
 use Rattle.std.proofs.Common.{◌≡◌, ℕ, ◌+◌, ◌<◌, ◌^◌, List, [], ◌∷◌, ◌++◌, length, refl, sym, ap, ◌∙◌, subst, arith, append_assoc, length-append}
 use Rattle.std.specs.Prelude.{Option, Some, Err, Ok}
 use Rattle.ground_io.specs.Trace.{Told}
-use Rattle.turnstile.specs.declared.memo.Memo.{Memo}
+use Rattle.noted.specs.declared.noted.Noted.{Noted}
 use Rattle.alarm_core.specs.State.{CoreState}
 use Rattle.alarm_journal.specs.Press.{PressState}
 use Rattle.floor_desk.specs.declared.entry.Entry.{Entry}
@@ -82,7 +82,7 @@ module _ {G : Type 0} (told : G → Option Told) (size disk_faults emit_faults :
 
     pub settled_home : (press : PressState G) (upto lost : ℕ) → carried ≡ HomeAgain press upto lost → IsLastCommit told size disk_faults emit_faults old new h n (Ok upto)
     settled_home press upto lost home =
-        let memo : Memo (PressState G) = record { marker = record {}; value = press } in
+        let memo : Noted (PressState G) = record { marker = record {}; value = press } in
         let entry : Entry G = Returned upto memo in
         let tells : TellsCarried carried entry = subst (λ (c : Carried G). TellsCarried c entry) (sym home) (memo, refl, refl) in
         let event : upto ≡ load.upto = (subst (λ (c : Carried G). IsCarriedOut told size disk_faults emit_faults old.origin a load.upto (front_of a) c) home (does old.origin a lends.0)).0 in
@@ -95,7 +95,7 @@ module _ {G : Type 0} (told : G → Option Told) (size disk_faults emit_faults :
 
     pub settled_lost : (device : G) (upto : ℕ) → carried ≡ Gone device upto → IsLastCommit told size disk_faults emit_faults old new h n (Err commits.DiskFault)
     settled_lost device upto gone =
-        let memo : Memo G = record { marker = record {}; value = device } in
+        let memo : Noted G = record { marker = record {}; value = device } in
         let entry : Entry G = Failed upto memo in
         let tells : TellsCarried carried entry = subst (λ (c : Carried G). TellsCarried c entry) (sym gone) (memo, refl, refl) in
         let event : upto ≡ load.upto = (subst (λ (c : Carried G). IsCarriedOut told size disk_faults emit_faults old.origin a load.upto (front_of a) c) gone (does old.origin a lends.0)).0 in

@@ -6,7 +6,7 @@ use Rattle.std.proofs.lemmas.List.{drop_all, take_all}
 use Rattle.std.proofs.lemmas.List.Elements.{All-nil}
 use Rattle.ground_io.specs.Trace.{Told}
 use Rattle.bac_values.specs.declared.input.Input.{Input}
-use Rattle.turnstile.specs.declared.memo.Memo.{Memo}
+use Rattle.noted.specs.declared.noted.Noted.{Noted}
 use Rattle.alarm_core.specs.Fits.{FitsEvent}
 use Rattle.alarm_core.specs.State.{CoreState}
 use Rattle.alarm_journal.specs.Press.{PressState, room_of}
@@ -86,7 +86,7 @@ module _ {G : Type 0} (told : G → Option Told) (size disk_faults emit_faults :
       subst (λ (f : FloorState G). ShowsAccount told size disk_faults emit_faults f (accepted a answer)) (sym is) (shows_accepted told size disk_faults emit_faults old a answer may s)
 
   -- the entry of an input that was taken
-  ticket_follows : (origin : CoreState × PressState G) (a : Account G) (n moment : ℕ) (input : Memo Input) (answer : Answer) → answer ≡ answer_to a.state input.value moment → IsOpen a → (ticket : Ticket) → IsTicketOf a.state.events answer ticket
+  ticket_follows : (origin : CoreState × PressState G) (a : Account G) (n moment : ℕ) (input : Noted Input) (answer : Answer) → answer ≡ answer_to a.state input.value moment → IsOpen a → (ticket : Ticket) → IsTicketOf a.state.events answer ticket
       → MayComeNext told size disk_faults emit_faults origin a n (entry_for input moment (Ok ticket)) × (step a n (entry_for input moment (Ok ticket)) ≡ accepted a answer)
   ticket_follows origin a n moment input (Entered event reply) is opened ticket of =
       subst (λ (t : Ticket). MayComeNext told size disk_faults emit_faults origin a n (entry_for input moment (Ok t)) × (step a n (entry_for input moment (Ok t)) ≡ accepted a (Entered event reply))) (sym of)
@@ -110,7 +110,7 @@ module _ {G : Type 0} (told : G → Option Told) (size disk_faults emit_faults :
       ((opened, ap (λ (x : Answer). ticket_for a.state.events x) (sym is)), ap (λ (x : Answer). accepted a x) (sym is))
 
   -- what came of an input that was looked at
-  pub comes : (old new : FloorState G) (h : List (ℕ × Entry G)) (n moment : ℕ) (input : Memo Input) (result : Result Ticket EnterFault) → new.origin ≡ old.origin → FloorStands told size disk_faults emit_faults old h → IsReady old
+  pub comes : (old new : FloorState G) (h : List (ℕ × Entry G)) (n moment : ℕ) (input : Noted Input) (result : Result Ticket EnterFault) → new.origin ≡ old.origin → FloorStands told size disk_faults emit_faults old h → IsReady old
       → CameOf old new (answer_to old.core input.value moment) result → FloorStands told size disk_faults emit_faults new (h ++ (n, entry_for input moment result) ∷ [])
   comes old new h n moment input (Ok ticket) same f ready came =
       let a : Account G = account old.origin h in
@@ -143,7 +143,7 @@ module _ {G : Type 0} (told : G → Option Told) (size disk_faults emit_faults :
   broken_at origin a lost spot device at is here = (subst (λ (s : Spot G). Stands told size disk_faults emit_faults origin a lost s) is here).1
 
   -- an input that isn't looked at
-  pub refuses : (floor : FloorState G) (h : List (ℕ × Entry G)) (n moment : ℕ) (input : Memo Input) (fault : EnterFault) → FloorStands told size disk_faults emit_faults floor h → Refuses floor fault → FloorStands told size disk_faults emit_faults floor (h ++ (n, entry_for input moment (Err fault)) ∷ [])
+  pub refuses : (floor : FloorState G) (h : List (ℕ × Entry G)) (n moment : ℕ) (input : Noted Input) (fault : EnterFault) → FloorStands told size disk_faults emit_faults floor h → Refuses floor fault → FloorStands told size disk_faults emit_faults floor (h ++ (n, entry_for input moment (Err fault)) ∷ [])
   refuses floor h n moment input (enters.Stopped at) f why =
       let a : Account G = account floor.origin h in
       follows floor floor h n (Looked (Tried input moment (Err (enters.Stopped at)))) refl f (broken_at floor.origin a floor.lost floor.spot why.0 at why.1 f.shows.spot) (shows_looked told size disk_faults emit_faults floor a f.shows)
@@ -284,7 +284,7 @@ module _ {G : Type 0} (told : G → Option Told) (size disk_faults emit_faults :
   is_out floor a l (Broken device place) s out = absurd (no_loan a.loan l s.0 out)
 
   -- home, with what the load was to write
-  pub brings : (old new : FloorState G) (h : List (ℕ × Entry G)) (loan : Loan) (press : PressState G) (memo : Memo (PressState G)) (at to event more : ℕ) → memo.value ≡ press → old.spot ≡ Out at to
+  pub brings : (old new : FloorState G) (h : List (ℕ × Entry G)) (loan : Loan) (press : PressState G) (memo : Noted (PressState G)) (at to event more : ℕ) → memo.value ≡ press → old.spot ≡ Out at to
       → new ≡ record old { spot = Home press; durable = event; lost = capped (old.lost + more) } → FloorStands told size disk_faults emit_faults old h → (account old.origin h).loan ≡ Some loan
       → IsCarriedOut told size disk_faults emit_faults old.origin (account old.origin h) loan.upto (account old.origin h).taken (HomeAgain press event more) → FloorStands told size disk_faults emit_faults new (h ++ (loan.number, Returned event memo) ∷ [])
   brings old new h loan press memo at to event more shows away is f out carried =
@@ -327,7 +327,7 @@ module _ {G : Type 0} (told : G → Option Told) (size disk_faults emit_faults :
       }))
 
   -- lost, with nothing sent
-  pub breaks : (old new : FloorState G) (h : List (ℕ × Entry G)) (loan : Loan) (device : G) (memo : Memo G) (at to place event durable : ℕ) → memo.value ≡ device → old.spot ≡ Out at to → durable ≡ old.durable → new ≡ record old { spot = Broken device place; durable = durable; lost = capped (old.lost + 0) } → place ≡ length h + 1
+  pub breaks : (old new : FloorState G) (h : List (ℕ × Entry G)) (loan : Loan) (device : G) (memo : Noted G) (at to place event durable : ℕ) → memo.value ≡ device → old.spot ≡ Out at to → durable ≡ old.durable → new ≡ record old { spot = Broken device place; durable = durable; lost = capped (old.lost + 0) } → place ≡ length h + 1
       → FloorStands told size disk_faults emit_faults old h → (account old.origin h).loan ≡ Some loan
       → IsCarriedOut told size disk_faults emit_faults old.origin (account old.origin h) loan.upto (account old.origin h).taken (Gone device event) → FloorStands told size disk_faults emit_faults new (h ++ (loan.number, Failed event memo) ∷ [])
   breaks old new h loan device memo at to place event durable left away written is here_at f out carried =

@@ -53,8 +53,8 @@ take_cut n m xs is = dite (dec_le (length xs) m)
 
 -- what came over a link is its next datagram
 pub next_of : (E : Type 0) (old new : Option (List Send)) (peer : PeerData) (count : ℕ) (before after : List ℕ) → length before ≡ most_datagram_octets → Receives {E = E} old new (Ok (Datagram peer count)) before after → IsNext old new (Entered peer (take count after))
-next_of E None new peer count before after long r = tt
-next_of E (Some old) None peer count before after long r = absurd r
+next_of E old None peer count before after long r = tt
+next_of E None (Some new) peer count before after long r = absurd r
 next_of E (Some []) (Some new) peer count before after long r = absurd r
 next_of E (Some (first ∷ rest)) (Some new) peer count before after long r =
     let cut = r.1 in
@@ -94,15 +94,15 @@ told_next o (first ∷ rest) n attempts one taken next =
     )
 
 pub taken_more : (old mid new : Option (List Send)) (attempts : List Attempt) (one : Attempt) → AreTaken old mid attempts → IsNext mid new one.input → AreTaken old new (attempts ++ one ∷ [])
-taken_more None mid new attempts one taken next = tt
-taken_more (Some o) None new attempts one taken next = absurd taken
-taken_more (Some o) (Some m) None attempts one taken next = absurd next
+taken_more old mid None attempts one taken next = tt
+taken_more old None (Some n) attempts one taken next = absurd next
+taken_more None (Some m) (Some n) attempts one taken next = absurd taken
 taken_more (Some o) (Some m) (Some n) attempts one taken next = told_next o m n attempts one taken next
 
 taken_still : (old mid new : Option (List Send)) (attempts : List Attempt) → AreTaken old mid attempts → StaysLeft mid new → AreTaken old new attempts
-taken_still None mid new attempts taken stays = tt
-taken_still (Some o) None new attempts taken stays = absurd taken
-taken_still (Some o) (Some m) None attempts taken stays = absurd stays
+taken_still old mid None attempts taken stays = tt
+taken_still old None (Some n) attempts taken stays = absurd stays
+taken_still None (Some m) (Some n) attempts taken stays = absurd taken
 taken_still (Some o) (Some m) (Some n) attempts taken stays = (taken.0, stays ∙ taken.1)
 
 taken_none : (old : Option (List Send)) → AreTaken old old []

@@ -8,7 +8,7 @@ use Rattle.bac_values.specs.declared.input.Input.{Input}
 use Rattle.bac_values.specs.declared.input.Input.TheVariants.{Tick, Pump}
 use Rattle.ground_io.specs.Trace.{Told}
 use Rattle.turnstile.specs.Passes.{Known}
-use Rattle.turnstile.specs.declared.memo.Memo.{Memo}
+use Rattle.noted.specs.declared.noted.Noted.{Noted}
 use Rattle.alarm_core.specs.State.{CoreState}
 use Rattle.alarm_journal.specs.Press.{PressState}
 use Rattle.floor_desk.specs.declared.entry.Entry.{Entry}
@@ -41,7 +41,7 @@ module _ {G : Type 0} where
       }
 
   -- a Tick and then a Pump
-  pub ticked_once : (told : G → Option Told) (size disk_faults emit_faults : G → ℕ) (origin : CoreState × PressState G) (shows : ℕ → Type 0) (p q r : Known (Entry G) (CoreState × PressState G)) (one two : Memo Input) (early late : ℕ) (first second : Result Ticket EnterFault) → one.value ≡ Tick → shows early → MakesEntry told size disk_faults emit_faults origin p q (entry_for one early first)
+  pub ticked_once : (told : G → Option Told) (size disk_faults emit_faults : G → ℕ) (origin : CoreState × PressState G) (shows : ℕ → Type 0) (p q r : Known (Entry G) (CoreState × PressState G)) (one two : Noted Input) (early late : ℕ) (first second : Result Ticket EnterFault) → one.value ≡ Tick → shows early → MakesEntry told size disk_faults emit_faults origin p q (entry_for one early first)
       → two.value ≡ Pump → shows late → MakesEntry told size disk_faults emit_faults origin q r (entry_for two late second) → HasTicked shows p r
   ticked_once told size disk_faults emit_faults origin shows p q r one two early late first second is_tick shown adds is_pump shown' adds' =
       let S : Try → Type 0 = λ (t : Try). shows t.moment in

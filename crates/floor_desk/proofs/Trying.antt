@@ -7,7 +7,7 @@ use Rattle.std.specs.List.{All}
 use Rattle.bac_values.specs.declared.input.Input.{Input}
 use Rattle.ground_io.specs.Trace.{Told}
 use Rattle.turnstile.specs.Passes.{Known}
-use Rattle.turnstile.specs.declared.memo.Memo.{Memo}
+use Rattle.noted.specs.declared.noted.Noted.{Noted}
 use Rattle.alarm_core.specs.State.{CoreState}
 use Rattle.alarm_journal.specs.Press.{PressState}
 use Rattle.floor_desk.specs.declared.entry.Entry.{Entry}
@@ -65,7 +65,7 @@ module _ {G : Type 0} where
     moment : shows one.moment
     part : IsPart e
 
-  one_of : (shows : ℕ → Type 0) (memo : Memo Input) (moment : ℕ) (answer : Result Ticket EnterFault) → shows moment → IsOne shows memo.value answer (entry_for memo moment answer)
+  one_of : (shows : ℕ → Type 0) (memo : Noted Input) (moment : ℕ) (answer : Result Ticket EnterFault) → shows moment → IsOne shows memo.value answer (entry_for memo moment answer)
   one_of shows memo moment answer shown = record {
     one = record { input = memo.value; moment = moment; answer = answer };
     is = tried_of (entry_for memo moment answer) memo moment answer refl;
@@ -84,7 +84,7 @@ module _ {G : Type 0} where
       subst (λ z. All P z) (sym (tries_snoc es e one is)) (All-append P (tries_in es) (one ∷ []) all (All-cons P one [] shown (All-nil P)))
 
   -- the last try, to which no commit had to come first
-  pub tried_now : (told : G → Option Told) (size disk_faults emit_faults : G → ℕ) (origin : CoreState × PressState G) (shows : ℕ → Type 0) (p q r : Known (Entry G) (CoreState × PressState G)) (input : Input) (memo : Memo Input) (moment : ℕ) (answer : Result Ticket EnterFault) → HasTurnedBack shows p q input → memo.value ≡ input → shows moment
+  pub tried_now : (told : G → Option Told) (size disk_faults emit_faults : G → ℕ) (origin : CoreState × PressState G) (shows : ℕ → Type 0) (p q r : Known (Entry G) (CoreState × PressState G)) (input : Input) (memo : Noted Input) (moment : ℕ) (answer : Result Ticket EnterFault) → HasTurnedBack shows p q input → memo.value ≡ input → shows moment
       → MakesEntry told size disk_faults emit_faults origin q r (entry_for memo moment answer) → (IsAnsweredBehind answer → ⊥) → HasTried shows p r input answer
   tried_now told size disk_faults emit_faults origin shows p q r input memo moment answer t is shown a not =
       let e : Entry G = entry_for memo moment answer in let o = one_of shows memo moment answer shown in record {
@@ -97,7 +97,7 @@ module _ {G : Type 0} where
       }
 
   -- a try to which a commit had to come first
-  pub turned_now : (told : G → Option Told) (size disk_faults emit_faults : G → ℕ) (origin : CoreState × PressState G) (shows : ℕ → Type 0) (p q r : Known (Entry G) (CoreState × PressState G)) (input : Input) (memo : Memo Input) (moment : ℕ) (answer : Result Ticket EnterFault) → HasTurnedBack shows p q input → memo.value ≡ input → shows moment
+  pub turned_now : (told : G → Option Told) (size disk_faults emit_faults : G → ℕ) (origin : CoreState × PressState G) (shows : ℕ → Type 0) (p q r : Known (Entry G) (CoreState × PressState G)) (input : Input) (memo : Noted Input) (moment : ℕ) (answer : Result Ticket EnterFault) → HasTurnedBack shows p q input → memo.value ≡ input → shows moment
       → MakesEntry told size disk_faults emit_faults origin q r (entry_for memo moment answer) → IsAnsweredBehind answer → HasTurnedBack shows p r input
   turned_now told size disk_faults emit_faults origin shows p q r input memo moment answer t is shown a behind =
       let e : Entry G = entry_for memo moment answer in let o = one_of shows memo moment answer shown in
@@ -125,7 +125,7 @@ module _ {G : Type 0} where
       }
 
   -- the last try, to which a commit had to come first that found no memory
-  pub tried_none : (told : G → Option Told) (size disk_faults emit_faults : G → ℕ) (origin : CoreState × PressState G) (shows : ℕ → Type 0) (p q r s : Known (Entry G) (CoreState × PressState G)) (input : Input) (memo : Memo Input) (moment : ℕ) (answer : Result Ticket EnterFault) → HasTurnedBack shows p q input → memo.value ≡ input → shows moment
+  pub tried_none : (told : G → Option Told) (size disk_faults emit_faults : G → ℕ) (origin : CoreState × PressState G) (shows : ℕ → Type 0) (p q r s : Known (Entry G) (CoreState × PressState G)) (input : Input) (memo : Noted Input) (moment : ℕ) (answer : Result Ticket EnterFault) → HasTurnedBack shows p q input → memo.value ≡ input → shows moment
       → MakesEntry told size disk_faults emit_faults origin q r (entry_for memo moment answer) → MakesEntry told size disk_faults emit_faults origin r s (Looked (Refused commits.NoMemory)) → HasTried shows p s input answer
   tried_none told size disk_faults emit_faults origin shows p q r s input memo moment answer t is shown a b =
       let e : Entry G = entry_for memo moment answer in let o = one_of shows memo moment answer shown in

@@ -9,7 +9,7 @@ use Rattle.std.specs.List.{All}
 use Rattle.bac_values.specs.declared.input.Input.{Input}
 use Rattle.ground_io.specs.Trace.{Told}
 use Rattle.turnstile.specs.Passes.{Known}
-use Rattle.turnstile.specs.declared.memo.Memo.{Memo}
+use Rattle.noted.specs.declared.noted.Noted.{Noted}
 use Rattle.alarm_core.specs.State.{CoreState}
 use Rattle.alarm_journal.specs.Press.{PressState}
 use Rattle.floor_desk.specs.declared.entry.Entry.{Entry}
@@ -68,7 +68,7 @@ module _ {G : Type 0} where
   no_tries [] all = refl
   no_tries (e ∷ es) all = ap (λ z. z ++ tries_in es) (quiet_commit e (All-head IsOfCommit e es all)) ∙ no_tries es (All-tail IsOfCommit e es all)
 
-  by_kind : (e : Entry G) (memo : Memo Input) (moment number : ℕ) (kind : Kind) → e ≡ entry_by memo moment number kind → tried_by e ≡ record { input = memo.value; moment = moment; answer = Ok record { number = number; kind = kind } } ∷ []
+  by_kind : (e : Entry G) (memo : Noted Input) (moment number : ℕ) (kind : Kind) → e ≡ entry_by memo moment number kind → tried_by e ≡ record { input = memo.value; moment = moment; answer = Ok record { number = number; kind = kind } } ∷ []
   by_kind e memo moment number kinds.Entered is = ap tried_by is
   by_kind e memo moment number kinds.Idle is = ap tried_by is
   by_kind e memo moment number kinds.Ignored is = ap tried_by is
@@ -76,18 +76,18 @@ module _ {G : Type 0} where
   by_kind e memo moment number (kinds.Refused why) is = ap tried_by is
 
   -- the entry of an input tells what was tried
-  pub tried_of : (e : Entry G) (memo : Memo Input) (moment : ℕ) (answer : Result Ticket EnterFault) → e ≡ entry_for memo moment answer → tried_by e ≡ record { input = memo.value; moment = moment; answer = answer } ∷ []
+  pub tried_of : (e : Entry G) (memo : Noted Input) (moment : ℕ) (answer : Result Ticket EnterFault) → e ≡ entry_for memo moment answer → tried_by e ≡ record { input = memo.value; moment = moment; answer = answer } ∷ []
   tried_of e memo moment (Err fault) is = ap tried_by is
   tried_of e memo moment (Ok ticket) is = by_kind e memo moment ticket.number ticket.kind is
 
-  input_kind : (e : Entry G) (memo : Memo Input) (moment number : ℕ) (kind : Kind) → e ≡ entry_by memo moment number kind → IsOfInput e
+  input_kind : (e : Entry G) (memo : Noted Input) (moment number : ℕ) (kind : Kind) → e ≡ entry_by memo moment number kind → IsOfInput e
   input_kind e memo moment number kinds.Entered is = subst IsOfInput (sym is) tt
   input_kind e memo moment number kinds.Idle is = subst IsOfInput (sym is) tt
   input_kind e memo moment number kinds.Ignored is = subst IsOfInput (sym is) tt
   input_kind e memo moment number kinds.Replied is = subst IsOfInput (sym is) tt
   input_kind e memo moment number (kinds.Refused why) is = subst IsOfInput (sym is) tt
 
-  pub is_of_input : (e : Entry G) (memo : Memo Input) (moment : ℕ) (answer : Result Ticket EnterFault) → e ≡ entry_for memo moment answer → IsOfInput e
+  pub is_of_input : (e : Entry G) (memo : Noted Input) (moment : ℕ) (answer : Result Ticket EnterFault) → e ≡ entry_for memo moment answer → IsOfInput e
   is_of_input e memo moment (Err fault) is = subst IsOfInput (sym is) tt
   is_of_input e memo moment (Ok ticket) is = input_kind e memo moment ticket.number ticket.kind is
 

@@ -7,7 +7,7 @@ use Rattle.bac_values.specs.declared.note.Send.{Send}
 use Rattle.alarm_core.specs.declared.event.Event.{Event}
 use Rattle.alarm_core.specs.State.{CoreState}
 use Rattle.alarm_journal.specs.Press.{PressState}
-use Rattle.turnstile.specs.declared.memo.Memo.{Memo}
+use Rattle.noted.specs.declared.noted.Noted.{Noted}
 use Rattle.service_desk.specs.Answers.{Answer, Entered, Full, Refused, Replied, Unchanged, Ignored, answer_to, dues_of, event_of, state_behind}
 use Rattle.state_codec.specs.Contents.{records_of}
 use Rattle.floor_desk.specs.declared.entry.Entry.{Entry}
@@ -197,11 +197,11 @@ module _ {G : Type 0} where
 
 module _ {G : Type 0} where
   -- the entry of an input that was tried: an event, where its ticket says so
-  abbrev pub entry_by : Memo Input → ℕ → ℕ → Kind → Entry G
+  abbrev pub entry_by : Noted Input → ℕ → ℕ → Kind → Entry G
   entry_by input moment number kinds.Entered = Happened input moment record { number = number; kind = kinds.Entered }
   entry_by input moment number kind = Looked (Tried input moment (Ok record { number = number; kind = kind }))
 
-  abbrev pub entry_for : Memo Input → ℕ → Result Ticket EnterFault → Entry G
+  abbrev pub entry_for : Noted Input → ℕ → Result Ticket EnterFault → Entry G
   entry_for input moment (Ok ticket) = entry_by input moment ticket.number ticket.kind
   entry_for input moment (Err fault) = Looked (Tried input moment (Err fault))
 

@@ -5,7 +5,7 @@ use Rattle.ground_io.specs.Disk.{Always}
 use Rattle.ground_io.specs.Trace.{Told, Adds, disk_of}
 use Rattle.ground_io.specs.declared.entry.Entry.{Entry as GroundEntry}
 use Rattle.bac_values.specs.declared.note.Send.{Send}
-use Rattle.turnstile.specs.declared.memo.Memo.{Memo}
+use Rattle.noted.specs.declared.noted.Noted.{Noted}
 use Rattle.alarm_core.specs.Allowed.{Represents}
 use Rattle.alarm_core.specs.State.{CoreState}
 use Rattle.alarm_core.specs.declared.event.Event.{Event}
@@ -36,8 +36,8 @@ module _ {G : Type 0} where
 
   -- the entry tells of what came back
   abbrev pub TellsCarried : Carried G → Entry G → Type 0
-  TellsCarried (Home press upto more) entry = (memo : Memo (PressState G)) × (memo.value ≡ press) × (entry ≡ Returned upto memo)
-  TellsCarried (Broken device upto) entry = (memo : Memo G) × (memo.value ≡ device) × (entry ≡ Failed upto memo)
+  TellsCarried (Home press upto more) entry = (memo : Noted (PressState G)) × (memo.value ≡ press) × (entry ≡ Returned upto memo)
+  TellsCarried (Broken device upto) entry = (memo : Noted G) × (memo.value ≡ device) × (entry ≡ Failed upto memo)
 
 module _ {G : Type 0} (told : G → Option Told) where
   -- a load leaves at the end of a history: with the press, which was at home as it last came back, and with all that was pending

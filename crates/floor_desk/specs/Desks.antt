@@ -3,7 +3,7 @@ use Rattle.std.specs.Prelude.{◌≡◌, ◌≢◌, ◌<◌, ◌≤◌, ℕ, Lis
 use Rattle.ground_io.specs.Trace.{Told}
 use Rattle.turnstile.specs.Histories.{StartsWith, entries_under}
 use Rattle.turnstile.specs.Passes.{Known}
-use Rattle.turnstile.specs.declared.memo.Memo.{Memo}
+use Rattle.noted.specs.declared.noted.Noted.{Noted}
 use Rattle.alarm_core.specs.State.{CoreState}
 use Rattle.alarm_journal.specs.Press.{PressState}
 use Rattle.floor_desk.specs.declared.desk.Standing.{Standing}
@@ -54,8 +54,8 @@ module _ {G : Type 0} (told : G → Option Told) (size disk_faults emit_faults :
 
   -- what a commit has done: all events were written that there were as the press left, and the mark is no lower; or the disk failed; or the commit was refused
   abbrev pub HasCommitted : Known (Entry G) (CoreState × PressState G) → Known (Entry G) (CoreState × PressState G) → Result ℕ CommitFault → Type 0
-  HasCommitted p q (Ok upto) = (memo : Memo (PressState G)) × Leaves p q upto (Returned upto memo) (max p.mark upto)
-  HasCommitted p q (Err commits.DiskFault) = (upto : ℕ) × (memo : Memo G) × Leaves p q upto (Failed upto memo) p.mark
+  HasCommitted p q (Ok upto) = (memo : Noted (PressState G)) × Leaves p q upto (Returned upto memo) (max p.mark upto)
+  HasCommitted p q (Err commits.DiskFault) = (upto : ℕ) × (memo : Noted G) × Leaves p q upto (Failed upto memo) p.mark
   HasCommitted p q (Err fault) = MakesEntry p q (Looked (Refused fault))
 
 module _ {G : Type 0} where

@@ -2,7 +2,7 @@
 use Rattle.std.specs.Prelude.{◌≡◌, ℕ, ◌+◌, List, [], ◌∷◌, ◌++◌, length, Option, Result, Ok, Err}
 use Rattle.ground_io.specs.Trace.{Told}
 use Rattle.turnstile.specs.Passes.{Known, Sees}
-use Rattle.turnstile.specs.declared.memo.Memo.{Memo}
+use Rattle.noted.specs.declared.noted.Noted.{Noted}
 use Rattle.alarm_core.specs.State.{CoreState}
 use Rattle.alarm_journal.specs.Press.{PressState}
 use Rattle.floor_desk.specs.declared.entry.Entry.{Entry}
@@ -19,8 +19,8 @@ use Rattle.floor_desk.specs.States.{FloorState}
 module _ {G : Type 0} where
   -- the entries of a commit on a closed floor, under a number, by what it answers: the press left with all events, and came back with them written; or it left, and was lost; or the commit was refused, and no press was out
   abbrev pub AreOfCommit : Account G → ℕ → List (ℕ × Entry G) → Result ℕ CommitFault → Type 0
-  AreOfCommit a n entries (Ok upto) = (upto ≡ a.state.events) × (memo : Memo (PressState G)) × (entries ≡ (n, Taken upto) ∷ (n, Returned upto memo) ∷ [])
-  AreOfCommit a n entries (Err commits.DiskFault) = (upto : ℕ) × (upto ≡ a.state.events) × (memo : Memo G) × (entries ≡ (n, Taken upto) ∷ (n, Failed upto memo) ∷ [])
+  AreOfCommit a n entries (Ok upto) = (upto ≡ a.state.events) × (memo : Noted (PressState G)) × (entries ≡ (n, Taken upto) ∷ (n, Returned upto memo) ∷ [])
+  AreOfCommit a n entries (Err commits.DiskFault) = (upto : ℕ) × (upto ≡ a.state.events) × (memo : Noted G) × (entries ≡ (n, Taken upto) ∷ (n, Failed upto memo) ∷ [])
   AreOfCommit a n entries (Err (commits.Busy at upto)) = ⊥
   AreOfCommit a n entries (Err fault) = entries ≡ (n, Looked (Refused fault)) ∷ []
 

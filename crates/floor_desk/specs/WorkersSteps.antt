@@ -18,8 +18,8 @@ use Rattle.floor_desk.specs.Workers.{AreShown, MadeEntries, input_of}
 
 -- the first datagram of a link was taken, and this is the input that it is; where the link tells
 abbrev pub IsNext : Option (List Send) → Option (List Send) → Input → Type 0
-IsNext None new input = ⊤
-IsNext (Some old) None input = ⊥
+IsNext old None input = ⊤
+IsNext None (Some new) input = ⊥
 IsNext (Some []) (Some new) input = ⊥
 IsNext (Some (first ∷ rest)) (Some new) input = (new ≡ rest) × (input ≡ input_of first)
 

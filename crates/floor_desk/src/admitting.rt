@@ -6,7 +6,7 @@ ghost use Rattle.bac_values.specs.Limits.{most_batch_octets, most_pending_calls}
 ghost use Rattle.bac_values.specs.Moments.{IsMoment};
 ghost use Rattle.bac_values.specs.declared.input.Input.{Input as Entered};
 ghost use Rattle.bac_values.specs.declared.note.Send.{Send as Datagram};
-ghost use Rattle.turnstile.specs.declared.memo.Memo.{Memo as Kept};
+ghost use Rattle.noted.specs.declared.noted.Noted.{Noted as Kept};
 ghost use Rattle.alarm_core.specs.Allowed.{IsAllowed};
 ghost use Rattle.alarm_core.specs.Fits.{FitsEvent};
 ghost use Rattle.alarm_core.specs.History.{raised};

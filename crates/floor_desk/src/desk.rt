@@ -8,7 +8,7 @@ ghost use Rattle.bac_values.specs.Moments.{IsMoment};
 ghost use Rattle.bac_values.specs.declared.input.Input.{Input as Entered};
 ghost use Rattle.turnstile.specs.Histories.{times};
 ghost use Rattle.turnstile.specs.Passes.{IsNewFrom, IsOf, Joins, all_calls, first_pass};
-ghost use Rattle.turnstile.specs.declared.memo.Memo.{Memo as Kept};
+ghost use Rattle.noted.specs.declared.noted.Noted.{Noted as Kept};
 ghost use Rattle.alarm_core.specs.Allowed.{Represents};
 ghost use Rattle.alarm_core.specs.Sites.{IsSite};
 ghost use Rattle.alarm_core.specs.declared.event.Event.{Event as Happening};
@@ -41,7 +41,7 @@ use state_codec::open_journal;
 use std::alloc::Global;
 use std::marker::Model;
 use std::sync::Wait;
-use turnstile::{Memo, NoMemory, Pass, Turnstile};
+use turnstile::{NoMemory, Pass, Turnstile, noted_of};
 
 /// What one caller of a desk knows.
 pub type DeskPass<G> = Pass<Entry<G>, (Core, Press<G>)>;
@@ -191,7 +191,7 @@ impl<G: Ground> Desk<G> {
         ensures here { IsOf self.now result.0 }
         ensures entered { (memo : Kept Entered) × (memo.value ≡ input.now) × MakesEntry G.told G.size G.disk_faults G.emit_faults self.now.origin pass result.0 (entry_for memo moment result.1) }
     {
-        let memo = Memo::of(input);
+        let memo = noted_of(input);
         let mut turn = self.turnstile.take(rt, pass);
         let answer = turn.value.admit(alloc, moment, input);
         let entry = Entry::of(memo, moment, answer);

@@ -7,7 +7,7 @@ use crate::faults::{CommitFault, EnterFault};
 use alarm_journal::Press;
 use bac_values::{Input, SetFault};
 use ground_io::Ground;
-use turnstile::Memo;
+use noted::Noted;
 
 /// What became of an input that was taken.
 #[derive(Clone, Copy, Debug, PartialEq, Eq, Drop)]
@@ -42,7 +42,7 @@ pub enum Look {
     /// An input was tried. It is no event, or it wasn't taken.
     Tried {
         /// The input.
-        input: Memo<Input>,
+        input: Noted<Input>,
         /// When it came.
         moment: u64,
         /// What was answered.
@@ -60,7 +60,7 @@ pub enum Entry<G: Ground> {
     /// An event was entered.
     Event {
         /// The input.
-        input: Memo<Input>,
+        input: Noted<Input>,
         /// When it came.
         moment: u64,
         /// What was answered.
@@ -78,21 +78,21 @@ pub enum Entry<G: Ground> {
         /// It has written the events up to this number.
         upto: u64,
         /// The press as it came back.
-        press: Memo<Press<G>>,
+        press: Noted<Press<G>>,
     },
     /// The press is gone: its disk failed.
     Failed {
         /// It was to write the events up to this number.
         upto: u64,
         /// What is left of it.
-        device: Memo<G>,
+        device: Noted<G>,
     },
 }
 
 impl<G: Ground> Entry<G> {
     // The entry of an input that was tried: an event, where its ticket says so.
     pub(crate) fn of(
-        input: Memo<Input>,
+        input: Noted<Input>,
         moment: u64,
         answer: Result<Ticket, EnterFault>,
     ) -> Entry<G>

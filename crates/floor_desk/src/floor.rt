@@ -10,9 +10,10 @@ use crate::pending::Pending;
 use alarm_core::Core;
 use alarm_journal::Press;
 use ground_io::Ground;
+use noted::Noted;
 use std::alloc::Global;
 use std::marker::Model;
-use turnstile::Memo;
+use turnstile::noted_of;
 
 /// Where the press is.
 #[derive(Drop)]
@@ -44,7 +45,7 @@ pub struct Floor<G: Ground> {
     pub(crate) durable: u64,
     pub(crate) spot: Spot<G>,
     next: u64,
-    opened: (Memo<Core>, Memo<Press<G>>),
+    opened: (Noted<Core>, Noted<Press<G>>),
 }
 
 impl<G: Ground> Model for Floor<G> {
@@ -92,7 +93,7 @@ impl<G: Ground> Floor<G> {
         ensures origin { result.origin ≡ (core, press) }
         ensures home { (result.core ≡ core) × (result.spot ≡ Home press) }
     {
-        let opened = (Memo::of(&core), Memo::of(&press));
+        let opened = (noted_of(&core), noted_of(&press));
         let durable = core.events();
         Floor {
             core,

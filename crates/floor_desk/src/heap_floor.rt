@@ -4,7 +4,7 @@ ghost use Rattle.std.specs.Prelude.{◌≡◌, ◌<◌, ◌+◌, ◌^◌, ℕ, L
 ghost use Rattle.alarm_journal.specs.Press.{room_of};
 ghost use Rattle.bac_values.specs.Moments.{IsMoment};
 ghost use Rattle.bac_values.specs.declared.input.Input.{Input as Entered};
-ghost use Rattle.turnstile.specs.declared.memo.Memo.{Memo as Kept};
+ghost use Rattle.noted.specs.declared.noted.Noted.{Noted as Kept};
 ghost use Rattle.state_codec.specs.Work.{FitsPress};
 ghost use Rattle.floor_desk.specs.declared.entry.Entry.{Entry as Step};
 ghost use Rattle.floor_desk.specs.declared.entry.Entry.TheVariants.{Looked, Taken};

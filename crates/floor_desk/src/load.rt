@@ -15,7 +15,7 @@ use alarm_journal::Press;
 use bac_values::{Items, Send};
 use ground_io::Ground;
 use state_codec::{Work, write_work};
-use turnstile::Memo;
+use turnstile::noted_of;
 
 /// What a commit carries out without the floor.
 pub struct Load<G: Ground> {
@@ -56,14 +56,14 @@ impl<G: Ground> Carried<G> {
     {
         match self {
             Carried::Home { press, upto, .. } => {
-                let memo = Memo::of(press);
+                let memo = noted_of(press);
                 Entry::Returned {
                     upto: *upto,
                     press: memo,
                 }
             }
             Carried::Broken { device, upto } => {
-                let memo = Memo::of(device);
+                let memo = noted_of(device);
                 Entry::Failed {
                     upto: *upto,
                     device: memo,

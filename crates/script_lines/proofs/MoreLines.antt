@@ -9,9 +9,9 @@ use Rattle.script_lines.specs.Script.{is_line_feed, lines_of, next_in, TakesLine
 
 -- what holds from the first to the second and from there to the third, where they are told
 pub told_then : {X : Type 0} (a b c : Option X) (P Q R : X → X → Type 0) → ((x y z : X) → P x y → Q y z → R x z) → WhereTold a b P → WhereTold b c Q → WhereTold a c R
-told_then None b c P Q R f p q = tt
-told_then (Some x) None c P Q R f p q = absurd p
-told_then (Some x) (Some y) None P Q R f p q = q
+told_then a b None P Q R f p q = tt
+told_then a None (Some z) P Q R f p q = absurd q
+told_then None (Some y) (Some z) P Q R f p q = absurd p
 told_then (Some x) (Some y) (Some z) P Q R f p q = f x y z p q
 
 onto_some : (c : ℕ) (lines : List (List ℕ)) → (x : List ℕ) × (xs : List (List ℕ)) × (onto_first c lines ≡ x ∷ xs)

@@ -1,7 +1,8 @@
 -- What a reader that took a line says of the octets before and after it.
 use Rattle.std.proofs.Common.{◌≡◌, ◌⊎◌, inl, inr, ℕ, ◌+◌, ◌<◌, true, false, Option, Some, None, List, [], ◌∷◌, ◌++◌, append_assoc, length, refl, ap, ◌∙◌, sym, arith}
 use Rattle.std.specs.List.{position_or_len, before_first, after_first}
-use Rattle.std.specs.Io.KnownBytes.{Keeps, prepend_known, IsAtEnd}
+use Rattle.std.specs.Io.KnownBytes.{prepend_known, IsAtEnd}
+use Rattle.ground_io.specs.Source.{Keeps}
 use Rattle.std.proofs.lemmas.Bool.{cases_lt}
 use Rattle.std.proofs.lemmas.List.{take_all}
 use Rattle.ground_io.specs.Trace.{WhereTold}
@@ -33,8 +34,8 @@ pub judged : {L : Type 0} (reads : ℕ → List ℕ → Says L) → RefusesLong 
     → Keeps (prepend_known pending left0) (prepend_known now.pending left1) → 0 < length now.pending → IsFoundBy now → (now.ended ≡ true → IsAtEnd left1)
     → says ≡ reads (now.number + 1) (before_first is_line_feed now.pending) → new ≡ behind_line says now
     → WhereTold (prepend_known pending left0) (prepend_known new.pending left1) (TakesLine reads now.number new.number (taken_of (now.number + 1) says))
-judged reads refuses says pending now new None left1 same some found ended said rest = tt
-judged reads refuses says pending now new (Some a) None same some found ended said rest = same
+judged reads refuses says pending now new left0 None same some found ended said rest = tt
+judged reads refuses says pending now new None (Some b) same some found ended said rest = same
 judged reads refuses says pending now new (Some a) (Some b) same some found ended said rest =
     let next = next_first reads refuses now.number now.pending b some (nothing_comes now b found ended) in
     rw (← same, rest) (judged_told reads says now.pending b now refl (rw (← said) at next))
@@ -85,8 +86,8 @@ pub judged_whole : {L : Type 0} (reads : ℕ → List ℕ → Says L) → Refuse
     → Keeps (prepend_known pending left0) (prepend_known now.pending left1) → IsFoundBy now
     → says ≡ reads (now.number + 1) (before_first is_line_feed now.pending) → new ≡ behind_line says now → new.ended ≡ false
     → WhereTold (prepend_known pending left0) (prepend_known new.pending left1) (TakesLines now.number new.number)
-judged_whole reads refuses says pending now new None left1 same found said rest goes_on = tt
-judged_whole reads refuses says pending now new (Some a) None same found said rest goes_on = same
+judged_whole reads refuses says pending now new left0 None same found said rest goes_on = tt
+judged_whole reads refuses says pending now new None (Some b) same found said rest goes_on = same
 judged_whole reads refuses says pending now new (Some a) (Some b) same found said rest goes_on =
     let before = goes_on_before says now (ap (λ r. r.ended) (sym rest) ∙ goes_on) in
     rw (← same, rest) (judged_takes says now.pending b now refl (has_feed reads refuses says now found before said))

@@ -2,7 +2,8 @@
 
 ghost use Rattle.std.specs.Prelude.{◌≡◌, ◌<◌, ◌≤◌, ◌⊎◌, true, false, length, position, IfOk, IsErr, OnErr, OnOk, IsErrOf};
 ghost use Rattle.std.specs.List.{position_or_len};
-ghost use Rattle.std.specs.Io.KnownBytes.{Keeps, prepend_known, IsAtEnd};
+ghost use Rattle.std.specs.Io.KnownBytes.{prepend_known, IsAtEnd};
+ghost use Rattle.ground_io.specs.Source.{Keeps};
 ghost use Rattle.ground_io.specs.Counts.{HasCause};
 ghost use Rattle.script_lines.specs.Script.{is_line_feed};
 ghost use Rattle.script_lines.specs.TakingSteps.{taken_of};

@@ -1,7 +1,8 @@
 //! What was read of a script and not given out.
 
 ghost use Rattle.std.specs.Prelude.{◌≡◌, ◌+◌, ◌<◌, ◌≤◌, [], length, take, drop, vec_len, vec_capacity, IfOk, IsErr, OnErr, OnOk, MatchBool};
-ghost use Rattle.std.specs.Io.KnownBytes.{Keeps, prepend_known, IsAtEnd};
+ghost use Rattle.std.specs.Io.KnownBytes.{prepend_known, IsAtEnd};
+ghost use Rattle.ground_io.specs.Source.{Keeps};
 ghost use Rattle.ground_io.specs.Counts.{HasCause};
 
 use crate::line::LONGEST_LINE;

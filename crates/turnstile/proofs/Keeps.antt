@@ -7,7 +7,7 @@ use lib.ListN.{get_elem?}
 use lib.Seq.{set-get_or}
 use prog.Atomic.{either}
 use Rattle.std.specs.Prelude.{if◌then◌else◌, max}
-use Rattle.turnstile.specs.declared.memo.Memo.{Memo}
+use Rattle.noted.specs.declared.noted.Noted.{Noted}
 use Rattle.atomic_table.specs.Table.{State, Me, Act, step, keeps, takes, gives, stepped, Allows, Enters, Splits, Joins, opening, put_back, homes_after, carried_after, Valid}
 use Rattle.atomic_table.proofs.Lists.{at_set, set_else, exchanged}
 use Rattle.turnstile.specs.Histories.{StartsWith, entries_under, times, among, NoOther, Licensed}
@@ -221,17 +221,17 @@ module _ {T E O : Type 0} (stands : T → List (ℕ × E) → Type 0) (origin : 
   head_place [] = Empty
   head_place (c ∷ cs) = c.1
 
-  value_given : (x y : T) (e d : Memo E) → ◌≡◌ {A = List (ℕ × P)} ((0, Given x e) ∷ []) ((0, Given y d) ∷ []) → e.value ≡ d.value
-  value_given x y e d is = let places : Given x e ≡ Given y d = ap head_place is in let same : e ≡ d = cc in ap (λ (z : Memo E). z.value) same
+  value_given : (x y : T) (e d : Noted E) → ◌≡◌ {A = List (ℕ × P)} ((0, Given x e) ∷ []) ((0, Given y d) ∷ []) → e.value ≡ d.value
+  value_given x y e d is = let places : Given x e ≡ Given y d = ap head_place is in let same : e ≡ d = cc in ap (λ (z : Noted E). z.value) same
 
-  rest_of : (c : List (ℕ × P)) (x : T) (e : Memo E) → c ≡ (0, Given x e) ∷ [] → Rattle.atomic_table.specs.Table.rest c ≡ []
+  rest_of : (c : List (ℕ × P)) (x : T) (e : Noted E) → c ≡ (0, Given x e) ∷ [] → Rattle.atomic_table.specs.Table.rest c ≡ []
   rest_of c x e is = ap Rattle.atomic_table.specs.Table.rest is
 
   module _ (more : (log rest : List (ℕ × E)) (to : ℕ) → licenses log to → licenses (log ++ rest) to) where
     licensed_more : (log rest : Log) (to : ℕ) → Licensed licenses log to → Licensed licenses (log ++ rest) to
     licensed_more log rest to l ne = more log rest to (l ne)
 
-    passed_on : (s : St) (r : Rule s) (id : ℕ) (m : M) (x : T) (e : Memo E) → get_elem? s.views id ≡ some m.0 → m.1 ≡ (0, Given x e) ∷ [] → is_within m.0.stage ≡ true → 0 < length m.0.calls
+    passed_on : (s : St) (r : Rule s) (id : ℕ) (m : M) (x : T) (e : Noted E) → get_elem? s.views id ≡ some m.0 → m.1 ≡ (0, Given x e) ∷ [] → is_within m.0.stage ≡ true → 0 < length m.0.calls
         → stands x (m.0.seen ++ (own_number m.0.calls, e.value) ∷ []) → right x → Rule (stepped s 1 ((get_or s.words 1 0 + 1) % 2 ^ 64) id m.1 (after_call m.0 e.value) gives)
     passed_on s r id m x e at hand within some_number stand ok =
         let v : View E O = m.0 in let old = r.each id v at in let w : View E O = after_call v e.value in let k : ℕ = own_number v.calls in let n : ℕ = length r.log in
@@ -273,7 +273,7 @@ module _ {T E O : Type 0} (stands : T → List (ℕ × E) → Type 0) (origin : 
         (λ z. times_with_call z v.calls e.value) refl
         (λ z above. let f = r.fresh z above in under_other z k r.log e.value (λ same. let none_there = (r.fresh k (subst (λ (y : ℕ). r.names ≤ y) (sym same) above)).0 in omega arith) ∙ f.1)
 
-    gives_turn : (slots id : ℕ) (m : M) (x : T) (e : Memo E) → m.1 ≡ (0, Given x e) ∷ [] → is_within m.0.stage ≡ true → 0 < length m.0.calls
+    gives_turn : (slots id : ℕ) (m : M) (x : T) (e : Noted E) → m.1 ≡ (0, Given x e) ∷ [] → is_within m.0.stage ≡ true → 0 < length m.0.calls
         → stands x (m.0.seen ++ (own_number m.0.calls, e.value) ∷ []) → right x → Allows Rule slots id m 1 (λ n. (n + 1) % 2 ^ 64) (PassedOn (step slots 1 1 0 none) m)
     gives_turn slots id m x e hand within some_number stand ok s r wide at _ = (
       after_call m.0 e.value,
@@ -284,7 +284,7 @@ module _ {T E O : Type 0} (stands : T → List (ℕ × E) → Type 0) (origin : 
     )
 
     -- a seat that holds the turn puts the value back beside a memo of the entry, and passes the turn on
-    pub gives_back : (slots id : ℕ) (m m1 : M) (x : T) (e : Memo E) (entry : E) → IsHolding m → m1 ≡ (m.0, (0, Given x e) ∷ Rattle.atomic_table.specs.Table.rest m.1) → e.value ≡ entry
+    pub gives_back : (slots id : ℕ) (m m1 : M) (x : T) (e : Noted E) (entry : E) → IsHolding m → m1 ≡ (m.0, (0, Given x e) ∷ Rattle.atomic_table.specs.Table.rest m.1) → e.value ≡ entry
         → stands x (m.0.seen ++ (own_number m.0.calls, entry) ∷ []) → right x → Allows Rule slots id m1 1 (λ n. (n + 1) % 2 ^ 64) (PassedOn (step slots 1 1 0 none) m1)
     gives_back slots id m m1 x e entry holds put says stand ok =
         let view : m1.0 ≡ m.0 = ap (λ (z : M). z.0) put in
@@ -392,7 +392,7 @@ module _ {T E O : Type 0} (stands : T → List (ℕ × E) → Type 0) (origin : 
 
 module _ {T E O : Type 0} where
   -- what a seat knows after its turn was given back
-  pub gave_me : (m m1 m2 : Me (Place T E) (View E O)) (x : T) (e : Memo E) (entry : E) → m.1 ≡ (0, Empty) ∷ [] → m1 ≡ (m.0, (0, Given x e) ∷ Rattle.atomic_table.specs.Table.rest m.1) → e.value ≡ entry
-      → ((y : T) (d : Memo E) → m1.1 ≡ (0, Given y d) ∷ [] → m2 ≡ (after_call m1.0 d.value, [])) → m2 ≡ (after_call m.0 entry, [])
+  pub gave_me : (m m1 m2 : Me (Place T E) (View E O)) (x : T) (e : Noted E) (entry : E) → m.1 ≡ (0, Empty) ∷ [] → m1 ≡ (m.0, (0, Given x e) ∷ Rattle.atomic_table.specs.Table.rest m.1) → e.value ≡ entry
+      → ((y : T) (d : Noted E) → m1.1 ≡ (0, Given y d) ∷ [] → m2 ≡ (after_call m1.0 d.value, [])) → m2 ≡ (after_call m.0 entry, [])
   gave_me m m1 m2 x e entry taken put says told =
       told x e (ap (λ (z : Me (Place T E) (View E O)). z.1) put ∙ ap (λ (z : List (ℕ × Place T E)). (0, Given x e) ∷ Rattle.atomic_table.specs.Table.rest z) taken) ∙ (λ i. (after_call (put i).0 (says i), []))

@@ -1,6 +1,5 @@
 pub mod Counts
 pub mod Keeps
-pub mod Memos
 pub mod Seats
 pub mod Shares
 pub mod Showing

@@ -4,7 +4,7 @@ use Rattle.atomic_table.specs.Table.{Me, Step}
 use Rattle.turnstile.specs.Histories.{StartsWith, Accounts, times, IsOnce, NoOther, among, Licensed}
 use Rattle.turnstile.specs.ViewSteps.{shut_of, named, longer, heard, at_stage, inside, after_call, with_mark}
 use Rattle.turnstile.specs.RuleSteps.{Holds, AreAbove}
-use Rattle.turnstile.specs.declared.memo.Memo.{Memo}
+use Rattle.noted.specs.declared.noted.Noted.{Noted}
 use Rattle.turnstile.specs.declared.view.View.{View}
 use Rattle.turnstile.specs.declared.view.Place.{Place}
 use Rattle.turnstile.specs.declared.view.Place.TheVariants.{Given}
@@ -17,7 +17,7 @@ module _ {T E O : Type 0} where
 
   -- the entry beside the value is one more call, and the slot is back
   abbrev pub PassedOn : Step (Place T E) → Me (Place T E) (View E O) → ℕ → Me (Place T E) (View E O) → Type 0
-  PassedOn st m r m' = (x : T) (e : Memo E) → m.1 ≡ (0, Given x e) ∷ [] → m' ≡ (after_call m.0 e.value, [])
+  PassedOn st m r m' = (x : T) (e : Noted E) → m.1 ≡ (0, Given x e) ∷ [] → m' ≡ (after_call m.0 e.value, [])
 
   -- a number that the seat didn't have is in front, and it is above one that the seat has
   abbrev pub Named : Step (Place T E) → Me (Place T E) (View E O) → ℕ → Me (Place T E) (View E O) → Type 0

@@ -11,10 +11,11 @@ ghost use Rattle.turnstile.specs.Steps.{Turned};
 
 use crate::bell::{Bell, Bells};
 use crate::chronicle::Chronicle;
-use crate::memo::Memo;
+use crate::memo::noted_of;
 use crate::steps::{Draw, Look, Merge, PassOn, Settle};
 use crate::view::{Place, Ruling, View, value_in};
 use atomic_table::{Seat, Shared};
+use noted::Noted;
 use std::sync::Wait;
 
 /// A seat at a turnstile's table.
@@ -27,7 +28,7 @@ pub type SeatOf<T> = Seat<
 pub type Board<T> = Shared<
     Place<T, <T as Chronicle>::Entry>,
     View<<T as Chronicle>::Entry, <T as Chronicle>::Origin>,
-    Memo<T>,
+    Noted<T>,
     Ruling<T>,
 >;
 
@@ -118,7 +119,7 @@ pub fn give_turn<T: Chronicle>(
     ensures table { seat.new.table_id ≡ seat.old.table_id }
     ensures given { seat.new.me ≡ (after_call seat.old.me.0 entry.now, []) }
 {
-    let place = Place::Given(value, Memo::of(entry));
+    let place = Place::Given(value, noted_of(entry));
     let was = board.exchange(seat, 0, place);
     let Place::Empty = was else { unreachable!() };
     let served = board.fetch_add::<PassOn>(seat, 1, 1);

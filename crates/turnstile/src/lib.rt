@@ -21,7 +21,7 @@ mod turnstile;
 mod view;
 
 pub use chronicle::Chronicle;
-pub use memo::Memo;
+pub use memo::noted_of;
 pub use no_memory::NoMemory;
 pub use pass::{Holding, Pass, Turn};
 pub use turnstile::Turnstile;

@@ -7,12 +7,13 @@ ghost use Rattle.turnstile.specs.Passes.{IsOf, Sees, Joins, IsNewFrom, all_calls
 use crate::bell::Bells;
 use crate::board::{give_turn, take_in, take_turn};
 use crate::chronicle::Chronicle;
-use crate::memo::Memo;
+use crate::memo::noted_of;
 use crate::no_memory::NoMemory;
 use crate::pass::{Holding, Pass, Turn};
 use crate::steps::{Close, LoadMark, Name, Part, Raise};
 use crate::view::{Place, Ruling, View, value_in};
 use atomic_table::{Refused, Table};
+use noted::Noted;
 use std::alloc::Global;
 use std::marker::Model;
 use std::sync::Wait;
@@ -23,7 +24,7 @@ use std::sync::Wait;
 /// value. Passes are of the turnstile that they came from.
 #[derive(Drop)]
 pub struct Turnstile<T: Chronicle> {
-    table: Table<Place<T, T::Entry>, View<T::Entry, T::Origin>, Memo<T>, Ruling<T>, Global>,
+    table: Table<Place<T, T::Entry>, View<T::Entry, T::Origin>, Noted<T>, Ruling<T>, Global>,
     bells: Bells,
 }
 
@@ -51,7 +52,7 @@ impl<T: Chronicle> Turnstile<T> {
         ensures first { IfOk result (λ opened. opened.1 ≡ first_pass opened.0) }
         ensures refused { IfErr result (λ back. back.0 ≡ value) }
     {
-        let about = Memo::of(&value);
+        let about = noted_of(&value);
         let mut slots = match Vec::with_capacity(alloc, 1) {
             Ok(slots) => slots,
             Err(failed) => return Err((value, NoMemory::from(failed))),

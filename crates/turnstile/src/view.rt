@@ -4,8 +4,8 @@
 ghost use Rattle.turnstile.specs.RuleSteps.{IsFull, Contains};
 
 use crate::chronicle::Chronicle;
-use crate::memo::Memo;
 use atomic_table::TableRule;
+use noted::Noted;
 use std::collections::LinkedList;
 use std::marker::PhantomData;
 
@@ -29,7 +29,7 @@ pub enum Place<T, E> {
     /// The value as it was opened.
     Held(T),
     /// The value as it was given back, beside the last entry, which the proof alone reads.
-    Given(T, Memo<E>),
+    Given(T, Noted<E>),
 }
 
 /// What a seat knows. No value of this type is made.
@@ -55,7 +55,8 @@ pub struct Ruling<T> {
     of: PhantomData<T>,
 }
 
-impl<T: Chronicle> TableRule<Place<T, T::Entry>, View<T::Entry, T::Origin>, Memo<T>> for Ruling<T> {
+impl<T: Chronicle> TableRule<Place<T, T::Entry>, View<T::Entry, T::Origin>, Noted<T>>
+    for Ruling<T> {
     ghost use Rattle.std.specs.Prelude.{◌≡◌};
     ghost use Rattle.turnstile.specs.ViewSteps.{newcomer};
     ghost use Rattle.turnstile.specs.RuleSteps.{Kept};

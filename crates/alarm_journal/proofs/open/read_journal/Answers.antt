@@ -11,6 +11,7 @@ use Rattle.alarm_journal.specs.Opened.{Shows, content_in}
 use Rattle.alarm_journal.specs.declared.layout.Layout.{Layout}
 use Rattle.alarm_journal.specs.declared.open_fault.OpenFault.{OpenFault}
 use Rattle.alarm_journal.proofs.Opening.{Found, settled, bad_header, no_area}
+use Rattle.alarm_journal.proofs.Showing.{reads_on}
 use Rattle.alarm_journal.proofs.open.read_journal.Goals as goal
 
 pub returns-in_err-formatted-clause-answer : goal.returns-in_err-formatted-clause-answer
@@ -44,7 +45,7 @@ returns-in_err-opened-clause-answer g c = λ begun.
     subst (λ (k : ℕ). IsDamage (g.G.Ground.told c.read_area.new.device) (λ at image. LeavesAt k (octets_at k layout.half image) at) fault) c.start-start.ensures.start c.in_err-opened.ensures.damaged in
     let p = err_from_is_err_and c.from_residual-in_err-opened.result c.from_residual-in_err-opened.ensures.1 in
     rw p.1 (subst (λ (f : OpenFault). Answers site (g.G.Ground.told c.args.device.now) (g.G.Ground.told c.read_area.new.device) (Err f)) (sym p.2)
-    (no_area site c.args.size header c.in_ok-formatted.formatted layout fault _ _ found whole told c.in_ok-header.ensures.octets damage begun))
+    (no_area site c.args.size header c.in_ok-formatted.formatted layout fault _ _ found whole told (reads_on _ (g.G.Ground.told c.read_area.new.device) 0 header c.in_err-opened.ensures.told c.in_ok-header.ensures.octets) damage begun))
 
 pub returns-clause-settled : goal.returns-clause-settled
 returns-clause-settled g c = λ begun.
@@ -66,4 +67,4 @@ returns-clause-settled g c = λ begun.
     let is : c.with_next-layout.result ≡ record { areas = layout.areas; half = layout.half; second = layout.second; next = start_of layout + c.in_ok-opened.next } =
     c.with_next-layout.ensures.next ∙ ap (λ (k : ℕ). record { areas = layout.areas; half = layout.half; second = layout.second; next = k + c.in_ok-opened.next }) c.start-start.ensures.start in
     subst (λ (l : Layout). Settled site l (g.G.Ground.told c.read_area.new.device) (content_in opened)) (sym is)
-    (settled site c.args.size header (content_in opened) c.in_ok-formatted.formatted c.in_ok-opened.next layout _ _ found whole told c.in_ok-header.ensures.octets read begun)
+    (settled site c.args.size header (content_in opened) c.in_ok-formatted.formatted c.in_ok-opened.next layout _ _ found whole told (reads_on _ (g.G.Ground.told c.read_area.new.device) 0 header c.in_ok-opened.ensures.told c.in_ok-header.ensures.octets) read begun)

@@ -1,6 +1,6 @@
 use Rattle.std.proofs.Common.{◌≡◌, ◌∙◌, Err, ap, refl, subst, sym}
 use Rattle.bac_values.specs.declared.report.ReportLine.TheVariants as say
-use Rattle.ground_io.specs.Trace.{WhereTold}
+use Rattle.ground_io.specs.Trace.{WhereTold, still}
 use Rattle.script_lines.specs.PacketLine.{packet_says}
 use Rattle.script_lines.specs.Reading.{octets_to_come}
 use Rattle.script_lines.specs.Script.{ReadsLine}
@@ -11,25 +11,26 @@ use Rattle.alarm_server.specs.Status.{of_line_fault}
 use Rattle.alarm_server.proofs.FollowSteps.{as_far, breaking_at, end_is, first_count, first_site, first_told, site_kept, taking_at}
 use Rattle.alarm_server.proofs.Followed.{Progress, Taking, accepts, ends, ends_at_end, ends_at_first, ends_at_line, ends_at_once, ends_at_packet, ends_at_telling, goes_on, kept_at_end, kept_at_first, kept_at_packet, kept_at_telling, kept_before_end, kept_begun, kept_between, refused_first, stops_reading}
 use Rattle.alarm_server.proofs.Progress.{grammar_fault, read_fault}
+use Rattle.alarm_server.proofs.Ending.{still_behind}
 use Rattle.alarm_server.proofs.following.follow_packets.Goals as goal
 
 pub returns-in-Err-clause-ends : goal.returns-in-Err-clause-ends
 returns-in-Err-clause-ends g c =
-    rw (c.ground_of.ensures.same, c.open-follower.ensures.opened) (ends_at_once c.args.core (g.T.Source.left c.args.script.now) (g.G.Ground.told c.args.press.device))
+    rw (c.ground_of.ensures.same, c.open-follower.ensures.opened) (ends_at_once c.args.core (still (g.T.Source.left c.args.script.now) (g.T.Source.left c.args.script.now)) (g.G.Ground.told c.args.press.device))
 
 pub returns-in-Err-clause-keeps : goal.returns-in-Err-clause-keeps
 returns-in-Err-clause-keeps g c = λ journal sender begun stands holds.
-    rw (c.ground_of.ensures.same, c.open-follower.ensures.opened) (kept_begun journal c.args.core c.args.press.layout (g.G.Ground.told c.args.press.device) sender begun stands holds (g.T.Source.left c.args.script.now))
+    rw (c.ground_of.ensures.same, c.open-follower.ensures.opened) (kept_begun journal c.args.core c.args.press.layout (g.G.Ground.told c.args.press.device) sender begun stands holds (still (g.T.Source.left c.args.script.now) (g.T.Source.left c.args.script.now)))
 
 pub returns-in-Err-tell-clause-ends : goal.returns-in-Err-tell-clause-ends
 returns-in-Err-tell-clause-ends g c =
     rw (c.ground_of-in-Err-tell.ensures.same, c.from.ensures)
-    (ends_at_first c.args.core (g.T.Source.left c.args.script.now) (g.G.Ground.told c.args.press.device) (g.G.Ground.told c.tell.new.follower.press.device) c.in-Err-tell.unsent (rw (c.events-events.ensures.events, c.open-follower.ensures.opened) at c.in-Err-tell.ensures.tells))
+    (ends_at_first c.args.core (still (g.T.Source.left c.args.script.now) (g.T.Source.left c.args.script.now)) (g.G.Ground.told c.args.press.device) (g.G.Ground.told c.tell.new.follower.press.device) c.in-Err-tell.unsent (rw (c.events-events.ensures.events, c.open-follower.ensures.opened) at c.in-Err-tell.ensures.tells))
 
 pub returns-in-Err-tell-clause-keeps : goal.returns-in-Err-tell-clause-keeps
 returns-in-Err-tell-clause-keeps g c = λ journal sender begun stands holds.
     rw c.ground_of-in-Err-tell.ensures.same
-    (kept_at_first journal c.args.core c.args.press.layout (g.G.Ground.told c.args.press.device) sender begun stands holds (g.T.Source.left c.args.script.now) (g.G.Ground.told c.tell.new.follower.press.device) c.in-Err-tell.unsent
+    (kept_at_first journal c.args.core c.args.press.layout (g.G.Ground.told c.args.press.device) sender begun stands holds (still (g.T.Source.left c.args.script.now) (g.T.Source.left c.args.script.now)) (g.G.Ground.told c.tell.new.follower.press.device) c.in-Err-tell.unsent
     (rw (c.events-events.ensures.events, c.open-follower.ensures.opened) at c.in-Err-tell.ensures.tells) (rw c.open-follower.ensures.opened at (c.tell.ensures.any_moment journal)))
 
 pub loop-packet-init : goal.loop-packet-init
@@ -63,7 +64,7 @@ returns-in-Err-next_packet-clause-ends g c =
     let mid = g.G.Ground.told here.follower.press.device in
     let now = following_of here.follower in
     rw (c.ground_of-in-Err-next_packet.ensures.same, c.from-in-Err-next_packet.ensures)
-    (ends_at_line c.args.core text come first layout old mid here.lines.number here.lines.ended now here.invariant.goes come' next.self.number c.in-Err-next_packet.fault c.in-Err-next_packet.ensures.line)
+    (still_behind (g.T.Source.left c.args.script.now) (g.T.Source.left c.next_packet.new.source) c.next_packet.new.self.pending _ (ends_at_line c.args.core text come first layout old mid here.lines.number here.lines.ended now here.invariant.goes come' next.self.number c.in-Err-next_packet.fault c.in-Err-next_packet.ensures.line))
 
 pub returns-in-Err-next_packet-clause-keeps : goal.returns-in-Err-next_packet-clause-keeps
 returns-in-Err-next_packet-clause-keeps g c = λ journal sender begun stands holds.
@@ -77,7 +78,7 @@ returns-in-Err-next_packet-clause-keeps g c = λ journal sender begun stands hol
     let old = g.G.Ground.told c.args.press.device in
     let mid = g.G.Ground.told here.follower.press.device in
     let now = following_of here.follower in
-    rw c.ground_of-in-Err-next_packet.ensures.same (kept_between c.args.core text come first layout old mid here.lines.number here.lines.ended now here.invariant.goes journal sender begun stands holds)
+    rw c.ground_of-in-Err-next_packet.ensures.same (still_behind (g.T.Source.left c.args.script.now) (g.T.Source.left c.next_packet.new.source) c.next_packet.new.self.pending _ (kept_between c.args.core text come first layout old mid here.lines.number here.lines.ended now here.invariant.goes journal sender begun stands holds come' next.self.number c.in-Err-next_packet.fault c.in-Err-next_packet.ensures.line))
 
 pub returns-in-Err-next_packet-clause-refused : goal.returns-in-Err-next_packet-clause-refused
 returns-in-Err-next_packet-clause-refused g c = λ line e.
@@ -94,7 +95,7 @@ returns-in-Err-next_packet-clause-refused g c = λ line e.
     let same : of_line_fault c.in-Err-next_packet.fault ≡ ScriptRefused line = cc in
     let fault = grammar_fault c.in-Err-next_packet.fault line same in
     let read = subst (λ f. WhereTold come come' (ReadsLine packet_says here.lines.number next.self.number (Err f))) fault c.in-Err-next_packet.ensures.line in
-    refused_first c.args.core text come first layout old mid here.lines.number here.lines.ended now here.invariant.goes come' next.self.number line read
+    still_behind (g.T.Source.left c.args.script.now) (g.T.Source.left c.next_packet.new.source) c.next_packet.new.self.pending _ (refused_first c.args.core text come first layout old mid here.lines.number here.lines.ended now here.invariant.goes come' next.self.number line read)
 
 pub returns-in-Err-next_packet-clause-stops : goal.returns-in-Err-next_packet-clause-stops
 returns-in-Err-next_packet-clause-stops g c = λ e.
@@ -130,7 +131,7 @@ returns-in-Err-take_packet-clause-ends g c =
     let read = rw c.in-Ok-Some.field-0-is at c.in-Ok-Some.ensures.line in
     let lost = c.in-Err-take_packet.status in
     let new = g.G.Ground.told c.in-Err-take_packet.device in
-    ends_at_packet c.args.core text come first layout old mid here.lines.number here.lines.ended now here.invariant.goes new lost c.in-Err-take_packet.ensures.fault c.in-Err-take_packet.ensures.quiet
+    still_behind (g.T.Source.left c.args.script.now) (g.T.Source.left c.next_packet.new.source) c.next_packet.new.self.pending _ (ends_at_packet c.args.core text come first layout old mid here.lines.number here.lines.ended now here.invariant.goes come' next.self.number packet read new lost c.in-Err-take_packet.ensures.fault c.in-Err-take_packet.ensures.quiet)
 
 pub returns-in-Err-take_packet-clause-keeps : goal.returns-in-Err-take_packet-clause-keeps
 returns-in-Err-take_packet-clause-keeps g c = λ journal sender begun stands holds.
@@ -148,8 +149,8 @@ returns-in-Err-take_packet-clause-keeps g c = λ journal sender begun stands hol
     let read = rw c.in-Ok-Some.field-0-is at c.in-Ok-Some.ensures.line in
     let lost = c.in-Err-take_packet.status in
     let new = g.G.Ground.told c.in-Err-take_packet.device in
-    kept_at_packet c.args.core text come first layout old mid here.lines.number here.lines.ended now here.invariant.goes journal sender begun stands holds here.invariant.is_site here.invariant.fits here.invariant.spelling here.invariant.low come' next.self.number packet read new
-    (breaking_at c.args.core.site here.follower.core.site now packet.packet lost layout mid new here.invariant.site c.in-Err-take_packet.ensures.broken c.in-Err-take_packet.ensures.breaks)
+    still_behind (g.T.Source.left c.args.script.now) (g.T.Source.left c.next_packet.new.source) c.next_packet.new.self.pending _ (kept_at_packet c.args.core text come first layout old mid here.lines.number here.lines.ended now here.invariant.goes journal sender begun stands holds here.invariant.is_site here.invariant.fits here.invariant.spelling here.invariant.low come' next.self.number packet read new
+    (breaking_at c.args.core.site here.follower.core.site now packet.packet lost layout mid new here.invariant.site c.in-Err-take_packet.ensures.broken c.in-Err-take_packet.ensures.breaks))
 
 pub returns-in-Err-tell-2-clause-ends : goal.returns-in-Err-tell-2-clause-ends
 returns-in-Err-tell-2-clause-ends g c =
@@ -175,7 +176,7 @@ returns-in-Err-tell-2-clause-ends g c =
     let here_taking : Taking here.follower.core.site now then packet.packet took layout layout' mid after = record { holds = taken.holds; keeps = taken.keeps } in
     let taking = taking_at c.args.core.site here.follower.core.site now then packet.packet took layout layout' mid after here.invariant.site here_taking in
     rw (c.ground_of-in-Err-tell-2.ensures.same, c.from-in-Err-tell-2.ensures)
-    (ends_at_telling c.args.core text come first layout old mid here.lines.number here.lines.ended now here.invariant.goes come' next.self.number packet took then c.line_of.result after new c.in-Err-tell-2.unsent read taken.table taken.quiet c.line_of.ensures.line c.in-Err-tell-2.ensures.tells)
+    (still_behind (g.T.Source.left c.args.script.now) (g.T.Source.left c.next_packet.new.source) c.next_packet.new.self.pending _ (ends_at_telling c.args.core text come first layout old mid here.lines.number here.lines.ended now here.invariant.goes come' next.self.number packet took then c.line_of.result after new c.in-Err-tell-2.unsent read taken.table taken.quiet c.line_of.ensures.line c.in-Err-tell-2.ensures.tells))
 
 pub returns-in-Err-tell-2-clause-keeps : goal.returns-in-Err-tell-2-clause-keeps
 returns-in-Err-tell-2-clause-keeps g c = λ journal sender begun stands holds.
@@ -201,7 +202,7 @@ returns-in-Err-tell-2-clause-keeps g c = λ journal sender begun stands holds.
     let here_taking : Taking here.follower.core.site now then packet.packet took layout layout' mid after = record { holds = taken.holds; keeps = taken.keeps } in
     let taking = taking_at c.args.core.site here.follower.core.site now then packet.packet took layout layout' mid after here.invariant.site here_taking in
     rw c.ground_of-in-Err-tell-2.ensures.same
-    (kept_at_telling c.args.core text come first layout old mid here.lines.number here.lines.ended now here.invariant.goes journal sender begun stands holds here.invariant.is_site here.invariant.fits here.invariant.spelling here.invariant.low come' next.self.number packet read after new layout' took then c.line_of.result c.in-Err-tell-2.unsent taken.table taken.quiet taking c.line_of.ensures.line c.in-Err-tell-2.ensures.tells (c.tell-in-loop-packet.ensures.any_moment journal))
+    (still_behind (g.T.Source.left c.args.script.now) (g.T.Source.left c.next_packet.new.source) c.next_packet.new.self.pending _ (kept_at_telling c.args.core text come first layout old mid here.lines.number here.lines.ended now here.invariant.goes journal sender begun stands holds here.invariant.is_site here.invariant.fits here.invariant.spelling here.invariant.low come' next.self.number packet read after new layout' took then c.line_of.result c.in-Err-tell-2.unsent taken.table taken.quiet taking c.line_of.ensures.line c.in-Err-tell-2.ensures.tells (c.tell-in-loop-packet.ensures.any_moment journal)))
 
 pub loop-packet-preserved : goal.loop-packet-preserved
 loop-packet-preserved g c =
@@ -259,7 +260,7 @@ returns-in-Ok-tell-clause-ends g c =
     let new = g.G.Ground.told c.tell-2.new.follower.press.device in
     let line = say.End c.count-lines.result c.events-events-2.result in
     let same = end_is c.count-lines.result next.self.number c.events-events-2.result here.follower.core.events c.count-lines.ensures.number c.events-events-2.ensures.events in
-    rw c.ground_of-in-Ok-tell.ensures.same (ends c.args.core text come first layout old mid here.lines.number here.lines.ended now here.invariant.goes come' new next.self.number line read same c.in-Ok-tell.ensures.tells)
+    rw c.ground_of-in-Ok-tell.ensures.same (still_behind (g.T.Source.left c.args.script.now) (g.T.Source.left c.next_packet.new.source) c.next_packet.new.self.pending _ (ends c.args.core text come first layout old mid here.lines.number here.lines.ended now here.invariant.goes come' new next.self.number line read same c.in-Ok-tell.ensures.tells))
 
 pub returns-in-Ok-tell-clause-accepted : goal.returns-in-Ok-tell-clause-accepted
 returns-in-Ok-tell-clause-accepted g c =
@@ -277,7 +278,7 @@ returns-in-Ok-tell-clause-accepted g c =
     let new = g.G.Ground.told c.tell-2.new.follower.press.device in
     let line = say.End c.count-lines.result c.events-events-2.result in
     let same = end_is c.count-lines.result next.self.number c.events-events-2.result here.follower.core.events c.count-lines.ensures.number c.events-events-2.ensures.events in
-    accepts c.args.core text come first layout old mid here.lines.number here.lines.ended now here.invariant.goes come' next.self.number read
+    still_behind (g.T.Source.left c.args.script.now) (g.T.Source.left c.next_packet.new.source) c.next_packet.new.self.pending _ (accepts c.args.core text come first layout old mid here.lines.number here.lines.ended now here.invariant.goes come' next.self.number read)
 
 pub returns-in-Ok-tell-clause-keeps : goal.returns-in-Ok-tell-clause-keeps
 returns-in-Ok-tell-clause-keeps g c = λ journal sender begun stands holds.
@@ -295,7 +296,7 @@ returns-in-Ok-tell-clause-keeps g c = λ journal sender begun stands holds.
     let new = g.G.Ground.told c.tell-2.new.follower.press.device in
     let line = say.End c.count-lines.result c.events-events-2.result in
     let same = end_is c.count-lines.result next.self.number c.events-events-2.result here.follower.core.events c.count-lines.ensures.number c.events-events-2.ensures.events in
-    rw c.ground_of-in-Ok-tell.ensures.same (kept_at_end c.args.core text come first layout old mid here.lines.number here.lines.ended now here.invariant.goes journal sender begun stands holds new c.tell-2.new.follower.press.layout c.count-lines.result c.events-events-2.result c.in-Ok-tell.ensures.tells (c.tell-2.ensures.any_moment journal) (c.tell-2.ensures.rests journal))
+    rw c.ground_of-in-Ok-tell.ensures.same (still_behind (g.T.Source.left c.args.script.now) (g.T.Source.left c.next_packet.new.source) c.next_packet.new.self.pending _ (kept_at_end c.args.core text come first layout old mid here.lines.number here.lines.ended now here.invariant.goes journal sender begun stands holds come' next.self.number read new c.tell-2.new.follower.press.layout c.count-lines.result c.events-events-2.result c.in-Ok-tell.ensures.tells (c.tell-2.ensures.any_moment journal) (c.tell-2.ensures.rests journal)))
 
 pub returns-clause-ends : goal.returns-clause-ends
 returns-clause-ends g c =
@@ -313,7 +314,7 @@ returns-clause-ends g c =
     let new = g.G.Ground.told c.tell-2.new.follower.press.device in
     let line = say.End c.count-lines.result c.events-events-2.result in
     let same = end_is c.count-lines.result next.self.number c.events-events-2.result here.follower.core.events c.count-lines.ensures.number c.events-events-2.ensures.events in
-    rw (c.ground_of-in-Err-tell-3.ensures.same, c.from-in-Err-tell-3.ensures) (ends_at_end c.args.core text come first layout old mid here.lines.number here.lines.ended now here.invariant.goes come' new next.self.number line c.in-Err-tell-3.unsent read same c.in-Err-tell-3.ensures.tells)
+    rw (c.ground_of-in-Err-tell-3.ensures.same, c.from-in-Err-tell-3.ensures) (still_behind (g.T.Source.left c.args.script.now) (g.T.Source.left c.next_packet.new.source) c.next_packet.new.self.pending _ (ends_at_end c.args.core text come first layout old mid here.lines.number here.lines.ended now here.invariant.goes come' new next.self.number line c.in-Err-tell-3.unsent read same c.in-Err-tell-3.ensures.tells))
 
 pub returns-clause-keeps : goal.returns-clause-keeps
 returns-clause-keeps g c = λ journal sender begun stands holds.
@@ -331,4 +332,4 @@ returns-clause-keeps g c = λ journal sender begun stands holds.
     let new = g.G.Ground.told c.tell-2.new.follower.press.device in
     let line = say.End c.count-lines.result c.events-events-2.result in
     let same = end_is c.count-lines.result next.self.number c.events-events-2.result here.follower.core.events c.count-lines.ensures.number c.events-events-2.ensures.events in
-    rw c.ground_of-in-Err-tell-3.ensures.same (kept_before_end c.args.core text come first layout old mid here.lines.number here.lines.ended now here.invariant.goes journal sender begun stands holds new c.count-lines.result c.events-events-2.result c.in-Err-tell-3.unsent c.in-Err-tell-3.ensures.tells (c.tell-2.ensures.any_moment journal))
+    rw c.ground_of-in-Err-tell-3.ensures.same (still_behind (g.T.Source.left c.args.script.now) (g.T.Source.left c.next_packet.new.source) c.next_packet.new.self.pending _ (kept_before_end c.args.core text come first layout old mid here.lines.number here.lines.ended now here.invariant.goes journal sender begun stands holds come' next.self.number read new c.count-lines.result c.events-events-2.result c.in-Err-tell-3.unsent c.in-Err-tell-3.ensures.tells (c.tell-2.ensures.any_moment journal)))

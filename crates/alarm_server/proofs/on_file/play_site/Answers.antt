@@ -1,4 +1,5 @@
 use Rattle.std.proofs.Common.{◌≡◌, ◌∙◌, Err, ap, subst}
+use Rattle.ground_io.specs.Trace.{still}
 use Rattle.script_lines.specs.declared.line.Grammar.TheVariants.{Session}
 use Rattle.script_lines.specs.Line.{line_says}
 use Rattle.script_lines.specs.Script.{lines_of}
@@ -30,7 +31,7 @@ returns-in-Err-clause-ends g c = λ history stood.
     let old = g.G.Ground.told c.args.device in
     let new = g.G.Ground.told c.in-Err.device in
     rw c.from.ensures
-    (in_any (λ t. Ends Emits piece_text (of_open_fault c.in-Err.fault) (report_of c.args.site.now history t) old new) (g.T.Source.left c.args.script.now)
+    (in_any (λ t. Ends Emits piece_text (of_open_fault c.in-Err.fault) (report_of c.args.site.now history t) old new) (still (g.T.Source.left c.args.script.now) (g.T.Source.left c.args.script.now))
     (λ t. ends_refused piece_text c.in-Err.fault (report_of c.args.site.now history t) old new c.in-Err.ensures.quiet))
 
 pub returns-in-Err-clause-keeps : goal.returns-in-Err-clause-keeps
@@ -38,7 +39,7 @@ returns-in-Err-clause-keeps g c = λ history stood.
     let old = g.G.Ground.told c.args.device in
     let new = g.G.Ground.told c.in-Err.device in
     let journal = journal_of c.args.site.now c.args.text.now in
-    in_any (λ t. KeepsOpened journal c.args.site.now history (spelled_in (line_says Session) 0 (lines_of t)) 1 old new) (g.T.Source.left c.args.script.now)
+    in_any (λ t. KeepsOpened journal c.args.site.now history (spelled_in (line_says Session) 0 (lines_of t)) 1 old new) (still (g.T.Source.left c.args.script.now) (g.T.Source.left c.args.script.now))
     (λ t. opening_kept journal c.args.site.now history (spelled_in (line_says Session) 0 (lines_of t)) 1 old new stood c.in-Err.ensures.reopens)
 
 pub returns-in-Err-clause-stands : goal.returns-in-Err-clause-stands
@@ -74,7 +75,7 @@ returns-in-Ok-played-clause-ends g c = λ history stood.
     let mid = g.G.Ground.told press.device in
     let new = g.G.Ground.told c.play_session-device.result.0 in
     let opened = c.in-Ok.ensures in
-    ends_session (journal_of c.args.site.now c.args.text.now) c.args.site.now c.requires.site core opened.site press.layout history Done old mid new stood opened.quiet (opened.represents history) (g.T.Source.left c.args.script.now) (rw c.in-Ok-played.is at c.play_session-device.ensures.ends)
+    ends_session (journal_of c.args.site.now c.args.text.now) c.args.site.now c.requires.site core opened.site press.layout history Done old mid new stood opened.quiet (opened.represents history) (still (g.T.Source.left c.args.script.now) (g.T.Source.left c.play_session-device.new.script)) (rw c.in-Ok-played.is at c.play_session-device.ensures.ends)
 
 pub returns-in-Ok-played-clause-keeps : goal.returns-in-Ok-played-clause-keeps
 returns-in-Ok-played-clause-keeps g c = λ history stood.
@@ -84,7 +85,7 @@ returns-in-Ok-played-clause-keeps g c = λ history stood.
     let mid = g.G.Ground.told press.device in
     let new = g.G.Ground.told c.play_session-device.result.0 in
     let opened = c.in-Ok.ensures in
-    keeps_session (journal_of c.args.site.now c.args.text.now) c.args.site.now c.requires.site core opened.site press.layout history Done old mid new stood opened.quiet (opened.represents history) (g.T.Source.left c.args.script.now) opened.reopens (opened.holds history) (rw c.in-Ok-played.is at c.play_session-device.ensures.ends) (c.play_session-device.ensures.keeps (journal_of c.args.site.now c.args.text.now) history)
+    keeps_session (journal_of c.args.site.now c.args.text.now) c.args.site.now c.requires.site core opened.site press.layout history Done old mid new stood opened.quiet (opened.represents history) (still (g.T.Source.left c.args.script.now) (g.T.Source.left c.play_session-device.new.script)) opened.reopens (opened.holds history) (rw c.in-Ok-played.is at c.play_session-device.ensures.ends) (c.play_session-device.ensures.keeps (journal_of c.args.site.now c.args.text.now) history)
 
 pub returns-clause-ends : goal.returns-clause-ends
 returns-clause-ends g c = λ history stood.
@@ -94,7 +95,7 @@ returns-clause-ends g c = λ history stood.
     let mid = g.G.Ground.told press.device in
     let new = g.G.Ground.told c.play_session-device.result.0 in
     let opened = c.in-Ok.ensures in
-    ends_session (journal_of c.args.site.now c.args.text.now) c.args.site.now c.requires.site core opened.site press.layout history c.in-Err-played.status old mid new stood opened.quiet (opened.represents history) (g.T.Source.left c.args.script.now) (rw c.in-Err-played.is at c.play_session-device.ensures.ends)
+    ends_session (journal_of c.args.site.now c.args.text.now) c.args.site.now c.requires.site core opened.site press.layout history c.in-Err-played.status old mid new stood opened.quiet (opened.represents history) (still (g.T.Source.left c.args.script.now) (g.T.Source.left c.play_session-device.new.script)) (rw c.in-Err-played.is at c.play_session-device.ensures.ends)
 
 pub returns-clause-keeps : goal.returns-clause-keeps
 returns-clause-keeps g c = λ history stood.
@@ -104,7 +105,7 @@ returns-clause-keeps g c = λ history stood.
     let mid = g.G.Ground.told press.device in
     let new = g.G.Ground.told c.play_session-device.result.0 in
     let opened = c.in-Ok.ensures in
-    keeps_session (journal_of c.args.site.now c.args.text.now) c.args.site.now c.requires.site core opened.site press.layout history c.in-Err-played.status old mid new stood opened.quiet (opened.represents history) (g.T.Source.left c.args.script.now) opened.reopens (opened.holds history) (rw c.in-Err-played.is at c.play_session-device.ensures.ends) (c.play_session-device.ensures.keeps (journal_of c.args.site.now c.args.text.now) history)
+    keeps_session (journal_of c.args.site.now c.args.text.now) c.args.site.now c.requires.site core opened.site press.layout history c.in-Err-played.status old mid new stood opened.quiet (opened.represents history) (still (g.T.Source.left c.args.script.now) (g.T.Source.left c.play_session-device.new.script)) opened.reopens (opened.holds history) (rw c.in-Err-played.is at c.play_session-device.ensures.ends) (c.play_session-device.ensures.keeps (journal_of c.args.site.now c.args.text.now) history)
 
 pub returns-clause-stops : goal.returns-clause-stops
 returns-clause-stops g c = λ history stood e.
@@ -126,18 +127,18 @@ returns-clause-script_told g c = λ e.
 
 pub returns-in-Err-clause-opened : goal.returns-in-Err-clause-opened
 returns-in-Err-clause-opened g c =
-    rw c.from.ensures (opens_refused c.args.site.now c.args.text.now c.in-Err.fault (g.G.Ground.told c.args.device) (g.G.Ground.told c.in-Err.device) (g.T.Source.left c.args.script.now) c.in-Err.ensures.quiet)
+    rw c.from.ensures (opens_refused c.args.site.now c.args.text.now c.in-Err.fault (g.G.Ground.told c.args.device) (g.G.Ground.told c.in-Err.device) (still (g.T.Source.left c.args.script.now) (g.T.Source.left c.args.script.now)) c.in-Err.ensures.quiet)
 
 pub returns-in-Ok-played-clause-opened : goal.returns-in-Ok-played-clause-opened
 returns-in-Ok-played-clause-opened g c =
     let old = g.G.Ground.told c.args.device in
     let mid = g.G.Ground.told c.in-Ok.opened.0.device in
     let new = g.G.Ground.told c.play_session-device.result.0 in
-    opens_session c.args.site.now c.args.text.now c.in-Ok.opened.1 Done old mid new (g.T.Source.left c.args.script.now) c.in-Ok.ensures.quiet (opened_to c.args.site.now c.args.text.now (content_in c.in-Ok.opened.2) c.in-Ok.opened.1 old mid c.in-Ok.ensures.opened c.in-Ok.ensures.leads) (rw c.in-Ok-played.is at c.play_session-device.ensures.ends)
+    opens_session c.args.site.now c.args.text.now c.in-Ok.opened.1 Done old mid new (still (g.T.Source.left c.args.script.now) (g.T.Source.left c.play_session-device.new.script)) c.in-Ok.ensures.quiet (opened_to c.args.site.now c.args.text.now (content_in c.in-Ok.opened.2) c.in-Ok.opened.1 old mid c.in-Ok.ensures.opened c.in-Ok.ensures.leads) (rw c.in-Ok-played.is at c.play_session-device.ensures.ends)
 
 pub returns-clause-opened : goal.returns-clause-opened
 returns-clause-opened g c =
     let old = g.G.Ground.told c.args.device in
     let mid = g.G.Ground.told c.in-Ok.opened.0.device in
     let new = g.G.Ground.told c.play_session-device.result.0 in
-    opens_session c.args.site.now c.args.text.now c.in-Ok.opened.1 c.in-Err-played.status old mid new (g.T.Source.left c.args.script.now) c.in-Ok.ensures.quiet (opened_to c.args.site.now c.args.text.now (content_in c.in-Ok.opened.2) c.in-Ok.opened.1 old mid c.in-Ok.ensures.opened c.in-Ok.ensures.leads) (rw c.in-Err-played.is at c.play_session-device.ensures.ends)
+    opens_session c.args.site.now c.args.text.now c.in-Ok.opened.1 c.in-Err-played.status old mid new (still (g.T.Source.left c.args.script.now) (g.T.Source.left c.play_session-device.new.script)) c.in-Ok.ensures.quiet (opened_to c.args.site.now c.args.text.now (content_in c.in-Ok.opened.2) c.in-Ok.opened.1 old mid c.in-Ok.ensures.opened c.in-Ok.ensures.leads) (rw c.in-Err-played.is at c.play_session-device.ensures.ends)

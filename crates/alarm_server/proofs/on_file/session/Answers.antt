@@ -1,5 +1,5 @@
 use Rattle.std.proofs.Common.{◌≡◌, ◌⊎◌, ◌<◌, ◌∙◌, Err, None, IfOk, IfSome, IsOk, OnErr, ap, length, refl, inr}
-use Rattle.ground_io.specs.Trace.{WhereTold}
+use Rattle.ground_io.specs.Trace.{WhereTold, still}
 use Rattle.script_lines.specs.declared.line.Grammar.TheVariants.{Session}
 use Rattle.script_lines.specs.Line.{line_says}
 use Rattle.script_lines.specs.Script.{lines_of}
@@ -25,11 +25,11 @@ use Rattle.alarm_server.proofs.on_file.session.Goals as goal
 
 pub returns-in-Err-clause-ends : goal.returns-in-Err-clause-ends
 returns-in-Err-clause-ends g c =
-    ends_unopened Emits emits (g.S.Source.left c.args.site.now) (g.T.Source.left c.args.script.now) c.in-Err.status (g.G.Ground.told c.args.device) c.in-Err.ensures.fault
+    ends_unopened Emits emits (still (g.S.Source.left c.args.site.now) (g.S.Source.left c.open_site.new.source)) (still (g.T.Source.left c.args.script.now) (g.T.Source.left c.args.script.now)) c.in-Err.status (g.G.Ground.told c.args.device) c.in-Err.ensures.fault
     (λ own same. c.open_site.ensures.refused own (c.in-Err.is ∙ ap Err same))
 
 pub returns-in-Err-clause-keeps : goal.returns-in-Err-clause-keeps
-returns-in-Err-clause-keeps g c = keeps_unopened (g.S.Source.left c.args.site.now) (g.T.Source.left c.args.script.now) (g.G.Ground.told c.args.device)
+returns-in-Err-clause-keeps g c = keeps_unopened (still (g.S.Source.left c.args.site.now) (g.S.Source.left c.open_site.new.source)) (still (g.T.Source.left c.args.script.now) (g.T.Source.left c.args.script.now)) (g.G.Ground.told c.args.device)
 
 pub returns-in-Err-clause-refuses_site : goal.returns-in-Err-clause-refuses_site
 returns-in-Err-clause-refuses_site g c = λ own e.
@@ -42,9 +42,9 @@ returns-clause-ends g c =
     let text = c.as_slice.result.now in
     let old = g.G.Ground.told c.args.device in
     let new = g.G.Ground.told c.play_site.result.0 in
-    let script = g.T.Source.left c.args.script.now in
+    let script = still (g.T.Source.left c.args.script.now) (g.T.Source.left c.play_site.new.script) in
     let ended = status_of c.play_site.result.1 in
-    on_read (λ octets says. IfSome script (λ t. EndsOnSite Emits ended octets says t old new)) (g.S.Source.left c.args.site.now) site c.in-Ok.read.1.items text c.as_slice.ensures.value c.in-Ok.ensures.site
+    on_read (λ octets says. IfSome script (λ t. EndsOnSite Emits ended octets says t old new)) (still (g.S.Source.left c.args.site.now) (g.S.Source.left c.open_site.new.source)) site c.in-Ok.read.1.items text c.as_slice.ensures.value c.in-Ok.ensures.site
     (each_script (λ history. StoodFor (journal_of site text) site history old new) (λ t history. Ends Emits piece_text ended (report_of site history t) old new) script c.play_site.ensures.ends)
 
 pub returns-clause-keeps : goal.returns-clause-keeps
@@ -53,14 +53,14 @@ returns-clause-keeps g c =
     let text = c.as_slice.result.now in
     let old = g.G.Ground.told c.args.device in
     let new = g.G.Ground.told c.play_site.result.0 in
-    let script = g.T.Source.left c.args.script.now in
-    on_read (λ octets says. IfSome script (λ t. KeepsOnSite octets says t old new)) (g.S.Source.left c.args.site.now) site c.in-Ok.read.1.items text c.as_slice.ensures.value c.in-Ok.ensures.site
+    let script = still (g.T.Source.left c.args.script.now) (g.T.Source.left c.play_site.new.script) in
+    on_read (λ octets says. IfSome script (λ t. KeepsOnSite octets says t old new)) (still (g.S.Source.left c.args.site.now) (g.S.Source.left c.open_site.new.source)) site c.in-Ok.read.1.items text c.as_slice.ensures.value c.in-Ok.ensures.site
     (each_script (λ history. StoodFor (journal_of site text) site history old new) (λ t history. KeepsOpened (journal_of site text) site history (spelled_in (line_says Session) 0 (lines_of t)) 1 old new) script c.play_site.ensures.keeps)
 
 pub returns-clause-accepted : goal.returns-clause-accepted
 returns-clause-accepted g c =
-    let left = g.S.Source.left c.args.site.now in
-    let script = g.T.Source.left c.args.script.now in
+    let left = still (g.S.Source.left c.args.site.now) (g.S.Source.left c.open_site.new.source) in
+    let script = still (g.T.Source.left c.args.script.now) (g.T.Source.left c.play_site.new.script) in
     let taken : IfSome left (λ octets. IsOk (site_of octets)) = on_read (λ octets says. IsOk says) left c.in-Ok.read.0 c.in-Ok.read.1.items c.as_slice.result.now c.as_slice.ensures.value c.in-Ok.ensures.site refl in
     on_ok_more (IfSome script (λ t. refused_line (line_says Session) t ≡ None)) (AcceptsOnFile left script) c.play_site.result.1 (λ lines. (taken, lines)) c.play_site.ensures.accepted
 
@@ -68,11 +68,11 @@ pub returns-clause-refuses_journal : goal.returns-clause-refuses_journal
 returns-clause-refuses_journal g c = λ fault e.
     let old = g.G.Ground.told c.args.device in
     let new = g.G.Ground.told c.play_site.result.0 in
-    on_read (λ octets says. RefusesOnSite octets says old new fault) (g.S.Source.left c.args.site.now) c.in-Ok.read.0 c.in-Ok.read.1.items c.as_slice.result.now c.as_slice.ensures.value c.in-Ok.ensures.site (c.play_site.ensures.refuses_journal fault e)
+    on_read (λ octets says. RefusesOnSite octets says old new fault) (still (g.S.Source.left c.args.site.now) (g.S.Source.left c.open_site.new.source)) c.in-Ok.read.0 c.in-Ok.read.1.items c.as_slice.result.now c.as_slice.ensures.value c.in-Ok.ensures.site (c.play_site.ensures.refuses_journal fault e)
 
 pub returns-clause-unread : goal.returns-clause-unread
 returns-clause-unread g c =
-    on_read (λ octets says. OnErr says (c.play_site.new.script ≡ c.args.script.now)) (g.S.Source.left c.args.site.now) c.in-Ok.read.0 c.in-Ok.read.1.items c.as_slice.result.now c.as_slice.ensures.value c.in-Ok.ensures.site tt
+    on_read (λ octets says. OnErr says (c.play_site.new.script ≡ c.args.script.now)) (still (g.S.Source.left c.args.site.now) (g.S.Source.left c.open_site.new.source)) c.in-Ok.read.0 c.in-Ok.read.1.items c.as_slice.result.now c.as_slice.ensures.value c.in-Ok.ensures.site tt
 
 pub returns-clause-stops : goal.returns-clause-stops
 returns-clause-stops g c = λ e.
@@ -82,30 +82,30 @@ returns-clause-stops g c = λ e.
     let new = g.G.Ground.told c.play_site.result.0 in
     let script = g.T.Source.left c.args.script.now in
     let rest = g.T.Source.left c.play_site.new.script in
-    let stood : IfSome (g.S.Source.left c.args.site.now) (λ octets. WhereTold script rest (λ t left. StopsInScript Emits octets (site_of octets) t left old new)) = on_read (λ octets says. WhereTold script rest (λ t left. StopsInScript Emits octets says t left old new)) (g.S.Source.left c.args.site.now) site c.in-Ok.read.1.items text c.as_slice.ensures.value c.in-Ok.ensures.site
+    let stood : IfSome (still (g.S.Source.left c.args.site.now) (g.S.Source.left c.open_site.new.source)) (λ octets. WhereTold script rest (λ t left. StopsInScript Emits octets (site_of octets) t left old new)) = on_read (λ octets says. WhereTold script rest (λ t left. StopsInScript Emits octets says t left old new)) (still (g.S.Source.left c.args.site.now) (g.S.Source.left c.open_site.new.source)) site c.in-Ok.read.1.items text c.as_slice.ensures.value c.in-Ok.ensures.site
     (each_told (λ history. StoodFor (journal_of site text) site history old new) (λ t left history. StopsReading Emits piece_text (front_pieces site history) (line_says Session) t left old new) script rest (c.play_site.ensures.script_told e) (λ history before. c.play_site.ensures.stops history before e)) in
     inr (c.play_site.ensures.read_cause.rose e, stood)
 
 pub returns-in-Err-clause-opened : goal.returns-in-Err-clause-opened
 returns-in-Err-clause-opened g c =
-    opens_unopened (g.S.Source.left c.args.site.now) (g.T.Source.left c.args.script.now) c.in-Err.status (g.G.Ground.told c.args.device) c.in-Err.ensures.fault
+    opens_unopened (still (g.S.Source.left c.args.site.now) (g.S.Source.left c.open_site.new.source)) (still (g.T.Source.left c.args.script.now) (g.T.Source.left c.args.script.now)) c.in-Err.status (g.G.Ground.told c.args.device) c.in-Err.ensures.fault
     (λ own same. c.open_site.ensures.refused own (c.in-Err.is ∙ ap Err same))
 
 pub returns-clause-opened : goal.returns-clause-opened
 returns-clause-opened g c =
     let old = g.G.Ground.told c.args.device in
     let new = g.G.Ground.told c.play_site.result.0 in
-    let script = g.T.Source.left c.args.script.now in
+    let script = still (g.T.Source.left c.args.script.now) (g.T.Source.left c.play_site.new.script) in
     let ended = status_of c.play_site.result.1 in
-    on_read (λ octets says. IfSome script (λ t. OpensOnSite octets says ended t old new)) (g.S.Source.left c.args.site.now) c.in-Ok.read.0 c.in-Ok.read.1.items c.as_slice.result.now c.as_slice.ensures.value c.in-Ok.ensures.site c.play_site.ensures.opened
+    on_read (λ octets says. IfSome script (λ t. OpensOnSite octets says ended t old new)) (still (g.S.Source.left c.args.site.now) (g.S.Source.left c.open_site.new.source)) c.in-Ok.read.0 c.in-Ok.read.1.items c.as_slice.result.now c.as_slice.ensures.value c.in-Ok.ensures.site c.play_site.ensures.opened
 
 pub returns-in-Err-clause-below : goal.returns-in-Err-clause-below
 returns-in-Err-clause-below g c =
-    small_unopened (g.G.Ground.size c.args.device) (g.S.Source.left c.args.site.now) c.in-Err.status c.in-Err.ensures.fault (λ own same. c.open_site.ensures.refused own (c.in-Err.is ∙ ap Err same))
+    small_unopened (g.G.Ground.size c.args.device) (still (g.S.Source.left c.args.site.now) (g.S.Source.left c.open_site.new.source)) c.in-Err.status c.in-Err.ensures.fault (λ own same. c.open_site.ensures.refused own (c.in-Err.is ∙ ap Err same))
 
 pub returns-clause-below : goal.returns-clause-below
 returns-clause-below g c =
     let size = g.G.Ground.size c.args.device in
     let ended = status_of c.play_site.result.1 in
-    on_read (λ octets says. IfOk says (λ site. size < need site (length octets) → (ended ≡ ReadFault) ⊎ ((ended ≡ NoMemory) ⊎ EndsSmall size (need site (length octets)) ended))) (g.S.Source.left c.args.site.now) c.in-Ok.read.0 c.in-Ok.read.1.items c.as_slice.result.now c.as_slice.ensures.value c.in-Ok.ensures.site
+    on_read (λ octets says. IfOk says (λ site. size < need site (length octets) → (ended ≡ ReadFault) ⊎ ((ended ≡ NoMemory) ⊎ EndsSmall size (need site (length octets)) ended))) (still (g.S.Source.left c.args.site.now) (g.S.Source.left c.open_site.new.source)) c.in-Ok.read.0 c.in-Ok.read.1.items c.as_slice.result.now c.as_slice.ensures.value c.in-Ok.ensures.site
     (λ low. inr (inr (c.play_site.ensures.below low)))

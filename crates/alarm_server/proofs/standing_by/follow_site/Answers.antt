@@ -1,4 +1,5 @@
 use Rattle.std.proofs.Common.{◌≡◌, subst}
+use Rattle.ground_io.specs.Trace.{still}
 use Rattle.alarm_journal.specs.Opened.{content_in}
 use Rattle.alarm_journal.specs.Press.{IsSmall}
 use Rattle.alarm_server.specs.declared.status.Status.TheVariants.{JournalRefused}
@@ -17,15 +18,15 @@ use Rattle.alarm_server.proofs.standing_by.follow_site.Goals as goal
 
 pub returns-in-Err-clause-ends : goal.returns-in-Err-clause-ends
 returns-in-Err-clause-ends g c = λ older stood.
-    rw c.from.ensures (ends_refused c.in-Err.fault (state_of c.args.site.now older) (g.T.Source.left c.args.script.now) (g.G.Ground.told c.args.device) (g.G.Ground.told c.in-Err.device) c.in-Err.ensures.quiet)
+    rw c.from.ensures (ends_refused c.in-Err.fault (state_of c.args.site.now older) (still (g.T.Source.left c.args.script.now) (g.T.Source.left c.args.script.now)) (g.G.Ground.told c.args.device) (g.G.Ground.told c.in-Err.device) c.in-Err.ensures.quiet)
 
 pub returns-in-Err-clause-keeps : goal.returns-in-Err-clause-keeps
 returns-in-Err-clause-keeps g c = λ sender begun stood.
-    keeps_refused (journal_of c.args.site.now c.args.text.now) c.args.site.now sender begun (g.G.Ground.told c.args.device) (g.G.Ground.told c.in-Err.device) (g.T.Source.left c.args.script.now) stood c.in-Err.ensures.reopens
+    keeps_refused (journal_of c.args.site.now c.args.text.now) c.args.site.now sender begun (g.G.Ground.told c.args.device) (g.G.Ground.told c.in-Err.device) (still (g.T.Source.left c.args.script.now) (g.T.Source.left c.args.script.now)) stood c.in-Err.ensures.reopens
 
 pub returns-in-Err-clause-opened : goal.returns-in-Err-clause-opened
 returns-in-Err-clause-opened g c =
-    rw c.from.ensures (opens_refused c.args.site.now c.args.text.now c.in-Err.fault (g.G.Ground.told c.args.device) (g.G.Ground.told c.in-Err.device) (g.T.Source.left c.args.script.now) c.in-Err.ensures.quiet)
+    rw c.from.ensures (opens_refused c.args.site.now c.args.text.now c.in-Err.fault (g.G.Ground.told c.args.device) (g.G.Ground.told c.in-Err.device) (still (g.T.Source.left c.args.script.now) (g.T.Source.left c.args.script.now)) c.in-Err.ensures.quiet)
 
 pub returns-in-Err-clause-stands : goal.returns-in-Err-clause-stands
 returns-in-Err-clause-stands g c = λ history fault stood same.
@@ -49,7 +50,7 @@ returns-clause-ends g c = λ older stood.
     let press = c.in-Ok.opened.0 in
     let core = c.in-Ok.opened.1 in
     let opened = c.in-Ok.ensures in
-    ends_standby (journal_of c.args.site.now c.args.text.now) c.args.site.now core opened.site press.layout older (status_of c.follow_packets.result.1) (g.G.Ground.told c.args.device) (g.G.Ground.told press.device) (g.G.Ground.told c.follow_packets.result.0) stood opened.quiet (opened.represents older) (g.T.Source.left c.args.script.now) c.follow_packets.ensures.ends
+    ends_standby (journal_of c.args.site.now c.args.text.now) c.args.site.now core opened.site press.layout older (status_of c.follow_packets.result.1) (g.G.Ground.told c.args.device) (g.G.Ground.told press.device) (g.G.Ground.told c.follow_packets.result.0) stood opened.quiet (opened.represents older) (still (g.T.Source.left c.args.script.now) (g.T.Source.left c.follow_packets.new.script)) c.follow_packets.ensures.ends
 
 pub returns-clause-keeps : goal.returns-clause-keeps
 returns-clause-keeps g c = λ sender begun stood.
@@ -57,7 +58,7 @@ returns-clause-keeps g c = λ sender begun stood.
     let core = c.in-Ok.opened.1 in
     let opened = c.in-Ok.ensures in
     let journal = journal_of c.args.site.now c.args.text.now in
-    keeps_standby journal c.args.site.now core opened.site press.layout begun (status_of c.follow_packets.result.1) (g.G.Ground.told c.args.device) (g.G.Ground.told press.device) (g.G.Ground.told c.follow_packets.result.0) stood opened.quiet (opened.represents begun) sender (g.T.Source.left c.args.script.now) opened.reopens (opened.holds begun) c.follow_packets.ensures.ends (c.follow_packets.ensures.keeps journal sender begun)
+    keeps_standby journal c.args.site.now core opened.site press.layout begun (status_of c.follow_packets.result.1) (g.G.Ground.told c.args.device) (g.G.Ground.told press.device) (g.G.Ground.told c.follow_packets.result.0) stood opened.quiet (opened.represents begun) sender (still (g.T.Source.left c.args.script.now) (g.T.Source.left c.follow_packets.new.script)) opened.reopens (opened.holds begun) c.follow_packets.ensures.ends (c.follow_packets.ensures.keeps journal sender begun)
 
 pub returns-clause-stops : goal.returns-clause-stops
 returns-clause-stops g c = λ older stood e.
@@ -74,7 +75,7 @@ pub returns-clause-opened : goal.returns-clause-opened
 returns-clause-opened g c =
     let old = g.G.Ground.told c.args.device in
     let mid = g.G.Ground.told c.in-Ok.opened.0.device in
-    opens_standby c.args.site.now c.args.text.now c.in-Ok.opened.1 (status_of c.follow_packets.result.1) old mid (g.G.Ground.told c.follow_packets.result.0) (g.T.Source.left c.args.script.now) c.in-Ok.ensures.quiet (opened_to c.args.site.now c.args.text.now (content_in c.in-Ok.opened.2) c.in-Ok.opened.1 old mid c.in-Ok.ensures.opened c.in-Ok.ensures.leads) c.follow_packets.ensures.ends
+    opens_standby c.args.site.now c.args.text.now c.in-Ok.opened.1 (status_of c.follow_packets.result.1) old mid (g.G.Ground.told c.follow_packets.result.0) (still (g.T.Source.left c.args.script.now) (g.T.Source.left c.follow_packets.new.script)) c.in-Ok.ensures.quiet (opened_to c.args.site.now c.args.text.now (content_in c.in-Ok.opened.2) c.in-Ok.opened.1 old mid c.in-Ok.ensures.opened c.in-Ok.ensures.leads) c.follow_packets.ensures.ends
 
 pub returns-in-Err-clause-small : goal.returns-in-Err-clause-small
 returns-in-Err-clause-small g c = λ fault same.

@@ -1,5 +1,5 @@
 use Rattle.std.proofs.Common.{◌≡◌, ◌⊎◌, ◌<◌, ◌∙◌, Err, None, IfOk, IfSome, IsOk, OnErr, ap, length, refl, inr}
-use Rattle.ground_io.specs.Trace.{WhereTold}
+use Rattle.ground_io.specs.Trace.{WhereTold, still}
 use Rattle.script_lines.specs.PacketLine.{packet_says}
 use Rattle.alarm_core.specs.State.{state_of}
 use Rattle.site_config.specs.Sites.{site_of}
@@ -21,11 +21,11 @@ use Rattle.alarm_server.proofs.standing_by.stand_by.Goals as goal
 
 pub returns-in-Err-clause-ends : goal.returns-in-Err-clause-ends
 returns-in-Err-clause-ends g c =
-    ends_unopened (g.S.Source.left c.args.site.now) (g.T.Source.left c.args.script.now) c.in-Err.status (g.G.Ground.told c.args.device) c.in-Err.ensures.fault
+    ends_unopened (still (g.S.Source.left c.args.site.now) (g.S.Source.left c.open_site.new.source)) (still (g.T.Source.left c.args.script.now) (g.T.Source.left c.args.script.now)) c.in-Err.status (g.G.Ground.told c.args.device) c.in-Err.ensures.fault
     (λ own same. c.open_site.ensures.refused own (c.in-Err.is ∙ ap Err same))
 
 pub returns-in-Err-clause-keeps : goal.returns-in-Err-clause-keeps
-returns-in-Err-clause-keeps g c = keeps_unopened (g.S.Source.left c.args.site.now) (g.T.Source.left c.args.script.now) (g.G.Ground.told c.args.device)
+returns-in-Err-clause-keeps g c = keeps_unopened (still (g.S.Source.left c.args.site.now) (g.S.Source.left c.open_site.new.source)) (still (g.T.Source.left c.args.script.now) (g.T.Source.left c.args.script.now)) (g.G.Ground.told c.args.device)
 
 pub returns-in-Err-clause-refuses_site : goal.returns-in-Err-clause-refuses_site
 returns-in-Err-clause-refuses_site g c = λ own e.
@@ -38,9 +38,9 @@ returns-clause-ends g c =
     let text = c.as_slice.result.now in
     let old = g.G.Ground.told c.args.device in
     let new = g.G.Ground.told c.follow_site.result.0 in
-    let script = g.T.Source.left c.args.script.now in
+    let script = still (g.T.Source.left c.args.script.now) (g.T.Source.left c.follow_site.new.script) in
     let ended = status_of c.follow_site.result.1 in
-    on_read (λ octets says. IfSome script (λ t. FollowsOnSite ended octets says t old new)) (g.S.Source.left c.args.site.now) site c.in-Ok.read.1.items text c.as_slice.ensures.value c.in-Ok.ensures.site
+    on_read (λ octets says. IfSome script (λ t. FollowsOnSite ended octets says t old new)) (still (g.S.Source.left c.args.site.now) (g.S.Source.left c.open_site.new.source)) site c.in-Ok.read.1.items text c.as_slice.ensures.value c.in-Ok.ensures.site
     (each_script (λ older. StoodFor (journal_of site text) site older old new) (λ t older. Follows Emits ended (state_of site older) t old new) script c.follow_site.ensures.ends)
 
 pub returns-clause-keeps : goal.returns-clause-keeps
@@ -49,14 +49,14 @@ returns-clause-keeps g c =
     let text = c.as_slice.result.now in
     let old = g.G.Ground.told c.args.device in
     let new = g.G.Ground.told c.follow_site.result.0 in
-    let script = g.T.Source.left c.args.script.now in
-    on_read (λ octets says. IfSome script (λ t. KeepsBehindSite octets says t old new)) (g.S.Source.left c.args.site.now) site c.in-Ok.read.1.items text c.as_slice.ensures.value c.in-Ok.ensures.site
+    let script = still (g.T.Source.left c.args.script.now) (g.T.Source.left c.follow_site.new.script) in
+    on_read (λ octets says. IfSome script (λ t. KeepsBehindSite octets says t old new)) (still (g.S.Source.left c.args.site.now) (g.S.Source.left c.open_site.new.source)) site c.in-Ok.read.1.items text c.as_slice.ensures.value c.in-Ok.ensures.site
     (each_leader (λ older. StoodFor (journal_of site text) site older old new) (λ t sender begun. IsSent site sender begun t → KeepsFromSync (LeavesFollower (journal_of site text) site sender begun) old new) script c.follow_site.ensures.keeps)
 
 pub returns-clause-accepted : goal.returns-clause-accepted
 returns-clause-accepted g c =
-    let left = g.S.Source.left c.args.site.now in
-    let script = g.T.Source.left c.args.script.now in
+    let left = still (g.S.Source.left c.args.site.now) (g.S.Source.left c.open_site.new.source) in
+    let script = still (g.T.Source.left c.args.script.now) (g.T.Source.left c.follow_site.new.script) in
     let taken : IfSome left (λ octets. IsOk (site_of octets)) = on_read (λ octets says. IsOk says) left c.in-Ok.read.0 c.in-Ok.read.1.items c.as_slice.result.now c.as_slice.ensures.value c.in-Ok.ensures.site refl in
     on_ok_more (IfSome script (λ t. refused_line packet_says t ≡ None)) (AcceptsPackets left script) c.follow_site.result.1 (λ lines. (taken, lines)) c.follow_site.ensures.accepted
 
@@ -64,11 +64,11 @@ pub returns-clause-refuses_journal : goal.returns-clause-refuses_journal
 returns-clause-refuses_journal g c = λ fault e.
     let old = g.G.Ground.told c.args.device in
     let new = g.G.Ground.told c.follow_site.result.0 in
-    on_read (λ octets says. RefusesOnSite octets says old new fault) (g.S.Source.left c.args.site.now) c.in-Ok.read.0 c.in-Ok.read.1.items c.as_slice.result.now c.as_slice.ensures.value c.in-Ok.ensures.site (c.follow_site.ensures.refuses_journal fault e)
+    on_read (λ octets says. RefusesOnSite octets says old new fault) (still (g.S.Source.left c.args.site.now) (g.S.Source.left c.open_site.new.source)) c.in-Ok.read.0 c.in-Ok.read.1.items c.as_slice.result.now c.as_slice.ensures.value c.in-Ok.ensures.site (c.follow_site.ensures.refuses_journal fault e)
 
 pub returns-clause-unread : goal.returns-clause-unread
 returns-clause-unread g c =
-    on_read (λ octets says. OnErr says (c.follow_site.new.script ≡ c.args.script.now)) (g.S.Source.left c.args.site.now) c.in-Ok.read.0 c.in-Ok.read.1.items c.as_slice.result.now c.as_slice.ensures.value c.in-Ok.ensures.site tt
+    on_read (λ octets says. OnErr says (c.follow_site.new.script ≡ c.args.script.now)) (still (g.S.Source.left c.args.site.now) (g.S.Source.left c.open_site.new.source)) c.in-Ok.read.0 c.in-Ok.read.1.items c.as_slice.result.now c.as_slice.ensures.value c.in-Ok.ensures.site tt
 
 pub returns-clause-stops : goal.returns-clause-stops
 returns-clause-stops g c = λ e.
@@ -78,30 +78,30 @@ returns-clause-stops g c = λ e.
     let new = g.G.Ground.told c.follow_site.result.0 in
     let script = g.T.Source.left c.args.script.now in
     let rest = g.T.Source.left c.follow_site.new.script in
-    let stood : IfSome (g.S.Source.left c.args.site.now) (λ octets. WhereTold script rest (λ t left. StopsInPackets octets (site_of octets) t left old new)) = on_read (λ octets says. WhereTold script rest (λ t left. StopsInPackets octets says t left old new)) (g.S.Source.left c.args.site.now) site c.in-Ok.read.1.items text c.as_slice.ensures.value c.in-Ok.ensures.site
+    let stood : IfSome (still (g.S.Source.left c.args.site.now) (g.S.Source.left c.open_site.new.source)) (λ octets. WhereTold script rest (λ t left. StopsInPackets octets (site_of octets) t left old new)) = on_read (λ octets says. WhereTold script rest (λ t left. StopsInPackets octets says t left old new)) (still (g.S.Source.left c.args.site.now) (g.S.Source.left c.open_site.new.source)) site c.in-Ok.read.1.items text c.as_slice.ensures.value c.in-Ok.ensures.site
     (each_told (λ older. StoodFor (journal_of site text) site older old new) (λ t left older. StopsFollowing Emits (state_of site older) t left old new) script rest (c.follow_site.ensures.script_told e) (λ history before. c.follow_site.ensures.stops history before e)) in
     inr (c.follow_site.ensures.read_cause.rose e, stood)
 
 pub returns-in-Err-clause-opened : goal.returns-in-Err-clause-opened
 returns-in-Err-clause-opened g c =
-    opens_unopened (g.S.Source.left c.args.site.now) (g.T.Source.left c.args.script.now) c.in-Err.status (g.G.Ground.told c.args.device) c.in-Err.ensures.fault
+    opens_unopened (still (g.S.Source.left c.args.site.now) (g.S.Source.left c.open_site.new.source)) (still (g.T.Source.left c.args.script.now) (g.T.Source.left c.args.script.now)) c.in-Err.status (g.G.Ground.told c.args.device) c.in-Err.ensures.fault
     (λ own same. c.open_site.ensures.refused own (c.in-Err.is ∙ ap Err same))
 
 pub returns-clause-opened : goal.returns-clause-opened
 returns-clause-opened g c =
     let old = g.G.Ground.told c.args.device in
     let new = g.G.Ground.told c.follow_site.result.0 in
-    let script = g.T.Source.left c.args.script.now in
+    let script = still (g.T.Source.left c.args.script.now) (g.T.Source.left c.follow_site.new.script) in
     let ended = status_of c.follow_site.result.1 in
-    on_read (λ octets says. IfSome script (λ t. GoesOnFromSite ended octets says t old new)) (g.S.Source.left c.args.site.now) c.in-Ok.read.0 c.in-Ok.read.1.items c.as_slice.result.now c.as_slice.ensures.value c.in-Ok.ensures.site c.follow_site.ensures.opened
+    on_read (λ octets says. IfSome script (λ t. GoesOnFromSite ended octets says t old new)) (still (g.S.Source.left c.args.site.now) (g.S.Source.left c.open_site.new.source)) c.in-Ok.read.0 c.in-Ok.read.1.items c.as_slice.result.now c.as_slice.ensures.value c.in-Ok.ensures.site c.follow_site.ensures.opened
 
 pub returns-in-Err-clause-below : goal.returns-in-Err-clause-below
 returns-in-Err-clause-below g c =
-    small_unopened (g.G.Ground.size c.args.device) (g.S.Source.left c.args.site.now) c.in-Err.status c.in-Err.ensures.fault (λ own same. c.open_site.ensures.refused own (c.in-Err.is ∙ ap Err same))
+    small_unopened (g.G.Ground.size c.args.device) (still (g.S.Source.left c.args.site.now) (g.S.Source.left c.open_site.new.source)) c.in-Err.status c.in-Err.ensures.fault (λ own same. c.open_site.ensures.refused own (c.in-Err.is ∙ ap Err same))
 
 pub returns-clause-below : goal.returns-clause-below
 returns-clause-below g c =
     let size = g.G.Ground.size c.args.device in
     let ended = status_of c.follow_site.result.1 in
-    on_read (λ octets says. IfOk says (λ site. size < need site (length octets) → (ended ≡ ReadFault) ⊎ ((ended ≡ NoMemory) ⊎ EndsSmall size (need site (length octets)) ended))) (g.S.Source.left c.args.site.now) c.in-Ok.read.0 c.in-Ok.read.1.items c.as_slice.result.now c.as_slice.ensures.value c.in-Ok.ensures.site
+    on_read (λ octets says. IfOk says (λ site. size < need site (length octets) → (ended ≡ ReadFault) ⊎ ((ended ≡ NoMemory) ⊎ EndsSmall size (need site (length octets)) ended))) (still (g.S.Source.left c.args.site.now) (g.S.Source.left c.open_site.new.source)) c.in-Ok.read.0 c.in-Ok.read.1.items c.as_slice.result.now c.as_slice.ensures.value c.in-Ok.ensures.site
     (λ low. inr (inr (c.follow_site.ensures.below low)))

@@ -1,6 +1,6 @@
 use Rattle.std.proofs.Common.{rules, ◌≤◌, [], arith, length}
 use Rattle.std.specs.Io.KnownBytes.{IsAtEnd, prepend_known}
-use Rattle.std.proofs.KnownBytes.{Keeps-trans}
+use Rattle.ground_io.proofs.Consuming.{keeps_both}
 use Rattle.alarm_server.specs.Text.{octets_read}
 use Rattle.alarm_server.proofs.Texts.{reads_all, reads_front}
 use Rattle.alarm_server.proofs.text.read_text.Goals as goal
@@ -12,7 +12,7 @@ returns-then-not-branch-clause-text g c =
     let text = c.read_more.new.text.items in
     let at_end : IsAtEnd after = search rules in
     let short : length text ≤ octets_read = omega (arith, c.loop-text.invariant.short) in
-    reads_all before after text (Keeps-trans (prepend_known [] before) (prepend_known c.loop-text.text.items (g.S.Source.left c.loop-text.source)) (prepend_known text after) c.loop-text.invariant.octets c.in_ok-read_more.ensures.octets) at_end short
+    reads_all before after text (keeps_both (prepend_known [] before) (prepend_known c.loop-text.text.items (g.S.Source.left c.loop-text.source)) (prepend_known text after) c.loop-text.invariant.octets c.in_ok-read_more.ensures.octets) at_end short
 
 pub returns-clause-text : goal.returns-clause-text
 returns-clause-text g c =

@@ -1,5 +1,6 @@
 use Rattle.std.proofs.Common.{◌≡◌, ◌≤◌, ◌-◌, [], length}
-use Rattle.std.specs.Io.KnownBytes.{Keeps, prepend_known}
+use Rattle.std.specs.Io.KnownBytes.{prepend_known}
+use Rattle.ground_io.specs.Source.{Keeps}
 use Rattle.alarm_server.specs.Text.{octets_read}
 use Rattle.alarm_server.proofs.text.read_text.Given as goal
 

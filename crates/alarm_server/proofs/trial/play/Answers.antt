@@ -12,6 +12,7 @@ use Rattle.alarm_server.specs.Emission.{SendsUpTo, sent}
 use Rattle.alarm_server.specs.Status.{of_line_fault}
 use Rattle.alarm_server.specs.Trial.{first_point}
 use Rattle.alarm_server.proofs.Progress.{accepts, begins, ends_at_line, refused_first, grammar_fault, read_fault, ends_at_event, goes_on, ends, ends_at_end, stops_reading}
+use Rattle.alarm_server.proofs.Ending.{still_behind}
 use Rattle.alarm_server.proofs.trial.play.Goals as goal
 
 pub loop-lines-init : goal.loop-lines-init
@@ -34,7 +35,7 @@ returns-in_err-line-clause-ends g c =
     let here = c.loop-lines in
     let next = c.next_line.new in
     rw (p.1, p.2)
-    (ends_at_line c.args.settings (g.T.Source.left c.args.script.now) (octets_to_come here.lines (g.T.Source.left here.script)) (octets_to_come next.self (g.T.Source.left next.source)) (g.G.Ground.told c.args.device.now) (g.G.Ground.told here.device) here.lines.number next.self.number here.lines.ended here.watch c.in_err-line.field-0.0 here.invariant.progress (rw here.invariant.grammar at c.in_err-line.ensures.line))
+    (still_behind (g.T.Source.left c.args.script.now) (g.T.Source.left c.next_line.new.source) c.next_line.new.self.pending _ (ends_at_line c.args.settings (g.T.Source.left c.args.script.now) (octets_to_come here.lines (g.T.Source.left here.script)) (octets_to_come next.self (g.T.Source.left next.source)) (g.G.Ground.told c.args.device.now) (g.G.Ground.told here.device) here.lines.number next.self.number here.lines.ended here.watch c.in_err-line.field-0.0 here.invariant.progress (rw here.invariant.grammar at c.in_err-line.ensures.line)))
 
 pub returns-in_err-line-clause-refused : goal.returns-in_err-line-clause-refused
 returns-in_err-line-clause-refused g c = λ line e.
@@ -46,7 +47,7 @@ returns-in_err-line-clause-refused g c = λ line e.
     let come = octets_to_come here.lines (g.T.Source.left here.script) in
     let come' = octets_to_come next.self (g.T.Source.left next.source) in
     let read = subst (λ f. WhereTold come come' (ReadsLine (line_says Trial) here.lines.number next.self.number (Err f))) fault (rw here.invariant.grammar at c.in_err-line.ensures.line) in
-    refused_first c.args.settings (g.T.Source.left c.args.script.now) come come' (g.G.Ground.told c.args.device.now) (g.G.Ground.told here.device) here.lines.number next.self.number here.lines.ended here.watch line here.invariant.progress read
+    still_behind (g.T.Source.left c.args.script.now) (g.T.Source.left c.next_line.new.source) c.next_line.new.self.pending _ (refused_first c.args.settings (g.T.Source.left c.args.script.now) come come' (g.G.Ground.told c.args.device.now) (g.G.Ground.told here.device) here.lines.number next.self.number here.lines.ended here.watch line here.invariant.progress read)
 
 pub returns-in_err-line-clause-stops : goal.returns-in_err-line-clause-stops
 returns-in_err-line-clause-stops g c = λ e.
@@ -67,7 +68,7 @@ returns-in_err-take-clause-ends g c =
     let next = c.next_line.new in
     let read = rw (c.in-Some.is, here.invariant.grammar) at c.in_ok-line.ensures.line in
     rw (p.1, p.2)
-    (ends_at_event c.args.settings (g.T.Source.left c.args.script.now) (octets_to_come here.lines (g.T.Source.left here.script)) (octets_to_come next.self (g.T.Source.left next.source)) (g.G.Ground.told c.args.device.now) (g.G.Ground.told here.device) (g.G.Ground.told c.take.new.device) here.lines.number next.self.number here.lines.ended here.watch c.in-Some.line c.in_err-take.field-0.0 here.invariant.progress read (c.in_err-take.ensures.sends (first_point c.args.settings)))
+    (still_behind (g.T.Source.left c.args.script.now) (g.T.Source.left c.next_line.new.source) c.next_line.new.self.pending _ (ends_at_event c.args.settings (g.T.Source.left c.args.script.now) (octets_to_come here.lines (g.T.Source.left here.script)) (octets_to_come next.self (g.T.Source.left next.source)) (g.G.Ground.told c.args.device.now) (g.G.Ground.told here.device) (g.G.Ground.told c.take.new.device) here.lines.number next.self.number here.lines.ended here.watch c.in-Some.line c.in_err-take.field-0.0 here.invariant.progress read (c.in_err-take.ensures.sends (first_point c.args.settings))))
 
 pub loop-lines-preserved : goal.loop-lines-preserved
 loop-lines-preserved g c =
@@ -95,8 +96,8 @@ returns-in_err-emit-clause-ends g c =
     let after = g.G.Ground.told c.emit.new.device in
     let fault = c.in_err-emit.field-0.0 in
     rw (p.1, p.2)
-    (ends_at_end c.args.settings (g.T.Source.left c.args.script.now) (octets_to_come here.lines (g.T.Source.left here.script)) (octets_to_come next.self (g.T.Source.left next.source)) (g.G.Ground.told c.args.device.now) before after here.lines.number next.self.number here.lines.ended here.watch fault here.invariant.progress read
-    (subst (λ n. SendsUpTo Adds report_text fault (TrialEnd n ∷ []) before after) c.count.ensures.number c.in_err-emit.ensures.sends))
+    (still_behind (g.T.Source.left c.args.script.now) (g.T.Source.left c.next_line.new.source) c.next_line.new.self.pending _ (ends_at_end c.args.settings (g.T.Source.left c.args.script.now) (octets_to_come here.lines (g.T.Source.left here.script)) (octets_to_come next.self (g.T.Source.left next.source)) (g.G.Ground.told c.args.device.now) before after here.lines.number next.self.number here.lines.ended here.watch fault here.invariant.progress read
+    (subst (λ n. SendsUpTo Adds report_text fault (TrialEnd n ∷ []) before after) c.count.ensures.number c.in_err-emit.ensures.sends)))
 
 pub returns-clause-ends : goal.returns-clause-ends
 returns-clause-ends g c =
@@ -105,12 +106,12 @@ returns-clause-ends g c =
     let read = rw (c.in_default.is, here.invariant.grammar) at c.in_ok-line.ensures.line in
     let before = g.G.Ground.told here.device in
     let after = g.G.Ground.told c.emit.new.device in
-    ends c.args.settings (g.T.Source.left c.args.script.now) (octets_to_come here.lines (g.T.Source.left here.script)) (octets_to_come next.self (g.T.Source.left next.source)) (g.G.Ground.told c.args.device.now) before after here.lines.number next.self.number here.lines.ended here.watch here.invariant.progress read
-    (subst (λ n. Adds before after (sent report_text (TrialEnd n ∷ []))) c.count.ensures.number c.in_ok-emit.ensures.sends)
+    still_behind (g.T.Source.left c.args.script.now) (g.T.Source.left c.next_line.new.source) c.next_line.new.self.pending _ (ends c.args.settings (g.T.Source.left c.args.script.now) (octets_to_come here.lines (g.T.Source.left here.script)) (octets_to_come next.self (g.T.Source.left next.source)) (g.G.Ground.told c.args.device.now) before after here.lines.number next.self.number here.lines.ended here.watch here.invariant.progress read
+    (subst (λ n. Adds before after (sent report_text (TrialEnd n ∷ []))) c.count.ensures.number c.in_ok-emit.ensures.sends))
 
 pub returns-clause-accepted : goal.returns-clause-accepted
 returns-clause-accepted g c =
     let here = c.loop-lines in
     let next = c.next_line.new in
     let read = rw (c.in_default.is, here.invariant.grammar) at c.in_ok-line.ensures.line in
-    accepts c.args.settings (g.T.Source.left c.args.script.now) (octets_to_come here.lines (g.T.Source.left here.script)) (octets_to_come next.self (g.T.Source.left next.source)) (g.G.Ground.told c.args.device.now) (g.G.Ground.told here.device) here.lines.number next.self.number here.lines.ended here.watch here.invariant.progress read
+    still_behind (g.T.Source.left c.args.script.now) (g.T.Source.left c.next_line.new.source) c.next_line.new.self.pending _ (accepts c.args.settings (g.T.Source.left c.args.script.now) (octets_to_come here.lines (g.T.Source.left here.script)) (octets_to_come next.self (g.T.Source.left next.source)) (g.G.Ground.told c.args.device.now) (g.G.Ground.told here.device) here.lines.number next.self.number here.lines.ended here.watch here.invariant.progress read)

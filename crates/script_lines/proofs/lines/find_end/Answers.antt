@@ -1,6 +1,6 @@
 use Rattle.std.proofs.Common.{◌≡◌, ◌≤◌, length, arith, ap, ◌∙◌}
 use Rattle.std.specs.List.{position_or_len}
-use Rattle.std.proofs.KnownBytes.{Keeps-trans}
+use Rattle.ground_io.proofs.Consuming.{keeps_both}
 use Rattle.script_lines.specs.Script.{is_line_feed}
 use Rattle.script_lines.proofs.First.{first_within, first_past_front}
 use Rattle.script_lines.proofs.lines.find_end.Goals as goal
@@ -14,7 +14,7 @@ loop-end-preserved g c =
     let past = first_past_front is_line_feed old c.read.new.self c.read.ensures.front none in
     let within = first_within is_line_feed old in
     record {
-      octets = Keeps-trans _ _ _ c.loop-end.invariant.octets c.read.ensures.octets;
+      octets = keeps_both _ _ _ c.loop-end.invariant.octets c.read.ensures.octets;
       seen = omega arith;
       source = λ e. let wrong : ⊥ = cc in absurd wrong;
       ended = c.loop-end.invariant.ended;

@@ -1,5 +1,6 @@
 use Rattle.std.proofs.Common.{◌≡◌, ◌-◌, ◌≤◌, true, length}
-use Rattle.std.specs.Io.KnownBytes.{Keeps, prepend_known, IsAtEnd}
+use Rattle.std.specs.Io.KnownBytes.{prepend_known, IsAtEnd}
+use Rattle.ground_io.specs.Source.{Keeps}
 use Rattle.std.specs.List.{position_or_len}
 use Rattle.script_lines.specs.Script.{is_line_feed}
 use Rattle.script_lines.proofs.lines.find_end.Given as goal
