@@ -1,5 +1,5 @@
 -- Servers over their real ends, where these tell to the end.
-use Rattle.std.proofs.Common.{◌≡◌, ◌==◌, ℕ, List, [], Option, Some, None, Result, Ok, Err, length, reverse, refl, sym, ap, ◌∙◌, subst, cond, Bool, true, false, IfSome}
+use Rattle.std.proofs.Common.{◌≡◌, ◌==◌, ℕ, List, [], Option, Some, None, Result, Ok, Err, length, reverse, refl, sym, ap, ◌∙◌, subst, cond, Bool, true, false, IfSome, rules}
 use Rattle.std.specs.Borrow.{Bor}
 use Rattle.std.proofs.lemmas.Bool.{cases_Bool}
 use Rattle.bac_values.specs.Moments.{IsMoment}
@@ -7,13 +7,14 @@ use Rattle.bac_values.specs.declared.note.Send.{Send}
 use Rattle.ending_link.specs.declared.flag.SharedFlag.{SharedFlag as Raised}
 use Rattle.ground_io.specs.InMemory.{FileGroundState, file_size}
 use Rattle.ground_io.specs.Record.{Supposed, told_by}
-use Rattle.ground_io.specs.Trace.{Told, still}
+use Rattle.ground_io.specs.Trace.{Told, disk_of, still}
 use Rattle.alarm_journal.specs.Journal.{Site as Journal}
 use Rattle.alarm_journal.specs.Press.{PressState}
 use Rattle.alarm_core.specs.State.{CoreState}
 use Rattle.alarm_core.specs.declared.event.Event.{Event}
 use Rattle.alarm_core.specs.declared.site.Site.{Site}
 use Rattle.floor_desk.specs.Accounts.{Account, Due, account}
+use Rattle.floor_desk.specs.LookingBack.{before_returned, dues_over, events_over, reach_over}
 use Rattle.floor_desk.specs.Moves.{IsGroundOf}
 use Rattle.floor_desk.specs.Prefixes.{HasLost}
 use Rattle.floor_desk.specs.Serving.{Serves}
@@ -123,7 +124,7 @@ module _ {L : Type 0} (left : L → Option (List Send)) (faults : L → ℕ) (en
         after = after;
         desk = there;
         begins = there.begins history (stood_there (journal_of site ends.site) site history (found ends.disk) was before.inner.told there.origin.1.device.inner.told told_first at stands);
-        keeps = keeps_there (journal_of site ends.site) site history (found ends.disk) now _ _ _ before.inner.told after.inner.told told_first told_now
+        keeps = keeps_there (journal_of site ends.site) site history (found ends.disk) now (events_over there.origin.0 (reverse there.serves.history)) (dues_over there.origin.0 (reverse there.serves.history)) (reach_over there.origin.0 (before_returned (reverse there.serves.history))).dues before.inner.told after.inner.told told_first told_now
             (there.keeps history (stood_there (journal_of site ends.site) site history (found ends.disk) now before.inner.told after.inner.told told_first told_now stands));
       }
 
