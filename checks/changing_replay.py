@@ -14,7 +14,7 @@ from tooling import environment, words_of
 
 TANK = (bacnet.INTEGER_VALUE, 1)
 # For how long a tool may run: long enough for a machine that has much else to do.
-SECONDS = 300
+SECONDS = 600
 
 
 def run(name, *given, **keys):

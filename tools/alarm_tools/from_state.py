@@ -8,7 +8,7 @@ import os
 import pathlib
 
 from . import archive, archive_search, journal, octets, replay, replay_lines, replay_site, replay_words, snapshots
-from .replay_packets import Standby
+from .replay_packets import MOST, Standby
 from .words import Ends
 
 REFUSED, NOT_TAKEN = 8, 9
@@ -69,9 +69,13 @@ def filled(standby, kept, record):
 
     before = area()
     for _ in range(MOST_FILLING):
-        if not (standby.add(record) and standby.flush() if len(standby.waiting) > 50 else standby.add(record)):
+        if not standby.add(record):
             break
-        if not standby.waiting and area() != before:
+        if standby.size + len(record) <= MOST:
+            continue
+        if not standby.flush():
+            break
+        if area() != before:
             with journal.Journal(kept) as it:
                 return snapshots.of_area(it.settled())
     raise Ends(NOT_TAKEN, "the program writes no snapshot of the state")

@@ -15,7 +15,7 @@ import subprocess
 from . import archive, glance, journal, names, octets, replay_lines, replay_site, replay_words
 from .replay_lines import asked
 from .replay_session import MOST_LINES, Session
-from .replay_source import Source
+from .replay_source import Source, Tail
 from .words import CANNOT_OPEN, UNREADABLE, USAGE, Ends
 
 SITE_REFUSED, REFUSED, PARTED = 3, 8, 9
@@ -421,7 +421,7 @@ class Run:
         except BaseException:
             self.close()
             raise
-        self.replay, self.again = Replay(self.sessions, texts, self.options), Source(self.copy)
+        self.replay, self.again = Replay(self.sessions, texts, self.options), Tail(self.copy)
         self.begin_archive()
         return self
 
@@ -430,13 +430,12 @@ class Run:
         if self.options.new_archive:
             before = archive.sum_of(self.options.archive or self.path) if self.source.is_archive or self.options.archive else None
             self.kept = archive.Appending(self.options.new_archive, self.text, before)
-            self.made = Source(self.journal, None, self.options.find)
-            self.made.gap = self.kept.add_gap
+            self.made = Tail(self.journal, self.options.find, self.kept.add_gap)
 
     def keep(self):
         if self.kept:
             for event in self.made.more():
-                self.kept.add(event.number, event.octets, event.found)
+                self.kept.add(*event)
 
     def catch_up(self):
         """Plays what is there now, and says how many events it was."""
@@ -473,7 +472,7 @@ class Run:
         self.keep()
         if not self.expected:
             return
-        for number, found in self.of_old_run():
+        for number, found, _ in self.again.more():
             while self.expected and self.expected[0][0] < number:
                 self.expected.popleft()
             if not self.expected:
@@ -482,21 +481,12 @@ class Run:
             if found != wanted:
                 raise Ends(PARTED, f"the replay of {self.path} isn't {self.path}: at event {number:,} the record is {found.hex()} and not {wanted.hex()}")
 
-    def of_old_run(self):
-        """What the old run has entered since the last look."""
-        with journal.Journal(self.copy) as it:
-            if it.header.blank:
-                return
-            _, area = it.history()
-        if (area.number, area.snapshot) != self.again.area and area.snapshot.events > self.again.had:
-            self.again.had = area.snapshot.events
-        for event in self.again.of_area(area, None):
-            yield event.number, event.octets
-
     def finish(self, moment=None):
         """Lets go what was held, at a moment that isn't before the last event, and ends both sessions. What came of it."""
         it = self.replay
-        if it.last is not None:
+        if it.last is None:
+            it.told += [{"kind": "from-now-on", "of": of, "now": of.old} for of in it.keys() if of.old != of.new]
+        else:
             if self.options.as_if:
                 it.drain()
             else:

@@ -1,5 +1,6 @@
 """The events of a site, from a journal that may be in use, from an archive, or from an archive and then a journal."""
 import os
+import struct
 
 from . import archive, journal, snapshots
 from .archive import Event
@@ -101,3 +102,56 @@ class Source:
             return Ends(REFUSED, f"the first {last:,} events of {self.path} are in a snapshot alone: give an archive, or --from-state")
         which = f"event {last:,} of {self.path} is" if last == self.had + 1 else f"events {self.had + 1:,} to {last:,} of {self.path} are"
         return Ends(REFUSED, f"{which} in a snapshot alone, and can't be found: give an archive that has them, or --from-state")
+
+
+class Tail:
+    """What a journal gets, read on from where it ended: one that a session of this tool writes, which is looked at while it waits.
+
+    `find` and `gap` are as of a source; without them what came with a snapshot is passed over.
+    """
+
+    def __init__(self, path, find=None, gap=None):
+        self.path, self.find, self.gap = path, find, gap
+        self.area, self.at, self.had = None, 0, 0
+
+    def more(self):
+        """Each event that wasn't given yet: its number, its octets, and whether it was found by trying."""
+        with journal.Journal(self.path) as it:
+            if it.header.blank:
+                return
+            now = it.selected()
+            if self.area is None:
+                self.begin(now, it.head(now))
+            elif self.area != (now, it.head(now)):
+                if it.head(self.area[0]) == self.area[1]:
+                    yield from self.rest(it)
+                yield from self.missing(it)
+                self.begin(now, it.head(now))
+            yield from self.rest(it)
+
+    def begin(self, number, head):
+        self.area, self.at, self.had = (number, head), 4 + head.length, max(self.had, head.events)
+
+    def rest(self, it):
+        """The events behind the place to which the area was read."""
+        place, end = it.place_of(self.area[0]), it.header.area_octets
+        while self.at + 5 <= end:
+            gate, length = struct.unpack(">BI", it.read(place + self.at, 5))
+            if gate != journal.OPEN:
+                return
+            body = it.read(place + self.at + 5, length)
+            self.at += 5 + length
+            for number, octets, _ in archive.records_in(body, self.had + 1):
+                self.had = number
+                yield number, octets, False
+
+    def missing(self, it):
+        """What came with the snapshot of the area that is in use now."""
+        older, area = it.history()
+        count = area.snapshot.events - self.had
+        if count and self.gap:
+            found = self.find(it.header.text, older, area) if self.find and older and count == 1 else None
+            if found:
+                yield area.snapshot.events, found[0], True
+            else:
+                self.gap(area.snapshot.events, snapshots.of_area(area))
