@@ -66,12 +66,12 @@ def see_edits(told, unit, text):
 
 def see_replaced(told, unit, kept):
     """A journal that is put at the old place, as a copy that is restored, is in force with its text."""
-    events = int(unit.play("").split()[1])
     (unit.state / "journal").unlink()
     (unit.state / "journal").write_bytes(kept)
     unit.begin()
     unit.end()
-    told.want(int(unit.play("").split()[1]) < events and b"# a comment" not in unit.site.read_bytes(), "a copy that was put at the old place isn't in force")
+    # Its text is the journal's own, so that this one is in force, and no later one.
+    told.want(b"# a comment" not in unit.site.read_bytes() and b"# a comment" not in unit.text().encode(), f"a copy that was put at the old place isn't in force: {unit.site}, {os.readlink(unit.state / 'current')}")
     told.same("the journal's old place behind that", os.readlink(unit.state / "journal"), "current/journal")
 
 

@@ -85,18 +85,18 @@ def look_over(octets, first_alone):
         found += faults
         if found and first_alone:
             return None, found
-    if not sections["device"]:
-        return None, found
-    device = sections["device"][0]
+    # What other items refer to is looked at also where the device has a fault.
+    device = next(iter(sections["device"]), None)
     site = Site(
-        device, sections["class"], sections["destination"], sections["object"], sections["enrollment"], sections["log"], sections["binding"], zone_of(device), places,
+        device, sections["class"], sections["destination"], sections["object"], sections["enrollment"], sections["log"], sections["binding"], device and zone_of(device),
+        places,
     )
     given = given_in(document)
-    for look in (too_many, duplicates, danglings, notes):
+    for look in (too_many, duplicates, danglings, *[notes] * (device is not None)):
         found += look(site, given)
         if found and first_alone:
             break
-    return site, found
+    return site if device else None, found
 
 
 def given_in(document):
