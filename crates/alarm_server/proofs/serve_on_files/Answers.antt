@@ -2,4 +2,4 @@ use Rattle.std.proofs.Common.{rules}
 use Rattle.alarm_server.proofs.serve_on_files.Goals as goal
 
 pub serve_real-requires : goal.serve_real-requires
-serve_real-requires g c κs within = (search rules, search rules, search rules, search rules)
+serve_real-requires g c κs within = (search rules, (search rules, (search rules, search rules)))
