@@ -7,6 +7,8 @@ from changing_sites import play
 
 # The properties that are the state of an alarm, and those that can be written, by the word of a replay's lines.
 STATE = {0, 36, 103, 111, 130, 351}
+# The keys by which an object without an alarm is in fault, which no move tells.
+FAULT_KEYS = {"fault-low", "fault-high", "fault-values", "reliability-inhibit", "reliability-evaluation-inhibit"}
 LATE = 4_000_000_000_000
 KEYS = {
     "high": 45, "low": 59, "deadband": 25, "limit_enable": 52, "time_delay": 113, "time_delay_normal": 356, "alarm_value": 6, "enable": 35, "inhibit": 354,
@@ -88,7 +90,8 @@ def is_told(number, rows, item, lines):
     keys = {it.get("key") for it in rows}
     if number in STATE:
         # An object that is out of service, or whose texts are others, shows it.
-        return bool(kinds & {"gone", "come", "left-out"}) or "out-of-service" in keys and number == 111 or "texts" in keys and number == 351
+        of_key = {103: FAULT_KEYS, 111: FAULT_KEYS | {"out-of-service"}, 351: {"texts"}}.get(number, set())
+        return bool(kinds & {"gone", "come", "left-out"} or of_key & keys)
     if number in ("records", 141, 145):
         # A log has what was told of the objects of its classes.
         return any(it["kind"] in ("gone", "come", "not-as-it-was", "left-out") for it in lines)

@@ -8,7 +8,7 @@ import unittest.mock
 import bacnet
 import changing_reads
 import serving
-from alarm_tools import archive, journal, replay, replay_lines, replay_words, words
+from alarm_tools import archive, journal, names, replay, replay_lines, replay_words, words
 from changing_sites import START, TOOL, History, change, change_nothing, draw_site, play, text_of
 from tooling import environment, words_of
 
@@ -134,8 +134,25 @@ def first_reading(program, site, document, folder):
     return changing_reads.read(program, site, kept, document)
 
 
+def as_written(line):
+    """A `set` as a WriteProperty, which a changed text takes also where the object is out of service there."""
+    what, moment, *rest = line.split()
+    if what != "set":
+        return line
+    of, kind = names.object_from(rest[0]), rest[1].partition(":")
+    tag = {"signed": bacnet.SIGNED, "unsigned": bacnet.UNSIGNED}.get(kind[0], bacnet.ENUMERATED)
+    value = int(kind[2]) if kind[2] else int(kind[0] == "active")
+    return f"from {moment} {TOOL} {bacnet.write_property(4, of, 85, bacnet.application(tag, value)).hex()}"
+
+
+def is_look(line):
+    """Whether the objects are looked at by a line: by one that writes."""
+    words_of_line = line.split()
+    return words_of_line[0] == "fault" or words_of_line[0] == "from" and bytes.fromhex(words_of_line[3])[6:10:3] == bytes([0, bacnet.WRITE_PROPERTY])
+
+
 def see_as_if(want, program, it, text, site, folder):
-    """As if the text had always been in force: the moves are those of a session of it with the same lines."""
+    """As if the text had always been in force: the moves are those of a session of it with the same lines, where nothing is held."""
     outcome, _ = played(program, it.kept, text, folder / "work", as_if=True)
     moves = collections.Counter(it.moves)
     for line in outcome.lines:
@@ -144,7 +161,9 @@ def see_as_if(want, program, it, text, site, folder):
     plain = folder / "plain"
     serving.make_journal(program, site, plain)
     wanted = collections.Counter()
-    for head, changes, _ in play(program, site, plain, it.lines):
+    # Those that were events alone, since an idle tick has no record; and time goes by where a write is none here.
+    lines = [one for line in map(as_written, it.entered) for one in ([line, f"tick {it.moment_of(line)}"] if is_look(line) else [line])]
+    for head, changes, _ in play(program, site, plain, lines):
         wanted.update((int(head[2]), *of) for of in changes)
     want(+moves == wanted, f"as if it had always been in force it moves {dict(moves - wanted)} more, and {dict(wanted - moves)} less")
 

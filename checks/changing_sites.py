@@ -179,7 +179,7 @@ class History:
         self.site, self.kept = folder / "old.toml", folder / "old"
         self.site.write_bytes(text_of(document))
         serving.make_journal(program, self.site, self.kept)
-        self.moment, self.lines, self.moves, self.waiting, self.invoke = START + 1000, [], [], [], 0
+        self.moment, self.entered, self.moves, self.waiting = START + 1000, [], [], []
 
     def rounds(self, count, each):
         for _ in range(count):
@@ -195,13 +195,13 @@ class History:
 
     def give(self, lines):
         for line, (head, changes, sends) in zip(lines, play(self.program, self.site, self.kept, lines)):
+            self.entered += [line] if head[0] == "entered" else []
             self.moves += [(int(head[2]), *it) for it in changes]
             for peer, datagram in sends:
                 if datagram[6] >> 4 == 0:
                     message = bacnet.read(datagram)
                     if message.number == bacnet.CONFIRMED_EVENT_NOTIFICATION:
                         self.waiting.append((peer, message.invoke, bacnet.notification_of(message)))
-        self.lines += lines
 
     def next(self):
         self.moment += self.draw.choice([0, 200, 1000, 1000, 4000, 9000])

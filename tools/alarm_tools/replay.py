@@ -162,7 +162,15 @@ class Replay:
         self.of_change += block.word == "entered" and (given is None or given.event is None)
         if given is not None:
             self.see_refusal(block, given)
+            if given.is_held and block.changes:
+                self.tell_first_look({names.object_from(of) for of, *_ in block.changes})
         self.count(block, -1)
+
+    def tell_first_look(self, moved):
+        """A write looks at all objects before it is done: what moves there moves by the new text's keys, and its notification has them."""
+        for it in self.texts.changed():
+            if it.object in moved:
+                self.told.append({"kind": "not-held", "of": (it.object, it.key), "why": "it moves at its first look, before it can be held"})
 
     def keys(self):
         """The keys that are held, and those whose text's value is asked for though both texts have it."""
@@ -276,9 +284,7 @@ class Replay:
         self.settle()
         self.old.flights.pop(peer, None)
         invoke = self.new.flights.pop(peer, None)
-        if invoke is None:
-            self.new.put(f"tick {record.moment}")
-        else:
+        if invoke is not None:
             self.new.put(replay_lines.answer(record.moment, peer, invoke, record.fields["answer"]), Given(event))
 
     def drain(self):
