@@ -200,6 +200,8 @@ def try_history(told, program, folder):
     with Plant(program, folder) as it:
         for of, word in [("integer-value:1", "90"), ("binary-value:1", "active"), ("integer-value:1", "50"), ("integer-value:2", "5")]:
             it.write(of, word)
+            # The picture has whole seconds: what lasts less isn't seen.
+            time.sleep(1.2)
         followed = folder / "followed"
         followed.write_text(it.client("follow", "1", "--once")[1], encoding="utf-8")
         table, page, picture = folder / "table.csv", folder / "page.html", folder / "states.svg"
