@@ -256,13 +256,28 @@ def lonely_ward(folder, program, made, tools=None):
     return unit
 
 
-class Desk:
+class Beside:
+    """What does its work in a thread of its own, in a block."""
+
+    def __init__(self, work):
+        self.stops, self.thread = False, threading.Thread(target=work, daemon=True)
+
+    def __enter__(self):
+        self.thread.start()
+        return self
+
+    def __exit__(self, *_):
+        self.stops = True
+        self.thread.join()
+
+
+class Desk(Beside):
     """The recipient who confirms what it is told, in a block."""
 
     def __init__(self, socket_of):
-        self.socket, self.stops, self.told = socket_of, False, []
+        super().__init__(self.confirm)
+        self.socket, self.told = socket_of, []
         self.socket.settimeout(0.1)
-        self.thread = threading.Thread(target=self.confirm, daemon=True)
 
     def confirm(self):
         while not self.stops:
@@ -275,21 +290,13 @@ class Desk:
             if message.kind == "confirmed-request":
                 self.socket.sendto(octets.simple_ack(message.invoke, message.number), sender)
 
-    def __enter__(self):
-        self.thread.start()
-        return self
 
-    def __exit__(self, *_):
-        self.stops = True
-        self.thread.join()
-
-
-class Writer:
+class Writer(Beside):
     """Writes ever greater numbers to the ward's counter, each until it is answered, in a block. It knows for how long nobody answered."""
 
     def __init__(self, unit, pause=0.1):
-        self.unit, self.pause, self.answered, self.longest, self.stops = unit, pause, [], 0.0, False
-        self.thread = threading.Thread(target=self.write, daemon=True)
+        super().__init__(self.write)
+        self.unit, self.pause, self.answered, self.longest = unit, pause, [], 0.0
 
     def write(self):
         asking = socket.socket(socket.AF_INET, socket.SOCK_DGRAM)
@@ -313,14 +320,6 @@ class Writer:
             self.longest, last = max(self.longest, now - last), now
             time.sleep(self.pause)
         asking.close()
-
-    def __enter__(self):
-        self.thread.start()
-        return self
-
-    def __exit__(self, *_):
-        self.stops = True
-        self.thread.join()
 
 
 def written(path):

@@ -1,6 +1,7 @@
 """Packets of a standby (docs/STANDBY.md), by which events and a state go into a blank journal as they are: nothing is translated."""
 import subprocess
 
+from . import running
 from .words import CANNOT_OPEN, Ends
 
 RECORDS, PIECE = 1, 2
@@ -71,14 +72,7 @@ class Standby:
         self.close()
 
     def close(self):
-        if self.run.poll() is None:
-            self.run.kill()
-            self.run.wait()
-        for stream in (self.run.stdin, self.run.stdout, self.run.stderr):
-            try:
-                stream.close()
-            except BrokenPipeError:
-                pass
+        running.end_at_once(self.run)
 
     def __enter__(self):
         return self

@@ -9,7 +9,7 @@ import queue
 import subprocess
 import threading
 
-from . import octets
+from . import octets, running
 from .replay_lines import TOOL, asked
 from .words import CANNOT_OPEN, Ends
 
@@ -112,11 +112,4 @@ class Session:
 
     def close(self):
         """Ends the program in any case."""
-        if self.run.poll() is None:
-            self.run.kill()
-            self.run.wait()
-        for stream in (self.run.stdin, self.run.stdout, self.run.stderr):
-            try:
-                stream.close()
-            except BrokenPipeError:
-                pass
+        running.end_at_once(self.run)
