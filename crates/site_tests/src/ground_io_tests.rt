@@ -170,7 +170,7 @@ fn expect_kept_by(
     console: &mut Vec<u8>,
     port: u16,
 ) -> Result<(), Fail> {
-    let mut device = FileGround::new(Some(file), console, Some(socket))?;
+    let mut device = FileGround::new(Some(DeviceFile::new(file)?), console, Some(socket));
     expect_kept(rt, &mut device, port);
     Ok(())
 }
@@ -198,6 +198,37 @@ fn file_ground_keeps_a_file_and_sends_to_peers(rt: HostRuntime) -> Result<(), Fa
     Ok(())
 }
 
+/// Notes of one octet to twelve go out to the port.
+fn expect_sent<G: Ground>(rt: &impl Abort, device: &mut G, port: u16) {
+    let peer = Peer::local(0x7f00_0001, port);
+    for length in 1..=12 {
+        same(rt, &device.emit(peer, &b"notification"[..length]), &Ok(()));
+    }
+}
+
+/// The socket hears them, each once and whole, in their order, and no other.
+fn expect_all_heard(rt: &impl Abort, peer: &UdpSocket) -> Result<(), Fail> {
+    peer.set_read_timeout(Some(Duration::from_secs(5)))?;
+    let mut into = [0u8; 16];
+    for length in 1..=12 {
+        let (heard, _) = peer.recv_from(&mut into)?;
+        same(rt, &&into[..heard], &&b"notification"[..length]);
+    }
+    peer.set_read_timeout(Some(Duration::from_millis(20)))?;
+    holds(rt, peer.recv_from(&mut into).is_err());
+    Ok(())
+}
+
+#[test]
+fn each_note_goes_out_once_and_whole(rt: HostRuntime) -> Result<(), Fail> {
+    let peer = UdpSocket::bind(&rt, "127.0.0.1:0")?;
+    let port = peer.local_addr()?.port();
+    let socket = UdpSocket::bind(&rt, "127.0.0.1:0")?;
+    let mut device = FileGround::new(None, Vec::new(rt.alloc()), Some(socket));
+    expect_sent(&rt, &mut device, port);
+    expect_all_heard(&rt, &peer)
+}
+
 /// A file of eight octets that can only be read, and can be cut by another handle.
 fn read_only(rt: &HostRuntime, path: &str) -> Result<(File, File), Fail> {
     let whole = OpenOptions::new()
@@ -222,7 +253,7 @@ fn expect_cut<G: Ground>(rt: &impl Abort, device: &mut G, whole: &File) -> Resul
 fn a_file_fails_where_it_can_not_be_written_or_is_cut(rt: HostRuntime) -> Result<(), Fail> {
     let path = "ground_io_test_read_only";
     let (file, whole) = read_only(&rt, path)?;
-    let mut device = FileGround::new(Some(file), Vec::new(rt.alloc()), None)?;
+    let mut device = FileGround::new(Some(DeviceFile::new(file)?), Vec::new(rt.alloc()), None);
     expect_cut(&rt, &mut device, &whole)?;
     fs::remove_file(&rt, path)?;
     Ok(())
@@ -231,14 +262,14 @@ fn a_file_fails_where_it_can_not_be_written_or_is_cut(rt: HostRuntime) -> Result
 #[test]
 fn what_has_no_disk_below_is_not_synced(rt: HostRuntime) -> Result<(), Fail> {
     let file = OpenOptions::new().read(true).open(&rt, "/dev/null")?;
-    let mut device = FileGround::new(Some(file), Vec::new(rt.alloc()), None)?;
+    let mut device = FileGround::new(Some(DeviceFile::new(file)?), Vec::new(rt.alloc()), None);
     same(&rt, &device.sync(), &Err(Failed));
     Ok(())
 }
 
 #[test]
 fn without_a_file_there_is_no_device(rt: HostRuntime) -> Result<(), Fail> {
-    let mut device = FileGround::new(None, Vec::new(rt.alloc()), None)?;
+    let mut device = FileGround::new(None, Vec::new(rt.alloc()), None);
     same(&rt, &device.size(), &Ok(0));
     same(&rt, &device.sync(), &Ok(()));
     same(&rt, &device.emit(Peer::local(1, 2), b"note"), &Err(Failed));

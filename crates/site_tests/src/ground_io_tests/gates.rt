@@ -5,7 +5,7 @@ use crate::comparing::{holds, same};
 use bac_values::Peer;
 use ground_io::{
     Failed, Filling, FreeGate, Gate, Ground, HeldGround, MemoryGround, MemoryLink, RestingGate,
-    StillClock, SystemClock, UdpLink, Worker,
+    StillClock, SystemClock, TimedSocket, UdpLink, Worker,
 };
 use std::alloc::Global;
 use std::io;
@@ -155,7 +155,8 @@ fn grounds_go_to_threads(rt: HostRuntime) {
 fn links_go_to_threads(rt: HostRuntime) -> Result<(), Fail> {
     goes_to_a_thread(&MemoryLink::new(Vec::new(rt.alloc()), Vec::new(rt.alloc())));
     let socket = UdpSocket::bind(&rt, "127.0.0.1:0")?;
-    goes_to_a_thread(&UdpLink::new(&socket, Duration::from_secs(1))?);
+    let timed = TimedSocket::new(&socket, Duration::from_secs(1))?;
+    goes_to_a_thread(&UdpLink::new(timed));
     Ok(())
 }
 

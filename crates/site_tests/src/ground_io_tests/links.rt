@@ -2,7 +2,7 @@
 
 use crate::comparing::same;
 use bac_values::{Items, Peer, Send};
-use ground_io::{Failed, Link, MemoryLink, Received, UdpLink};
+use ground_io::{Failed, Link, MemoryLink, Received, TimedSocket, UdpLink};
 use std::alloc::{AllocError, Global};
 use std::io;
 use std::net::{Ipv4Addr, SocketAddrV4, UdpSocket};
@@ -95,8 +95,35 @@ fn udp_link_hears_a_socket_and_finds_nothing_when_its_time_is_up(
 ) -> Result<(), Fail> {
     let (socket, port) = local_socket(&rt)?;
     let asker = local_socket(&rt)?;
-    let mut link = UdpLink::new(&socket, Duration::from_millis(20))?;
+    let mut link = UdpLink::new(TimedSocket::new(&socket, Duration::from_millis(20))?);
     expect_asked(&rt, &mut link, &asker, port)
+}
+
+/// The link hears nine requests of a socket, each once, in their order.
+fn expect_nine<L: Link>(
+    rt: &impl Abort,
+    link: &mut L,
+    asker: &(UdpSocket, u16),
+    port: u16,
+) -> Result<(), Fail> {
+    for number in 1..=9u8 {
+        asker.0.send_to(&[number, 7], at_port(port))?;
+    }
+    for number in 1..=9u8 {
+        let mut into = [0u8; 4];
+        same(rt, &link.receive(&mut into), &from_port(asker.1, 2));
+        same(rt, &into, &[number, 7, 0, 0]);
+    }
+    expect_nothing(rt, link);
+    Ok(())
+}
+
+#[test]
+fn udp_link_hears_each_datagram_once_and_in_order(rt: HostRuntime) -> Result<(), Fail> {
+    let (socket, port) = local_socket(&rt)?;
+    let asker = local_socket(&rt)?;
+    let mut link = UdpLink::new(TimedSocket::new(&socket, Duration::from_millis(20))?);
+    expect_nine(&rt, &mut link, &asker, port)
 }
 
 /// A port on which nobody listens.
@@ -107,7 +134,7 @@ fn closed_port(rt: &HostRuntime) -> io::Result<u16> {
 
 /// A socket that was told that nobody listens where it sent to fails.
 fn expect_failing(rt: &impl Abort, socket: &UdpSocket, port: u16) -> Result<(), Fail> {
-    let mut link = UdpLink::new(socket, Duration::from_secs(5))?;
+    let mut link = UdpLink::new(TimedSocket::new(socket, Duration::from_secs(5))?);
     socket.connect(at_port(port))?;
     socket.send(b"who-is")?;
     same(rt, &link.receive(&mut [0u8; 4]), &Err(Failed));
