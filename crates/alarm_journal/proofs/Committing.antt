@@ -93,7 +93,7 @@ module _ (site : Site) (layout : Layout) (content : Content) (body : List ℕ) (
         let is = only_read c2 x may in
         staged x 1 (ap length is ∙ long2) (ap (take layout.next) is ∙ front2) (ap (drop layout.next) is ∙ behind2)
 
-    steps : TwoWrites P c (layout.next + 1) (framed body) layout.next (1 ∷ [])
+    pub steps : TwoWrites P c (layout.next + 1) (framed body) layout.next (1 ∷ [])
     steps = record {
       rest = at_rest;
       first = λ o count. at_body o count;

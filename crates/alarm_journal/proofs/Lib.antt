@@ -16,3 +16,4 @@ pub mod Showing
 pub mod Snapshots
 pub mod Standings
 pub mod TwoWrites
+pub mod Underways

@@ -216,7 +216,7 @@ module _ (site : Site) (layout : Layout) (content : Content) (state : List ℕ) 
     at_last : Each P (record { contents = c2; loose = [] })
     at_last x may = let is = only_read c2 x may in switched x (ap length is ∙ long2) (ap (take (layout.areas - 1)) is ∙ front2) (ap (drop layout.areas) is ∙ back2)
 
-    steps : TwoWrites P c p1 (framed state) (layout.areas - 1) (selector_of layout ∷ [])
+    pub steps : TwoWrites P c p1 (framed state) (layout.areas - 1) (selector_of layout ∷ [])
     steps = record {
       rest = λ x may. inl (subst (λ (l : List ℕ). OpensTo site l content) (sym (only_read c x may)) (opens_now site layout c content size sound stands));
       first = at_first;

@@ -3,7 +3,8 @@ use Rattle.std.proofs.Common.{◌≡◌, inl, inr, ℕ, List, [], ◌∷◌, len
 use Rattle.ground_io.specs.Disk.{Disk, Each, Always, with_octets}
 use Rattle.ground_io.specs.Trace.{Told, Adds, disk_of}
 use Rattle.ground_io.specs.declared.entry.Entry.{Entry}
-use Rattle.ground_io.proofs.Crashes.{disk_adds}
+use Rattle.ground_io.specs.declared.entry.Entry.TheVariants.{Wrote, Synced}
+use Rattle.ground_io.proofs.Crashes.{adds_both, disk_adds}
 use Rattle.ground_io.specs.Sent.{AreQuiet}
 use Rattle.alarm_journal.specs.Protocol.{Leads, AddsSome, two_writes, IsCutShort, IsTwoCutShort}
 
@@ -78,3 +79,10 @@ pub some_weaker : (P Q : List Entry → Type 0) (a b : Option Told) → ((entrie
 some_weaker P Q a None to some = tt
 some_weaker P Q None (Some b) to some = absurd some
 some_weaker P Q (Some a) (Some b) to some = (some.0, to some.0 some.1, some.2)
+
+-- the second write was cut short, behind the first
+pub cut_second : (p1 : ℕ) (o1 : List ℕ) (p2 : ℕ) (o2 : List ℕ) (a b d : Option Told) → Adds a b (Wrote p1 o1 ∷ Synced ∷ []) → AddsSome (IsCutShort p2 o2) b d → AddsSome (IsTwoCutShort p1 o1 p2 o2) a d
+cut_second p1 o1 p2 o2 a b None adds some = tt
+cut_second p1 o1 p2 o2 a None (Some d) adds some = absurd some
+cut_second p1 o1 p2 o2 None (Some b) (Some d) adds some = absurd adds
+cut_second p1 o1 p2 o2 (Some a) (Some b) (Some d) adds some = (Wrote p1 o1 ∷ Synced ∷ some.0, inr (some.0, some.1, refl), adds_both (Some a) (Some b) (Some d) (Wrote p1 o1 ∷ Synced ∷ []) some.0 adds some.2)

@@ -6,3 +6,4 @@ pub mod Laws
 pub mod Opened
 pub mod Press
 pub mod Protocol
+pub mod Underway

@@ -1,6 +1,6 @@
 //! An area of a journal is read: its snapshot, and then batch by batch.
 
-ghost use Rattle.std.specs.Prelude.{◌≡◌, ◌<◌, ◌≤◌, ◌+◌, ◌^◌, ◌-◌, [], IfOk, IfErr, IfSome, IsFalse, IsTrue, MatchOption, OnOk, Err, false};
+ghost use Rattle.std.specs.Prelude.{◌≡◌, ◌≢◌, ◌<◌, ◌≤◌, ◌+◌, ◌^◌, ◌-◌, [], IfOk, IfErr, IfSome, IsFalse, IsTrue, MatchOption, OnOk, Err, false};
 ghost use Rattle.ground_io.specs.Counts.{HasCause};
 ghost use Rattle.ground_io.specs.Disk.{octets_at};
 ghost use Rattle.ground_io.specs.Trace.{Adds};
@@ -39,6 +39,7 @@ fn read_head<G: Ground>(device: &mut G, place: u64, left: u64) -> Result<Option<
     requires word { place + left < 2 ^ 64 }
     ensures same { G.size device.new ≡ G.size device.old }
     ensures cause { HasCause (G.disk_faults device.old) (G.disk_faults device.new) (result ≡ Err DiskFault) }
+    ensures unhidden { IfErr result (λ fault. fault ≢ DiskFault → G.disk_faults device.new ≡ G.disk_faults device.old) }
     ensures uncounted { OnOk result (G.disk_faults device.new ≡ G.disk_faults device.old) }
     ensures emitted { G.emit_faults device.new ≡ G.emit_faults device.old }
     ensures told { Adds (G.told device.old) (G.told device.new) [] }
@@ -67,6 +68,7 @@ fn read_batch<G: Ground>(alloc: Global, device: &mut G, area: &mut Area) -> Resu
     requires so_far { Shows (G.told device.old) (so_far area.old) }
     ensures same { G.size device.new ≡ G.size device.old }
     ensures cause { HasCause (G.disk_faults device.old) (G.disk_faults device.new) (result ≡ Err DiskFault) }
+    ensures unhidden { IfErr result (λ fault. fault ≢ DiskFault → G.disk_faults device.new ≡ G.disk_faults device.old) }
     ensures uncounted { OnOk result (G.disk_faults device.new ≡ G.disk_faults device.old) }
     ensures emitted { G.emit_faults device.new ≡ G.emit_faults device.old }
     ensures told { Adds (G.told device.old) (G.told device.new) [] }
@@ -99,6 +101,7 @@ fn read_batches<G: Ground>(alloc: Global, device: &mut G, area: &mut Area) -> Re
     requires so_far { Shows (G.told device.old) (so_far area.old) }
     ensures same { G.size device.new ≡ G.size device.old }
     ensures cause { HasCause (G.disk_faults device.old) (G.disk_faults device.new) (result ≡ Err DiskFault) }
+    ensures unhidden { IfErr result (λ fault. fault ≢ DiskFault → G.disk_faults device.new ≡ G.disk_faults device.old) }
     ensures uncounted { OnOk result (G.disk_faults device.new ≡ G.disk_faults device.old) }
     ensures emitted { G.emit_faults device.new ≡ G.emit_faults device.old }
     ensures told { Adds (G.told device.old) (G.told device.new) [] }
@@ -145,6 +148,7 @@ pub fn read_area<G: Ground>(
     requires word { start + half < 2 ^ 64 }
     ensures same { G.size device.new ≡ G.size device.old }
     ensures cause { HasCause (G.disk_faults device.old) (G.disk_faults device.new) (result ≡ Err DiskFault) }
+    ensures unhidden { IfErr result (λ fault. fault ≢ DiskFault → G.disk_faults device.new ≡ G.disk_faults device.old) }
     ensures uncounted { OnOk result (G.disk_faults device.new ≡ G.disk_faults device.old) }
     ensures emitted { G.emit_faults device.new ≡ G.emit_faults device.old }
     ensures told { Adds (G.told device.old) (G.told device.new) [] }

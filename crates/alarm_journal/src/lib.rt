@@ -7,6 +7,7 @@
 
 mod area;
 mod body;
+mod change;
 mod header;
 mod job;
 mod laws;

@@ -1,6 +1,6 @@
 //! A device is opened as a journal, or formatted where it is blank.
 
-ghost use Rattle.std.specs.Prelude.{◌≡◌, ◌⊎◌, ◌+◌, ◌-◌, ◌/◌, ◌%◌, ◌≤◌, ◌<◌, if◌then◌else◌, slice_index, [], ◌∷◌, ℕ, length, IfOk, IfErr, OnOk, OnErr, MatchResult, IsFalse, IsTrue, ◌↔◌, Ok, Err, false};
+ghost use Rattle.std.specs.Prelude.{◌≡◌, ◌≢◌, ◌⊎◌, ◌+◌, ◌-◌, ◌/◌, ◌%◌, ◌≤◌, ◌<◌, if◌then◌else◌, slice_index, [], ◌∷◌, ℕ, length, IfOk, IfErr, OnOk, OnErr, MatchResult, IsFalse, IsTrue, ◌↔◌, Ok, Err, false};
 ghost use Rattle.bac_values.specs.Limits.{most_site_octets};
 ghost use Rattle.ground_io.specs.Counts.{HasCause};
 ghost use Rattle.ground_io.specs.Trace.{Adds};
@@ -13,6 +13,7 @@ ghost use Rattle.alarm_journal.specs.Protocol.{AddsSome, IsTwoCutShort, Leads, t
 ghost use Rattle.alarm_journal.specs.declared.open_fault.OpenFault.TheVariants.{DiskFault, NoMemory};
 
 use crate::area::read_area;
+use crate::change::Change;
 use crate::header::{check_header, heading_of};
 use crate::protocol::write_both;
 use crate::reading::{read_gate, read_piece};
@@ -35,6 +36,7 @@ fn format<G: Ground>(
     requires room { need ≤ size }
     ensures same { G.size device.new ≡ G.size device.old }
     ensures cause { HasCause (G.disk_faults device.old) (G.disk_faults device.new) (result ≡ Err DiskFault) }
+    ensures unhidden { IfErr result (λ fault. fault ≢ DiskFault → G.disk_faults device.new ≡ G.disk_faults device.old) }
     ensures uncounted { OnOk result (G.disk_faults device.new ≡ G.disk_faults device.old) }
     ensures emitted { G.emit_faults device.new ≡ G.emit_faults device.old }
     ensures faults { IfErr result (λ fault. (fault ≡ DiskFault) ⊎ (fault ≡ NoMemory)) }
@@ -47,7 +49,8 @@ fn format<G: Ground>(
     ensures any_moment { Blank (G.told device.old) → Leads (λ image. OpensTo (record { text = text.now; need = need }) image nothing) (G.told device.old) (G.told device.new) }
 {
     let octets = heading_of(alloc, text, size)?;
-    write_both(device, 1, &octets, 0, 1)?;
+    let change = Change::beginning(text, need);
+    write_both(device, &change, 1, &octets, 0, 1)?;
     let areas = text.len() as u64 + 22;
     Ok(Layout {
         areas,
@@ -90,6 +93,7 @@ fn read_journal<G: Ground>(
     requires room { need ≤ size }
     ensures same { G.size device.new ≡ G.size device.old }
     ensures cause { HasCause (G.disk_faults device.old) (G.disk_faults device.new) (result ≡ Err DiskFault) }
+    ensures unhidden { IfErr result (λ fault. fault ≢ DiskFault → G.disk_faults device.new ≡ G.disk_faults device.old) }
     ensures uncounted { OnOk result (G.disk_faults device.new ≡ G.disk_faults device.old) }
     ensures emitted { G.emit_faults device.new ≡ G.emit_faults device.old }
     ensures small { IfErr result (λ fault. IsSmall (G.size device.old) fault) }
@@ -122,6 +126,7 @@ pub(crate) fn open_device<G: Ground>(
     requires needed { length text.now + 32 ≤ need }
     ensures same { G.size device.new ≡ G.size device.old }
     ensures cause { HasCause (G.disk_faults device.old) (G.disk_faults device.new) (result ≡ Err DiskFault) }
+    ensures unhidden { IfErr result (λ fault. fault ≢ DiskFault → G.disk_faults device.new ≡ G.disk_faults device.old) }
     ensures uncounted { OnOk result (G.disk_faults device.new ≡ G.disk_faults device.old) }
     ensures emitted { G.emit_faults device.new ≡ G.emit_faults device.old }
     ensures small { IfErr result (λ fault. IsSmall (G.size device.old) fault) }

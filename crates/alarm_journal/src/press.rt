@@ -1,6 +1,6 @@
 //! The press: it opens, commits, and sends what rests on what was committed.
 
-ghost use Rattle.std.specs.Prelude.{◌≡◌, ◌⊎◌, ◌<◌, ◌≤◌, ◌+◌, ◌-◌, ◌/◌, All, List, [], ◌∷◌, ℕ, length, IfOk, IfErr, IsFalse, IsTrue, MatchResult, Ok, Err, map, ⊤};
+ghost use Rattle.std.specs.Prelude.{◌≡◌, ◌≢◌, ◌⊎◌, ◌<◌, ◌≤◌, ◌+◌, ◌-◌, ◌/◌, All, List, [], ◌∷◌, ℕ, length, IfOk, IfErr, IsFalse, IsTrue, MatchResult, Ok, Err, map, ⊤};
 ghost use Rattle.bac_values.specs.Limits.{most_site_octets};
 ghost use Rattle.ground_io.specs.Counts.{HasCause};
 ghost use Rattle.ground_io.specs.Trace.{Adds};
@@ -10,8 +10,10 @@ ghost use Rattle.alarm_journal.specs.Journal.{Content, Site, batches_of, framed,
 ghost use Rattle.alarm_journal.specs.Opened.{EndsOnDevice, LieBetween, Shows, StandsAt, content_in, sum_of};
 ghost use Rattle.alarm_journal.specs.Press.{Answers, Between, IsAtMostSynced, IsBelow, IsOpening, IsRefusal, IsSmall, Lasts, MayFormat, Reopens, ReopensSynced, Settled, Throughout, WasBlank, behind_batch, behind_snapshot, other_of, room_of, selector_of, start_of};
 ghost use Rattle.alarm_journal.specs.Protocol.{AddsSome, IsTwoCutShort, two_writes};
+ghost use Rattle.alarm_journal.specs.Underway.{MaySend};
 ghost use Rattle.alarm_journal.specs.declared.open_fault.OpenFault.TheVariants.{DiskFault};
 
+use crate::change::Change;
 use crate::open::open_device;
 use crate::protocol::write_both;
 use crate::{Job, Layout, OpenFault, Opened};
@@ -46,8 +48,10 @@ impl<G: Ground> Model for Press<G> {
     ghost invariant = { λ press. IsSound (G.size press.device) press.layout };
 }
 
-// Emits each of these, in order.
-fn emit_each<G: Ground>(device: &mut G, sends: &[Send]) -> Emits
+// Emits each of these, in order, on a device whose journal lies there.
+fn emit_each<G: Ground>(device: &mut G, _layout: &Layout, sends: &[Send]) -> Emits
+    // What they rest on stands in each image that a crash may leave now.
+    requires stands { MaySend _layout.now (G.told device.old) }
     ensures same { G.size device.new ≡ G.size device.old }
     ensures disk { G.disk_faults device.new ≡ G.disk_faults device.old }
     ensures told { EmitsAll sends.now result.sent result.lost (G.told device.old) (G.told device.new) }
@@ -114,6 +118,8 @@ impl<G: Ground> Press<G> {
         ensures cause { MatchResult result
             (λ read. G.disk_faults read.0.device ≡ G.disk_faults device)
             (λ refused. HasCause (G.disk_faults device) (G.disk_faults refused.0) (refused.1 ≡ DiskFault)) }
+        // A call of the device that failed is told as that, and not as want of memory.
+        ensures unhidden { IfErr result (λ refused. refused.1 ≢ DiskFault → G.disk_faults refused.0 ≡ G.disk_faults device) }
 
         // A crash at any moment from the first sync on, which an `Ok` has done.
         ensures any_moment { MatchResult result
@@ -185,7 +191,9 @@ impl<G: Ground> Press<G> {
     {
         let Press { mut device, layout } = self;
         let octets = job.framed();
-        if let Err(Failed) = write_both(&mut device, layout.next + 1, octets, layout.next, 1) {
+        let change = Change::batch(layout, job);
+        let gate = layout.next;
+        if let Err(Failed) = write_both(&mut device, &change, gate + 1, octets, gate, 1) {
             return Err(device);
         }
         let layout = layout.behind_batch(octets.len() as u64 - 5);
@@ -223,9 +231,10 @@ impl<G: Ground> Press<G> {
     {
         let Press { mut device, layout } = self;
         let octets = job.framed();
+        let change = Change::snapshot(layout, job);
         let place = layout.other_start();
-        let selector = layout.other_selector();
-        if let Err(Failed) = write_both(&mut device, place, octets, layout.areas - 1, selector) {
+        let (second, selector) = (layout.areas - 1, layout.other_selector());
+        if let Err(Failed) = write_both(&mut device, &change, place, octets, second, selector) {
             return Err(device);
         }
         let layout = layout.behind_snapshot(octets.len() as u64 - 5);
@@ -250,7 +259,7 @@ impl<G: Ground> Press<G> {
         ensures any_moment { (site : Site) (content : Content) → Settled site self.old.layout (G.told self.old.device) content
             → Throughout site content (G.told self.old.device) (G.told self.new.device) }
     {
-        emit_each(&mut self.device, sends)
+        emit_each(&mut self.device, &self.layout, sends)
     }
 
     /// The ground.

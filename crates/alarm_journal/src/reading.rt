@@ -1,6 +1,6 @@
 //! Pieces, gates and words of a journal are read.
 
-ghost use Rattle.std.specs.Prelude.{◌≡◌, ◌⊎◌, ◌+◌, ◌≤◌, ◌↔◌, [], length, slice_index, IfOk, IfErr, IsErr, IsTrue, OnOk, Err};
+ghost use Rattle.std.specs.Prelude.{◌≡◌, ◌≢◌, ◌⊎◌, ◌+◌, ◌≤◌, ◌↔◌, [], length, slice_index, IfOk, IfErr, IsErr, IsTrue, OnOk, Err};
 ghost use Rattle.byteorder.specs.Endian.{big_number};
 ghost use Rattle.ground_io.specs.Counts.{HasCause};
 ghost use Rattle.ground_io.specs.Disk.{octets_at};
@@ -23,6 +23,7 @@ pub fn read_piece<G: Ground>(
     requires { place + count ≤ G.size device.old }
     ensures same { G.size device.new ≡ G.size device.old }
     ensures cause { HasCause (G.disk_faults device.old) (G.disk_faults device.new) (result ≡ Err DiskFault) }
+    ensures unhidden { IfErr result (λ fault. fault ≢ DiskFault → G.disk_faults device.new ≡ G.disk_faults device.old) }
     ensures uncounted { OnOk result (G.disk_faults device.new ≡ G.disk_faults device.old) }
     ensures emitted { G.emit_faults device.new ≡ G.emit_faults device.old }
     ensures faults { IfErr result (λ fault. (fault ≡ DiskFault) ⊎ (fault ≡ NoMemory)) }

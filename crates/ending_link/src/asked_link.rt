@@ -32,7 +32,7 @@ impl AskedLink for MemoryLink {
     }
 }
 
-// A socket tells nothing: that it is asked is what this call is trusted with.
+// A socket tells what comes, and numbers no calls: that it is asked is what this call is trusted with.
 impl AskedLink for UdpLink {
     ghost asked = { λ old new. Unit {0} };
 

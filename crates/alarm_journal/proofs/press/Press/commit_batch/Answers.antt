@@ -3,10 +3,14 @@ use Rattle.ground_io.specs.Trace.{Adds}
 use Rattle.alarm_journal.specs.Journal.{Site, Content, framed, with_batch}
 use Rattle.alarm_journal.specs.Press.{Settled, Between, IsSound, behind_batch, end_of, room_of, PressState}
 use Rattle.alarm_journal.specs.Protocol.{AddsSome, IsTwoCutShort, two_writes}
+use Rattle.alarm_journal.specs.Underway.{MayWrite, MayWriteBehind}
+use Rattle.alarm_journal.specs.declared.change.Change.{Change}
+use Rattle.alarm_journal.specs.declared.change.Change.TheVariants.{Batch}
 use Rattle.alarm_journal.specs.declared.layout.Layout.{Layout}
 use Rattle.alarm_journal.proofs.Rest.{lasts, sound_batch}
 use Rattle.alarm_journal.proofs.TwoWrites.{cut_short, done, ended}
 use Rattle.alarm_journal.proofs.Committing.{ready, committed}
+use Rattle.alarm_journal.proofs.Underways.{batch_first, batch_second}
 use Rattle.alarm_journal.proofs.press.Press.commit_batch.Goals as goal
 
 few : (n : ℕ) → n < 36000000 → n < 2 ^ 32
@@ -14,6 +18,26 @@ few n h = omega arith
 
 room : (n next end : ℕ) → 0 < n → n ≤ end - next - 6 → next + n + 6 ≤ end
 room n next end some fits = omega arith
+
+pub write_both-requires-clause-underway : goal.write_both-requires-clause-underway
+write_both-requires-clause-underway g c =
+    let x = c.self.inside in
+    let fits : length c.args.job.now ≤ room_of x.layout = subst (λ (s : PressState _). length c.args.job.now ≤ room_of s.layout) (sym c.self.view_is) c.requires.fits in
+    let fit = room (length c.args.job.now) x.layout.next (end_of x.layout) c.requires.some fits in
+    let small = few (length c.args.job.now) c.framed-octets.ensures.few in
+    subst (λ (change : Change). MayWrite change (x.layout.next + 1) c.framed-octets.result.now (g.G.Ground.told x.device)) (sym c.batch-change.ensures.made)
+    (subst (λ (l : List ℕ). MayWrite (Batch x.layout c.args.job) (x.layout.next + 1) l (g.G.Ground.told x.device)) (sym c.framed-octets.ensures.framed)
+    (batch_first x.layout c.args.job (g.G.Ground.size x.device) c.self.invariant small fit _ (g.G.Ground.sized x.device)))
+
+pub write_both-requires-clause-behind : goal.write_both-requires-clause-behind
+write_both-requires-clause-behind g c =
+    let x = c.self.inside in
+    let fits : length c.args.job.now ≤ room_of x.layout = subst (λ (s : PressState _). length c.args.job.now ≤ room_of s.layout) (sym c.self.view_is) c.requires.fits in
+    let fit = room (length c.args.job.now) x.layout.next (end_of x.layout) c.requires.some fits in
+    let small = few (length c.args.job.now) c.framed-octets.ensures.few in
+    subst (λ (change : Change). MayWriteBehind change (x.layout.next + 1) c.framed-octets.result.now x.layout.next (1 ∷ []) (g.G.Ground.told x.device)) (sym c.batch-change.ensures.made)
+    (subst (λ (l : List ℕ). MayWriteBehind (Batch x.layout c.args.job) (x.layout.next + 1) l x.layout.next (1 ∷ []) (g.G.Ground.told x.device)) (sym c.framed-octets.ensures.framed)
+    (batch_second x.layout c.args.job (g.G.Ground.size x.device) c.self.invariant small fit _ (g.G.Ground.sized x.device)))
 
 pub returns-in-Err-clause-any_moment : goal.returns-in-Err-clause-any_moment
 returns-in-Err-clause-any_moment g c =

@@ -3,14 +3,42 @@ use Rattle.ground_io.specs.Trace.{Adds}
 use Rattle.alarm_journal.specs.Journal.{Site, Content, framed, only_snapshot}
 use Rattle.alarm_journal.specs.Press.{Settled, Between, IsSound, behind_snapshot, other_of, selector_of, PressState}
 use Rattle.alarm_journal.specs.Protocol.{AddsSome, IsTwoCutShort, two_writes}
+use Rattle.alarm_journal.specs.Underway.{MayWrite, MayWriteBehind}
+use Rattle.alarm_journal.specs.declared.change.Change.{Change}
+use Rattle.alarm_journal.specs.declared.change.Change.TheVariants.{Snapshot}
 use Rattle.alarm_journal.specs.declared.layout.Layout.{Layout}
 use Rattle.alarm_journal.proofs.Rest.{lasts, sound_snapshot}
 use Rattle.alarm_journal.proofs.TwoWrites.{cut_short, done, ended}
 use Rattle.alarm_journal.proofs.Snapshots.{ready, committed}
+use Rattle.alarm_journal.proofs.Underways.{snapshot_first, snapshot_second}
 use Rattle.alarm_journal.proofs.press.Press.commit_snapshot.Goals as goal
 
 few : (n : ℕ) → n < 36000000 → n < 2 ^ 32
 few n h = omega arith
+
+pub write_both-requires-clause-underway : goal.write_both-requires-clause-underway
+write_both-requires-clause-underway g c =
+    let x = c.self.inside in
+    let fits : length c.args.job.now + 5 ≤ x.layout.half = subst (λ (s : PressState _). length c.args.job.now + 5 ≤ s.layout.half) (sym c.self.view_is) c.requires.fits in
+    let small = few (length c.args.job.now) c.framed-octets.ensures.few in
+    let told = g.G.Ground.told x.device in
+    subst (λ (change : Change). MayWrite change c.other_start-place.result c.framed-octets.result.now told) (sym c.snapshot-change.ensures.made)
+    (subst (λ (p : ℕ). MayWrite (Snapshot x.layout c.args.job) p c.framed-octets.result.now told) (sym c.other_start-place.ensures.start)
+    (subst (λ (l : List ℕ). MayWrite (Snapshot x.layout c.args.job) (other_of x.layout) l told) (sym c.framed-octets.ensures.framed)
+    (snapshot_first x.layout c.args.job (g.G.Ground.size x.device) c.self.invariant small fits told (g.G.Ground.sized x.device))))
+
+pub write_both-requires-clause-behind : goal.write_both-requires-clause-behind
+write_both-requires-clause-behind g c =
+    let x = c.self.inside in
+    let fits : length c.args.job.now + 5 ≤ x.layout.half = subst (λ (s : PressState _). length c.args.job.now + 5 ≤ s.layout.half) (sym c.self.view_is) c.requires.fits in
+    let small = few (length c.args.job.now) c.framed-octets.ensures.few in
+    let told = g.G.Ground.told x.device in
+    let P : ℕ → List ℕ → ℕ → Type 0 = λ p l s. MayWriteBehind (Snapshot x.layout c.args.job) p l (x.layout.areas - 1) (s ∷ []) told in
+    subst (λ (change : Change). MayWriteBehind change c.other_start-place.result c.framed-octets.result.now (x.layout.areas - 1) (c.other_selector-selector.result ∷ []) told) (sym c.snapshot-change.ensures.made)
+    (subst (λ (p : ℕ). P p c.framed-octets.result.now c.other_selector-selector.result) (sym c.other_start-place.ensures.start)
+    (subst (λ (l : List ℕ). P (other_of x.layout) l c.other_selector-selector.result) (sym c.framed-octets.ensures.framed)
+    (subst (λ (s : ℕ). P (other_of x.layout) (framed c.args.job.now) s) (sym c.other_selector-selector.ensures.selector)
+    (snapshot_second x.layout c.args.job (g.G.Ground.size x.device) c.self.invariant small fits told (g.G.Ground.sized x.device)))))
 
 pub returns-in-Err-clause-any_moment : goal.returns-in-Err-clause-any_moment
 returns-in-Err-clause-any_moment g c =

@@ -5,6 +5,9 @@ use Rattle.alarm_journal.proofs.Emitting.{settled_still, throughout}
 use Rattle.alarm_journal.proofs.Rest.{lasts}
 use Rattle.alarm_journal.proofs.press.Press.emit_all.Goals as goal
 
+pub emit_each-requires : goal.emit_each-requires
+emit_each-requires g c = record { stands = λ site content settled. lasts site c.self.inside.layout (g.G.Ground.told c.self.inside.device) content (g.G.Ground.size c.self.inside.device) c.self.invariant settled }
+
 pub returns-clause-settled : goal.returns-clause-settled
 returns-clause-settled g c =
     let x = c.self.inside in
