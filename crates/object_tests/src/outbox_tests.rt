@@ -202,6 +202,28 @@ fn unconfirmed_notes_go_before_a_confirmed_one_and_wait_behind_it(
     goes_in_order(&rt, rt.alloc(), &mut outbox)
 }
 
+/// An alarm is sent four times, and given up with two notes behind it. A fault that comes then is sent with the next invoke ID.
+fn gives_up_all(rt: &impl Abort, alloc: Global, outbox: &mut Outbox) -> Result<(), Fail> {
+    queue_at(alloc, outbox, 0, true, &ALARM)?;
+    queue_at(alloc, outbox, 0, false, &ACKNOWLEDGED)?;
+    queue_at(alloc, outbox, 0, true, &ALARM)?;
+    for after in [0, 3_000, 6_000, 9_000] {
+        expect_sent(rt, alloc, outbox, after, 5, &ALARM_SENT)?;
+    }
+    expect_count(rt, alloc, outbox, 12_000, 0)?;
+    same(rt, &outbox.room(), &64);
+    expect_stray(rt, outbox, 5, 0);
+    queue_at(alloc, outbox, 0, true, &FAULT)?;
+    expect_sent(rt, alloc, outbox, 12_000, 5, &FAULT_SENT)
+}
+
+#[test]
+fn an_outbox_that_flushes_gives_up_all(rt: HostRuntime) -> Result<(), Fail> {
+    let alloc = rt.alloc();
+    let mut outbox = outbox(alloc)?.flushing(true);
+    gives_up_all(&rt, alloc, &mut outbox)
+}
+
 /// The recipients at these places.
 fn peers_at(outbox: &Outbox, places: [u32; 4]) -> [Option<Peer>; 4] {
     let [first, second, third, fourth] = places;

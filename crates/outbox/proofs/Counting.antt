@@ -5,7 +5,7 @@ use Rattle.std.proofs.lemmas.Bool.Decides.{nat_tests}
 use Rattle.std.proofs.lemmas.List.{length-drop}
 use Rattle.std.proofs.lemmas.List.Sums.{prefix_len-le-length}
 use Rattle.bac_values.specs.declared.note.Note.{Note}
-use Rattle.outbox.specs.Delivery.{Operation, NoteQueued, PumpedAt, AnswerCame, Timing, Delivery, is_confirmed, invoke_id, next_confirmed, is_awaited, sent_from, pumped_at, answered_with, delivery_after}
+use Rattle.outbox.specs.Delivery.{Operation, NoteQueued, PumpedAt, AnswerCame, Timing, Delivery, is_confirmed, invoke_id, next_confirmed, is_awaited, gives_up, given_up, sent_from, pumped_at, answered_with, delivery_after}
 use Rattle.outbox.specs.Finishing.{as_number, is_sent_at, transmissions, IsSentSo, SendsSeldom}
 use Rattle.outbox.proofs.Laws.{IsDelivery, delivery_is}
 use Rattle.outbox.proofs.Finished.{few_after, le_true, le_false, lt_true, lt_false}
@@ -104,18 +104,29 @@ module _ (timing : Timing) (place times : ℕ) where
             so.current here ∙ rests (omega (arith, upto, from, low))
       ]
 
+  -- all that waits is given up
+  all_given_up : (d : Delivery) → d.attempts ≤ 1 + timing.retries → 0 < d.attempts → IsSentSo timing d place times → IsSentSo timing (given_up d) place (times + 0)
+  all_given_up d few sent so = record {
+    waiting = λ h. let t = so.waiting (omega (arith, h)) in omega (arith, t);
+    current = λ h. let t = so.waiting (omega (arith, h)) in omega (arith, t);
+    finished = λ h. elim (cases_lt place d.finished) [
+      | inl old ↦ let t = so.finished old in (omega (arith, t.0), omega (arith, t.1))
+      | inr here ↦ let t = so.current (omega (arith, h, here)) in (omega (arith, t, sent), omega (arith, t, few))
+    ];
+  }
+
   pump_sends : (moment : ℕ) (d : Delivery) → IsDelivery d → d.attempts ≤ 1 + timing.retries → IsSentSo timing d place times →
       IsSentSo timing (pumped_at timing moment d) place (times + as_number (is_sent_at timing moment d place))
-  pump_sends moment d is few so = by_test (is_awaited moment d.attempts d.deadline) (nat_lt 0 d.attempts) (nat_le d.attempts timing.retries) refl refl refl
+  pump_sends moment d is few so = by_test (is_awaited moment d.attempts d.deadline) (nat_lt 0 d.attempts) (nat_le d.attempts timing.retries) (gives_up timing.flush_silent d.attempts) refl refl refl refl
     where
-      by_test : (a b c : Bool) → is_awaited moment d.attempts d.deadline ≡ a → nat_lt 0 d.attempts ≡ b → nat_le d.attempts timing.retries ≡ c →
+      by_test : (a b c s : Bool) → is_awaited moment d.attempts d.deadline ≡ a → nat_lt 0 d.attempts ≡ b → nat_le d.attempts timing.retries ≡ c → gives_up timing.flush_silent d.attempts ≡ s →
           IsSentSo timing (pumped_at timing moment d) place (times + as_number (is_sent_at timing moment d place))
-      by_test true b c e f g = rw e (record {
+      by_test true b c s e f g h = rw e (record {
         waiting = λ h. let t = so.waiting h in omega (arith, t);
         current = λ h. let t = so.current h in omega (arith, t);
         finished = λ h. let t = so.finished h in (omega (arith, t.0), omega (arith, t.1));
       })
-      by_test false true true e f g = rw (e, f, g) (elim (cases_eq place d.finished) [
+      by_test false true true s e f g h = rw (e, f, g) (elim (cases_eq place d.finished) [
         | inl here ↦
             let one = one_at place d.finished here in
             let t = so.current here in
@@ -132,11 +143,12 @@ module _ (timing : Timing) (place times : ℕ) where
               finished = λ h. let t = so.finished h in (omega (arith, none, t.0), omega (arith, none, t.1));
             }
       ])
-      by_test false true false e f g =
+      by_test false true false true e f g h = rw (e, h, f, g) (all_given_up d few (ltb-true 0 d.attempts f) so)
+      by_test false true false false e f g h =
           let there = (is.in_flight (ltb-true 0 d.attempts f)).0 in
           let sent = ltb-true 0 d.attempts f in
-          rw (e, f, g) (fresh moment (d.finished + 1) d is few (omega arith) (omega (arith, there)) (λ h. sent) (λ h. absurd (omega (arith, h))) (omega arith) so)
-      by_test false false c e f g =
+          rw (e, h, f, g) (fresh moment (d.finished + 1) d is few (omega arith) (omega (arith, there)) (λ h. sent) (λ h. absurd (omega (arith, h))) (omega arith) so)
+      by_test false false c s e f g h =
           let rests = ltb-false 0 d.attempts f in
           rw (e, f) (fresh moment d.finished d is few (omega arith) is.within (λ h. absurd (omega (arith, h))) (λ h. omega (arith, rests)) (omega arith) so)
 

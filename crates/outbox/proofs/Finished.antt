@@ -3,17 +3,17 @@ use Rattle.std.proofs.Common.{◌≡◌, ℕ, ◌+◌, ◌-◌, ◌%◌, ◌<◌
 use Rattle.std.specs.List.{position_or_len, count_by}
 use Rattle.std.proofs.lemmas.Bool.{ltb-true, ltb-false, eqb-true, cases_lt}
 use Rattle.std.proofs.lemmas.Bool.Decides.{nat_tests}
-use Rattle.std.proofs.lemmas.List.{length-drop, get_or-drop, take-append-le}
+use Rattle.std.proofs.lemmas.List.{length-drop, get_or-drop, take-append-le, take-take}
 use Rattle.std.proofs.lemmas.List.Sums.{fails_before_first, prefix_len-le-length}
 use Rattle.bac_values.specs.declared.note.Note.{Note}
-use Rattle.outbox.specs.Delivery.{Operation, NoteQueued, PumpedAt, AnswerCame, Timing, Delivery, is_confirmed, invoke_id, next_confirmed, is_awaited, is_repeated, sent_from, pumped_at, answered_with, delivery_after}
+use Rattle.outbox.specs.Delivery.{Operation, NoteQueued, PumpedAt, AnswerCame, Timing, Delivery, is_confirmed, invoke_id, next_confirmed, is_awaited, is_repeated, gives_up, sent_from, pumped_at, answered_with, delivery_after}
 use Rattle.outbox.specs.Finishing.{IsConfirmedAt, IsFinishedBy, FinishesInOrder}
 use Rattle.outbox.proofs.Laws.{delivery_is}
 
 le-true : (a b : ℕ) → nat_le a b ≡ true → a ≤ b
 le-true a b e = search (rules, e)
 
-le-false : (a b : ℕ) → nat_le a b ≡ false → b < a
+pub le-false : (a b : ℕ) → nat_le a b ≡ false → b < a
 le-false a b e = search (rules, e)
 
 pub le_true : (a b : ℕ) → a ≤ b → nat_le a b ≡ true
@@ -37,13 +37,14 @@ sent_few timing moment place d = by_test (nat_lt (next_confirmed d.all place) (l
     by_test false e = rw e (omega arith)
 
 pumped_few : (timing : Timing) (moment : ℕ) (d : Delivery) → d.attempts ≤ 1 + timing.retries → (pumped_at timing moment d).attempts ≤ 1 + timing.retries
-pumped_few timing moment d few = by_test (is_awaited moment d.attempts d.deadline) (nat_lt 0 d.attempts) (nat_le d.attempts timing.retries) refl refl refl
+pumped_few timing moment d few = by_test (is_awaited moment d.attempts d.deadline) (nat_lt 0 d.attempts) (nat_le d.attempts timing.retries) (gives_up timing.flush_silent d.attempts) refl refl refl refl
   where
-    by_test : (a b c : Bool) → is_awaited moment d.attempts d.deadline ≡ a → nat_lt 0 d.attempts ≡ b → nat_le d.attempts timing.retries ≡ c → (pumped_at timing moment d).attempts ≤ 1 + timing.retries
-    by_test true b c e f g = rw e few
-    by_test false true true e f g = let most = le-true d.attempts timing.retries g in rw (e, f, g) (omega (arith, most))
-    by_test false true false e f g = rw (e, f, g) (sent_few timing moment (d.finished + 1) d)
-    by_test false false c e f g = rw (e, f) (sent_few timing moment d.finished d)
+    by_test : (a b c s : Bool) → is_awaited moment d.attempts d.deadline ≡ a → nat_lt 0 d.attempts ≡ b → nat_le d.attempts timing.retries ≡ c → gives_up timing.flush_silent d.attempts ≡ s → (pumped_at timing moment d).attempts ≤ 1 + timing.retries
+    by_test true b c s e f g h = rw e few
+    by_test false true true s e f g h = let most = le-true d.attempts timing.retries g in rw (e, f, g) (omega (arith, most))
+    by_test false true false true e f g h = rw (e, h, f, g) (omega arith)
+    by_test false true false false e f g h = rw (e, h, f, g) (sent_few timing moment (d.finished + 1) d)
+    by_test false false c s e f g h = rw (e, f) (sent_few timing moment d.finished d)
 
 answered_few : (retries invoke : ℕ) (d : Delivery) → d.attempts ≤ 1 + retries → (answered_with invoke d).attempts ≤ 1 + retries
 answered_few retries invoke d few = by_test (nat_lt 0 d.attempts && invoke == invoke_id d.all d.finished) refl
@@ -72,13 +73,14 @@ unconfirmed_between all from place above below =
 -- a pump
 module _ (timing : Timing) (moment : ℕ) (d : Delivery) (few : d.attempts ≤ 1 + timing.retries) where
   pumped_order : d.finished ≤ (pumped_at timing moment d).finished
-  pumped_order = by_test (is_awaited moment d.attempts d.deadline) (nat_lt 0 d.attempts) (nat_le d.attempts timing.retries) refl refl refl
+  pumped_order = by_test (is_awaited moment d.attempts d.deadline) (nat_lt 0 d.attempts) (nat_le d.attempts timing.retries) (gives_up timing.flush_silent d.attempts) refl refl refl refl
     where
-      by_test : (a b c : Bool) → is_awaited moment d.attempts d.deadline ≡ a → nat_lt 0 d.attempts ≡ b → nat_le d.attempts timing.retries ≡ c → d.finished ≤ (pumped_at timing moment d).finished
-      by_test true b c e f g = rw e (omega arith)
-      by_test false true true e f g = rw (e, f, g) (omega arith)
-      by_test false true false e f g = rw (e, f, g) (omega arith)
-      by_test false false c e f g = rw (e, f) (omega arith)
+      by_test : (a b c s : Bool) → is_awaited moment d.attempts d.deadline ≡ a → nat_lt 0 d.attempts ≡ b → nat_le d.attempts timing.retries ≡ c → gives_up timing.flush_silent d.attempts ≡ s → d.finished ≤ (pumped_at timing moment d).finished
+      by_test true b c s e f g h = rw e (omega arith)
+      by_test false true true s e f g h = rw (e, f, g) (omega arith)
+      by_test false true false true e f g h = rw (e, h, f, g) (omega arith)
+      by_test false true false false e f g h = rw (e, h, f, g) (omega arith)
+      by_test false false c s e f g h = rw (e, f) (omega arith)
 
   same_none : {P : Type 0} (place : ℕ) → d.finished ≤ place → place < d.finished → P
   same_none place above below = absurd (omega (arith, above, below))
@@ -88,22 +90,27 @@ module _ (timing : Timing) (moment : ℕ) (d : Delivery) (few : d.attempts ≤ 1
   sent_between from place above below = rw (le_true from place above, le_true place (next_confirmed d.all from) (omega (arith, below)), lt_true place (length d.all) (unconfirmed_between d.all from place above below).0) refl
 
   pumped_cause : (place : ℕ) → d.finished ≤ place → place < (pumped_at timing moment d).finished → IsFinishedBy timing d place (PumpedAt moment)
-  pumped_cause place above below = by_test (nat_lt 0 d.attempts) (nat_lt moment d.deadline) (nat_le d.attempts timing.retries) refl refl refl
+  pumped_cause place above below = by_test (nat_lt 0 d.attempts) (nat_lt moment d.deadline) (nat_le d.attempts timing.retries) (gives_up timing.flush_silent d.attempts) refl refl refl refl
     where
-      by_test : (a b c : Bool) → nat_lt 0 d.attempts ≡ a → nat_lt moment d.deadline ≡ b → nat_le d.attempts timing.retries ≡ c → IsFinishedBy timing d place (PumpedAt moment)
-      by_test true true c e f g = same_none place above (rw (e, f) at below)
-      by_test true false true e f g = same_none place above (rw (e, f, g) at below)
-      by_test true false false e f g =
+      given_up_at : nat_lt 0 d.attempts ≡ true → nat_lt moment d.deadline ≡ false → nat_le d.attempts timing.retries ≡ false → place < d.finished + 1 → IsFinishedBy timing d place (PumpedAt moment)
+      given_up_at e f g first =
           let sent : 0 < d.attempts = ltb-true 0 d.attempts e in
           let late : d.deadline ≤ moment = ltb-false moment d.deadline f in
           let many = le-false d.attempts timing.retries g in
           let last : d.attempts ≡ 1 + timing.retries = omega (arith, many, few) in
-          let under : place < next_confirmed d.all (d.finished + 1) = rw (e, f, g) at below in
+          inl ((omega (arith, above, first), sent), (last, late))
+
+      by_test : (a b c s : Bool) → nat_lt 0 d.attempts ≡ a → nat_lt moment d.deadline ≡ b → nat_le d.attempts timing.retries ≡ c → gives_up timing.flush_silent d.attempts ≡ s → IsFinishedBy timing d place (PumpedAt moment)
+      by_test true true c s e f g h = same_none place above (rw (e, f) at below)
+      by_test true false true s e f g h = same_none place above (rw (e, f, g) at below)
+      by_test true false false true e f g h = given_up_at e f g (rw (h, e, f, g) at below)
+      by_test true false false false e f g h =
+          let under : place < next_confirmed d.all (d.finished + 1) = rw (h, e, f, g) at below in
           elim (cases_lt place (d.finished + 1)) [
-            | inl first ↦ inl ((omega (arith, above, first), sent), (last, late))
-            | inr behind ↦ inr (rw (e, f, g) (sent_between (d.finished + 1) place behind under), unconfirmed_between d.all (d.finished + 1) place behind under)
+            | inl first ↦ given_up_at e f g first
+            | inr behind ↦ inr (rw (h, e, f, g) (sent_between (d.finished + 1) place behind under), unconfirmed_between d.all (d.finished + 1) place behind under)
           ]
-      by_test false b c e f g =
+      by_test false b c s e f g h =
           let under : place < next_confirmed d.all d.finished = rw e at below in
           inr (rw e (sent_between d.finished place above under), unconfirmed_between d.all d.finished place above under)
 
@@ -139,16 +146,17 @@ cause_after timing older (NoteQueued note) place above below = absurd (omega (ar
 cause_after timing older (PumpedAt moment) place above below = pumped_cause timing moment (delivery_after timing older) (few_after timing older) place above below
 cause_after timing older (AnswerCame invoke) place above below = answered_cause timing invoke (delivery_after timing older) place above below
 
--- only what is queued changes the list of notes, and only at its end
-pumped_all : (timing : Timing) (moment : ℕ) (d : Delivery) → (pumped_at timing moment d).all ≡ d.all
-pumped_all timing moment d = by_test (is_awaited moment d.attempts d.deadline) (is_repeated timing.retries d.attempts) refl refl
+-- what is queued and what is given up change the list of notes, and only behind the next one
+pumped_number : (timing : Timing) (moment : ℕ) (d : Delivery) (place : ℕ) → place ≤ d.finished → invoke_id (pumped_at timing moment d).all place ≡ invoke_id d.all place
+pumped_number timing moment d place before = by_test (is_awaited moment d.attempts d.deadline) (is_repeated timing.retries d.attempts) (gives_up timing.flush_silent d.attempts) refl refl refl
   where
-    by_test : (a b : Bool) → is_awaited moment d.attempts d.deadline ≡ a → is_repeated timing.retries d.attempts ≡ b → (pumped_at timing moment d).all ≡ d.all
-    by_test true b e f = rw e refl
-    by_test false true e f = rw (e, f) refl
-    by_test false false e f = rw (e, f) refl
+    by_test : (a b s : Bool) → is_awaited moment d.attempts d.deadline ≡ a → is_repeated timing.retries d.attempts ≡ b → gives_up timing.flush_silent d.attempts ≡ s → invoke_id (pumped_at timing moment d).all place ≡ invoke_id d.all place
+    by_test true b s e f g = rw e refl
+    by_test false true s e f g = rw (e, f) refl
+    by_test false false true e f g = rw (e, f, g) (ap (λ ns. count_by is_confirmed ns % 256) (take-take place (d.finished + 1) d.all (omega (arith, before))))
+    by_test false false false e f g = rw (e, f, g) refl
 
-answered_all : (invoke : ℕ) (d : Delivery) → (answered_with invoke d).all ≡ d.all
+pub answered_all : (invoke : ℕ) (d : Delivery) → (answered_with invoke d).all ≡ d.all
 answered_all invoke d = by_test (nat_lt 0 d.attempts && invoke == invoke_id d.all d.finished) refl
   where
     by_test : (b : Bool) → (nat_lt 0 d.attempts && invoke == invoke_id d.all d.finished) ≡ b → (answered_with invoke d).all ≡ d.all
@@ -161,7 +169,7 @@ unfolding delivery_after
 one_number_after timing older (NoteQueued note) place before =
     let within = (delivery_is timing older).within in
     ap (λ ns. count_by is_confirmed ns % 256) (take-append-le place (delivery_after timing older).all (note ∷ []) (omega (arith, within, before)))
-one_number_after timing older (PumpedAt moment) place before = ap (λ ns. invoke_id ns place) (pumped_all timing moment (delivery_after timing older))
+one_number_after timing older (PumpedAt moment) place before = pumped_number timing moment (delivery_after timing older) place before
 one_number_after timing older (AnswerCame invoke) place before = ap (λ ns. invoke_id ns place) (answered_all invoke (delivery_after timing older))
 
 pub finishes_in_order : FinishesInOrder

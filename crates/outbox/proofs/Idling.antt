@@ -52,7 +52,7 @@ module _ (timing : Timing) (moment : ℕ) (post : MailboxState) (is : IsPost tim
           resting_idle (eqb-true post.attempts 0 parts.0) (eqb-true (length post.notes) 0 parts.1)
 
   pub post_busy : is_post_idle moment post ≡ false → post_sends timing moment post ≡ [] → post_pumped timing moment post ≡ post → ⊥
-  post_busy busy silent same = by_test (nat_lt 0 post.attempts) (nat_lt moment post.deadline) (nat_le post.attempts timing.retries) refl refl refl
+  post_busy busy silent same = by_test (nat_lt 0 post.attempts) (nat_lt moment post.deadline) (nat_le post.attempts timing.retries) timing.flush_silent refl refl refl refl
     where
       none_sent : length (post_sends timing moment post) ≡ 0
       none_sent = ap length silent
@@ -60,16 +60,20 @@ module _ (timing : Timing) (moment : ℕ) (post : MailboxState) (is : IsPost tim
       kept : length (post_pumped timing moment post).notes ≡ length post.notes
       kept = ap (λ (p : MailboxState). length p.notes) same
 
-      by_test : (a b c : Bool) → nat_lt 0 post.attempts ≡ a → nat_lt moment post.deadline ≡ b → nat_le post.attempts timing.retries ≡ c → ⊥
-      by_test true true c e f g = true≢false (rw (e, f) at busy)
-      by_test true false true e f g = some_sent 1 post (omega arith) (filled_by timing.retries post is (ltb-true 0 post.attempts e)) (rw (e, f, g) at none_sent)
-      by_test true false false e f g =
+      by_test : (a b c s : Bool) → nat_lt 0 post.attempts ≡ a → nat_lt moment post.deadline ≡ b → nat_le post.attempts timing.retries ≡ c → timing.flush_silent ≡ s → ⊥
+      by_test true true c s e f g h = true≢false (rw (e, f) at busy)
+      by_test true false true s e f g h = some_sent 1 post (omega arith) (filled_by timing.retries post is (ltb-true 0 post.attempts e)) (rw (e, f, g) at none_sent)
+      by_test true false false true e f g h =
           let there = filled_by timing.retries post is (ltb-true 0 post.attempts e) in
-          let left : length (drop (position_or_len is_confirmed (drop 1 post.notes)) (drop 1 post.notes)) ≡ length post.notes = rw (e, f, g) at kept in
+          let left : 0 ≡ length post.notes = rw (e, f, g, h) at kept in
+          omega (arith, there, left)
+      by_test true false false false e f g h =
+          let there = filled_by timing.retries post is (ltb-true 0 post.attempts e) in
+          let left : length (drop (position_or_len is_confirmed (drop 1 post.notes)) (drop 1 post.notes)) ≡ length post.notes = rw (e, f, g, h) at kept in
           let first = length-drop 1 post.notes in
           let rest = length-drop (position_or_len is_confirmed (drop 1 post.notes)) (drop 1 post.notes) in
           omega (arith, there, left, first, rest)
-      by_test false b c e f g =
+      by_test false b c s e f g h =
           let rests : post.attempts ≡ 0 = zero_at (ltb-false 0 post.attempts e) in
           let more : (post.attempts == 0 && length post.notes == 0) ≡ false = rw e at busy in
           let there : 0 < length post.notes = some_at (length post.notes) (ap (λ n. n == 0 && length post.notes == 0) (sym rests) ∙ more) in

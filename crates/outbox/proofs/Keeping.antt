@@ -12,8 +12,8 @@ use Rattle.std.proofs.lemmas.List.Sums.{sum_by-cons}
 use Rattle.bac_values.specs.Address.{PeerData}
 use Rattle.bac_values.specs.declared.note.Note.{Note}
 use Rattle.bac_values.specs.Orders.{is_same, IsAscending}
-use Rattle.outbox.specs.Delivery.{Timing, is_confirmed, is_awaited, is_repeated}
-use Rattle.outbox.specs.Posts.{IsPost, without_first, unsent, post_sent, post_pumped, post_answered, is_in_flight, MailboxState}
+use Rattle.outbox.specs.Delivery.{Timing, is_confirmed, is_awaited, is_repeated, gives_up}
+use Rattle.outbox.specs.Posts.{IsPost, without_first, post_given_up, unsent, post_sent, post_pumped, post_answered, is_in_flight, MailboxState}
 use Rattle.outbox.specs.Outboxes.{OutboxState, IsOutbox, timing_of, unfinished_in, pumped, answered, answered_by, is_flight_to}
 use Rattle.outbox.proofs.Standing.{peers_stay, pumped_peer, answered_peer}
 
@@ -37,6 +37,17 @@ without_first_keeps retries post is = record {
   resting = λ h. refl;
   short = All-drop (λ (note : Note). length note.body ≤ most_note_octets) 1 post.notes is.short;
   own = All-drop (λ (note : Note). note.peer ≡ post.peer) 1 post.notes is.own;
+}
+
+post_given_up_keeps : (retries : ℕ) (post : MailboxState) → IsPost retries (post_given_up post)
+post_given_up_keeps retries post = record {
+  number = mod-lt (post.next_invoke + 1) (omega arith);
+  fits = omega arith;
+  attempts = omega arith;
+  in_flight = λ h. absurd (omega (arith, h));
+  resting = λ h. refl;
+  short = λ k d h. absurd (omega (arith, h));
+  own = λ k d h. absurd (omega (arith, h));
 }
 
 unsent_keeps : (retries : ℕ) (post : MailboxState) → IsPost retries post → IsPost retries (unsent post)
@@ -83,23 +94,24 @@ le-true : (a b : ℕ) → nat_le a b ≡ true → a ≤ b
 le-true a b e = search (rules, e)
 
 post_pumped_keeps : (timing : Timing) (moment : ℕ) → EndsInTime timing moment → (post : MailboxState) → IsPost timing.retries post → IsPost timing.retries (post_pumped timing moment post)
-post_pumped_keeps timing moment ends post is = by_test (is_awaited moment post.attempts post.deadline) (nat_lt 0 post.attempts) (nat_le post.attempts timing.retries) refl refl refl
+post_pumped_keeps timing moment ends post is = by_test (is_awaited moment post.attempts post.deadline) (nat_lt 0 post.attempts) (nat_le post.attempts timing.retries) timing.flush_silent refl refl refl refl
   where
-    by_test : (a b c : Bool) → is_awaited moment post.attempts post.deadline ≡ a → nat_lt 0 post.attempts ≡ b → nat_le post.attempts timing.retries ≡ c → IsPost timing.retries (post_pumped timing moment post)
-    by_test true b c e f g = rw e is
-    by_test false true true e f g =
+    by_test : (a b c s : Bool) → is_awaited moment post.attempts post.deadline ≡ a → nat_lt 0 post.attempts ≡ b → nat_le post.attempts timing.retries ≡ c → timing.flush_silent ≡ s → IsPost timing.retries (post_pumped timing moment post)
+    by_test true b c s e f g h = rw e is
+    by_test false true true s e f g h =
         let most = le-true post.attempts timing.retries g in
         rw (e, f, g) (record {
           number = is.number;
           fits = ends;
           attempts = omega arith;
-          in_flight = λ h. is.in_flight (ltb-true 0 post.attempts f);
-          resting = λ h. absurd (omega (arith, h));
+          in_flight = λ k. is.in_flight (ltb-true 0 post.attempts f);
+          resting = λ k. absurd (omega (arith, k));
           short = is.short;
           own = is.own;
         })
-    by_test false true false e f g = rw (e, f, g) (post_sent_keeps timing moment (without_first post) ends (without_first_keeps timing.retries post is))
-    by_test false false c e f g = rw (e, f) (post_sent_keeps timing moment post ends is)
+    by_test false true false true e f g h = rw (e, f, g, h) (post_given_up_keeps timing.retries post)
+    by_test false true false false e f g h = rw (e, f, g, h) (post_sent_keeps timing moment (without_first post) ends (without_first_keeps timing.retries post is))
+    by_test false false c s e f g h = rw (e, f) (post_sent_keeps timing moment post ends is)
 
 post_answered_keeps : (retries invoke : ℕ) (post : MailboxState) → IsPost retries post → IsPost retries (post_answered invoke post)
 post_answered_keeps retries invoke post is = by_test (is_in_flight invoke post) refl
@@ -118,13 +130,14 @@ module _ (change : MailboxState → MailboxState) (fewer : (post : MailboxState)
       omega (arith, left, right, fewer post, fewer_in_all posts)
 
 pub pumped_fewer : (timing : Timing) (moment : ℕ) (post : MailboxState) → length (post_pumped timing moment post).notes ≤ length post.notes
-pumped_fewer timing moment post = by_test (is_awaited moment post.attempts post.deadline) (is_repeated timing.retries post.attempts) (nat_lt 0 post.attempts) refl refl refl
+pumped_fewer timing moment post = by_test (is_awaited moment post.attempts post.deadline) (is_repeated timing.retries post.attempts) (gives_up timing.flush_silent post.attempts) (nat_lt 0 post.attempts) refl refl refl refl
   where
-    by_test : (a b c : Bool) → is_awaited moment post.attempts post.deadline ≡ a → is_repeated timing.retries post.attempts ≡ b → nat_lt 0 post.attempts ≡ c → length (post_pumped timing moment post).notes ≤ length post.notes
-    by_test true b c e f g = rw e (omega arith)
-    by_test false true c e f g = rw (e, f) (omega arith)
-    by_test false false true e f g = rw (e, f, g) (omega (arith, length-drop (position_or_len is_confirmed (drop 1 post.notes)) (drop 1 post.notes), length-drop 1 post.notes))
-    by_test false false false e f g = rw (e, f, g) (omega (arith, length-drop (position_or_len is_confirmed post.notes) post.notes))
+    by_test : (a b s c : Bool) → is_awaited moment post.attempts post.deadline ≡ a → is_repeated timing.retries post.attempts ≡ b → gives_up timing.flush_silent post.attempts ≡ s → nat_lt 0 post.attempts ≡ c → length (post_pumped timing moment post).notes ≤ length post.notes
+    by_test true b s c e f h g = rw e (omega arith)
+    by_test false true s c e f h g = rw (e, f) (omega arith)
+    by_test false false true c e f h g = rw (e, f, h) (omega arith)
+    by_test false false false true e f h g = rw (e, f, h, g) (omega (arith, length-drop (position_or_len is_confirmed (drop 1 post.notes)) (drop 1 post.notes), length-drop 1 post.notes))
+    by_test false false false false e f h g = rw (e, f, h, g) (omega (arith, length-drop (position_or_len is_confirmed post.notes) post.notes))
 
 pub pump_keeps : (moment : ℕ) (outbox : OutboxState) → IsMoment moment → IsOutbox outbox → IsOutbox (pumped moment outbox)
 pump_keeps moment outbox in_range is =

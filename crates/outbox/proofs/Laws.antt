@@ -1,22 +1,26 @@
 -- What is kept of a delivery goes through the same operations as the delivery.
-use Rattle.std.proofs.Common.{◌≡◌, ℕ, ◌+◌, ◌-◌, ◌*◌, ◌/◌, ◌%◌, ◌<◌, ◌≤◌, Bool, true, false, not, nat_lt, nat_le, ◌==◌, List, [], ◌∷◌, ◌++◌, length, take, drop, map, reverse, get_or, refl, sym, ◌∙◌, ap, arith, append_assoc, length-append, if◌then◌else◌}
+use Rattle.std.proofs.Common.{◌≡◌, ℕ, ◌+◌, ◌-◌, ◌*◌, ◌/◌, ◌%◌, ◌<◌, ◌≤◌, Bool, true, false, true≢false, not, nat_lt, nat_le, ◌&&◌, ◌==◌, List, [], ◌∷◌, ◌++◌, length, take, drop, map, reverse, get_or, refl, sym, ◌∙◌, ap, arith, append_assoc, length-append, if◌then◌else◌}
 use Rattle.std.specs.List.{position_or_len, count_by}
 use Rattle.std.proofs.Math.Nat.{mod-add-div, add-mul-mod_self_left}
 use Rattle.std.proofs.lemmas.Bool.{ltb-true}
 use Rattle.std.proofs.lemmas.Bool.Decides.{nat_tests}
-use Rattle.std.proofs.lemmas.List.{drop-drop, drop-take, take-append-drop, take-take, length-drop, drop-append-le, take-append-le, get_or_append_left, get_or-drop, append-nil, reverse-append}
+use Rattle.std.proofs.lemmas.List.{drop-drop, drop-take, take-append-drop, take-take, length-drop, length-take-le, drop_all, drop-append-le, take-append-le, get_or_append_left, get_or-drop, append-nil, reverse-append}
 use Rattle.std.proofs.lemmas.List.Sums.{count_by_more_yes, sum_by-append, prefix_len-le-length, passes_at_first}
 use Rattle.bac_values.specs.Address.{PeerData}
 use Rattle.bac_values.specs.declared.note.Note.{Note}
 use Rattle.outbox.specs.Notifying.{datagram_of}
-use Rattle.outbox.specs.Delivery.{Operation, NoteQueued, PumpedAt, AnswerCame, Timing, Delivery, is_confirmed, invoke_id, next_confirmed, is_awaited, is_repeated, first_unsent, sent_from, pumped_at, datagrams_between, sent_at, answered_with, queued_for, delivery_after}
-use Rattle.outbox.specs.Posts.{post_of, post_after, post_answered, unsent, post_sent, post_pumped, first_datagrams, post_sends, MailboxState}
+use Rattle.outbox.specs.Delivery.{Operation, NoteQueued, PumpedAt, AnswerCame, Timing, Delivery, is_confirmed, invoke_id, next_confirmed, is_awaited, is_repeated, gives_up, given_up, first_unsent, sent_from, pumped_at, datagrams_between, sent_at, answered_with, queued_for, delivery_after}
+use Rattle.outbox.specs.Posts.{post_of, post_after, post_answered, post_given_up, unsent, post_sent, post_pumped, first_datagrams, post_sends, MailboxState}
 use Rattle.outbox.proofs.Fronts.{none_before}
 
 -- what is so of every delivery: a note in flight is there, and is to be confirmed
 pub record IsDelivery (d : Delivery) : Type 0 where
   pub within : d.finished ≤ length d.all
   pub in_flight : 0 < d.attempts → (d.finished < length d.all) × ((n : Note) → is_confirmed (get_or d.all d.finished n) ≡ true)
+
+was_sent : (sent flush_silent : Bool) → (sent && flush_silent) ≡ true → sent ≡ true
+was_sent true flush_silent e = refl
+was_sent false flush_silent e = absurd (true≢false (sym e))
 
 mod_next : (a : ℕ) → (a + 1) % 256 ≡ (a % 256 + 1) % 256
 mod_next a =
@@ -95,16 +99,28 @@ first_unsent-le d is = by_sent (nat_lt 0 d.attempts) refl
     by_sent true e = let there = is.in_flight (ltb-true 0 d.attempts e) in let first = there.0 in rw e (omega arith)
     by_sent false e = rw e is.within
 
+-- what is left where a note is given up with all that stands behind it
+given_up_law : (peer : PeerData) (d : Delivery) → IsDelivery d → nat_lt 0 d.attempts ≡ true → post_of peer (given_up d) ≡ post_given_up (post_of peer d)
+given_up_law peer d is e =
+    let there = is.in_flight (ltb-true 0 d.attempts e) in
+    let place : ℕ = d.finished + 1 in
+    let front : List Note = take place d.all in
+    let number : invoke_id front place ≡ (invoke_id d.all d.finished + 1) % 256 =
+    ap (λ ns. count_by is_confirmed ns % 256) (take-take place place d.all (omega arith)) ∙ invoke_behind d.all d.finished there.0 there.1 in
+    let rest : drop place front ≡ [] = drop_all place front (let size = length-take-le place d.all (omega (arith, there.0)) in omega (arith, size)) in
+    λ k. record { peer = peer; next_invoke = number k; attempts = 0; deadline = 0; notes = rest k }
+
 -- a pump
 module _ (timing : Timing) (moment : ℕ) (peer : PeerData) (d : Delivery) (is : IsDelivery d) where
-  pumped_when : (b c : Bool) → is_awaited moment d.attempts d.deadline ≡ b → is_repeated timing.retries d.attempts ≡ c →
+  pumped_when : (b c s : Bool) → is_awaited moment d.attempts d.deadline ≡ b → is_repeated timing.retries d.attempts ≡ c → gives_up timing.flush_silent d.attempts ≡ s →
       post_of peer (pumped_at timing moment d) ≡ post_pumped timing moment (post_of peer d)
-  pumped_when true c e f = rw e refl
-  pumped_when false true e f = rw (e, f) refl
-  pumped_when false false e f = rw (e, f) (sent_by timing moment peer d (first_unsent d) (unsent (post_of peer d)) (first_unsent-le d is) (unsent_peer peer d) (unsent_number peer d is) (unsent_rest peer d))
+  pumped_when true c s e f g = rw e refl
+  pumped_when false true s e f g = rw (e, f) refl
+  pumped_when false false true e f g = rw (e, f, g) (given_up_law peer d is (was_sent (nat_lt 0 d.attempts) timing.flush_silent g))
+  pumped_when false false false e f g = rw (e, f, g) (sent_by timing moment peer d (first_unsent d) (unsent (post_of peer d)) (first_unsent-le d is) (unsent_peer peer d) (unsent_number peer d is) (unsent_rest peer d))
 
   pub pumped_law : post_of peer (pumped_at timing moment d) ≡ post_pumped timing moment (post_of peer d)
-  pumped_law = pumped_when _ _ refl refl
+  pumped_law = pumped_when _ _ _ refl refl refl
 
   sends_unsent : datagrams_between peer (invoke_id d.all (next_confirmed d.all (first_unsent d))) d.all (first_unsent d) (next_confirmed d.all (first_unsent d) + 1)
       ≡ first_datagrams (position_or_len is_confirmed (unsent (post_of peer d)).notes + 1) (unsent (post_of peer d))
@@ -119,16 +135,17 @@ module _ (timing : Timing) (moment : ℕ) (peer : PeerData) (d : Delivery) (is :
       ap (λ n. map (datagram_of peer (invoke_id d.all (next_confirmed d.all place))) (take n notes)) count
       ∙ (λ k. map (datagram_of (own k) (number k)) (take (position_or_len is_confirmed (rest k) + 1) (rest k)))
 
-  sent_when : (b c : Bool) → is_awaited moment d.attempts d.deadline ≡ b → is_repeated timing.retries d.attempts ≡ c →
+  sent_when : (b c s : Bool) → is_awaited moment d.attempts d.deadline ≡ b → is_repeated timing.retries d.attempts ≡ c → gives_up timing.flush_silent d.attempts ≡ s →
       sent_at timing moment peer d ≡ post_sends timing moment (post_of peer d)
-  sent_when true c e f = rw e refl
-  sent_when false true e f =
+  sent_when true c s e f g = rw e refl
+  sent_when false true s e f g =
       let one : d.finished + 1 - d.finished ≡ 1 = omega arith in
       rw (e, f) (ap (λ n. map (datagram_of peer (invoke_id d.all d.finished)) (take n (drop d.finished d.all))) one)
-  sent_when false false e f = rw (e, f) sends_unsent
+  sent_when false false true e f g = rw (e, f, g) refl
+  sent_when false false false e f g = rw (e, f, g) sends_unsent
 
   pub sent_law : sent_at timing moment peer d ≡ post_sends timing moment (post_of peer d)
-  sent_law = sent_when _ _ refl refl
+  sent_law = sent_when _ _ _ refl refl refl
 
 -- an answer
 pub answered_law : (invoke : ℕ) (peer : PeerData) (d : Delivery) → IsDelivery d → post_of peer (answered_with invoke d) ≡ post_answered invoke (post_of peer d)
@@ -172,14 +189,21 @@ sent_keeps timing moment place d within =
         never : 0 < 0 → ⊥
         never h = omega (arith, h)
 
+given_up_keeps : (d : Delivery) → IsDelivery d → nat_lt 0 d.attempts ≡ true → IsDelivery (given_up d)
+given_up_keeps d is e =
+    let there = (is.in_flight (ltb-true 0 d.attempts e)).0 in
+    let size : length (take (d.finished + 1) d.all) ≡ d.finished + 1 = length-take-le (d.finished + 1) d.all (omega (arith, there)) in
+    record { within = omega (arith, size); in_flight = λ h. absurd (omega (arith, h)) }
+
 pumped_keeps : (timing : Timing) (moment : ℕ) (d : Delivery) → IsDelivery d → IsDelivery (pumped_at timing moment d)
-pumped_keeps timing moment d is = by_test (is_awaited moment d.attempts d.deadline) (nat_lt 0 d.attempts) (nat_le d.attempts timing.retries) refl refl refl
+pumped_keeps timing moment d is = by_test (is_awaited moment d.attempts d.deadline) (nat_lt 0 d.attempts) (nat_le d.attempts timing.retries) (gives_up timing.flush_silent d.attempts) refl refl refl refl
   where
-    by_test : (a b c : Bool) → is_awaited moment d.attempts d.deadline ≡ a → nat_lt 0 d.attempts ≡ b → nat_le d.attempts timing.retries ≡ c → IsDelivery (pumped_at timing moment d)
-    by_test true b c e f g = rw e is
-    by_test false true true e f g = rw (e, f, g) (record { within = is.within; in_flight = λ h. is.in_flight (ltb-true 0 d.attempts f) })
-    by_test false true false e f g = rw (e, f, g) (sent_keeps timing moment (d.finished + 1) d (let there = (is.in_flight (ltb-true 0 d.attempts f)).0 in omega arith))
-    by_test false false c e f g = rw (e, f) (sent_keeps timing moment d.finished d is.within)
+    by_test : (a b c s : Bool) → is_awaited moment d.attempts d.deadline ≡ a → nat_lt 0 d.attempts ≡ b → nat_le d.attempts timing.retries ≡ c → gives_up timing.flush_silent d.attempts ≡ s → IsDelivery (pumped_at timing moment d)
+    by_test true b c s e f g h = rw e is
+    by_test false true true s e f g h = rw (e, f, g) (record { within = is.within; in_flight = λ k. is.in_flight (ltb-true 0 d.attempts f) })
+    by_test false true false true e f g h = rw (e, h, f, g) (given_up_keeps d is f)
+    by_test false true false false e f g h = rw (e, h, f, g) (sent_keeps timing moment (d.finished + 1) d (let there = (is.in_flight (ltb-true 0 d.attempts f)).0 in omega arith))
+    by_test false false c s e f g h = rw (e, f) (sent_keeps timing moment d.finished d is.within)
 
 answered_keeps : (invoke : ℕ) (d : Delivery) → IsDelivery d → IsDelivery (answered_with invoke d)
 answered_keeps invoke d is = by_test (nat_lt 0 d.attempts) (invoke == invoke_id d.all d.finished) refl refl

@@ -12,6 +12,7 @@ pub mod Learning
 mod Finished
 mod Counting
 mod Sending
+mod Silent
 mod Tested
 mod Idling
 mod Told

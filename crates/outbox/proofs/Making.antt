@@ -1,11 +1,11 @@
 -- A new outbox, and one that is made of what was told.
-use Rattle.std.proofs.Common.{◌≡◌, ℕ, List, [], ◌∷◌, length, map, get_or, refl, sym, subst, arith}
+use Rattle.std.proofs.Common.{◌≡◌, ℕ, Bool, List, [], ◌∷◌, length, map, get_or, refl, sym, subst, arith}
 use Rattle.std.proofs.lemmas.List.Elements.{All-map}
 use Rattle.std.proofs.lemmas.List.Sums.{sum_by-cons}
 use Rattle.bac_values.specs.Address.{PeerData}
 use Rattle.bac_values.specs.Orders.{IsAscending}
 use Rattle.outbox.specs.Posts.{IsPost, empty_post, MailboxState}
-use Rattle.outbox.specs.Outboxes.{AreSettings, IsOutbox, peers_of, unfinished_in, new_outbox}
+use Rattle.outbox.specs.Outboxes.{AreSettings, OutboxState, IsOutbox, peers_of, unfinished_in, new_outbox, flushing}
 
 pub peers_empty : (peers : List PeerData) → peers_of (map empty_post peers) ≡ peers
 peers_empty [] = refl
@@ -37,3 +37,6 @@ new_is peers limit timeout retries ascending settings =
       posts = All-map (IsPost retries) empty_post peers (λ k d h. empty_is retries (get_or peers k d));
       room = omega (arith, none);
     }
+
+pub flushing_is : (flush_silent : Bool) (outbox : OutboxState) → IsOutbox outbox → IsOutbox (flushing flush_silent outbox)
+flushing_is flush_silent outbox is = record { settings = is.settings; ascending = is.ascending; posts = is.posts; room = is.room }

@@ -8,7 +8,7 @@ use Rattle.std.proofs.lemmas.List.Sums.{prefix_len-le-length}
 use Rattle.bac_values.specs.Address.{PeerData}
 use Rattle.bac_values.specs.declared.note.Note.{Note}
 use Rattle.outbox.specs.Notifying.{datagram_of}
-use Rattle.outbox.specs.Delivery.{Timing, Delivery, is_confirmed, invoke_id, next_confirmed, is_awaited, is_repeated, first_unsent, sent_at, delivery_after}
+use Rattle.outbox.specs.Delivery.{Timing, Delivery, is_confirmed, invoke_id, next_confirmed, is_awaited, is_repeated, gives_up, first_unsent, sent_at, delivery_after}
 use Rattle.outbox.specs.Finishing.{is_sent_at, places_sent, datagram_at, SendsThesePlaces}
 use Rattle.outbox.proofs.Finished.{le_true, le_false, lt_true, unconfirmed_between}
 use Rattle.outbox.proofs.Laws.{IsDelivery, delivery_is, first_unsent-le, take_sum}
@@ -117,10 +117,18 @@ module _ (timing : Timing) (moment : ℕ) (peer : PeerData) (d : Delivery) (is :
       let sent : sent_at timing moment peer d ≡ datagram_at peer d.all d.finished = rw (e, f) refl in
       sent ∙ sym (ap (flat_map (datagram_at peer d.all)) one ∙ append-nil (datagram_at peer d.all d.finished))
 
-  -- those that were never sent
-  fresh : is_awaited moment d.attempts d.deadline ≡ false → is_repeated timing.retries d.attempts ≡ false →
+  -- nothing, where all is given up
+  given_up : is_awaited moment d.attempts d.deadline ≡ false → is_repeated timing.retries d.attempts ≡ false → gives_up timing.flush_silent d.attempts ≡ true →
       sent_at timing moment peer d ≡ flat_map (datagram_at peer d.all) (places_sent timing moment d)
-  fresh e f =
+  given_up e f g =
+      let none : places_sent timing moment d ≡ [] = none_pass (is_sent_at timing moment d) 0 (length d.all) (λ place above below. rw (e, f, g) refl) in
+      let nothing : sent_at timing moment peer d ≡ [] = rw (e, f, g) refl in
+      nothing ∙ sym (ap (flat_map (datagram_at peer d.all)) none)
+
+  -- those that were never sent
+  fresh : is_awaited moment d.attempts d.deadline ≡ false → is_repeated timing.retries d.attempts ≡ false → gives_up timing.flush_silent d.attempts ≡ false →
+      sent_at timing moment peer d ≡ flat_map (datagram_at peer d.all) (places_sent timing moment d)
+  fresh e f g =
       let from : ℕ = first_unsent d in
       let next : ℕ = next_confirmed d.all from in
       let size : ℕ = length d.all in
@@ -129,7 +137,7 @@ module _ (timing : Timing) (moment : ℕ) (peer : PeerData) (d : Delivery) (is :
       let left : length (drop from d.all) ≡ size - from = length-drop from d.all in
       let most = prefix_len-le-length (λ (n : Note). not (is_confirmed n)) (drop from d.all) in
       let above_from : from ≤ next = omega arith in
-      let test : (place : ℕ) → is_sent_at timing moment d place ≡ (nat_le from place && nat_le place next && nat_lt place size) = λ place. rw (e, f) refl in
+      let test : (place : ℕ) → is_sent_at timing moment d place ≡ (nat_le from place && nat_le place next && nat_lt place size) = λ place. rw (e, f, g) refl in
       let places : places_sent timing moment d ≡ range_with_len from count = between_pass (is_sent_at timing moment d) from count size (omega (arith, begins))
       (λ place below. test place ∙ before place below)
       (λ place above below. test place ∙ between place above (omega (arith, below, begins)) (omega (arith, below, begins)))
@@ -138,7 +146,7 @@ module _ (timing : Timing) (moment : ℕ) (peer : PeerData) (d : Delivery) (is :
         | inl inside ↦ ap (λ n. take n (drop from d.all)) (omega (arith, inside))
         | inr past ↦ take_all (next + 1 - from) (drop from d.all) (omega (arith, left, past)) ∙ sym (take_all count (drop from d.all) (omega (arith, left, past)))
       ] in
-      let sent : sent_at timing moment peer d ≡ map (datagram_of peer (invoke_id d.all next)) (take (next + 1 - from) (drop from d.all)) = rw (e, f) refl in
+      let sent : sent_at timing moment peer d ≡ map (datagram_of peer (invoke_id d.all next)) (take (next + 1 - from) (drop from d.all)) = rw (e, f, g) refl in
       sent ∙ ap (map (datagram_of peer (invoke_id d.all next))) front
       ∙ many_sent peer d.all (invoke_id d.all next) from count (λ place above below. suits place above (omega (arith, below, begins)))
       ∙ sym (ap (flat_map (datagram_at peer d.all)) places)
@@ -161,14 +169,15 @@ module _ (timing : Timing) (moment : ℕ) (peer : PeerData) (d : Delivery) (is :
       ]
 
   sent_places : sent_at timing moment peer d ≡ flat_map (datagram_at peer d.all) (places_sent timing moment d)
-  sent_places = by_test (is_awaited moment d.attempts d.deadline) (nat_lt 0 d.attempts) (nat_le d.attempts timing.retries) refl refl refl
+  sent_places = by_test (is_awaited moment d.attempts d.deadline) (nat_lt 0 d.attempts) (nat_le d.attempts timing.retries) (gives_up timing.flush_silent d.attempts) refl refl refl refl
     where
-      by_test : (a b c : Bool) → is_awaited moment d.attempts d.deadline ≡ a → nat_lt 0 d.attempts ≡ b → nat_le d.attempts timing.retries ≡ c →
+      by_test : (a b c s : Bool) → is_awaited moment d.attempts d.deadline ≡ a → nat_lt 0 d.attempts ≡ b → nat_le d.attempts timing.retries ≡ c → gives_up timing.flush_silent d.attempts ≡ s →
           sent_at timing moment peer d ≡ flat_map (datagram_at peer d.all) (places_sent timing moment d)
-      by_test true b c e f g = awaited e
-      by_test false true true e f g = repeated e (rw (f, g) refl) (is.in_flight (ltb-true 0 d.attempts f)).0
-      by_test false true false e f g = fresh e (rw (f, g) refl)
-      by_test false false c e f g = fresh e (rw f refl)
+      by_test true b c s e f g h = awaited e
+      by_test false true true s e f g h = repeated e (rw (f, g) refl) (is.in_flight (ltb-true 0 d.attempts f)).0
+      by_test false true false true e f g h = given_up e (rw (f, g) refl) h
+      by_test false true false false e f g h = fresh e (rw (f, g) refl) h
+      by_test false false c s e f g h = fresh e (rw f refl) (rw f refl)
 
 pub sends_these_places : SendsThesePlaces
 sends_these_places timing moment peer operations = sent_places timing moment peer (delivery_after timing operations) (delivery_is timing operations)

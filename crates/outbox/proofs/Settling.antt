@@ -14,7 +14,7 @@ module _ (change : MailboxState → MailboxState) (old seen new : List MailboxSt
 
 -- the same outbox with other posts
 abbrev pub with_posts : OutboxState → List MailboxState → OutboxState
-with_posts outbox posts = record { posts = posts; limit = outbox.limit; timeout = outbox.timeout; retries = outbox.retries }
+with_posts outbox posts = record { posts = posts; limit = outbox.limit; timeout = outbox.timeout; retries = outbox.retries; flush_silent = outbox.flush_silent }
 
 pub is_with : (outbox : OutboxState) (posts posts' : List MailboxState) → posts ≡ posts' → IsOutbox (with_posts outbox posts') → IsOutbox (with_posts outbox posts)
 is_with outbox posts posts' same is = subst (λ ps. IsOutbox (with_posts outbox ps)) (sym same) is

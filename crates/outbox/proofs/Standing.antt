@@ -8,9 +8,9 @@ use Rattle.bac_values.specs.declared.note.Note.{Note}
 use Rattle.bac_values.specs.declared.note.Send.{Send}
 use Rattle.bac_values.specs.Orders.{is_same}
 use Rattle.bac_values.proofs.OrderLemmas.{tied}
-use Rattle.outbox.specs.Delivery.{Operation, NoteQueued, PumpedAt, AnswerCame, Timing, nothing_queued, pumped_at, answered_with, delivery_after, sent_at, is_awaited, is_repeated}
+use Rattle.outbox.specs.Delivery.{Operation, NoteQueued, PumpedAt, AnswerCame, Timing, nothing_queued, pumped_at, answered_with, delivery_after, sent_at, is_awaited, is_repeated, gives_up}
 use Rattle.outbox.specs.Posts.{empty_post, post_of, post_after, post_pumped, post_sends, is_in_flight, MailboxState}
-use Rattle.outbox.specs.Outboxes.{OutboxState, timing_of, peers_of, notes_for, is_known, AreKnown, new_outbox, with_notes, queued, pumped, sends_of, answered_by, answered}
+use Rattle.outbox.specs.Outboxes.{OutboxState, timing_of, peers_of, notes_for, is_known, AreKnown, new_outbox, flushing, with_notes, queued, pumped, sends_of, answered_by, answered}
 use Rattle.outbox.specs.Following.{Operations, StandsFor, no_operations, after_queue, after_pump, after_answer, Follows, AreSent}
 use Rattle.outbox.proofs.Laws.{after_pump_law, after_answer_law, after_sends_law, after_queue_law}
 
@@ -48,13 +48,14 @@ follows_by old change call same each leaves = record {
 }
 
 pub pumped_peer : (timing : Timing) (moment : ℕ) (post : MailboxState) → (post_pumped timing moment post).peer ≡ post.peer
-pumped_peer timing moment post = by_test _ _ _ refl refl refl
+pumped_peer timing moment post = by_test _ _ _ _ refl refl refl refl
   where
-    by_test : (a b c : Bool) → is_awaited moment post.attempts post.deadline ≡ a → is_repeated timing.retries post.attempts ≡ b → nat_lt 0 post.attempts ≡ c → (post_pumped timing moment post).peer ≡ post.peer
-    by_test true b c e f g = rw e refl
-    by_test false true c e f g = rw (e, f) refl
-    by_test false false true e f g = rw (e, f, g) refl
-    by_test false false false e f g = rw (e, f, g) refl
+    by_test : (a b s c : Bool) → is_awaited moment post.attempts post.deadline ≡ a → is_repeated timing.retries post.attempts ≡ b → gives_up timing.flush_silent post.attempts ≡ s → nat_lt 0 post.attempts ≡ c → (post_pumped timing moment post).peer ≡ post.peer
+    by_test true b s c e f h g = rw e refl
+    by_test false true s c e f h g = rw (e, f) refl
+    by_test false false true c e f h g = rw (e, f, h) refl
+    by_test false false false true e f h g = rw (e, f, h, g) refl
+    by_test false false false false e f h g = rw (e, f, h, g) refl
 
 pub answered_peer : (from : PeerData) (invoke : ℕ) (post : MailboxState) → (answered_by from invoke post).peer ≡ post.peer
 answered_peer from invoke post = by_test _ _ refl refl
@@ -130,11 +131,16 @@ new_stands peers limit timeout retries = record {
 }
   where
     timing : Timing
-    timing = record { timeout = timeout; retries = retries }
+    timing = record { timeout = timeout; retries = retries; flush_silent = false }
 
     by_peers : (peers : List PeerData) → map empty_post peers ≡ map (λ peer. post_after timing peer []) (peers_of (map empty_post peers))
     by_peers [] = refl
     by_peers (peer ∷ peers) = λ k. nothing_kept timing peer [] refl k ∷ by_peers peers k
+
+-- an outbox that stands for no operations stands for none with another choice
+pub flushing_stands : (flush_silent : Bool) (outbox : OutboxState) → StandsFor outbox no_operations → StandsFor (flushing flush_silent outbox) no_operations
+unfolding delivery_after
+flushing_stands flush_silent outbox stands = record { posts = stands.posts; strangers = λ peer unknown. refl }
 
 pub are_sent : (moment : ℕ) (old : OutboxState) (sends : List Send) → sends ≡ sends_of moment old → AreSent moment old sends
 are_sent moment old sends is = record {

@@ -1,5 +1,6 @@
 -- The delivery of event notifications to one recipient (ANSI/ASHRAE 135-2020, 13.8 and 13.9), by looking back over all
--- that was done for this recipient, the newest first. The list of its notes loses nothing.
+-- that was done for this recipient, the newest first. The list of its notes loses what was given up before it was sent, and
+-- nothing else.
 use Rattle.std.specs.Prelude.{ℕ, ◌+◌, ◌%◌, Bool, ◌&&◌, nat_lt, nat_le, ◌==◌, List, [], ◌∷◌, ◌++◌, length, take, drop, map, count_by, slice_range, if◌then◌else◌}
 use Rattle.std.specs.List.{position_or_len}
 use Rattle.bac_values.specs.Address.{PeerData}
@@ -13,13 +14,16 @@ pub data Operation : Type 0 where
   PumpedAt : ℕ → Operation
   AnswerCame : ℕ → Operation
 
--- 12.11: APDU_Timeout, in milliseconds, and Number_Of_APDU_Retries
+-- 12.11: APDU_Timeout, in milliseconds, and Number_Of_APDU_Retries; and whether a note that is given up takes along all that
+-- stands behind it, as the site chose
 pub record Timing : Type 0 where
   pub timeout : ℕ
   pub retries : ℕ
+  pub flush_silent : Bool
 
--- all notes that were ever queued for it, in this order; how many of them, from the first on, are finished; how often the
--- next one was sent; and until when its answer is awaited, 0 where it was not sent
+-- all notes that were queued for it, in this order, but for those that were given up before they were sent; how many of them,
+-- from the first on, are finished; how often the next one was sent; and until when its answer is awaited, 0 where it was not
+-- sent
 pub record Delivery : Type 0 where
   pub all : List Note
   pub finished : ℕ
@@ -48,6 +52,16 @@ is_awaited moment attempts deadline = nat_lt 0 attempts && nat_lt moment deadlin
 abbrev pub is_repeated : ℕ → ℕ → Bool
 is_repeated retries attempts = nat_lt 0 attempts && nat_le attempts retries
 
+-- A note was sent, and neither is its answer awaited nor is it repeated. The site chose that the recipient counts as silent: the
+-- note is given up with all that stands behind it.
+abbrev pub gives_up : Bool → ℕ → Bool
+gives_up flush_silent attempts = nat_lt 0 attempts && flush_silent
+
+-- The note in flight is given up, and all that stands behind it: what was never sent is taken out of the list, and isn't counted
+-- as finished.
+abbrev pub given_up : Delivery → Delivery
+given_up delivery = record { all = take (delivery.finished + 1) delivery.all; finished = delivery.finished + 1; attempts = 0; deadline = 0 }
+
 -- the place of the first note that was never sent: one that was sent 1 + retries times, and whose last deadline has
 -- come, is finished
 abbrev pub first_unsent : Delivery → ℕ
@@ -71,23 +85,25 @@ pumped_at timing moment delivery =
     if is_awaited moment delivery.attempts delivery.deadline then delivery
     else (if is_repeated timing.retries delivery.attempts then
     record delivery { attempts = delivery.attempts + 1; deadline = moment + timing.timeout }
-    else sent_from timing moment (first_unsent delivery) delivery)
+    else (if gives_up timing.flush_silent delivery.attempts then given_up delivery
+    else sent_from timing moment (first_unsent delivery) delivery))
 
 -- the notes from one place up to another, as datagrams; each of them that is to be confirmed has this invoke ID
 abbrev pub datagrams_between : PeerData → ℕ → List Note → ℕ → ℕ → List Send
 datagrams_between peer invoke all from to = map (datagram_of peer invoke) (slice_range all from to)
 
--- what the device sent then, in this order: nothing while an answer is awaited, the note in flight where it is repeated, and
--- else the notes that were never sent, up to and with the first that is to be confirmed
+-- what the device sent then, in this order: nothing while an answer is awaited, the note in flight where it is repeated, nothing
+-- where all is given up, and else the notes that were never sent, up to and with the first that is to be confirmed
 abbrev pub sent_at : Timing → ℕ → PeerData → Delivery → List Send
 sent_at timing moment peer delivery =
     if is_awaited moment delivery.attempts delivery.deadline then []
     else (if is_repeated timing.retries delivery.attempts then
     datagrams_between peer (invoke_id delivery.all delivery.finished) delivery.all delivery.finished (delivery.finished + 1)
+    else (if gives_up timing.flush_silent delivery.attempts then []
     else
     let place = first_unsent delivery in
     let next = next_confirmed delivery.all place in
-    datagrams_between peer (invoke_id delivery.all next) delivery.all place (next + 1))
+    datagrams_between peer (invoke_id delivery.all next) delivery.all place (next + 1)))
 
 -- after an answer: it finishes the note in flight, if it has its invoke ID, and else changes nothing
 abbrev pub answered_with : ℕ → Delivery → Delivery

@@ -4,7 +4,7 @@ use Rattle.std.specs.List.{flat_map, range_with_len}
 use Rattle.bac_values.specs.Address.{PeerData}
 use Rattle.bac_values.specs.declared.note.Note.{Note}
 use Rattle.bac_values.specs.declared.note.Send.{Send}
-use Rattle.outbox.specs.Delivery.{Operation, NoteQueued, PumpedAt, AnswerCame, Timing, Delivery, is_confirmed, invoke_id, next_confirmed, is_awaited, is_repeated, first_unsent, datagrams_between, sent_at, delivery_after}
+use Rattle.outbox.specs.Delivery.{Operation, NoteQueued, PumpedAt, AnswerCame, Timing, Delivery, is_confirmed, invoke_id, next_confirmed, is_awaited, is_repeated, gives_up, first_unsent, datagrams_between, sent_at, delivery_after}
 
 -- whether the note at a place is to be confirmed
 abbrev pub IsConfirmedAt : List Note → ℕ → Bool → Type 0
@@ -19,12 +19,13 @@ abbrev pub IsGivenUpAt : Timing → ℕ → Delivery → Type 0
 IsGivenUpAt timing moment delivery = (delivery.attempts ≡ 1 + timing.retries) × (delivery.deadline ≤ moment)
 
 -- whether the note at a place is among those that a pump sends: none while an answer is awaited, the one in flight where it is
--- repeated, and else those that were never sent, up to and with the first that is to be confirmed
+-- repeated, none where all is given up, and else those that were never sent, up to and with the first that is to be confirmed
 abbrev pub is_sent_at : Timing → ℕ → Delivery → ℕ → Bool
 is_sent_at timing moment delivery place =
     if is_awaited moment delivery.attempts delivery.deadline then false
     else (if is_repeated timing.retries delivery.attempts then place == delivery.finished
-    else nat_le (first_unsent delivery) place && nat_le place (next_confirmed delivery.all (first_unsent delivery)) && nat_lt place (length delivery.all))
+    else (if gives_up timing.flush_silent delivery.attempts then false
+    else nat_le (first_unsent delivery) place && nat_le place (next_confirmed delivery.all (first_unsent delivery)) && nat_lt place (length delivery.all)))
 
 -- What finishes the note at a place: while it is in flight an answer with its invoke ID, or a pump at its last deadline; and the
 -- pump that sends it, where it isn't to be confirmed.

@@ -6,3 +6,4 @@ pub mod Outboxes
 pub mod Places
 pub mod Following
 pub mod Finishing
+pub mod Silence

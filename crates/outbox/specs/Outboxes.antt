@@ -1,5 +1,5 @@
 -- The notes of all recipients, as plain data.
-use Rattle.std.specs.Prelude.{◌≡◌, ℕ, ◌≤◌, ◌==◌, nat_le, Bool, ◌&&◌, IsTrue, List, [], ◌∷◌, ◌++◌, length, take, drop, map, filter, sum_by, All, flat_map, if◌then◌else◌}
+use Rattle.std.specs.Prelude.{◌≡◌, ℕ, ◌≤◌, ◌==◌, nat_le, Bool, false, ◌&&◌, IsTrue, List, [], ◌∷◌, ◌++◌, length, take, drop, map, filter, sum_by, All, flat_map, if◌then◌else◌}
 use Rattle.bac_values.specs.Limits.{most_outbox}
 use Rattle.std.specs.Ordering.{is_lt}
 use Rattle.std.specs.List.{list_any, list_all}
@@ -11,15 +11,17 @@ use Rattle.outbox.specs.declared.post.Post.{Post}
 use Rattle.outbox.specs.Delivery.{Timing}
 use Rattle.outbox.specs.Posts.{IsPost, is_post, empty_post, is_in_flight, post_answered, post_pumped, post_sends, is_post_idle, MailboxState}
 
--- the posts in the order of their recipients, how many notes there may be that are not finished, APDU_Timeout and Number_Of_APDU_Retries
+-- the posts in the order of their recipients, how many notes there may be that are not finished, APDU_Timeout and Number_Of_APDU_Retries,
+-- and whether a note that is given up takes along all that stands behind it
 pub record OutboxState : Type 0 where
   pub posts : List MailboxState
   pub limit : ℕ
   pub timeout : ℕ
   pub retries : ℕ
+  pub flush_silent : Bool
 
 abbrev pub timing_of : OutboxState → Timing
-timing_of outbox = record { timeout = outbox.timeout; retries = outbox.retries }
+timing_of outbox = record { timeout = outbox.timeout; retries = outbox.retries; flush_silent = outbox.flush_silent }
 
 abbrev pub peers_of : List MailboxState → List PeerData
 peers_of posts = map (λ (post : MailboxState). post.peer) posts
@@ -42,7 +44,11 @@ pub record IsOutbox (outbox : OutboxState) : Type 0 where
   pub room : unfinished_in outbox.posts ≤ outbox.limit
 
 abbrev pub new_outbox : List PeerData → ℕ → ℕ → ℕ → OutboxState
-new_outbox peers limit timeout retries = record { posts = map empty_post peers; limit = limit; timeout = timeout; retries = retries }
+new_outbox peers limit timeout retries = record { posts = map empty_post peers; limit = limit; timeout = timeout; retries = retries; flush_silent = false }
+
+-- the same outbox, where a note that is given up takes along all that stands behind it, or doesn't
+abbrev pub flushing : Bool → OutboxState → OutboxState
+flushing flush_silent outbox = record outbox { flush_silent = flush_silent }
 
 -- the notes for one peer, in their order
 abbrev pub notes_for : PeerData → List Note → List Note
@@ -114,7 +120,7 @@ restored_posts [] notes = []
 restored_posts (post ∷ posts) notes = restored_post post (take post.notes notes) ∷ restored_posts posts (drop post.notes notes)
 
 abbrev pub restored : List Post → List Note → ℕ → ℕ → ℕ → OutboxState
-restored posts notes limit timeout retries = record { posts = restored_posts posts notes; limit = limit; timeout = timeout; retries = retries }
+restored posts notes limit timeout retries = record { posts = restored_posts posts notes; limit = limit; timeout = timeout; retries = retries; flush_silent = false }
 
 -- how many notes the posts of which this was told have
 abbrev pub notes_told : List Post → ℕ

@@ -8,7 +8,7 @@ use Rattle.bac_values.specs.declared.note.Note.{Note}
 use Rattle.bac_values.specs.declared.note.Send.{Send}
 use Rattle.bac_values.specs.Orders.{is_same}
 use Rattle.outbox.specs.Notifying.{datagram_of}
-use Rattle.outbox.specs.Delivery.{Operation, Timing, Delivery, delivery_after, invoke_id, is_confirmed, is_awaited, is_repeated}
+use Rattle.outbox.specs.Delivery.{Operation, Timing, Delivery, delivery_after, invoke_id, is_confirmed, is_awaited, is_repeated, gives_up}
 
 -- the recipient, the invoke ID of its next confirmed note, how often its first note was sent, until when an answer to that
 -- is awaited, and its notes that are not finished
@@ -84,6 +84,10 @@ post_answered invoke post = if is_in_flight invoke post then without_first post 
 abbrev pub unsent : MailboxState → MailboxState
 unsent post = if nat_lt 0 post.attempts then without_first post else post
 
+-- without the note in flight and all that stands behind it
+abbrev pub post_given_up : MailboxState → MailboxState
+post_given_up post = record post { next_invoke = (post.next_invoke + 1) % 256; attempts = 0; deadline = 0; notes = [] }
+
 -- with the notes sent that were never sent, up to and with the first that is to be confirmed
 abbrev pub post_sent : Timing → ℕ → MailboxState → MailboxState
 post_sent timing moment post =
@@ -102,7 +106,8 @@ post_pumped timing moment post =
     if is_awaited moment post.attempts post.deadline then post
     else (if is_repeated timing.retries post.attempts then
     record post { attempts = post.attempts + 1; deadline = moment + timing.timeout }
-    else post_sent timing moment (unsent post))
+    else (if gives_up timing.flush_silent post.attempts then post_given_up post
+    else post_sent timing moment (unsent post)))
 
 abbrev pub first_datagrams : ℕ → MailboxState → List Send
 first_datagrams count post = map (datagram_of post.peer post.next_invoke) (take count post.notes)
@@ -112,7 +117,8 @@ abbrev pub post_sends : Timing → ℕ → MailboxState → List Send
 post_sends timing moment post =
     if is_awaited moment post.attempts post.deadline then []
     else (if is_repeated timing.retries post.attempts then first_datagrams 1 post
-    else first_datagrams (position_or_len is_confirmed (unsent post).notes + 1) (unsent post))
+    else (if gives_up timing.flush_silent post.attempts then []
+    else first_datagrams (position_or_len is_confirmed (unsent post).notes + 1) (unsent post)))
 
 -- whether there is nothing to send and nothing to finish
 abbrev pub is_post_idle : ℕ → MailboxState → Bool

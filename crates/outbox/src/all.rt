@@ -58,26 +58,33 @@ pub(crate) fn sends_of(
     mailboxes: &[Mailbox],
     moment: u64,
     retries: u8,
+    flush_silent: bool,
 ) -> Result<Vec<Send>, NoMemory>
     requires posts { All (IsPost retries) mailboxes.now }
-    ensures sends { IfOk result (λ sends. (timeout : ℕ) → sends.items ≡ flat_map (post_sends (record { timeout = timeout; retries = retries }) moment) mailboxes.now) }
+    ensures sends { IfOk result (λ sends. (timeout : ℕ) → sends.items ≡ flat_map (post_sends (record { timeout = timeout; retries = retries; flush_silent = flush_silent }) moment) mailboxes.now) }
 {
     let mut sends = Vec::new(alloc);
     for mailbox in mailboxes {
-        mailbox.append_sends(alloc, moment, retries, &mut sends)?;
+        mailbox.append_sends(alloc, moment, retries, flush_silent, &mut sends)?;
     }
     Ok(sends)
 }
 
 /// Pumps every recipient.
-pub(crate) fn pump_all(mailboxes: &mut [Mailbox], moment: u64, timeout: u64, retries: u8)
+pub(crate) fn pump_all(
+    mailboxes: &mut [Mailbox],
+    moment: u64,
+    timeout: u64,
+    retries: u8,
+    flush_silent: bool,
+)
     requires moment { IsMoment moment }
     requires timeout { timeout ≤ 3_600_000 }
     requires retries { retries ≤ 15 }
-    ensures pumped { mailboxes.new ≡ map (post_pumped (record { timeout = timeout; retries = retries }) moment) mailboxes.old }
+    ensures pumped { mailboxes.new ≡ map (post_pumped (record { timeout = timeout; retries = retries; flush_silent = flush_silent }) moment) mailboxes.old }
 {
     for place in 0..mailboxes.len() {
-        mailboxes[place].pump(moment, timeout, retries);
+        mailboxes[place].pump(moment, timeout, retries, flush_silent);
     }
 }
 

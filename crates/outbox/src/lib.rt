@@ -14,9 +14,11 @@ mod outbox;
 mod post;
 mod queueing;
 mod restoring;
+mod silence;
 
 pub use answers::{Answered, QueueFault};
 pub use deciding::tests_posts;
 pub use order::finishes_in_order;
 pub use outbox::Outbox;
 pub use post::Post;
+pub use silence::silent_recipients;

@@ -1,13 +1,13 @@
 //! The notes of one recipient, and how they go out.
 
 ghost use Rattle.std.specs.List.{position_or_len};
-ghost use Rattle.std.specs.Prelude.{◌≡◌, ℕ, List, ◌-◌, take, ◌+◌, ◌<◌, ◌≤◌, ◌∷◌, [], ◌++◌, IfOk, OnOk, OnErr, IfErr, All, length, option_copied, slice_get, drop};
+ghost use Rattle.std.specs.Prelude.{◌≡◌, ℕ, Bool, List, ◌-◌, take, ◌+◌, ◌<◌, ◌≤◌, ◌∷◌, [], ◌++◌, IfOk, OnOk, OnErr, IfErr, All, length, option_copied, slice_get, drop};
 ghost use Rattle.bac_values.specs.Limits.{most_note_octets};
 ghost use Rattle.bac_values.specs.Moments.{IsMoment};
 ghost use Rattle.bac_values.specs.declared.note.Note.{Note};
 ghost use Rattle.outbox.specs.Notifying.{apdu_of, datagram_of};
-ghost use Rattle.outbox.specs.Delivery.{is_awaited, is_repeated, is_confirmed, datagrams_between};
-ghost use Rattle.outbox.specs.Posts.{empty_post, with_note, without_first, is_in_flight, post_answered, unsent, post_sent, post_pumped, post_sends, is_post_idle, MailboxState};
+ghost use Rattle.outbox.specs.Delivery.{is_awaited, is_repeated, gives_up, is_confirmed, datagrams_between};
+ghost use Rattle.outbox.specs.Posts.{empty_post, with_note, without_first, is_in_flight, post_answered, post_given_up, unsent, post_sent, post_pumped, post_sends, is_post_idle, MailboxState};
 
 use apdu_frame::{request, unconfirmed};
 use bac_values::{ConfirmedService, Items, NoMemory, Note, Peer, Send, UnconfirmedService, push};
@@ -191,6 +191,13 @@ impl Mailbox {
         self.attempts > 0 && self.attempts <= retries
     }
 
+    /// Whether the note in flight, which is neither awaited nor repeated, is given up with all that stands behind it.
+    fn gives_up(&self, flush_silent: bool) -> bool
+        ensures gives_up { result ≡ gives_up flush_silent self.now.attempts }
+    {
+        self.attempts > 0 && flush_silent
+    }
+
     /// An answer with this invoke ID finishes the note that is in flight with it; tells whether there is one.
     pub(crate) fn answer(&mut self, invoke: u8) -> bool
         ensures in_flight { result ≡ is_in_flight invoke self.old }
@@ -219,10 +226,11 @@ impl Mailbox {
         alloc: Global,
         moment: u64,
         retries: u8,
+        flush_silent: bool,
         sends: &mut Vec<Send>,
     ) -> Result<(), NoMemory>
         requires short { All (λ (note : Note). length note.body ≤ most_note_octets) self.now.notes }
-        ensures appended { OnOk result ((timeout : ℕ) → sends.new.items ≡ sends.old.items ++ post_sends (record { timeout = timeout; retries = retries }) moment self.now) }
+        ensures appended { OnOk result ((timeout : ℕ) → sends.new.items ≡ sends.old.items ++ post_sends (record { timeout = timeout; retries = retries; flush_silent = flush_silent }) moment self.now) }
     {
         if self.is_awaited(moment) {
             return Ok(());
@@ -231,6 +239,9 @@ impl Mailbox {
         if self.is_repeated(retries) {
             return append_between(alloc, &self.peer, invoke, &self.notes, 0..1, sends);
         }
+        if self.gives_up(flush_silent) {
+            return Ok(());
+        }
         if self.attempts == 0 {
             let end = unsent_end(&self.notes, 0);
             return append_between(alloc, &self.peer, invoke, &self.notes, 0..end, sends);
@@ -238,6 +249,14 @@ impl Mailbox {
         let end = unsent_end(&self.notes, 1);
         let next = invoke.wrapping_add(1);
         append_between(alloc, &self.peer, next, &self.notes, 1..end, sends)
+    }
+
+    /// The note in flight, and all that stands behind it, are given up.
+    fn give_up(&mut self)
+        ensures given_up { self.new ≡ post_given_up self.old }
+    {
+        self.finish_first();
+        self.notes.clear();
     }
 
     /// A note in flight, whose last deadline has come, is finished.
@@ -253,7 +272,7 @@ impl Mailbox {
     fn send_unsent(&mut self, moment: u64, timeout: u64)
         requires moment { IsMoment moment }
         requires timeout { timeout ≤ 3_600_000 }
-        ensures sent { (retries : ℕ) → self.new ≡ post_sent (record { timeout = timeout; retries = retries }) moment self.old }
+        ensures sent { (retries : ℕ) (flush_silent : Bool) → self.new ≡ post_sent (record { timeout = timeout; retries = retries; flush_silent = flush_silent }) moment self.old }
     {
         drop_unconfirmed(&mut self.notes);
         if self.notes.is_empty() {
@@ -266,11 +285,11 @@ impl Mailbox {
     }
 
     /// What is to be sent is sent, and what is to be finished is finished.
-    pub(crate) fn pump(&mut self, moment: u64, timeout: u64, retries: u8)
+    pub(crate) fn pump(&mut self, moment: u64, timeout: u64, retries: u8, flush_silent: bool)
         requires moment { IsMoment moment }
         requires timeout { timeout ≤ 3_600_000 }
         requires retries { retries ≤ 15 }
-        ensures pumped { self.new ≡ post_pumped (record { timeout = timeout; retries = retries }) moment self.old }
+        ensures pumped { self.new ≡ post_pumped (record { timeout = timeout; retries = retries; flush_silent = flush_silent }) moment self.old }
     {
         if self.is_awaited(moment) {
             return;
@@ -278,6 +297,10 @@ impl Mailbox {
         if self.is_repeated(retries) {
             self.attempts += 1;
             self.deadline = moment + timeout;
+            return;
+        }
+        if self.gives_up(flush_silent) {
+            self.give_up();
             return;
         }
         self.finish_unanswered();

@@ -7,7 +7,7 @@ ghost use Rattle.bac_values.specs.Moments.{IsMoment};
 ghost use Rattle.bac_values.specs.declared.note.Note.{Note};
 ghost use Rattle.bac_values.specs.Orders.{IsAscending};
 ghost use Rattle.outbox.specs.Posts.{MailboxState};
-ghost use Rattle.outbox.specs.Outboxes.{OutboxState, AreSettings, IsOutbox, AreParts, peers_of, unfinished_in, new_outbox, queued, pumped, sends_of, has_in_flight, answered, is_idle, AreKnown, learned, shown, restored, notes_told, notes_of};
+ghost use Rattle.outbox.specs.Outboxes.{OutboxState, AreSettings, IsOutbox, AreParts, peers_of, unfinished_in, new_outbox, flushing, queued, pumped, sends_of, has_in_flight, answered, is_idle, AreKnown, learned, shown, restored, notes_told, notes_of};
 ghost use Rattle.outbox.specs.Following.{StandsFor, Follows, Learns, AreSent, no_operations, after_queue, after_pump, after_answer};
 ghost use Rattle.outbox.specs.Verdicts.{returned};
 
@@ -32,6 +32,7 @@ pub struct Outbox {
     limit: u32,
     timeout: u64,
     retries: u8,
+    flush_silent: bool,
 }
 
 impl Model for Outbox {
@@ -40,9 +41,9 @@ impl Model for Outbox {
 
     ghost Value = { OutboxState };
 
-    ghost view = { λ it. record { posts = it.mailboxes.items; limit = it.limit; timeout = it.timeout; retries = it.retries } };
+    ghost view = { λ it. record { posts = it.mailboxes.items; limit = it.limit; timeout = it.timeout; retries = it.retries; flush_silent = it.flush_silent } };
 
-    ghost invariant = { λ it. (it.unfinished ≡ unfinished_in it.mailboxes.items) × IsOutbox (record { posts = it.mailboxes.items; limit = it.limit; timeout = it.timeout; retries = it.retries }) };
+    ghost invariant = { λ it. (it.unfinished ≡ unfinished_in it.mailboxes.items) × IsOutbox (record { posts = it.mailboxes.items; limit = it.limit; timeout = it.timeout; retries = it.retries; flush_silent = it.flush_silent }) };
 }
 
 impl Outbox {
@@ -66,7 +67,20 @@ impl Outbox {
             limit,
             timeout,
             retries,
+            flush_silent: false,
         })
+    }
+
+    /// The same outbox, with this choice: whether a note that is given up takes along all that stands behind it for its
+    /// recipient. An outbox that is made or restored doesn't choose that.
+    pub fn flushing(self, flush_silent: bool) -> Outbox
+        ensures chosen { result ≡ flushing flush_silent self }
+        ensures looking_back { StandsFor self no_operations → StandsFor result no_operations }
+    {
+        Outbox {
+            flush_silent,
+            ..self
+        }
     }
 
     /// How many more notes there is room for. What is so of every outbox is told here.
@@ -153,8 +167,20 @@ impl Outbox {
         ensures looking_back { OnOk result (Follows (after_pump moment) self.old self.new) }
         ensures sent { IfOk result (λ sends. AreSent moment self.old sends.items) }
     {
-        let sends = sends_of(alloc, &self.mailboxes, moment, self.retries)?;
-        pump_all(&mut self.mailboxes, moment, self.timeout, self.retries);
+        let sends = sends_of(
+            alloc,
+            &self.mailboxes,
+            moment,
+            self.retries,
+            self.flush_silent,
+        )?;
+        pump_all(
+            &mut self.mailboxes,
+            moment,
+            self.timeout,
+            self.retries,
+            self.flush_silent,
+        );
         self.unfinished = count_unfinished(&self.mailboxes);
         Ok(sends)
     }
@@ -230,6 +256,7 @@ impl Outbox {
             limit,
             timeout,
             retries,
+            flush_silent: false,
         })
     }
 }

@@ -24,4 +24,6 @@ pub struct DeviceSite {
     pub retries: u8,
     /// How many notifications may wait in its outbox, from 64 to 16,384.
     pub outbox: u32,
+    /// Whether a notification that is given up takes along all that waits behind it for its recipient.
+    pub flush_silent: bool,
 }

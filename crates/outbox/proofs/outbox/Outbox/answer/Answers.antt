@@ -23,7 +23,7 @@ pub invariant_of-self : goal.invariant_of-self
 invariant_of-self c =
     let items = c.self.inside.mailboxes.items in
     let change = answered_by c.args.peer.now c.args.invoke in
-    let state : OutboxState = record { posts = items; limit = c.self.inside.limit; timeout = c.self.inside.timeout; retries = c.self.inside.retries } in
+    let state : OutboxState = record { posts = items; limit = c.self.inside.limit; timeout = c.self.inside.timeout; retries = c.self.inside.retries; flush_silent = c.self.inside.flush_silent } in
     let written = all_written change items c.deref_mut.result.now c.answer_one.new.mailboxes c.self.inside.mailboxes.len c.self.inside.mailboxes.ok.0 c.deref_mut.ensures.value c.answer_one.ensures.now in
     let same = stray_same c.args.peer.now c.args.invoke items (c.if-not-answer_one.ensures.in_flight ∙ ap (list_any (is_flight_to c.args.peer.now c.args.invoke)) c.deref_mut.ensures.value) in
     (c.self.invariant.0 ∙ ap unfinished_in (sym (written ∙ same)), is_with state _ _ written (answer_keeps c.args.peer.now c.args.invoke state c.self.invariant.1))
@@ -38,7 +38,7 @@ pub returns-then-not-answer_one-clause-now : goal.returns-then-not-answer_one-cl
 returns-then-not-answer_one-clause-now c =
     let items = c.self.inside.mailboxes.items in
     let change = answered_by c.args.peer.now c.args.invoke in
-    let state : OutboxState = record { posts = items; limit = c.self.inside.limit; timeout = c.self.inside.timeout; retries = c.self.inside.retries } in
+    let state : OutboxState = record { posts = items; limit = c.self.inside.limit; timeout = c.self.inside.timeout; retries = c.self.inside.retries; flush_silent = c.self.inside.flush_silent } in
     let written = all_written change items c.deref_mut.result.now c.answer_one.new.mailboxes c.self.inside.mailboxes.len c.self.inside.mailboxes.ok.0 c.deref_mut.ensures.value c.answer_one.ensures.now in
     ap (with_posts state) written ∙ ap (answered c.args.peer.now c.args.invoke) c.self.view_is
 
@@ -46,7 +46,7 @@ pub returns-then-not-answer_one-clause-stray : goal.returns-then-not-answer_one-
 returns-then-not-answer_one-clause-stray c = λ h.
     let items = c.self.inside.mailboxes.items in
     let change = answered_by c.args.peer.now c.args.invoke in
-    let state : OutboxState = record { posts = items; limit = c.self.inside.limit; timeout = c.self.inside.timeout; retries = c.self.inside.retries } in
+    let state : OutboxState = record { posts = items; limit = c.self.inside.limit; timeout = c.self.inside.timeout; retries = c.self.inside.retries; flush_silent = c.self.inside.flush_silent } in
     let written = all_written change items c.deref_mut.result.now c.answer_one.new.mailboxes c.self.inside.mailboxes.len c.self.inside.mailboxes.ok.0 c.deref_mut.ensures.value c.answer_one.ensures.now in
     let same = stray_same c.args.peer.now c.args.invoke items (c.if-not-answer_one.ensures.in_flight ∙ ap (list_any (is_flight_to c.args.peer.now c.args.invoke)) c.deref_mut.ensures.value) in
     ap (with_posts state) (written ∙ same) ∙ c.self.view_is
@@ -55,7 +55,7 @@ pub returns-then-not-answer_one-clause-looking_back : goal.returns-then-not-answ
 returns-then-not-answer_one-clause-looking_back c =
     let items = c.self.inside.mailboxes.items in
     let change = answered_by c.args.peer.now c.args.invoke in
-    let state : OutboxState = record { posts = items; limit = c.self.inside.limit; timeout = c.self.inside.timeout; retries = c.self.inside.retries } in
+    let state : OutboxState = record { posts = items; limit = c.self.inside.limit; timeout = c.self.inside.timeout; retries = c.self.inside.retries; flush_silent = c.self.inside.flush_silent } in
     let written = all_written change items c.deref_mut.result.now c.answer_one.new.mailboxes c.self.inside.mailboxes.len c.self.inside.mailboxes.ok.0 c.deref_mut.ensures.value c.answer_one.ensures.now in
     let now = ap (with_posts state) written ∙ ap (answered c.args.peer.now c.args.invoke) c.self.view_is in
     subst (λ (o : OutboxState). Follows (after_answer c.args.peer.now c.args.invoke) c.args.self.now o) (sym now) (answer_follows c.args.peer.now c.args.invoke c.args.self.now)
@@ -70,7 +70,7 @@ pub invariant_of-self-2 : goal.invariant_of-self-2
 invariant_of-self-2 c =
     let items = c.self.inside.mailboxes.items in
     let change = answered_by c.args.peer.now c.args.invoke in
-    let state : OutboxState = record { posts = items; limit = c.self.inside.limit; timeout = c.self.inside.timeout; retries = c.self.inside.retries } in
+    let state : OutboxState = record { posts = items; limit = c.self.inside.limit; timeout = c.self.inside.timeout; retries = c.self.inside.retries; flush_silent = c.self.inside.flush_silent } in
     let written = all_written change items c.deref_mut.result.now c.answer_one.new.mailboxes c.self.inside.mailboxes.len c.self.inside.mailboxes.ok.0 c.deref_mut.ensures.value c.answer_one.ensures.now in
     let left = c.if-not-answer_one.ensures.left in
     let seen = ap unfinished_in c.deref_mut.ensures.value in
@@ -88,7 +88,7 @@ pub returns-clause-now : goal.returns-clause-now
 returns-clause-now c =
     let items = c.self.inside.mailboxes.items in
     let change = answered_by c.args.peer.now c.args.invoke in
-    let state : OutboxState = record { posts = items; limit = c.self.inside.limit; timeout = c.self.inside.timeout; retries = c.self.inside.retries } in
+    let state : OutboxState = record { posts = items; limit = c.self.inside.limit; timeout = c.self.inside.timeout; retries = c.self.inside.retries; flush_silent = c.self.inside.flush_silent } in
     let written = all_written change items c.deref_mut.result.now c.answer_one.new.mailboxes c.self.inside.mailboxes.len c.self.inside.mailboxes.ok.0 c.deref_mut.ensures.value c.answer_one.ensures.now in
     ap (with_posts state) written ∙ ap (answered c.args.peer.now c.args.invoke) c.self.view_is
 
@@ -99,7 +99,7 @@ pub returns-clause-looking_back : goal.returns-clause-looking_back
 returns-clause-looking_back c =
     let items = c.self.inside.mailboxes.items in
     let change = answered_by c.args.peer.now c.args.invoke in
-    let state : OutboxState = record { posts = items; limit = c.self.inside.limit; timeout = c.self.inside.timeout; retries = c.self.inside.retries } in
+    let state : OutboxState = record { posts = items; limit = c.self.inside.limit; timeout = c.self.inside.timeout; retries = c.self.inside.retries; flush_silent = c.self.inside.flush_silent } in
     let written = all_written change items c.deref_mut.result.now c.answer_one.new.mailboxes c.self.inside.mailboxes.len c.self.inside.mailboxes.ok.0 c.deref_mut.ensures.value c.answer_one.ensures.now in
     let now = ap (with_posts state) written ∙ ap (answered c.args.peer.now c.args.invoke) c.self.view_is in
     subst (λ (o : OutboxState). Follows (after_answer c.args.peer.now c.args.invoke) c.args.self.now o) (sym now) (answer_follows c.args.peer.now c.args.invoke c.args.self.now)

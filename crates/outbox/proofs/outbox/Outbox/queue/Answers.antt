@@ -32,7 +32,7 @@ put_all-requires-clause-known c = subst (AreKnown c.args.notes.items) (sym (c.de
 
 pub invariant_of-self : goal.invariant_of-self
 invariant_of-self c =
-    let state : OutboxState = record { posts = c.self.inside.mailboxes.items; limit = c.self.inside.limit; timeout = c.self.inside.timeout; retries = c.self.inside.retries } in
+    let state : OutboxState = record { posts = c.self.inside.mailboxes.items; limit = c.self.inside.limit; timeout = c.self.inside.timeout; retries = c.self.inside.retries; flush_silent = c.self.inside.flush_silent } in
     let size : c.len-added.result ≡ length c.args.notes.items = c.len-added.ensures ∙ c.args.notes.ok.0 in
     let room : c.self.inside.unfinished ≤ c.self.inside.limit = let most = c.self.invariant.1.room in let is = c.self.invariant.0 in omega arith in
     let fits = is_within c.self.inside.unfinished c.len-added.result c.self.inside.limit room c.if-exceeds.ensures.exceeds in
@@ -47,13 +47,13 @@ invariant_of-self c =
 
 pub invariant_of-self-in-Err : goal.invariant_of-self-in-Err
 invariant_of-self-in-Err c =
-    let state : OutboxState = record { posts = c.self.inside.mailboxes.items; limit = c.self.inside.limit; timeout = c.self.inside.timeout; retries = c.self.inside.retries } in
+    let state : OutboxState = record { posts = c.self.inside.mailboxes.items; limit = c.self.inside.limit; timeout = c.self.inside.timeout; retries = c.self.inside.retries; flush_silent = c.self.inside.flush_silent } in
     let kept = all_written (λ post. post) c.self.inside.mailboxes.items c.deref_mut.result.now c.put_all.new.mailboxes c.self.inside.mailboxes.len c.self.inside.mailboxes.ok.0 c.deref_mut.ensures.value (c.in-Err.ensures.refused ∙ sym (map-id c.deref_mut.result.now)) ∙ map-id c.self.inside.mailboxes.items in
     (c.self.invariant.0 ∙ ap unfinished_in (sym kept), is_with state _ _ kept c.self.invariant.1)
 
 pub returns-in-Ok-clause-queued : goal.returns-in-Ok-clause-queued
 returns-in-Ok-clause-queued c =
-    let state : OutboxState = record { posts = c.self.inside.mailboxes.items; limit = c.self.inside.limit; timeout = c.self.inside.timeout; retries = c.self.inside.retries } in
+    let state : OutboxState = record { posts = c.self.inside.mailboxes.items; limit = c.self.inside.limit; timeout = c.self.inside.timeout; retries = c.self.inside.retries; flush_silent = c.self.inside.flush_silent } in
     let written = all_written (with_notes c.args.notes.items) c.self.inside.mailboxes.items c.deref_mut.result.now c.put_all.new.mailboxes c.self.inside.mailboxes.len c.self.inside.mailboxes.ok.0 c.deref_mut.ensures.value c.in-Ok.ensures.put in
     ap (with_posts state) written ∙ ap (queued c.args.notes.items) c.self.view_is
 
@@ -70,14 +70,14 @@ returns-in-Ok-clause-full c = λ would limit back.
 
 pub returns-in-Ok-clause-looking_back : goal.returns-in-Ok-clause-looking_back
 returns-in-Ok-clause-looking_back c =
-    let state : OutboxState = record { posts = c.self.inside.mailboxes.items; limit = c.self.inside.limit; timeout = c.self.inside.timeout; retries = c.self.inside.retries } in
+    let state : OutboxState = record { posts = c.self.inside.mailboxes.items; limit = c.self.inside.limit; timeout = c.self.inside.timeout; retries = c.self.inside.retries; flush_silent = c.self.inside.flush_silent } in
     let written = all_written (with_notes c.args.notes.items) c.self.inside.mailboxes.items c.deref_mut.result.now c.put_all.new.mailboxes c.self.inside.mailboxes.len c.self.inside.mailboxes.ok.0 c.deref_mut.ensures.value c.in-Ok.ensures.put in
     let now = ap (with_posts state) written ∙ ap (queued c.args.notes.items) c.self.view_is in
     subst (λ (o : OutboxState). Follows (after_queue c.args.notes.items) c.args.self.now o) (sym now) (queue_follows c.args.notes.items c.args.self.now c.requires.known)
 
 pub returns-in-Err-clause-refused : goal.returns-in-Err-clause-refused
 returns-in-Err-clause-refused c =
-    let state : OutboxState = record { posts = c.self.inside.mailboxes.items; limit = c.self.inside.limit; timeout = c.self.inside.timeout; retries = c.self.inside.retries } in
+    let state : OutboxState = record { posts = c.self.inside.mailboxes.items; limit = c.self.inside.limit; timeout = c.self.inside.timeout; retries = c.self.inside.retries; flush_silent = c.self.inside.flush_silent } in
     let kept = all_written (λ post. post) c.self.inside.mailboxes.items c.deref_mut.result.now c.put_all.new.mailboxes c.self.inside.mailboxes.len c.self.inside.mailboxes.ok.0 c.deref_mut.ensures.value (c.in-Err.ensures.refused ∙ sym (map-id c.deref_mut.result.now)) ∙ map-id c.self.inside.mailboxes.items in
     ap (with_posts state) kept ∙ c.self.view_is
 
