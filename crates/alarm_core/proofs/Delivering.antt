@@ -12,14 +12,14 @@ use Rattle.outbox.specs.Following.{StandsFor, no_operations}
 use Rattle.outbox.specs.Outboxes.{OutboxState, AreKnown, new_outbox, peers_of, sends_of}
 use Rattle.outbox.specs.Posts.{post_after, MailboxState}
 use Rattle.outbox.proofs.Learning.{learn_learns, known_addresses, with_all}
-use Rattle.outbox.proofs.Standing.{answer_follows, are_sent, new_stands, nothing_kept, pump_follows, queue_follows}
+use Rattle.outbox.proofs.Standing.{answer_follows, are_sent, flushing_stands, new_stands, nothing_kept, pump_follows, queue_follows}
 use Rattle.alarm_core.specs.declared.event.Act.{Act}
 use Rattle.alarm_core.specs.declared.event.Act.TheVariants.{Tick, Write, Ack, Pump, Answer, Edit}
 use Rattle.alarm_core.specs.declared.event.Event.{Event}
 use Rattle.alarm_core.specs.declared.site.Site.{Site}
 use Rattle.alarm_core.specs.Classes.{known_peers_of, learned_with}
 use Rattle.alarm_core.specs.Deliveries.{event_notes, event_sends, operations_of, operations_with, outbox_after, timing_at}
-use Rattle.alarm_core.specs.CoreSteps.{outbox_with, sends_with}
+use Rattle.alarm_core.specs.CoreSteps.{empty_outbox, outbox_with, sends_with}
 use Rattle.alarm_core.specs.Known.{Knows}
 use Rattle.alarm_core.proofs.NotesGo.{notes_known}
 
@@ -33,7 +33,7 @@ peers_kept site history (peer ∷ peers) = ap (λ ps. peer ∷ ps) (peers_kept s
 
 -- the outbox of a site with some posts
 as_outbox : Site → List MailboxState → OutboxState
-as_outbox site posts = record { posts = posts; limit = site.device.outbox; timeout = site.device.apdu_timeout; retries = site.device.retries }
+as_outbox site posts = record { posts = posts; limit = site.device.outbox; timeout = site.device.apdu_timeout; retries = site.device.retries; flush_silent = site.device.flush_silent }
 
 pub are_known : (site : Site) (history : List Event) (notes : List Note) → All (λ (note : Note). Knows (known_peers_of site history) note.peer) notes → AreKnown notes (outbox_after site history).posts
 are_known site history notes known =
@@ -75,7 +75,7 @@ module _ (site : Site) (older : List Event) (stands : StandsFor (outbox_after si
   more event =
       let notes = event_notes site event older in
       let g = goes event.moment event.act notes (are_known site older notes (notes_known site event older)) in
-      g.shape ∙ ap (as_outbox site) (g.stands.posts ∙ (ap (λ o. map (λ peer. post_after (record { timeout = o.timeout; retries = o.retries }) peer (operations_of site (event ∷ older) peer)) (peers_of o.posts)) g.shape ∙ ap (map (kept site (event ∷ older))) g.peers))
+      g.shape ∙ ap (as_outbox site) (g.stands.posts ∙ (ap (λ o. map (λ peer. post_after (record { timeout = o.timeout; retries = o.retries; flush_silent = o.flush_silent }) peer (operations_of site (event ∷ older) peer)) (peers_of o.posts)) g.shape ∙ ap (map (kept site (event ∷ older))) g.peers))
 
   still_stands : (event : Event) → StandsFor (outbox_after site (event ∷ older)) (operations_of site (event ∷ older))
   still_stands event =
@@ -83,12 +83,12 @@ module _ (site : Site) (older : List Event) (stands : StandsFor (outbox_after si
       subst (λ o. StandsFor o (operations_of site (event ∷ older))) (more event) (goes event.moment event.act notes (are_known site older notes (notes_known site event older))).stands
 
 -- at the start nothing waits
-pub first_outbox : (site : Site) → new_outbox (known_peers_of site []) site.device.outbox site.device.apdu_timeout site.device.retries ≡ outbox_after site []
+pub first_outbox : (site : Site) → empty_outbox site (known_peers_of site []) ≡ outbox_after site []
 unfolding delivery_after as_outbox
 first_outbox site = ap (as_outbox site) (ap (λ f. map f (known_peers_of site [])) (fun_ext (λ peer. nothing_kept (timing_at site) peer [] refl)))
 
 pub outbox_stands : (site : Site) (history : List Event) → StandsFor (outbox_after site history) (operations_of site history)
-outbox_stands site [] = subst (λ o. StandsFor o no_operations) (first_outbox site) (new_stands (known_peers_of site []) site.device.outbox site.device.apdu_timeout site.device.retries)
+outbox_stands site [] = subst (λ o. StandsFor o no_operations) (first_outbox site) (flushing_stands site.device.flush_silent (new_outbox (known_peers_of site []) site.device.outbox site.device.apdu_timeout site.device.retries) (new_stands (known_peers_of site []) site.device.outbox site.device.apdu_timeout site.device.retries))
 outbox_stands site (event ∷ older) = still_stands site older (outbox_stands site older) event
 
 pub outbox_more : (site : Site) (event : Event) (older : List Event) →

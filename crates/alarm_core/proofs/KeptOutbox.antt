@@ -5,10 +5,10 @@ use Rattle.bac_values.specs.Address.{PeerData}
 use Rattle.bac_values.specs.Moments.{IsMoment}
 use Rattle.bac_values.specs.declared.note.Note.{Note}
 use Rattle.notify_class.specs.Edits.{recipient_peers}
-use Rattle.outbox.specs.Outboxes.{AreKnown, IsOutbox, OutboxState, peers_of, unfinished_in}
+use Rattle.outbox.specs.Outboxes.{AreKnown, IsOutbox, OutboxState, new_outbox, peers_of, unfinished_in}
 use Rattle.outbox.proofs.Keeping.{answer_keeps, pump_keeps}
 use Rattle.outbox.proofs.Learning.{learn_keeps}
-use Rattle.outbox.proofs.Making.{new_is}
+use Rattle.outbox.proofs.Making.{flushing_is, new_is}
 use Rattle.outbox.proofs.QueueKeeping.{all_longer, queue_keeps}
 use Rattle.alarm_core.specs.declared.event.Act.{Act}
 use Rattle.alarm_core.specs.declared.event.Act.TheVariants.{Tick, Write, Ack, Pump, Answer, Edit}
@@ -44,7 +44,8 @@ act_kept moment (Edit number recipients) notes outbox range is known short fits 
 
 pub outbox_kept : (site : Site) → IsSite site → (history : List Event) → IsHistory site history → All IsShort (notifications_of site history) → IsOutbox (outbox_after site history)
 outbox_kept site is [] h short =
-    subst IsOutbox (first_outbox site) (new_is (known_peers_of site []) site.device.outbox site.device.apdu_timeout site.device.retries (known_ascend site []) is.settings)
+    subst IsOutbox (first_outbox site) (flushing_is site.device.flush_silent (new_outbox (known_peers_of site []) site.device.outbox site.device.apdu_timeout site.device.retries)
+    (new_is (known_peers_of site []) site.device.outbox site.device.apdu_timeout site.device.retries (known_ascend site []) is.settings))
 outbox_kept site is (event ∷ older) h short =
     let notes = event_notes site event older in
     let old = outbox_after site older in

@@ -186,6 +186,7 @@ keeps_to_its_site = record {
     limit = refl;
     timeout = refl;
     retries = refl;
+    flush_silent = refl;
     logs = logs_are site typed is history h fits site.logs is.logs;
   };
 }

@@ -48,7 +48,6 @@ pub mod Counting
 pub mod Accepted
 pub mod LastLists
 pub mod ObjectLists
-pub mod EvaluationCounts
 pub mod Raised
 pub mod Restored
 pub mod RestoredCore

@@ -1,6 +1,7 @@
 -- What one event makes of a state, without looking back over the history.
 use Rattle.std.specs.Prelude.{ℕ, ◌+◌, Bool, if◌then◌else◌, Option, Some, None, List, [], ◌∷◌, map}
 use Rattle.std.specs.List.{flat_map}
+use Rattle.bac_values.specs.Address.{PeerData}
 use Rattle.bac_values.specs.Identifier.{ObjectIdData}
 use Rattle.bac_values.specs.declared.transition.Transition.{Transition}
 use Rattle.algorithm_rules.specs.declared.table.Algorithm.{Algorithm}
@@ -14,7 +15,7 @@ use Rattle.event_log.specs.History.{Call, next_log}
 use Rattle.event_log.specs.Log.{EventLogState}
 use Rattle.notify_class.specs.declared.class.Class.{Class}
 use Rattle.notify_class.specs.Edits.{recipient_peers}
-use Rattle.outbox.specs.Outboxes.{OutboxState, answered, learned, new_outbox, pumped, queued, sends_of}
+use Rattle.outbox.specs.Outboxes.{OutboxState, answered, flushing, learned, new_outbox, pumped, queued, sends_of}
 use Rattle.object_table.specs.Rows.{is_object}
 use Rattle.enrollment.specs.declared.subject.Subject.{Subject}
 use Rattle.enrollment.specs.Objects.{ObjectsState}
@@ -144,6 +145,10 @@ first_detected site subject = first_with (site_moment site site.device.start) (a
 abbrev pub first_kept : LogSite → SiteLogState
 first_kept listed = record { site = listed; log = first_log listed }
 
+-- an outbox without notifications, with the site's settings
+abbrev pub empty_outbox : Site → List PeerData → OutboxState
+empty_outbox site peers = flushing site.device.flush_silent (new_outbox peers site.device.outbox site.device.apdu_timeout site.device.retries)
+
 abbrev pub first_state : Site → CoreState
 first_state site = record {
   site = site;
@@ -152,6 +157,6 @@ first_state site = record {
   values = first_values site;
   alarms = map (first_detected site) (detecting_subjects site);
   classes = first_classes site;
-  outbox = new_outbox (known_peers_of site []) site.device.outbox site.device.apdu_timeout site.device.retries;
+  outbox = empty_outbox site (known_peers_of site []);
   logs = map first_kept site.logs;
 }

@@ -45,9 +45,9 @@ abbrev pub operations_of : Site → List Event → Operations
 operations_of site [] = no_operations
 operations_of site (event ∷ older) = operations_with event.moment event.act (event_notes site event older) (operations_of site older)
 
--- 12.11: APDU_Timeout and Number_Of_APDU_Retries
+-- 12.11: APDU_Timeout and Number_Of_APDU_Retries, and the site's choice of what is given up
 abbrev pub timing_at : Site → Timing
-timing_at site = record { timeout = site.device.apdu_timeout; retries = site.device.retries }
+timing_at site = record { timeout = site.device.apdu_timeout; retries = site.device.retries; flush_silent = site.device.flush_silent }
 
 -- what waits for each known peer
 abbrev pub outbox_after : Site → List Event → OutboxState
@@ -56,6 +56,7 @@ outbox_after site history = record {
   limit = site.device.outbox;
   timeout = site.device.apdu_timeout;
   retries = site.device.retries;
+  flush_silent = site.device.flush_silent;
 }
 
 -- what an act sends: a pump what each recipient is to be sent, in the order of the recipients

@@ -168,4 +168,5 @@ pub record IsStateOf (site : Site) (state : CoreState) : Type 0 where
   pub limit : state.outbox.limit ≡ site.device.outbox
   pub timeout : state.outbox.timeout ≡ site.device.apdu_timeout
   pub retries : state.outbox.retries ≡ site.device.retries
+  pub flush_silent : state.outbox.flush_silent ≡ site.device.flush_silent
   pub logs : AllZip (IsLogOf site) site.logs state.logs

@@ -6,6 +6,7 @@ ghost use Rattle.alarm_core.specs.Allowed.{Represents};
 ghost use Rattle.alarm_core.specs.CoreSteps.{next_transitions};
 ghost use Rattle.alarm_core.specs.History.{raised, tick_at, transitions_of};
 
+use crate::evaluation_count::counted_in;
 use crate::taking::raised_moment;
 use crate::{Core, EvaluationCount};
 use event_machine::Steps;
@@ -36,11 +37,11 @@ impl Core {
         ensures still { IsTrue result.0 ↔ (next_transitions (raised self.now.last_moment (tick_at moment)) self.now ≡ []) }
         ensures history { (history : List Happening) → Represents self.now history →
             (IsTrue result.0 ↔ (transitions_of self.now.site (raised self.now.last_moment (tick_at moment) ∷ history) ≡ transitions_of self.now.site history)) }
-        ensures counts { (history : List Happening) → Represents self.now history → result.1.count ≡ (if result.0 then 0 else 1) }
+        ensures counts { (history : List Happening) → Represents self.now history → result.1.value ≡ (if result.0 then 0 else 1) }
     {
         let mut steps = Steps::<L>::new(blank);
         let still = self.is_still(moment, &mut steps);
-        (still, EvaluationCount::of(&steps))
+        (still, counted_in(&steps))
     }
 
     /// Whether no object would move at the look of a moment, raised to the last one, as `is_still` tells it in a ledger of its
@@ -50,7 +51,7 @@ impl Core {
         ensures still { IsTrue result.0 ↔ (next_transitions (raised self.now.last_moment (tick_at moment)) self.now ≡ []) }
         ensures history { (history : List Happening) → Represents self.now history →
             (IsTrue result.0 ↔ (transitions_of self.now.site (raised self.now.last_moment (tick_at moment) ∷ history) ≡ transitions_of self.now.site history)) }
-        ensures counts { (history : List Happening) → Represents self.now history → result.1.count ≡ (if result.0 then 0 else 1) }
+        ensures counts { (history : List Happening) → Represents self.now history → result.1.value ≡ (if result.0 then 0 else 1) }
     {
         self.is_still_alone::<Brand>(moment, Blank::new(1))
     }

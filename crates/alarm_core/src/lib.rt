@@ -43,7 +43,7 @@ mod write_property;
 pub use bac_values::Moved;
 pub use detection::DetectedObject;
 pub use enrollment::EnrollmentSite;
-pub use evaluation_count::EvaluationCount;
+pub use evaluation_count::{EvaluationCount, none_counted};
 pub use event::{Act, Event, Outcome, StepFault};
 pub use event_log::LogSite;
 pub use fitting::{event_fits, site_fits};

@@ -4,12 +4,12 @@ ghost use Rattle.std.specs.Prelude.{◌≡◌, ◌↔◌, ◌<◌, ◌^◌, leng
 ghost use Rattle.std.specs.Option.{option_copied};
 ghost use Rattle.bac_values.specs.Moments.{IsMoment};
 ghost use Rattle.bac_values.specs.Orders.{IsAscending, peers_with};
-ghost use Rattle.outbox.specs.Outboxes.{has_in_flight, is_idle, new_outbox, peers_of as peers_of_posts, pumped, sends_of};
+ghost use Rattle.outbox.specs.Outboxes.{has_in_flight, is_idle, peers_of as peers_of_posts, pumped, sends_of};
 ghost use Rattle.enrollment.specs.References.{enrollments_in};
 ghost use Rattle.event_machine.specs.Finding.{as_finding};
 ghost use Rattle.alarm_core.specs.Allowed.{Represents};
 ghost use Rattle.alarm_core.specs.Classes.{peers_in};
-ghost use Rattle.alarm_core.specs.CoreSteps.{first_state, states_of};
+ghost use Rattle.alarm_core.specs.CoreSteps.{empty_outbox, first_state, states_of};
 ghost use Rattle.alarm_core.specs.Evaluations.{site_zone};
 ghost use Rattle.alarm_core.specs.Found.{alarm_in, device_object, found_in, has_object, is_other_object};
 ghost use Rattle.alarm_core.specs.ListLimits.{KeepLists};
@@ -111,17 +111,18 @@ pub fn site_zone(site: &Site) -> Zone
 fn first_outbox(alloc: Global, site: &Site, peers: &[Peer]) -> Result<Outbox, NoMemory>
     requires site { IsSite site.now }
     requires ascending { IsAscending peers.now }
-    ensures outbox { IfOk result (λ outbox. outbox ≡ new_outbox peers.now site.now.device.outbox site.now.device.apdu_timeout site.now.device.retries) }
+    ensures outbox { IfOk result (λ outbox. outbox ≡ empty_outbox site.now peers.now) }
 {
     let device = &site.device;
     let peers = peers.to_vec(alloc)?;
-    Outbox::new(
+    let outbox = Outbox::new(
         alloc,
         peers,
         device.outbox,
         u64::from(device.apdu_timeout),
         device.retries,
-    )
+    )?;
+    Ok(outbox.flushing(device.flush_silent))
 }
 
 // The peers of some classes, for whom nothing waits.
@@ -132,7 +133,7 @@ fn first_queues(
 ) -> Result<(PeerList, Outbox), NoMemory>
     requires site { IsSite site.now }
     ensures peers { IfOk result (λ first. first.0 ≡ peers_with (peers_in classes.now) []) }
-    ensures outbox { IfOk result (λ first. first.1 ≡ new_outbox first.0 site.now.device.outbox site.now.device.apdu_timeout site.now.device.retries) }
+    ensures outbox { IfOk result (λ first. first.1 ≡ empty_outbox site.now first.0) }
 {
     let listed = peers_in(alloc, classes)?;
     let peers = PeerList::new(alloc).with(alloc, &listed)?;

@@ -15,6 +15,7 @@ ghost use Rattle.alarm_core.specs.History.{moved_by, raised, transitions_of};
 ghost use Rattle.alarm_core.specs.Moving.{moving_of, touched_of};
 ghost use Rattle.alarm_core.specs.Verdicts.{Answers, step_verdict};
 
+use crate::evaluation_count::counted_in;
 use crate::{Core, EvaluationCount, Event, Outcome, StepFault, event_fits};
 use bac_values::MOST_EVENTS;
 use event_machine::Steps;
@@ -113,11 +114,11 @@ impl Core {
         ensures ticks_fit { (history : List Happening) → Represents self.old history → unfinished_in self.old.outbox.posts ≡ 0 →
             event.now.act ≡ Tick → step_verdict (raised self.old.last_moment event.now) self.old ≡ Ok tt }
         ensures counts { (history : List Happening) → Represents self.old history →
-            result.1.count ≤ (moving_of self.old.site (raised self.old.last_moment event.now) history + touched_of self.old.site (raised self.old.last_moment event.now) history) }
+            result.1.value ≤ (moving_of self.old.site (raised self.old.last_moment event.now) history + touched_of self.old.site (raised self.old.last_moment event.now) history) }
     {
         let mut steps = Steps::<L>::new(blank);
         let answer = self.step_once(alloc, event, &mut steps);
-        (answer, EvaluationCount::of(&steps))
+        (answer, counted_in(&steps))
     }
 
     /// Takes an event, as `step` does, in a ledger of its own, and tells how many evaluations that took. One event more than a
@@ -147,7 +148,7 @@ impl Core {
         ensures ticks_fit { (history : List Happening) → Represents self.old history → unfinished_in self.old.outbox.posts ≡ 0 →
             event.now.act ≡ Tick → step_verdict (raised self.old.last_moment event.now) self.old ≡ Ok tt }
         ensures counts { (history : List Happening) → Represents self.old history →
-            result.1.count ≤ (moving_of self.old.site (raised self.old.last_moment event.now) history + touched_of self.old.site (raised self.old.last_moment event.now) history) }
+            result.1.value ≤ (moving_of self.old.site (raised self.old.last_moment event.now) history + touched_of self.old.site (raised self.old.last_moment event.now) history) }
     {
         self.take_alone::<Brand>(alloc, event, Blank::new(1))
     }

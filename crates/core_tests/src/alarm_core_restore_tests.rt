@@ -1,6 +1,6 @@
 //! Cores that are made of parts.
 
-ghost use Rattle.std.specs.Prelude.{◌≡◌, [], IfOk, None, length, pos};
+ghost use Rattle.std.specs.Prelude.{◌≡◌, [], IfOk, None, false, length, pos};
 ghost use Rattle.outbox.specs.Outboxes.{IsOutbox};
 ghost use Rattle.alarm_core.specs.Sites.{IsSite};
 
@@ -24,6 +24,7 @@ fn device(alloc: Global) -> Result<DeviceSite, Fail>
     ensures rule { IfOk result (λ site. site.zone_rule ≡ None) }
     ensures timeout { IfOk result (λ site. site.apdu_timeout ≡ 3000) }
     ensures retries { IfOk result (λ site. site.retries ≡ 3) }
+    ensures flush { IfOk result (λ site. site.flush_silent ≡ false) }
     ensures outbox { IfOk result (λ site. site.outbox ≡ 64) }
 {
     Ok(DeviceSite {
@@ -36,6 +37,7 @@ fn device(alloc: Global) -> Result<DeviceSite, Fail>
         apdu_timeout: 3000,
         retries: 3,
         outbox: 64,
+        flush_silent: false,
     })
 }
 
@@ -50,6 +52,7 @@ fn bare(alloc: Global) -> Result<Site, Fail>
     ensures limit { IfOk result (λ site. site.device.outbox ≡ 64) }
     ensures timeout { IfOk result (λ site. site.device.apdu_timeout ≡ 3000) }
     ensures retries { IfOk result (λ site. site.device.retries ≡ 3) }
+    ensures flush { IfOk result (λ site. site.device.flush_silent ≡ false) }
 {
     Ok(Site {
         device: device(alloc)?,
@@ -77,6 +80,7 @@ fn in_flight(alloc: Global) -> Result<Outbox, Fail>
     ensures limit { IfOk result (λ outbox. outbox.limit ≡ 64) }
     ensures timeout { IfOk result (λ outbox. outbox.timeout ≡ 3000) }
     ensures retries { IfOk result (λ outbox. outbox.retries ≡ 3) }
+    ensures flush { IfOk result (λ outbox. outbox.flush_silent ≡ false) }
 {
     let post = Post {
         peer: operator(),
@@ -104,6 +108,7 @@ fn restored(alloc: Global, site: &Site) -> Result<Core, Fail>
     requires limit { site.now.device.outbox ≡ 64 }
     requires timeout { site.now.device.apdu_timeout ≡ 3000 }
     requires retries { site.now.device.retries ≡ 3 }
+    requires flush { site.now.device.flush_silent ≡ false }
 {
     let outbox = in_flight(alloc)?;
     let table = Table::new(alloc, Vec::new(alloc))?;

@@ -12,7 +12,7 @@ ghost use Rattle.service_desk.specs.Decisions.{EntersAllowed, by_kind, decision_
 
 use crate::Decision;
 use crate::apdus::datagram_decision;
-use alarm_core::{Act, Core, EvaluationCount, Event};
+use alarm_core::{Act, Core, EvaluationCount, Event, none_counted};
 use bac_values::{Input, NoMemory, ObjectId, SetFault, Value};
 use object_table::Change;
 use std::alloc::Global;
@@ -72,7 +72,7 @@ fn tick_decision(core: &Core, moment: u64) -> (Decision, EvaluationCount)
     requires moment { IsMoment moment }
     ensures decision { result.0 ≡ tick_decision core.now moment }
     ensures allowed { EntersAllowed core.now moment result.0 }
-    ensures counts { (history : List Happening) → Represents core.now history → result.1.count ≡ evaluations_deciding core.now Tick moment }
+    ensures counts { (history : List Happening) → Represents core.now history → result.1.value ≡ evaluations_deciding core.now Tick moment }
 {
     let (idle, count) = core.idle_tick_counted(moment);
     if idle {
@@ -118,9 +118,9 @@ pub fn decide_counted(
     requires moment { IsMoment moment }
     ensures decision { IfOk result.0 (λ decision. decision ≡ decision_on core.now input.now moment) }
     ensures allowed { IfOk result.0 (EntersAllowed core.now moment) }
-    ensures counts { (history : List Happening) → Represents core.now history → result.1.count ≡ evaluations_deciding core.now input.now moment }
+    ensures counts { (history : List Happening) → Represents core.now history → result.1.value ≡ evaluations_deciding core.now input.now moment }
 {
-    let none = EvaluationCount::none();
+    let none = none_counted();
     match input {
         Input::Tick => {
             let (told, count) = tick_decision(core, moment);

@@ -8,4 +8,4 @@ pub returns-clause-history : goal.returns-clause-history
 returns-clause-history g c = c.is_still-still.ensures.history
 
 pub returns-clause-counts : goal.returns-clause-counts
-returns-clause-counts g c = λ history r. let most = c.is_still-still.ensures.counts history r in omega (arith, most, c.new-steps.ensures.none, c.of.ensures.count)
+returns-clause-counts g c = λ history r. let most = c.is_still-still.ensures.counts history r in omega (arith, most, c.new-steps.ensures.none, c.counted_in.ensures.count)

@@ -1,14 +1,14 @@
 use Rattle.std.proofs.Common.{◌≡◌, ◌∙◌, List, [], map, sym, ap, subst, rules}
 use Rattle.bac_values.specs.Orders.{peers_with}
 use Rattle.civil_stamp.specs.LocalTime.{LocalMomentData}
-use Rattle.outbox.specs.Outboxes.{new_outbox, peers_of}
+use Rattle.outbox.specs.Outboxes.{peers_of}
 use Rattle.outbox.proofs.Making.{peers_empty}
 use Rattle.notify_class.specs.declared.class.Class.{Class}
 use Rattle.notify_class.specs.declared.class_site.ClassSite.{ClassSite}
 use Rattle.enrollment.specs.Objects.{ObjectsState}
 use Rattle.alarm_core.specs.declared.site.Site.{Site}
 use Rattle.alarm_core.specs.Classes.{first_classes, known_peers_of, peers_in}
-use Rattle.alarm_core.specs.CoreSteps.{first_kept, first_with}
+use Rattle.alarm_core.specs.CoreSteps.{empty_outbox, first_kept, first_with}
 use Rattle.property_values.specs.DeviceProperties.{object_list}
 use Rattle.alarm_core.specs.Devices.{identifiers_of}
 use Rattle.alarm_core.specs.Evaluations.{site_moment, site_zone}
@@ -33,7 +33,7 @@ invariant_of-result c =
     let lent : c.deref-2.result.now ≡ c.in_ok-classes.classes.items = search rules in
     let queue = c.in_ok-queues.queues in
     let known : queue.0 ≡ known_peers_of site [] = c.in_ok-queues.ensures.peers ∙ ap (λ cs. peers_with (peers_in cs) []) (lent ∙ classes) in
-    let outbox : queue.1 ≡ new_outbox queue.0 site.device.outbox site.device.apdu_timeout site.device.retries = c.in_ok-queues.ensures.outbox in
+    let outbox : queue.1 ≡ empty_outbox site queue.0 = c.in_ok-queues.ensures.outbox in
     let counted : c.in_ok-members.members.items ≡ map (members_of_class site) c.in_ok-classes.classes.items = search rules in
     let listed : c.in_ok-identifiers.identifiers.items ≡ object_list (identifiers_of site) = search rules in
     record {
@@ -66,10 +66,10 @@ returns-clause-starts c =
     let lent : c.deref-2.result.now ≡ c.in_ok-classes.classes.items = search rules in
     let queue = c.in_ok-queues.queues in
     let known : queue.0 ≡ known_peers_of site [] = c.in_ok-queues.ensures.peers ∙ ap (λ cs. peers_with (peers_in cs) []) (lent ∙ classes) in
-    let outbox : queue.1 ≡ new_outbox queue.0 site.device.outbox site.device.apdu_timeout site.device.retries = c.in_ok-queues.ensures.outbox in
+    let outbox : queue.1 ≡ empty_outbox site queue.0 = c.in_ok-queues.ensures.outbox in
     let logs : c.in_ok-logs.logs.items ≡ map first_kept site.logs = search rules in
     started site c.in_ok-kept.kept c.in_ok-detections.detections.values c.in_ok-detections.detections.alarms c.in_ok-classes.classes.items queue.1 c.in_ok-logs.logs.items
-    same c.in_ok-detections.ensures.values shown classes (outbox ∙ ap (λ ps. new_outbox ps site.device.outbox site.device.apdu_timeout site.device.retries) known) logs
+    same c.in_ok-detections.ensures.values shown classes (outbox ∙ ap (empty_outbox site) known) logs
 
 pub returns-clause-represents : goal.returns-clause-represents
 returns-clause-represents c = represents_first c.args.site.now _ (returns-clause-starts c)

@@ -35,4 +35,4 @@ pub returns-clause-ticks_fit : goal.returns-clause-ticks_fit
 returns-clause-ticks_fit g c = c.step_once-answer.ensures.ticks_fit
 
 pub returns-clause-counts : goal.returns-clause-counts
-returns-clause-counts g c = λ history r. let most = c.step_once-answer.ensures.counts history r in omega (arith, most, c.new-steps.ensures.none, c.of.ensures.count)
+returns-clause-counts g c = λ history r. let most = c.step_once-answer.ensures.counts history r in omega (arith, most, c.new-steps.ensures.none, c.counted_in.ensures.count)
