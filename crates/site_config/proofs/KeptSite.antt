@@ -152,6 +152,16 @@ record IsDevice (device : DeviceSite) : Type 0 where
   rule : IfSome device.zone_rule (IsSiteRule device.zone_minutes)
   settings : AreSettings device.outbox device.apdu_timeout device.retries
 
+-- what a site has that doesn't name them is within the limits
+usual_outbox : 256 ≤ most_outbox
+usual_outbox = omega arith
+
+usual_timeout : 3000 ≤ 3600000
+usual_timeout = omega arith
+
+usual_retries : 3 ≤ 15
+usual_retries = omega arith
+
 device_kept : (ms : Members) (device : DeviceSite) → device_of ms ≡ Ok device → IsDevice device
 unfolding device_of
 device_kept ms device h =
@@ -164,8 +174,9 @@ device_kept ms device h =
     let timeout = after (or_else 3000 (unsigned_in 1 3600000) (codes "apdu_timeout") ms) _ device rule.next_is in
     let retries = after (or_else 3 (unsigned_in 0 15) (codes "retries") ms) _ device timeout.next_is in
     let outbox = after (or_else 256 (unsigned_in least_outbox most_outbox) (codes "outbox") ms) _ device retries.next_is in
-    let whole : DeviceSite = record { instance = instance.value; name = name.value; vendor = vendor.value; start = start.value; zone_minutes = zone.value; zone_rule = rule.value; apdu_timeout = timeout.value; retries = retries.value; outbox = outbox.value } in
-    let is : whole ≡ device = ok_is whole device outbox.next_is in
+    let flush_silent = after (or_else false as_bool (codes "flush_silent") ms) _ device outbox.next_is in
+    let whole : DeviceSite = record { instance = instance.value; name = name.value; vendor = vendor.value; start = start.value; zone_minutes = zone.value; zone_rule = rule.value; apdu_timeout = timeout.value; retries = retries.value; outbox = outbox.value; flush_silent = flush_silent.value } in
+    let is : whole ≡ device = ok_is whole device flush_silent.next_is in
     let M : ℕ → Type 0 = IsMoment in
     let Z : ℤ → Type 0 = IsZone in
     let I : ℕ → Type 0 = λ n. n ≤ 4194302 in
@@ -179,9 +190,9 @@ device_kept ms device h =
       zone = or_else_keeps Z (whole_in (neg_ℤ (pos 840)) (pos 840)) (whole_kept (neg_ℤ (pos 840)) (pos 840)) (codes "zone_minutes") (pos 0) usual ms zone.value zone.first_is;
       rule = rule_kept (whole_in (neg_ℤ (pos 840)) (pos 840)) (get_member (codes "zone_minutes") ms) (get_member (codes "zone_rule") ms) zone.value rule.value zone.first_is rule.first_is;
       settings = record {
-        fits = or_else_keeps Limit (unsigned_in least_outbox most_outbox) (λ d n e. (unsigned_kept least_outbox most_outbox d n e).1) (codes "outbox") 256 (omega arith) ms outbox.value outbox.first_is;
-        ends = or_else_keeps Timeout (unsigned_in 1 3600000) (λ d n e. (unsigned_kept 1 3600000 d n e).1) (codes "apdu_timeout") 3000 (omega arith) ms timeout.value timeout.first_is;
-        stops = or_else_keeps Retries (unsigned_in 0 15) (λ d n e. (unsigned_kept 0 15 d n e).1) (codes "retries") 3 (omega arith) ms retries.value retries.first_is;
+        fits = or_else_keeps Limit (unsigned_in least_outbox most_outbox) (λ d n e. (unsigned_kept least_outbox most_outbox d n e).1) (codes "outbox") 256 usual_outbox ms outbox.value outbox.first_is;
+        ends = or_else_keeps Timeout (unsigned_in 1 3600000) (λ d n e. (unsigned_kept 1 3600000 d n e).1) (codes "apdu_timeout") 3000 usual_timeout ms timeout.value timeout.first_is;
+        stops = or_else_keeps Retries (unsigned_in 0 15) (λ d n e. (unsigned_kept 0 15 d n e).1) (codes "retries") 3 usual_retries ms retries.value retries.first_is;
       };
     })
 

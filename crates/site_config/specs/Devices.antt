@@ -1,9 +1,9 @@
 -- The device (ANSI/ASHRAE 135-2020, 12.11).
-use Rattle.std.specs.Prelude.{ℕ, ◌&&◌, nat_le, Bool, List, length, pos, neg_ℤ, codes, Option, Some, None, Result, Ok, if◌then◌else◌}
+use Rattle.std.specs.Prelude.{ℕ, ◌&&◌, nat_le, Bool, false, List, length, pos, neg_ℤ, codes, Option, Some, None, Result, Ok, if◌then◌else◌}
 use Rattle.bac_values.specs.Limits.{least_outbox, most_outbox}
 use Rattle.std.specs.Char.{is_ascii}
 use Rattle.std.specs.List.{list_all}
-use Rattle.toml.specs.Data.{Data, Members, get_member}
+use Rattle.toml.specs.Data.{Data, Members, as_bool, get_member}
 use Rattle.bac_values.specs.Identifier.{number_of_kind, ObjectIdData}
 use Rattle.bac_values.specs.declared.object_kind.ObjectKind.{ObjectKind}
 use Rattle.bac_values.specs.declared.object_kind.ObjectKind.TheVariants as kinds
@@ -47,4 +47,5 @@ device_of ms = do
   timeout ← or_else 3000 (unsigned_in 1 3600000) (codes "apdu_timeout") ms
   retries ← or_else 3 (unsigned_in 0 15) (codes "retries") ms
   outbox ← or_else 256 (unsigned_in least_outbox most_outbox) (codes "outbox") ms
-  Ok (record { instance = instance; name = name; vendor = vendor; start = start; zone_minutes = zone; zone_rule = rule; apdu_timeout = timeout; retries = retries; outbox = outbox })
+  flush_silent ← or_else false as_bool (codes "flush_silent") ms
+  Ok (record { instance = instance; name = name; vendor = vendor; start = start; zone_minutes = zone; zone_rule = rule; apdu_timeout = timeout; retries = retries; outbox = outbox; flush_silent = flush_silent })

@@ -12,7 +12,7 @@ abbrev pub section_names : List (List ℕ)
 section_names = codes "device" ∷ codes "class" ∷ codes "destination" ∷ codes "object" ∷ codes "enrollment" ∷ codes "log" ∷ codes "binding" ∷ []
 
 abbrev pub device_keys : List (List ℕ)
-device_keys = codes "instance" ∷ codes "name" ∷ codes "vendor" ∷ codes "start" ∷ codes "zone_minutes" ∷ codes "zone_rule" ∷ codes "apdu_timeout" ∷ codes "retries" ∷ codes "outbox" ∷ []
+device_keys = codes "instance" ∷ codes "name" ∷ codes "vendor" ∷ codes "start" ∷ codes "zone_minutes" ∷ codes "zone_rule" ∷ codes "apdu_timeout" ∷ codes "retries" ∷ codes "outbox" ∷ codes "flush_silent" ∷ []
 
 abbrev pub class_keys : List (List ℕ)
 class_keys = codes "instance" ∷ codes "name" ∷ codes "priority" ∷ codes "ack_required" ∷ []

@@ -22,7 +22,8 @@ use civil_stamp::{Zone, ZoneFault};
 use std::alloc::Global;
 use toml::{Table, Value};
 use toml_items::{
-    ItemFault, member_at, moment, text_in, unsigned, unsigned_or, valid_value, whole_or_zero,
+    ItemFault, member_at, moment, text_in, truth_or, unsigned, unsigned_or, valid_value,
+    whole_or_zero,
 };
 
 /// Vendor_Identifier.
@@ -133,6 +134,7 @@ pub fn device_of(alloc: Global, table: &Table) -> Result<DeviceSite, ItemFault>
     let apdu_timeout = unsigned_or(alloc, table, "apdu_timeout", 1, 3_600_000, 3_000)?;
     let retries = retries(alloc, table)?;
     let outbox = unsigned_or(alloc, table, "outbox", LEAST_OUTBOX, MOST_OUTBOX, 256)?;
+    let flush_silent = truth_or(alloc, table, "flush_silent", false)?;
     Ok(DeviceSite {
         instance,
         name,
@@ -143,5 +145,6 @@ pub fn device_of(alloc: Global, table: &Table) -> Result<DeviceSite, ItemFault>
         apdu_timeout,
         retries,
         outbox,
+        flush_silent,
     })
 }

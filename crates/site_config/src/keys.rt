@@ -47,7 +47,7 @@ const SECTIONS: [&str; 7] = [
     "binding",
 ];
 
-const DEVICE: [&str; 9] = [
+const DEVICE: [&str; 10] = [
     "instance",
     "name",
     "vendor",
@@ -57,6 +57,7 @@ const DEVICE: [&str; 9] = [
     "apdu_timeout",
     "retries",
     "outbox",
+    "flush_silent",
 ];
 
 const CLASS: [&str; 4] = ["instance", "name", "priority", "ack_required"];

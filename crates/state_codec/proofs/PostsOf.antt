@@ -13,7 +13,8 @@ use Rattle.notify_class.specs.Edits.{recipient_peers}
 use Rattle.notify_class.specs.Recipients.{DestinationData}
 use Rattle.notify_class.specs.declared.class.Class.{Class}
 use Rattle.outbox.specs.declared.post.Post.{Post}
-use Rattle.outbox.specs.Outboxes.{AreParts, AreSettings, IsOutbox, notes_told, peers_of, restored_posts, unfinished_in}
+use Rattle.outbox.specs.Outboxes.{AreParts, AreSettings, IsOutbox, notes_told, peers_of, restored, restored_posts, unfinished_in}
+use Rattle.outbox.proofs.Making.{flushing_is}
 use Rattle.outbox.specs.Posts.{IsPost, TestsPosts, is_post, MailboxState}
 use Rattle.alarm_core.specs.Known.{Knows, KnowsClass}
 use Rattle.alarm_core.specs.Room.{LeaveRoom}
@@ -120,8 +121,8 @@ pub tested : TestsPosts → (site : Site) (posts : List Post) (notes : List Note
 tested tests site posts notes few can settings told is tells =
     let all = restored_posts posts notes in
     same_test (few && can) (may_have_posts site all) (AreSitePosts site all) (
-      λ e. let t = both_true few can e in record { few = leb-true _ _ (sym is ∙ t.0); outbox = (tells.0 t.1).1 },
-      λ are. both_are few can (is ∙ le-leb _ _ are.few) (tells.1 (told, are.outbox)),
+      λ e. let t = both_true few can e in record { few = leb-true _ _ (sym is ∙ t.0); outbox = flushing_is site.device.flush_silent (restored posts notes site.device.outbox site.device.apdu_timeout site.device.retries) (tells.0 t.1).1 },
+      λ are. both_are few can (is ∙ le-leb _ _ are.few) (tells.1 (told, flushing_is false (outbox_with site all) are.outbox)),
     )
     (posts_told tests site settings all) (told_posts tests site all)
 

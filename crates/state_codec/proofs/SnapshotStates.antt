@@ -144,6 +144,7 @@ module _ (site : Site) where
           limit = ap (λ (o : OutboxState). o.limit) outbox.settings;
           timeout = ap (λ (o : OutboxState). o.timeout) outbox.settings;
           retries = ap (λ (o : OutboxState). o.retries) outbox.settings;
+          flush_silent = ap (λ (o : OutboxState). o.flush_silent) outbox.settings;
           logs = (logs_kept site.logs x.1.1.1.1.0 is.logs whole.1.1.1.1.0).0;
         }
 

@@ -213,7 +213,7 @@ module _ (state : CoreState) where
     outbox_has : HasOutbox state.site state.classes state.outbox
     outbox_has =
         let posts = state.outbox.posts in
-        let settings : state.outbox ≡ outbox_with state.site posts = λ k. record { posts = posts; limit = own.limit k; timeout = own.timeout k; retries = own.retries k } in
+        let settings : state.outbox ≡ outbox_with state.site posts = λ k. record { posts = posts; limit = own.limit k; timeout = own.timeout k; retries = own.retries k; flush_silent = own.flush_silent k } in
         let few = few_each 16_384 posts (omega (arith, own.outbox.room, own.outbox.settings.fits)) in
         record {
           posts = (posts_all state.outbox.retries posts own.outbox.posts fits.posts few, omega (arith, own.peers));

@@ -465,7 +465,7 @@ unfoldable pub outbox_at : Site → List Class → List ℕ → Option (List Mai
 outbox_at site classes = where_at posts_at (are_posts_of site classes)
 
 abbrev pub outbox_with : Site → List MailboxState → OutboxState
-outbox_with site posts = record { posts = posts; limit = site.device.outbox; timeout = site.device.apdu_timeout; retries = site.device.retries }
+outbox_with site posts = record { posts = posts; limit = site.device.outbox; timeout = site.device.apdu_timeout; retries = site.device.retries; flush_silent = site.device.flush_silent }
 
 unfoldable pub site_outbox_at : Site → List Class → List ℕ → Option (OutboxState × List ℕ)
 site_outbox_at site classes = made_at (outbox_at site classes) (outbox_with site)

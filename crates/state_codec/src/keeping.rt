@@ -1,6 +1,6 @@
 //! Events that a core has taken are written, in one commit.
 
-ghost use Rattle.std.specs.Prelude.{◌≡◌, ◌≤◌, List, [], ◌∷◌, ◌++◌, MatchResult, IfErr, IfOk, length, reverse};
+ghost use Rattle.std.specs.Prelude.{◌≡◌, ◌≢◌, ◌≤◌, List, [], ◌∷◌, ◌++◌, MatchResult, IfErr, IfOk, length, reverse};
 ghost use Rattle.bac_values.specs.Limits.{most_batch_octets};
 ghost use Rattle.ground_io.specs.Counts.{HasCause};
 ghost use Rattle.alarm_journal.specs.Journal.{Site as Journal};
@@ -42,6 +42,7 @@ pub fn keep_events<G: Ground>(
     ensures cause { MatchResult result
         (λ kept. G.disk_faults kept.device ≡ G.disk_faults press.device)
         (λ lost. HasCause (G.disk_faults press.device) (G.disk_faults lost.0) (lost.1 ≡ faults.DiskFault)) }
+    ensures unhidden { IfErr result (λ lost. lost.1 ≢ faults.DiskFault → G.disk_faults lost.0 ≡ G.disk_faults press.device) }
     ensures same { MatchResult result (λ kept. G.size kept.device ≡ G.size press.device) (λ lost. G.size lost.0 ≡ G.size press.device) }
     ensures emitted { MatchResult result (λ kept. G.emit_faults kept.device ≡ G.emit_faults press.device) (λ lost. G.emit_faults lost.0 ≡ G.emit_faults press.device) }
 {
@@ -77,6 +78,7 @@ pub fn keep_event<G: Ground>(
     ensures cause { MatchResult result
         (λ kept. G.disk_faults kept.device ≡ G.disk_faults press.device)
         (λ lost. HasCause (G.disk_faults press.device) (G.disk_faults lost.0) (lost.1 ≡ faults.DiskFault)) }
+    ensures unhidden { IfErr result (λ lost. lost.1 ≢ faults.DiskFault → G.disk_faults lost.0 ≡ G.disk_faults press.device) }
     ensures same { MatchResult result (λ kept. G.size kept.device ≡ G.size press.device) (λ lost. G.size lost.0 ≡ G.size press.device) }
     ensures emitted { MatchResult result (λ kept. G.emit_faults kept.device ≡ G.emit_faults press.device) (λ lost. G.emit_faults lost.0 ≡ G.emit_faults press.device) }
 {

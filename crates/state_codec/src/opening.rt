@@ -1,6 +1,6 @@
 //! The journal of a site is opened: a press that goes on with it, and the core as it left it.
 
-ghost use Rattle.std.specs.Prelude.{◌≡◌, ◌≤◌, ◌<◌, ◌-◌, ◌/◌, List, [], ◌∷◌, MatchResult, IfErr, IfOk, Ok, length};
+ghost use Rattle.std.specs.Prelude.{◌≡◌, ◌≢◌, ◌≤◌, ◌<◌, ◌-◌, ◌/◌, List, [], ◌∷◌, MatchResult, IfErr, IfOk, Ok, length};
 ghost use Rattle.ground_io.specs.Counts.{HasCause};
 ghost use Rattle.ground_io.specs.Trace.{Adds};
 ghost use Rattle.ground_io.specs.declared.entry.Entry.TheVariants.{Synced};
@@ -80,6 +80,8 @@ pub fn open_journal<G: Ground>(
     ensures cause { MatchResult result
         (λ opened. G.disk_faults opened.0.device ≡ G.disk_faults device)
         (λ lost. HasCause (G.disk_faults device) (G.disk_faults lost.0) (lost.1 ≡ refusals.DiskFault)) }
+    // A call of the device that failed is told as that, and not as want of memory.
+    ensures unhidden { IfErr result (λ lost. lost.1 ≢ refusals.DiskFault → G.disk_faults lost.0 ≡ G.disk_faults device) }
 {
     let size = need(site, text.len() as u64);
     let (press, opened) = match Press::open(alloc, device, text, size) {

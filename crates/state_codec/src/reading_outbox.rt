@@ -122,7 +122,7 @@ fn restored(
     let device = &site.device;
     let timeout = u64::from(device.apdu_timeout);
     match Outbox::restore(alloc, posts, notes, device.outbox, timeout, device.retries) {
-        Ok(outbox) => Ok(outbox),
+        Ok(outbox) => Ok(outbox.flushing(device.flush_silent)),
         Err(_) => Err(ReadFault::NoMemory),
     }
 }

@@ -126,3 +126,17 @@ returns-in_err-outbox c =
       start = IfOk-from_err c.from_residual-in_err-outbox.result _ c.from_residual-in_err-outbox.ensures.0;
       zone = IfOk-from_err c.from_residual-in_err-outbox.result _ c.from_residual-in_err-outbox.ensures.0;
     }
+
+pub returns-in_err-flush_silent : goal.returns-in_err-flush_silent
+unfolding device_of
+returns-in_err-flush_silent c =
+    let name = rw c.identifier.ensures.object at c.in_ok-name.ensures.answer in
+    let p = err_from_is_err_and c.from_residual-in_err-flush_silent.result c.from_residual-in_err-flush_silent.ensures.1 in
+    record {
+      answer = rw (p.1, p.2, c.in_ok-instance.ensures.answer, name, c.in_ok-vendor.ensures.answer, c.in_ok-start.ensures.answer, c.in_ok-zone_minutes.ensures.answer, c.in_ok-zone_rule.ensures.answer, c.in_ok-apdu_timeout.ensures.answer, c.in_ok-retries.ensures.answer, c.in_ok-outbox.ensures.answer) (elim c.in_err-flush_silent.ensures.answer [
+        | inl refused ↦ inl refused
+        | inr is ↦ inr (rw is refl)
+      ]);
+      start = IfOk-from_err c.from_residual-in_err-flush_silent.result _ c.from_residual-in_err-flush_silent.ensures.0;
+      zone = IfOk-from_err c.from_residual-in_err-flush_silent.result _ c.from_residual-in_err-flush_silent.ensures.0;
+    }
