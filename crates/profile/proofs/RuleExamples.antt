@@ -1,6 +1,6 @@
 -- Each row of the table of rules (13.3), at its condition and beside it: all rules of the state in their order, with their keys and seconds.
 use Rattle.std.specs.Prelude.{◌≡◌, refl, pos, negsuc, true, false, Some, None, [], ◌∷◌, codes}
-use Rattle.profile.specs.Numbers.{Unsigned, Signed, Text, Bits, Enumerated, Normal, Fault, Offnormal, HighLimit, LowLimit}
+use Rattle.profile.specs.Numbers.{Null, Unsigned, Signed, Text, Bits, Enumerated, Named, Normal, Fault, Offnormal, HighLimit, LowLimit}
 use Rattle.profile.specs.Numbers.{ChangeOfBitstring, ChangeOfState, CommandFailure, UnsignedRange, SignedOutOfRange, UnsignedOutOfRange, ChangeOfCharacterstring}
 use Rattle.profile.proofs.Samples.{settings_of, seen, rules_in}
 
@@ -288,6 +288,15 @@ bits_are_followed_whole = refl
 
 pub a_choice_is_followed : rules_in CommandFailure Normal None (record { settings = record (settings_of CommandFailure) { time_delay_normal = Some 3 }; value = (Enumerated 1); feedback = Some (Enumerated 1) }) ≡ (Offnormal, None, 10) ∷ []
 a_choice_is_followed = refl
+
+pub nothing_is_followed_by_nothing : rules_in CommandFailure Normal None (record { settings = settings_of CommandFailure; value = Null; feedback = Some Null }) ≡ (Offnormal, None, 10) ∷ []
+nothing_is_followed_by_nothing = refl
+
+pub an_identifier_is_followed : rules_in CommandFailure Normal None (record { settings = settings_of CommandFailure; value = Named (record { type = 5; instance = 7 }); feedback = Some (Named (record { type = 5; instance = 7 })) }) ≡ (Offnormal, None, 10) ∷ []
+an_identifier_is_followed = refl
+
+pub another_identifier_is_no_answer : rules_in CommandFailure Normal None (record { settings = settings_of CommandFailure; value = Named (record { type = 5; instance = 7 }); feedback = Some (Named (record { type = 5; instance = 8 })) }) ≡ (Offnormal, Some 0, 10) ∷ []
+another_identifier_is_no_answer = refl
 
 pub a_command_in_fault_has_no_rules : rules_in CommandFailure Fault None (record { settings = record (settings_of CommandFailure) { time_delay_normal = Some 3 }; value = (Signed (pos 5)); feedback = Some (Signed (pos 6)) }) ≡ []
 a_command_in_fault_has_no_rules = refl

@@ -2,7 +2,7 @@
 use Rattle.std.specs.Prelude.{ℕ, ℤ, pos, Bool, true, false, ◌==◌, ◌&&◌, ◌||◌, not, int_lt, ◌+ℤ◌, ◌-ℤ◌, if◌then◌else◌}
 use Rattle.std.specs.Prelude.{Option, Some, None, is_some, is_none, option_and_then, option_to_list, unwrap_or}
 use Rattle.std.specs.Prelude.{List, [], ◌∷◌, ◌++◌, position, find, bytes_eq, take, length}
-use Rattle.profile.specs.Numbers.{Identifier, maybe, Value, Truth, Unsigned, Signed, Text, Bits, Enumerated}
+use Rattle.profile.specs.Numbers.{Identifier, is, maybe, Value, Null, Truth, Unsigned, Signed, Text, Bits, Enumerated, Named}
 use Rattle.profile.specs.Numbers.{EventState, Normal, Offnormal, HighLimit, LowLimit, Algorithm}
 use Rattle.profile.specs.Numbers.{CommandFailure, UnsignedRange, SignedOutOfRange, UnsignedOutOfRange}
 use Rattle.profile.specs.Numbers.{BACnetReliability, NoFaultDetected, OverRange, UnderRange, MultiStateFault, MonitoredObjectFault}
@@ -48,9 +48,11 @@ matches mask (Bits a) (Bits b) = bits_match mask a b
 matches mask (Text a) (Text b) = text_matches a b
 matches mask a b = false
 
--- whether a feedback is equal to a value: texts as a whole (13.3)
+-- whether a feedback is equal to a value: texts as a whole, and any other two that are one (13.3)
 abbrev pub equal : Value → Value → Bool
+equal Null Null = true
 equal (Text a) (Text b) = bytes_eq a b
+equal (Named a) (Named b) = is a b
 equal a b = matches None a b
 
 -- the position of the first alarm value that matches

@@ -1,0 +1,8 @@
+mod Bits
+mod Matching
+mod RulesTied
+mod NumbersTied
+mod CoursesTied
+mod TimesTied
+mod RecordsTied
+mod ReliabilityTied

@@ -1,0 +1,10 @@
+pub mod Values
+pub mod Points
+pub mod RuleLaws
+pub mod CourseLaws
+pub mod NumberLaws
+pub mod Times
+pub mod TimeLaws
+pub mod RecordLaws
+pub mod Objects
+pub mod ReliabilityLaws
