@@ -143,12 +143,13 @@ def functions_of(crate):
 
 @functools.cache
 def public_names_of(crate):
-    """What others may name of a crate: what its lib hands on, and of a program without one what its main, and its calls over the real ends, call."""
+    """What others may name of a crate: what its lib hands on, and of a program without one its calls and laws over the real ends, and what these and its main call."""
     if lib := text_of(f"crates/{crate}/src/lib.rt"):
         uses = re.findall(r"^pub use (?:\w+::)*(?:\{([^}]*)\}|(\w+));", lib, re.M)
     else:
         texts = "".join(text_of(f"crates/{crate}/src/{part}.rt") for part in ("main", "real"))
         uses = re.findall(r"^use crate::(?:\w+::)*(?:\{([^}]*)\}|(\w+));", texts, re.M)
+        uses += [("", name) for name in re.findall(r"^pub fn (\w+)", text_of(f"crates/{crate}/src/real.rt"), re.M)]
     return {name.strip() for many, one in uses for name in (many or one).split(",") if name.strip()}
 
 

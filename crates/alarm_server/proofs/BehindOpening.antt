@@ -6,7 +6,7 @@ use Rattle.script_lines.specs.declared.line.Grammar.TheVariants.{Session}
 use Rattle.script_lines.specs.Line.{line_says}
 use Rattle.script_lines.specs.Script.{lines_of}
 use Rattle.alarm_journal.specs.Journal.{Site as Journal}
-use Rattle.alarm_journal.specs.Press.{ReopensSynced}
+use Rattle.alarm_journal.specs.Press.{Reopens, ReopensSynced}
 use Rattle.alarm_journal.specs.declared.layout.Layout.{Layout}
 use Rattle.alarm_journal.specs.declared.open_fault.OpenFault.{OpenFault}
 use Rattle.alarm_journal.specs.declared.open_fault.OpenFault.TheVariants as open_fault
@@ -19,7 +19,7 @@ use Rattle.alarm_server.specs.declared.status.Status.{Status}
 use Rattle.alarm_server.specs.declared.status.Status.TheVariants.{Done, Usage, SiteRefused, ScriptRefused, ReadFault, EmitFault, DiskFault, JournalRefused, NoMemory, LinkFault}
 use Rattle.state_codec.specs.Emission.{Emits}
 use Rattle.alarm_server.specs.Emission.{Ends, lost, sent}
-use Rattle.state_codec.specs.Keeping.{HoldsHistory, StoodFor}
+use Rattle.state_codec.specs.Keeping.{HoldsHistory, StoodFor, journal_of}
 use Rattle.state_codec.specs.Openings.{OpenedTo}
 use Rattle.alarm_server.specs.Openings.{IsUnplayed, OpensOnSite}
 use Rattle.alarm_server.specs.Keeping.{KeepsOpened, KeepsReport}
@@ -53,6 +53,14 @@ unplayed (open_fault.SmallDevice size need) = tt
 unplayed (open_fault.Foreign at) = tt
 unplayed (open_fault.Damaged at) = tt
 unplayed open_fault.NoMemory = tt
+
+-- no call for octets of a script failed
+pub no_read : (fault : OpenFault) → of_open_fault fault ≡ ReadFault → ⊥
+no_read open_fault.DiskFault same = absurd cc
+no_read (open_fault.SmallDevice size need) same = absurd cc
+no_read (open_fault.Foreign at) same = absurd cc
+no_read (open_fault.Damaged at) same = absurd cc
+no_read open_fault.NoMemory same = absurd cc
 
 module _ {X : Type 0} (text : X → List ℕ) where
   pub tells_ended : (journal : Journal) (site : Site) (history : List Event) (ended : Status) (pieces : List X) (old mid new : Option Told) → Ends Emits text ended pieces mid new → StoodFor journal site history old new → StoodFor journal site history old mid
@@ -105,16 +113,16 @@ module _ {X : Type 0} (text : X → List ℕ) where
 
 -- its report goes on from the state to which the octets lead
 pub opens_session : (site : Site) (octets : List ℕ) (core : CoreState) (ended : Status) (old mid new : Option Told) (text : Option (List ℕ)) → Emits old mid [] → OpenedTo site octets old mid core → IfSome text (λ t. Ends Emits piece_text ended (session_over core (lines_of t)) mid new)
-    → IfSome text (λ t. OpensOnSite octets (Ok site) ended t old new)
+    → IfSome text (λ t. OpensOnSite ⊥ octets (Ok site) ended t old new)
 opens_session site octets core ended old mid new None quiet opened ends = tt
 opens_session site octets core ended old mid new (Some t) quiet opened ends =
     let pieces = session_over core (lines_of t) in
     inr (core, opened_ended piece_text site octets core ended pieces old mid new ends opened, ends_behind piece_text ended pieces old mid new quiet ends)
 
 -- the journal wasn't opened
-pub opens_refused : (site : Site) (octets : List ℕ) (fault : OpenFault) (old new : Option Told) (text : Option (List ℕ)) → Emits old new [] → IfSome text (λ t. OpensOnSite octets (Ok site) (of_open_fault fault) t old new)
-opens_refused site octets fault old new None quiet = tt
-opens_refused site octets fault old new (Some t) quiet = inl (unplayed fault, quiet)
+pub opens_refused : (site : Site) (octets : List ℕ) (fault : OpenFault) (old new : Option Told) (text : Option (List ℕ)) → Emits old new [] → Reopens (journal_of site octets) old new → IfSome text (λ t. OpensOnSite ⊥ octets (Ok site) (of_open_fault fault) t old new)
+opens_refused site octets fault old new None quiet reopens = tt
+opens_refused site octets fault old new (Some t) quiet reopens = inl (record { unplayed = unplayed fault; file = no_read fault; quiet = quiet; reopens = reopens })
 
 module _ (journal : Journal) (site : Site) (is : IsSite site) (core : CoreState) (own : core.site ≡ site) (layout : Layout) (history : List Event) (ended : Status) (old mid new : Option Told) (stood : StoodFor journal site history old new) (quiet : Emits old mid []) (represents : StoodFor journal site history old mid → Represents core history) where
   -- its report goes on from the history

@@ -28,8 +28,10 @@ pub mod OneEmission
 pub mod PieceLines
 pub mod Played
 pub mod Progress
+pub mod RealCrashes
 pub mod RealSessions
 pub mod RealServers
+pub mod RealSizes
 pub mod Senders
 pub mod Sending
 pub mod ServedFaults

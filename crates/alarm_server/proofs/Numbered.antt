@@ -167,21 +167,21 @@ out_numbered (status.JournalRefused fault) state script old new ends = none_out 
 out_numbered status.LinkFault state script old new ends = none_out old new ends
 out_numbered status.NoMemory state script old new ends = front_out state script old new ends
 
-on_site : (ended : Status) (text : List ℕ) (found : Result Site SiteFault) (script : List ℕ) (old new : Option Told) → OpensOnSite text found ended script old new → NumbersOnSite Emits found old new
-on_site ended text (Ok site) script old new (inl unplayed) = none_out old new unplayed.1
-on_site ended text (Ok site) script old new (inr (state, opened, ends)) = out_numbered ended state script old new ends
-on_site ended text (Err fault) script old new quiet = quiet
+on_site : (FileFailed : Type 0) (ended : Status) (text : List ℕ) (found : Result Site SiteFault) (script : List ℕ) (old new : Option Told) → OpensOnSite FileFailed text found ended script old new → NumbersOnSite Emits found old new
+on_site FileFailed ended text (Ok site) script old new (inl ends) = none_out old new ends.quiet
+on_site FileFailed ended text (Ok site) script old new (inr (state, opened, ends)) = out_numbered ended state script old new ends
+on_site FileFailed ended text (Err fault) script old new quiet = quiet
 
-on_file : (ended : Status) (site script : Option (List ℕ)) (old new : Option Told) → OpensOnFile site ended script old new → NumbersOnFile Emits site script old new
-on_file ended None script old new opens = tt
-on_file ended (Some octets) None old new opens = tt
-on_file ended (Some octets) (Some text) old new opens = on_site ended octets (site_of octets) text old new opens
+on_file : (FileFailed : Type 0) (ended : Status) (site script : Option (List ℕ)) (old new : Option Told) → OpensOnFile FileFailed site ended script old new → NumbersOnFile Emits site script old new
+on_file FileFailed ended None script old new opens = tt
+on_file FileFailed ended (Some octets) None old new opens = tt
+on_file FileFailed ended (Some octets) (Some text) old new opens = on_site FileFailed ended octets (site_of octets) text old new opens
 
 -- whatever the words ask for
-pub numbers_as : (command : Option Command) (ended : Status) (site script : Option (List ℕ)) (old new : Option Told) → (promise_of command).opens ended site script old new → (promise_of command).numbers site script old new
-numbers_as (Some Session) ended site script old new opens = on_file ended site script old new opens
-numbers_as (Some (Trial settings)) ended site script old new opens = tt
-numbers_as (Some (Workload seed count)) ended site script old new opens = tt
-numbers_as (Some (Ship from)) ended site script old new opens = tt
-numbers_as (Some Standby) ended site script old new opens = tt
-numbers_as None ended site script old new opens = tt
+pub numbers_as : (FileFailed : Type 0) (command : Option Command) (ended : Status) (site script : Option (List ℕ)) (old new : Option Told) → (promise_of command).opens FileFailed ended site script old new → (promise_of command).numbers site script old new
+numbers_as FileFailed (Some Session) ended site script old new opens = on_file FileFailed ended site script old new opens
+numbers_as FileFailed (Some (Trial settings)) ended site script old new opens = tt
+numbers_as FileFailed (Some (Workload seed count)) ended site script old new opens = tt
+numbers_as FileFailed (Some (Ship from)) ended site script old new opens = tt
+numbers_as FileFailed (Some Standby) ended site script old new opens = tt
+numbers_as FileFailed None ended site script old new opens = tt

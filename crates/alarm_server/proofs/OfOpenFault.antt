@@ -1,5 +1,5 @@
 -- The status where a journal isn't opened, and its counts of faults.
-use Rattle.std.proofs.Common.{◌≡◌, ℕ, Err, IsErrOf, refl}
+use Rattle.std.proofs.Common.{◌≡◌, ◌≢◌, ℕ, Err, IsErrOf, refl}
 use Rattle.ground_io.specs.Counts.{HasCause}
 use Rattle.alarm_journal.specs.declared.open_fault.OpenFault.{OpenFault}
 use Rattle.alarm_journal.specs.declared.open_fault.OpenFault.TheVariants.{DiskFault, SmallDevice, Foreign, Damaged, NoMemory}
@@ -36,3 +36,11 @@ disk_cause (SmallDevice size need) before after cause = record { later = cause.l
 disk_cause (Foreign at) before after cause = record { later = cause.later; rose = λ same. absurd cc }
 disk_cause (Damaged at) before after cause = record { later = cause.later; rose = λ same. absurd cc }
 disk_cause NoMemory before after cause = record { later = cause.later; rose = λ same. absurd cc }
+
+-- a failed call is told as that
+pub unhidden : (fault : OpenFault) (before after : ℕ) → (fault ≢ DiskFault → after ≡ before) → of_open_fault fault ≢ status.DiskFault → after ≡ before
+unhidden DiskFault before after told other = absurd (other refl)
+unhidden (SmallDevice size need) before after told other = told (λ same. absurd cc)
+unhidden (Foreign at) before after told other = told (λ same. absurd cc)
+unhidden (Damaged at) before after told other = told (λ same. absurd cc)
+unhidden NoMemory before after told other = told (λ same. absurd cc)

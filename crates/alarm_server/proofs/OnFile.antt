@@ -2,6 +2,8 @@
 use Rattle.std.proofs.Common.{◌≡◌, ◌≢◌, ◌⊎◌, ℕ, Option, Some, None, Result, Ok, Err, List, [], IfSome, OnOk, take, refl, ap, ◌∙◌, sym, subst, inl, inr}
 use Rattle.ground_io.specs.Trace.{Told, WhereTold}
 use Rattle.ground_io.proofs.Crashes.{adds_none}
+use Rattle.alarm_journal.specs.Journal.{Site as Journal}
+use Rattle.alarm_journal.specs.Press.{Reopens}
 use Rattle.script_lines.specs.declared.line.Grammar.TheVariants.{Session}
 use Rattle.script_lines.specs.Line.{line_says}
 use Rattle.script_lines.specs.Script.{lines_of}
@@ -15,7 +17,7 @@ use Rattle.alarm_server.specs.declared.status.Status.TheVariants.{Done, Usage, S
 use Rattle.alarm_server.specs.Emission.{Going, Ends}
 use Rattle.state_codec.specs.Keeping.{journal_of}
 use Rattle.alarm_server.specs.OnFile.{EndsOnFile, EndsOnSite, KeepsOnFile, KeepsOnSite, RefusesFile}
-use Rattle.alarm_server.specs.Openings.{IsUnplayed, OpensOnFile, OpensOnSite}
+use Rattle.alarm_server.specs.Openings.{EndsUnplayed, IsUnplayed, OpensOnFile, OpensOnSite}
 use Rattle.alarm_server.specs.Script.{spelled_in}
 use Rattle.alarm_server.specs.Report.{report_of}
 use Rattle.alarm_server.specs.Pieces.{piece_text}
@@ -85,14 +87,34 @@ unplayed_by octets site (JournalRefused why) says fault refused = absurd fault
 unplayed_by octets site LinkFault says fault refused = absurd fault
 unplayed_by octets site NoMemory says fault refused = tt
 
-opens_by : (octets script : List ℕ) (ended : Status) (told : Option Told) (says : Result Site SiteFault) → site_of octets ≡ says → IsSiteFault ended → ((f : SiteFault) → ended ≡ SiteRefused f → RefusesFile (Some octets) f) → OpensOnSite octets says ended script told told
-opens_by octets script ended told (Ok site) says fault refused = inl (unplayed_by octets site ended says fault refused, emits.nothing told)
-opens_by octets script ended told (Err f) says fault refused = emits.nothing told
+-- nothing was done
+pub reopens_same : (journal : Journal) (told : Option Told) → Reopens journal told told
+reopens_same journal None = tt
+reopens_same journal (Some told) = inl (adds_none (Some told))
 
-pub opens_unopened : (site script : Option (List ℕ)) (ended : Status) (told : Option Told) → IsSiteFault ended → ((f : SiteFault) → ended ≡ SiteRefused f → RefusesFile site f) → OpensOnFile site ended script told told
-opens_unopened None script ended told fault refused = tt
-opens_unopened (Some octets) None ended told fault refused = tt
-opens_unopened (Some octets) (Some text) ended told fault refused = opens_by octets text ended told (site_of octets) refl fault refused
+module _ (FileFailed : Type 0) where
+  opens_by : (octets script : List ℕ) (ended : Status) (told : Option Told) (says : Result Site SiteFault) → site_of octets ≡ says → IsSiteFault ended → ((f : SiteFault) → ended ≡ SiteRefused f → RefusesFile (Some octets) f) → (ended ≡ ReadFault → FileFailed) → OpensOnSite FileFailed octets says ended script told told
+  opens_by octets script ended told (Ok site) says fault refused file =
+      inl (record { unplayed = unplayed_by octets site ended says fault refused; file = file; quiet = emits.nothing told; reopens = reopens_same (journal_of site octets) told })
+  opens_by octets script ended told (Err f) says fault refused file = emits.nothing told
+
+  pub opens_unopened : (site script : Option (List ℕ)) (ended : Status) (told : Option Told) → IsSiteFault ended → ((f : SiteFault) → ended ≡ SiteRefused f → RefusesFile site f) → (ended ≡ ReadFault → FileFailed) → OpensOnFile FileFailed site ended script told told
+  opens_unopened None script ended told fault refused file = tt
+  opens_unopened (Some octets) None ended told fault refused file = tt
+  opens_unopened (Some octets) (Some text) ended told fault refused file = opens_by octets text ended told (site_of octets) refl fault refused file
+
+  -- what ended before the script was played for nothing of the file's source ended so whatever this has done
+  pub ends_more : {journal : Journal} {ended : Status} {old new : Option Told} → EndsUnplayed ⊥ journal ended old new → EndsUnplayed FileFailed journal ended old new
+  ends_more ends = record { unplayed = ends.unplayed; file = λ read. let never : ⊥ = ends.file read in absurd never; quiet = ends.quiet; reopens = ends.reopens }
+
+  opens_more : (octets script : List ℕ) (ended : Status) (old new : Option Told) (says : Result Site SiteFault) → OpensOnSite ⊥ octets says ended script old new → OpensOnSite FileFailed octets says ended script old new
+  opens_more octets script ended old new (Ok site) (inl ends) = inl (ends_more ends)
+  opens_more octets script ended old new (Ok site) (inr opened) = inr opened
+  opens_more octets script ended old new (Err f) opens = opens
+
+  pub opens_behind : (octets : List ℕ) (script : Option (List ℕ)) (ended : Status) (old new : Option Told) (says : Result Site SiteFault) → IfSome script (λ t. OpensOnSite ⊥ octets says ended t old new) → IfSome script (λ t. OpensOnSite FileFailed octets says ended t old new)
+  opens_behind octets None ended old new says opens = tt
+  opens_behind octets (Some t) ended old new says opens = opens_more octets t ended old new says opens
 
 -- ---- a site's text
 

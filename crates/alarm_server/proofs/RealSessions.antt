@@ -1,13 +1,10 @@
 -- Sessions over their real ends, where these tell to the end.
-use Rattle.std.proofs.Common.{◌≡◌, ◌==◌, ◌++◌, ℕ, List, [], ◌∷◌, Option, Some, None, Result, Ok, Err, length, take, refl, sym, ap, ◌∙◌, subst, inl, inr, arith, cond, Bool, true, false}
-use Rattle.ground_io.specs.Disk.{Disk, MayLeave, disk_after}
+use Rattle.std.proofs.Common.{◌≡◌, ◌==◌, ℕ, List, [], Option, Some, None, Result, Ok, Err, length, take, refl, sym, ap, ◌∙◌, subst, inl, inr, arith, cond, Bool, true, false}
+use Rattle.ground_io.specs.Disk.{MayLeave}
 use Rattle.ground_io.specs.Record.{Supposed, told_by}
-use Rattle.ground_io.specs.Sent.{Along, emissions}
 use Rattle.ground_io.specs.Trace.{Told}
 use Rattle.ground_io.specs.declared.entry.Entry.{Entry}
-use Rattle.ground_io.specs.declared.entry.Entry.TheVariants.{Synced}
 use Rattle.ground_io.proofs.Crashes.{only_read}
-use Rattle.ground_io.proofs.Sendings.{along_at}
 use Rattle.script_lines.specs.Script.{lines_of}
 use Rattle.alarm_journal.specs.Journal.{Site as Journal}
 use Rattle.alarm_core.specs.declared.event.Event.{Event}
@@ -29,10 +26,11 @@ use Rattle.alarm_server.specs.RealLaws.{PlaysFrom, SessionsAreTold, SessionsGoOn
 use Rattle.alarm_server.specs.Report.{history_over, report_of}
 use Rattle.alarm_server.specs.Sessions.{session_over}
 use Rattle.alarm_server.proofs.KeptLines.{history-none}
+use Rattle.alarm_server.proofs.RealCrashes.{left_by}
 
 -- ---- what went out of a report, by how a program ended
 
-went : {X : Type 0} (text : X → List ℕ) (status : Status) (pieces : List X) (old new : Option Told) → Ends Emits text status pieces old new → (entries : List Entry) × Emits old new entries
+pub went : {X : Type 0} (text : X → List ℕ) (status : Status) (pieces : List X) (old new : Option Told) → Ends Emits text status pieces old new → (entries : List Entry) × Emits old new entries
 went text Done pieces old new goes = (_, goes)
 went text Usage pieces old new goes = (_, goes)
 went text (SiteRefused fault) pieces old new goes = (_, goes)
@@ -46,15 +44,15 @@ went text NoMemory pieces old new (front, back, whole, goes) = (_, goes)
 
 -- ---- a ground that tells now told before
 
-opened_none : (octets script : List ℕ) (status : Status) (says : Result Site SiteFault) (now : Told) → OpensOnSite octets says status script None (Some now) → ⊥
-opened_none octets script status (Err fault) now (more, adds, are) = adds
-opened_none octets script status (Ok site) now (inl (is, (more, adds, are))) = adds
-opened_none octets script status (Ok site) now (inr (state, opened, ends)) =
+opened_none : (FileFailed : Type 0) (octets script : List ℕ) (status : Status) (says : Result Site SiteFault) (now : Told) → OpensOnSite FileFailed octets says status script None (Some now) → ⊥
+opened_none FileFailed octets script status (Err fault) now (more, adds, are) = adds
+opened_none FileFailed octets script status (Ok site) now (inl ends) = let (more, adds, are) = ends.quiet in adds
+opened_none FileFailed octets script status (Ok site) now (inr (state, opened, ends)) =
     let (entries, (more, adds, are)) = went piece_text status (session_over state (lines_of script)) None (Some now) ends in
     adds
 
 -- what a ground told at first, by whether the contents were as many as the file's octets
-data Began (disk : Supposed) (told : Option Told) : Type 0 where
+pub data Began (disk : Supposed) (told : Option Told) : Type 0 where
   Not : told ≡ None → Began disk told
   As : told ≡ Some (found disk) → Began disk told
 
@@ -62,7 +60,7 @@ begun_by : (disk : Supposed) (same : Bool) → Began disk (told_by (cond same (S
 begun_by disk true = As refl
 begun_by disk false = Not refl
 
-begun_as : (bytes : ℕ) (disk : Supposed) → Began disk (first_told bytes disk)
+pub begun_as : (bytes : ℕ) (disk : Supposed) → Began disk (first_told bytes disk)
 begun_as bytes disk = begun_by disk (length disk.first == bytes)
 
 -- ---- what is told of a session that is told to the end
@@ -84,68 +82,44 @@ module _ (ends : RunEnds) (site : Site) (history : List Event) (status : Status)
       (subst (λ (s : Site). EndsOnSite Emits status ends.site (Ok s) ends.script first (Some now)) same goes history stands)
       (subst (λ (s : Site). KeepsOnSite ends.site (Ok s) ends.script first (Some now)) same keeps history stands)
 
-  by_first : (old : Option Told) → Began ends.disk old → site_of ends.site ≡ Ok site
-      → OpensOnSite ends.site (site_of ends.site) status ends.script old (Some now) → EndsOnSite Emits status ends.site (site_of ends.site) ends.script old (Some now) → KeepsOnSite ends.site (site_of ends.site) ends.script old (Some now)
+  by_first : (FileFailed : Type 0) (old : Option Told) → Began ends.disk old → site_of ends.site ≡ Ok site
+      → OpensOnSite FileFailed ends.site (site_of ends.site) status ends.script old (Some now) → EndsOnSite Emits status ends.site (site_of ends.site) ends.script old (Some now) → KeepsOnSite ends.site (site_of ends.site) ends.script old (Some now)
       → PlaysFrom ends site history status now
-  by_first old (Not is) says opens goes keeps =
-      let never : ⊥ = opened_none ends.site ends.script status (site_of ends.site) now (subst (λ (o : Option Told). OpensOnSite ends.site (site_of ends.site) status ends.script o (Some now)) is opens) in
+  by_first FileFailed old (Not is) says opens goes keeps =
+      let never : ⊥ = opened_none FileFailed ends.site ends.script status (site_of ends.site) now (subst (λ (o : Option Told). OpensOnSite FileFailed ends.site (site_of ends.site) status ends.script o (Some now)) is opens) in
       absurd never
-  by_first old (As is) says opens goes keeps =
+  by_first FileFailed old (As is) says opens goes keeps =
       on_site (site_of ends.site) says
       (subst (λ (o : Option Told). EndsOnSite Emits status ends.site (site_of ends.site) ends.script o (Some now)) is goes)
       (subst (λ (o : Option Told). KeepsOnSite ends.site (site_of ends.site) ends.script o (Some now)) is keeps)
 
 pub sessions_are_told : SessionsAreTold
 sessions_are_told ends site history status now ran holds =
-    by_first ends site history status now holds.stands (first_told ran.runs.bytes ends.disk) (begun_as ran.runs.bytes ends.disk) holds.is_site
+    by_first ends site history status now holds.stands _ (first_told ran.bytes ends.disk) (begun_as ran.bytes ends.disk) holds.is_site
     (rw (ran.text_tells, ran.script_tells, ran.device_tells) at ran.runs.opened)
     (rw (ran.text_tells, ran.script_tells, ran.device_tells) at ran.runs.ends)
     (rw (ran.text_tells, ran.script_tells, ran.device_tells) at ran.runs.keeps)
 
 -- ---- two sessions
 
-module _ (ends : RunEnds) (site : Site) (history : List Event) (now : Told) where
+module _ (ends : RunEnds) (site : Site) (history : List Event) where
   abbrev journal : Journal
   journal = journal_of site ends.site
-
-  abbrev disk_first : Disk
-  disk_first = record { contents = ends.disk.first; loose = [] }
 
   abbrev Leaves : List Entry → List ℕ → Type 0
   Leaves sent image = LeavesReport journal site history (script_of ends) 1 sent image
 
   -- nothing has come yet
-  at_first : (image : List ℕ) → MayLeave disk_first image → ImageStands journal site ends.disk.first history → Leaves [] image
-  at_first image leaves stands =
+  at_first : (image : List ℕ) → ImageStands journal site ends.disk.first history → MayLeave (record { contents = ends.disk.first; loose = [] }) image → Leaves [] image
+  at_first image stands leaves =
       let same : image ≡ ends.disk.first = only_read ends.disk.first image leaves in
       let begun : ImageStands journal site image (history_over site history []) = subst (λ (h : List Event). ImageStands journal site image h) (sym (history-none site history)) (subst (λ (i : List ℕ). ImageStands journal site i history) (sym same) stands) in
       (0, omega arith, (λ line within sent. absurd (omega (arith, sent))), omega arith, begun)
 
-  -- behind these entries
-  behind_these : (before behind : List Entry) (image : List ℕ) (entries : List Entry) → before ++ behind ≡ Synced ∷ entries → Along Leaves [] disk_first entries → MayLeave (disk_after before disk_first) image → ImageStands journal site ends.disk.first history → Leaves (emissions before) image
-  behind_these [] behind image entries parts along leaves stands = at_first image leaves stands
-  behind_these (entry ∷ before) behind image entries parts along leaves stands =
-      let first : entry ≡ Synced = cc in
-      let more : before ++ behind ≡ entries = cc in
-      let at = along_at Leaves [] disk_first before behind (subst (λ (es : List Entry). Along Leaves [] disk_first es) (sym more) along) in
-      subst (λ (e : Entry). Leaves (emissions (e ∷ before)) image) (sym first) (at image (subst (λ (e : Entry). MayLeave (disk_after (e ∷ before) disk_first) image) first leaves))
-
-  none_before : (before behind : List Entry) → before ++ behind ≡ [] → before ≡ []
-  none_before [] behind none = refl
-  none_before (entry ∷ before) behind none = absurd cc
-
-  left_by : (before behind : List Entry) (image : List ℕ) → now.trace ≡ before ++ behind → MayLeave (disk_after before disk_first) image → ImageStands journal site ends.disk.first history
-      → KeepsOpened journal site history (script_of ends) 1 (Some (found ends.disk)) (Some now) → Leaves (emissions before) image
-  left_by before behind image parts leaves stands (inl (same, none)) =
-      let nothing : before ≡ [] = none_before before behind (sym parts ∙ none) in
-      subst (λ (es : List Entry). Leaves (emissions es) image) (sym nothing) (at_first image (subst (λ (es : List Entry). MayLeave (disk_after es disk_first) image) nothing leaves) stands)
-  left_by before behind image parts leaves stands (inr (entries, (same, all), along)) =
-      behind_these before behind image entries (sym parts ∙ all) along leaves stands
-
 pub sessions_go_on : SessionsGoOn
 sessions_go_on ends later site history status status' now now' before behind ran holds crash same_text ran' =
     let played = sessions_are_told ends site history status now ran holds in
-    let (count, within, told, few, stands) = left_by ends site history now before behind later.disk.first crash.parts crash.leaves holds.stands played.kept in
+    let (count, within, told, few, stands) = left_by (Leaves ends site history) ends.disk now later.disk.first before behind crash (at_first ends site history later.disk.first holds.stands) played.kept in
     let lines = script_of ends in
     let is_site : site_of later.site ≡ Ok site = ap site_of same_text ∙ holds.is_site in
     let found_later : ImageStands (journal_of site later.site) site later.disk.first (history_over site history (take count lines)) =

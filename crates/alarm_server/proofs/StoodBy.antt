@@ -31,14 +31,13 @@ use Rattle.alarm_server.specs.Emission.{Ends, lost, sent}
 use Rattle.alarm_server.specs.Following.{Follows, IsSent, LeavesFollower, MayReach, Sender, StopsFollowing, TakesEach, closing_lines, opening_line, packets_of}
 use Rattle.alarm_server.specs.Keeping.{KeepsAlong, KeepsFromSync}
 use Rattle.alarm_server.specs.OnFile.{RefusesFile}
-use Rattle.alarm_server.specs.Openings.{IsUnplayed}
 use Rattle.alarm_server.specs.Script.{refused_line}
 use Rattle.alarm_server.specs.StandingBy.{FollowsOnFile, FollowsOnSite, GoesOnFromFile, GoesOnFromSite, KeepsBehindFile, KeepsBehindSite}
 use Rattle.alarm_server.specs.Status.{IsSiteFault, of_open_fault}
-use Rattle.alarm_server.proofs.BehindOpening.{opened_ended, tells_ended}
+use Rattle.alarm_server.proofs.BehindOpening.{no_read, opened_ended, tells_ended, unplayed}
 use Rattle.alarm_server.proofs.Emitting.{emits}
 use Rattle.alarm_server.proofs.Known.{in_any}
-use Rattle.alarm_server.proofs.OnFile.{own_fault, unplayed_by}
+use Rattle.alarm_server.proofs.OnFile.{ends_more, own_fault, reopens_same, unplayed_by}
 use Rattle.alarm_server.proofs.Senders.{reaches_at_once}
 use Rattle.alarm_server.proofs.KeptAlong.{kept_opened, kept_unopened}
 
@@ -81,14 +80,6 @@ follows_nothing ended state script old new each goes = record {
   went = goes (opening_line state ∷ closing_lines (packets_of script) (refused_line packet_says script) (length (lines_of script)) (following state None));
 }
 
--- a journal that isn't opened ends a standby before its script is read
-unplayed : (fault : OpenFault) → IsUnplayed (of_open_fault fault)
-unplayed open_fault.DiskFault = tt
-unplayed (open_fault.SmallDevice size need) = tt
-unplayed (open_fault.Foreign at) = tt
-unplayed (open_fault.Damaged at) = tt
-unplayed open_fault.NoMemory = tt
-
 follows_refused : (fault : OpenFault) (state : CoreState) (script : List ℕ) (old new : Option Told) → Emits old new [] → Follows Emits (of_open_fault fault) state script old new
 follows_refused open_fault.DiskFault state script old new quiet = follows_nothing DiskFault state script old new (λ left. tt) (λ lines. ([], lines, refl, quiet))
 follows_refused (open_fault.SmallDevice size need) state script old new quiet = follows_nothing (JournalRefused (open_fault.SmallDevice size need)) state script old new (λ left. tt) (λ lines. quiet)
@@ -99,8 +90,8 @@ follows_refused open_fault.NoMemory state script old new quiet = follows_nothing
 pub ends_refused : (fault : OpenFault) (state : CoreState) (text : Option (List ℕ)) (old new : Option Told) → Emits old new [] → IfSome text (λ t. Follows Emits (of_open_fault fault) state t old new)
 ends_refused fault state text old new quiet = in_any (λ t. Follows Emits (of_open_fault fault) state t old new) text (λ t. follows_refused fault state t old new quiet)
 
-pub opens_refused : (site : Site) (octets : List ℕ) (fault : OpenFault) (old new : Option Told) (text : Option (List ℕ)) → Emits old new [] → IfSome text (λ t. GoesOnFromSite (of_open_fault fault) octets (Ok site) t old new)
-opens_refused site octets fault old new text quiet = in_any (λ t. GoesOnFromSite (of_open_fault fault) octets (Ok site) t old new) text (λ t. inl (unplayed fault, quiet))
+pub opens_refused : (site : Site) (octets : List ℕ) (fault : OpenFault) (old new : Option Told) (text : Option (List ℕ)) → Emits old new [] → Reopens (journal_of site octets) old new → IfSome text (λ t. GoesOnFromSite ⊥ (of_open_fault fault) octets (Ok site) t old new)
+opens_refused site octets fault old new text quiet opens = in_any (λ t. GoesOnFromSite ⊥ (of_open_fault fault) octets (Ok site) t old new) text (λ t. inl (record { unplayed = unplayed fault; file = no_read fault; quiet = quiet; reopens = opens }))
 
 -- an image of what was held before, where nothing was told
 stands_before : (journal : Journal) (site : Site) (sender : Sender) (begun : List Event) → MayReach sender begun begun → (image : List ℕ) → ImageStands journal site image begun → LeavesFollower journal site sender begun [] image
@@ -115,7 +106,7 @@ keeps_refused journal site sender older old new text stood opens =
 
 -- the lines go on from the state to which the octets lead
 pub opens_standby : (site : Site) (octets : List ℕ) (core : CoreState) (ended : Status) (old mid new : Option Told) (text : Option (List ℕ)) → Emits old mid [] → OpenedTo site octets old mid core → IfSome text (λ t. Follows Emits ended core t mid new)
-    → IfSome text (λ t. GoesOnFromSite ended octets (Ok site) t old new)
+    → IfSome text (λ t. GoesOnFromSite ⊥ ended octets (Ok site) t old new)
 opens_standby site octets core ended old mid new None quiet opened follows = tt
 opens_standby site octets core ended old mid new (Some t) quiet opened f =
     let lines : List ReportLine = opening_line core ∷ (f.lines ++ closing_lines f.left (refused_line packet_says t) (length (lines_of t)) f.reached) in
@@ -200,14 +191,26 @@ keeps_unopened None script told = tt
 keeps_unopened (Some octets) None told = tt
 keeps_unopened (Some octets) (Some text) told = keeps_by octets text told (site_of octets)
 
-opens_by : (octets script : List ℕ) (ended : Status) (told : Option Told) (says : Result Site SiteFault) → site_of octets ≡ says → IsSiteFault ended → ((f : SiteFault) → ended ≡ SiteRefused f → RefusesFile (Some octets) f) → GoesOnFromSite ended octets says script told told
-opens_by octets script ended told (Ok site) says fault refused = inl (unplayed_by octets site ended says fault refused, emits.nothing told)
-opens_by octets script ended told (Err f) says fault refused = emits.nothing told
+module _ (FileFailed : Type 0) where
+  opens_by : (octets script : List ℕ) (ended : Status) (told : Option Told) (says : Result Site SiteFault) → site_of octets ≡ says → IsSiteFault ended → ((f : SiteFault) → ended ≡ SiteRefused f → RefusesFile (Some octets) f) → (ended ≡ ReadFault → FileFailed) → GoesOnFromSite FileFailed ended octets says script told told
+  opens_by octets script ended told (Ok site) says fault refused file =
+      inl (record { unplayed = unplayed_by octets site ended says fault refused; file = file; quiet = emits.nothing told; reopens = reopens_same (journal_of site octets) told })
+  opens_by octets script ended told (Err f) says fault refused file = emits.nothing told
 
-pub opens_unopened : (site script : Option (List ℕ)) (ended : Status) (told : Option Told) → IsSiteFault ended → ((f : SiteFault) → ended ≡ SiteRefused f → RefusesFile site f) → GoesOnFromFile ended site script told told
-opens_unopened None script ended told fault refused = tt
-opens_unopened (Some octets) None ended told fault refused = tt
-opens_unopened (Some octets) (Some text) ended told fault refused = opens_by octets text ended told (site_of octets) refl fault refused
+  pub opens_unopened : (site script : Option (List ℕ)) (ended : Status) (told : Option Told) → IsSiteFault ended → ((f : SiteFault) → ended ≡ SiteRefused f → RefusesFile site f) → (ended ≡ ReadFault → FileFailed) → GoesOnFromFile FileFailed ended site script told told
+  opens_unopened None script ended told fault refused file = tt
+  opens_unopened (Some octets) None ended told fault refused file = tt
+  opens_unopened (Some octets) (Some text) ended told fault refused file = opens_by octets text ended told (site_of octets) refl fault refused file
+
+  -- what ended before the script was played for nothing of the file's source ended so whatever this has done
+  opens_more : (octets script : List ℕ) (ended : Status) (old new : Option Told) (says : Result Site SiteFault) → GoesOnFromSite ⊥ ended octets says script old new → GoesOnFromSite FileFailed ended octets says script old new
+  opens_more octets script ended old new (Ok site) (inl ends) = inl (ends_more FileFailed ends)
+  opens_more octets script ended old new (Ok site) (inr opened) = inr opened
+  opens_more octets script ended old new (Err f) opens = opens
+
+  pub opens_behind : (octets : List ℕ) (script : Option (List ℕ)) (ended : Status) (old new : Option Told) (says : Result Site SiteFault) → IfSome script (λ t. GoesOnFromSite ⊥ ended octets says t old new) → IfSome script (λ t. GoesOnFromSite FileFailed ended octets says t old new)
+  opens_behind octets None ended old new says opens = tt
+  opens_behind octets (Some t) ended old new says opens = opens_more octets t ended old new says opens
 
 -- of each sender and each script, whatever history there was before it
 pub each_leader : {A B C : Type 0} (P : A → Type 0) (Q : B → C → A → Type 0) (script : Option B) → ((c : C) (a : A) → P a → IfSome script (λ t. Q t c a)) → IfSome script (λ t. (c : C) (a : A) → P a → Q t c a)

@@ -35,6 +35,7 @@ generated_device = record {
   apdu_timeout = 3000;
   retries = 3;
   outbox = 256;
+  flush_silent = false;
 }
 
 -- a recipient at 10.1.0.PROCESS, on all days at all times, of all transitions

@@ -55,8 +55,8 @@ pub record Promise : Type 1 where
   pub refuses_journal : Option (List ℕ) → Option Told → Option Told → OpenFault → Type 0
   -- how it ends where the device of this size is smaller than the journal of the site has to be, of the size and of the site
   pub refuses_small : ℕ → Option (List ℕ) → Status → Type 0
-  -- what the journal opened to, and what went out from there, by how it ended, of the site, of the script, from `old` to `new`
-  pub opens : Status → Option (List ℕ) → Option (List ℕ) → Option Told → Option Told → Type 0
+  -- what the journal opened to, and what went out from there: of that the site's source failed, by how it ended, of the site, of the script, from `old` to `new`
+  pub opens : Type 0 → Status → Option (List ℕ) → Option (List ℕ) → Option Told → Option Told → Type 0
 
 -- A trial reads the script alone. Its report is all that happens to the ground, and it tells of no event as entered.
 abbrev pub trial_promise : Settings → Promise
@@ -75,7 +75,7 @@ trial_promise settings = record {
   numbers = λ site script old new. ⊤;
   refuses_journal = λ site old new fault. ⊥;
   refuses_small = λ size site ended. ⊤;
-  opens = λ ended site script old new. ⊤;
+  opens = λ SiteFailed ended site script old new. ⊤;
 }
 
 -- A session reads the site's file, and the script where that is a site, and keeps its events in the journal.
@@ -94,7 +94,7 @@ session_promise = record {
   numbers = λ site script old new. NumbersOnFile Emits site script old new;
   refuses_journal = λ site old new fault. RefusesJournal site old new fault;
   refuses_small = λ size site ended. RefusesSmall size site ended;
-  opens = λ ended site script old new. OpensOnFile site ended script old new;
+  opens = λ SiteFailed ended site script old new. OpensOnFile SiteFailed site ended script old new;
 }
 
 -- A workload reads nothing. Its one line is all that happens to the ground.
@@ -113,7 +113,7 @@ workload_promise seed count = record {
   numbers = λ site script old new. ⊤;
   refuses_journal = λ site old new fault. ⊥;
   refuses_small = λ size site ended. ⊤;
-  opens = λ ended site script old new. ⊤;
+  opens = λ SiteFailed ended site script old new. ⊤;
 }
 
 -- What ships a journal reads the site's file, and no script. What the journal opened to is told with what went out, and no line of it tells of an event as entered.
@@ -132,7 +132,7 @@ ship_promise from = record {
   numbers = λ site script old new. ⊤;
   refuses_journal = λ site old new fault. RefusesJournal site old new fault;
   refuses_small = λ size site ended. RefusesSmall size site ended;
-  opens = λ ended site script old new. ⊤;
+  opens = λ SiteFailed ended site script old new. ⊤;
 }
 
 -- A standby reads the site's file, and packets as its script where that is a site, and takes them into its journal. No line of it tells of an event as entered.
@@ -151,7 +151,7 @@ standby_promise = record {
   numbers = λ site script old new. ⊤;
   refuses_journal = λ site old new fault. RefusesJournal site old new fault;
   refuses_small = λ size site ended. RefusesSmall size site ended;
-  opens = λ ended site script old new. GoesOnFromFile ended site script old new;
+  opens = λ SiteFailed ended site script old new. GoesOnFromFile SiteFailed ended site script old new;
 }
 
 -- Words of no form are refused, and nothing else comes of them.
@@ -170,7 +170,7 @@ usage_promise = record {
   numbers = λ site script old new. ⊤;
   refuses_journal = λ site old new fault. ⊥;
   refuses_small = λ size site ended. ⊤;
-  opens = λ ended site script old new. ⊤;
+  opens = λ SiteFailed ended site script old new. ⊤;
 }
 
 -- what the words ask for promises this

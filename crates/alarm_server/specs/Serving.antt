@@ -1,5 +1,5 @@
 -- What becomes of a server on a site's file: five ways, of which in the last a desk was opened.
-use Rattle.std.specs.Prelude.{◌≡◌, ◌<◌, ℕ, List, [], ◌∷◌, length, Option, Ok, IfSome}
+use Rattle.std.specs.Prelude.{◌≡◌, ◌≢◌, ◌<◌, ℕ, List, [], ◌∷◌, length, Option, Ok, IfSome}
 use Rattle.ground_io.specs.Counts.{HasCause}
 use Rattle.ground_io.specs.Trace.{Adds, Told}
 use Rattle.ground_io.specs.declared.entry.Entry.TheVariants.{Synced}
@@ -38,6 +38,7 @@ module _ {G : Type 0} (told : G → Option Told) (size disk_faults emit_faults :
     pub reopens : Reopens (journal_of site text) (told before) (told after)
     pub quiet : Emits (told before) (told after) []
     pub cause : HasCause (disk_faults before) (disk_faults after) (fault ≡ DiskFault)
+    pub unhidden : fault ≢ DiskFault → disk_faults after ≡ disk_faults before
 
 module _ {G L : Type 0} (told : G → Option Told) (size disk_faults emit_faults : G → ℕ) where
   -- What becomes of a server that understands its words:

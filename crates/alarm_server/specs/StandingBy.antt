@@ -14,7 +14,7 @@ use Rattle.alarm_server.specs.declared.status.Status.{Status}
 use Rattle.alarm_server.specs.declared.status.Status.TheVariants.{SiteRefused, ReadFault, NoMemory}
 use Rattle.alarm_server.specs.Following.{Follows, IsSent, LeavesFollower, Sender, StopsFollowing}
 use Rattle.alarm_server.specs.Keeping.{KeepsFromSync}
-use Rattle.alarm_server.specs.Openings.{IsUnplayed}
+use Rattle.alarm_server.specs.Openings.{EndsUnplayed}
 use Rattle.alarm_server.specs.Script.{refused_line}
 
 -- What went out, by the site that the file's text is: the table's lines from the state of a history on that the journal holds. Where the text is no site nothing went out, and the standby ended with the text's fault, or before it was found.
@@ -27,14 +27,14 @@ FollowsOnSite ended text (Err fault) script old new =
 abbrev pub FollowsOnFile : Status → Option (List ℕ) → Option (List ℕ) → Option Told → Option Told → Type 0
 FollowsOnFile ended site script old new = IfSome site (λ octets. IfSome script (λ text. FollowsOnSite ended octets (site_of octets) text old new))
 
--- The octets of the journal of the file's site opened and lead to a state, and the table's lines go on from that; or the standby ended before, and nothing went out.
-abbrev pub GoesOnFromSite : Status → List ℕ → Result Site SiteFault → List ℕ → Option Told → Option Told → Type 0
-GoesOnFromSite ended text (Ok site) script old new =
-    (IsUnplayed ended × Emits old new []) ⊎ ((state : CoreState) × OpenedTo site text old new state × Follows Emits ended state script old new)
-GoesOnFromSite ended text (Err refused) script old new = Emits old new []
+-- The octets of the journal of the file's site opened and lead to a state, and the table's lines go on from that; or the standby ended before.
+abbrev pub GoesOnFromSite : Type 0 → Status → List ℕ → Result Site SiteFault → List ℕ → Option Told → Option Told → Type 0
+GoesOnFromSite FileFailed ended text (Ok site) script old new =
+    EndsUnplayed FileFailed (journal_of site text) ended old new ⊎ ((state : CoreState) × OpenedTo site text old new state × Follows Emits ended state script old new)
+GoesOnFromSite FileFailed ended text (Err refused) script old new = Emits old new []
 
-abbrev pub GoesOnFromFile : Status → Option (List ℕ) → Option (List ℕ) → Option Told → Option Told → Type 0
-GoesOnFromFile ended site script old new = IfSome site (λ octets. IfSome script (λ text. GoesOnFromSite ended octets (site_of octets) text old new))
+abbrev pub GoesOnFromFile : Type 0 → Status → Option (List ℕ) → Option (List ℕ) → Option Told → Option Told → Type 0
+GoesOnFromFile FileFailed ended site script old new = IfSome site (λ octets. IfSome script (λ text. GoesOnFromSite FileFailed ended octets (site_of octets) text old new))
 
 -- the file's text is a site, and every line of the script is in the grammar
 abbrev pub AcceptsPackets : Option (List ℕ) → Option (List ℕ) → Type 0

@@ -1,6 +1,6 @@
 //! A standby, packet by packet: what it takes is on its disk before the line that tells of it goes out.
 
-ghost use Rattle.std.specs.Prelude.{◌≡◌, ℕ, List, [], ◌∷◌, None, Ok, Err, IfErr, IfOk, IfSome, IsErrOf, MatchResult, OnOk};
+ghost use Rattle.std.specs.Prelude.{◌≡◌, ◌≢◌, ℕ, List, [], ◌∷◌, None, Ok, Err, IfErr, IfOk, IfSome, IsErrOf, MatchResult, OnOk};
 ghost use Rattle.std.specs.Io.KnownBytes.{IsAtEnd};
 ghost use Rattle.ground_io.specs.Counts.{HasCause};
 ghost use Rattle.ground_io.specs.Trace.{WhereTold, still};
@@ -124,6 +124,7 @@ fn take_packet<G: Ground>(
     ensures cause { MatchResult result
         (λ taken. G.disk_faults taken.0.press.device ≡ G.disk_faults follower.press.device)
         (λ lost. HasCause (G.disk_faults follower.press.device) (G.disk_faults lost.0) (lost.1 ≡ Status.DiskFault)) }
+    ensures unhidden { IfErr result (λ lost. lost.1 ≢ Status.DiskFault → G.disk_faults lost.0 ≡ G.disk_faults follower.press.device) }
     ensures size { MatchResult result
         (λ taken. G.size taken.0.press.device ≡ G.size follower.press.device)
         (λ lost. G.size lost.0 ≡ G.size follower.press.device) }
@@ -180,6 +181,7 @@ pub fn follow_packets<T: Source, G: Ground>(
     ensures size { G.size result.0 ≡ G.size press.device }
     ensures read_cause { HasCause (T.faults script.old) (T.faults script.new) (IsErrOf result.1 Status.ReadFault) }
     ensures disk_cause { HasCause (G.disk_faults press.device) (G.disk_faults result.0) (IsErrOf result.1 Status.DiskFault) }
+    ensures unhidden { IfErr result.1 (λ fault. fault ≢ Status.DiskFault → G.disk_faults result.0 ≡ G.disk_faults press.device) }
     ensures emit_cause { HasCause (G.emit_faults press.device) (G.emit_faults result.0) (IsErrOf result.1 Status.EmitFault) }
 
     // No call has failed of one that followed its script to the end: none was made again and passed over.

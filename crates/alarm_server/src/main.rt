@@ -5,6 +5,10 @@
 //! told by its number alone.
 #![tactic(auto)]
 
+ghost use Rattle.std.specs.Prelude.{◌≡◌};
+ghost use Rattle.std.specs.Process.{exit_status};
+ghost use Rattle.alarm_server.specs.Status.{code_of};
+
 mod announcing_link;
 mod command;
 mod dressed;
@@ -35,7 +39,7 @@ use crate::real::{Places, run_real, serve_real};
 use crate::serve::Served;
 use crate::status::Status;
 use crate::text::read_text;
-use ground_io::StdSource;
+use ground_io::{DeviceFile, StdSource, TimedSocket};
 use site_config::{SiteFault, line_of_refusal};
 use std::env::VarError;
 use std::fs::{File, OpenOptions};
@@ -44,10 +48,13 @@ use std::net::UdpSocket;
 use std::process::ExitCode;
 use std::sync::Wait;
 use std::thread::Threads;
-use std::time::Clock;
+use std::time::{Clock, Duration};
 use std::{env, io};
 
 const VERSION: &str = "alarm-server 0.3.0";
+
+// So many milliseconds a call for a datagram waits for one.
+const PATIENCE: u64 = 200;
 
 const HELP: &str = "alarm-server trial LOW HIGH DEADBAND DELAY NORMAL < SCRIPT
 
@@ -128,38 +135,40 @@ fn notice_for(words: &[String]) -> Option<&'static str> {
 }
 
 // Says how a run ended, and answers its number, also where standard error takes no text.
-fn ends_with(rt: &HostRuntime, status: Status) -> ExitCode {
+fn ends_with(rt: &HostRuntime, status: Status) -> ExitCode
+    ensures number { exit_status result ≡ code_of status }
+{
     if status != Status::Done {
         let _said = eprintln!(rt; "{status}");
     }
     ExitCode::from(status.code())
 }
 
-// Runs what the words ask for, with a site's text from a reader and a device, and answers how that ended.
+// Runs what the words ask for, with a site's text from a reader and a journal or none, and answers how that ended.
 fn run_with<R: Read + Drop>(
     rt: &HostRuntime,
     words: &[String],
     site: R,
-    journal: Option<File>,
-) -> io::Result<Status> {
-    let alloc = rt.alloc();
+    journal: Option<DeviceFile>,
+) -> Status {
     let (site, script, device, status) = run_real(
-        alloc,
+        rt.alloc(),
         words,
         site,
         rt.reader(),
         journal,
         io::writer(rt),
-    )?;
+    );
     drop(site);
     drop(script);
     drop(device);
-    Ok(status)
+    status
 }
 
 // The file of a journal, to be read and written. It isn't made.
-fn open_journal_file(rt: &HostRuntime, path: &str) -> io::Result<File> {
-    OpenOptions::new().read(true).write(true).open(rt, path)
+fn open_journal_file(rt: &HostRuntime, path: &str) -> io::Result<DeviceFile> {
+    let file = OpenOptions::new().read(true).write(true).open(rt, path)?;
+    DeviceFile::new(file)
 }
 
 // The number of the line in which the reader of TOML refuses the text of a file, which is read once more.
@@ -170,7 +179,9 @@ fn line_refused(rt: &HostRuntime, path: &str) -> Option<u32> {
 }
 
 // Says how a run on the file of that path ended, and in which line where the file is no TOML.
-fn ends_on_file(rt: &HostRuntime, path: &str, status: Status) -> ExitCode {
+fn ends_on_file(rt: &HostRuntime, path: &str, status: Status) -> ExitCode
+    ensures number { exit_status result ≡ code_of status }
+{
     let not_toml = Status::SiteRefused {
         fault: SiteFault::NotToml,
     };
@@ -204,7 +215,7 @@ fn run_on_files(
 ) -> io::Result<ExitCode> {
     let file = File::open(rt, path)?;
     let journal = open_journal_file(rt, journal)?;
-    let status = run_with(rt, words, file, Some(journal))?;
+    let status = run_with(rt, words, file, Some(journal));
     Ok(ends_on_file(rt, path, status))
 }
 
@@ -233,16 +244,20 @@ fn open_places(rt: &HostRuntime, path: &str, journal: &str) -> io::Result<Places
     let site = File::open(rt, path)?;
     let journal = open_journal_file(rt, journal)?;
     let (socket, place) = bound(rt)?;
+    let listening = TimedSocket::new(&socket, Duration::from_millis(PATIENCE))?;
     Ok(Places {
         site,
         journal,
+        listening,
         socket,
         place,
     })
 }
 
 // Says what a server came to, and how it ended.
-fn ends_serving(rt: &HostRuntime, path: &str, served: Served) -> ExitCode {
+fn ends_serving(rt: &HostRuntime, path: &str, served: Served) -> ExitCode
+    ensures number { exit_status result ≡ code_of served.status }
+{
     let Served {
         status,
         received,
@@ -272,7 +287,7 @@ fn serve_on_files<R: Threads + Wait + Sync + Clock>(
     journal: &str,
 ) -> io::Result<ExitCode> {
     let places = open_places(rt, path, journal)?;
-    let (source, device, link, served) = serve_real(rt, workers, words, places, io::writer(rt))?;
+    let (source, device, link, served) = serve_real(rt, workers, words, places, io::writer(rt));
     drop(source);
     drop(device);
     drop(link);
@@ -296,7 +311,7 @@ fn begin<R: Threads + Wait + Sync + Clock>(
         }
         (Some(site), Some(journal)) => run_on_files(rt, words, site.as_str(), journal.as_str()),
         _ => {
-            let status = run_with(rt, words, io::empty(), None)?;
+            let status = run_with(rt, words, io::empty(), None);
             Ok(ends_with(rt, status))
         }
     }

@@ -16,7 +16,7 @@ ghost use Rattle.state_codec.specs.Sizes.{most_text, need};
 ghost use Rattle.state_codec.specs.Keeping.{StoodFor, journal_of};
 ghost use Rattle.alarm_server.specs.Keeping.{KeepsOpened};
 ghost use Rattle.state_codec.specs.Openings.{IsRefusedFor};
-ghost use Rattle.alarm_server.specs.Openings.{OpensOnFile, OpensOnSite, RefusesJournal};
+ghost use Rattle.alarm_server.specs.Openings.{OpensOnFile, OpensOnSite, RefusesJournal, StandsForNone};
 ghost use Rattle.site_config.specs.declared.fault.SiteFault.{SiteFault};
 ghost use Rattle.site_config.specs.Sites.{site_of};
 ghost use Rattle.alarm_server.specs.Causes.{HasCauseInEither};
@@ -76,16 +76,16 @@ fn play_site<T: Source, G: Ground>(
         (λ text rest. StopsReading Emits piece_text (front_pieces site.now history) (line_says Session) text rest (G.told device) (G.told result.0)) }
     ensures script_told { result.1 ≡ Err Status.ReadFault → WhereTold (T.left script.old) (T.left script.new) (λ text rest. ⊤) }
 
-    // The journal's octets opened and lead to a state, from which the report goes on; or nothing went out.
-    ensures opened { IfSome (still (T.left script.old) (T.left script.new)) (λ script. OpensOnSite text.now (Ok site.now) (status_of result.1) script (G.told device) (G.told result.0)) }
+    // The journal's octets opened and lead to a state, from which the report goes on; or nothing went out, and what opens is
+    // what opened before.
+    ensures opened { IfSome (still (T.left script.old) (T.left script.new)) (λ script. OpensOnSite ⊥ text.now (Ok site.now) (status_of result.1) script (G.told device) (G.told result.0)) }
 
     // The journal is refused for what its octets are, and never where they stood for a history; then it was synced, nothing
     // else was done, and the script isn't read.
-    ensures refuses_journal { (fault : Refusal) → result.1 ≡ Err (Status.JournalRefused fault) → IsRefusedFor site.now text.now (G.told device) (G.told result.0) fault × Adds (G.told device) (G.told result.0) (Synced ∷ []) }
+    ensures refuses_journal { (fault : Refusal) → result.1 ≡ Err (Status.JournalRefused fault) → IsRefusedFor site.now text.now (G.told device) (G.told result.0) fault × Adds (G.told device) (G.told result.0) (Synced ∷ []) × StandsForNone (journal_of site.now text.now) site.now (G.told device) (G.told result.0) }
     ensures small { (fault : Refusal) → result.1 ≡ Err (Status.JournalRefused fault) → IsSmall (G.size device) fault }
     ensures below { G.size device < need site.now (length text.now) → EndsSmall (G.size device) (need site.now (length text.now)) (status_of result.1) }
     ensures unplayed { (fault : Refusal) → result.1 ≡ Err (Status.JournalRefused fault) → script.new ≡ script.old }
-    ensures stands { (history : List Happening) (fault : Refusal) → StoodFor (journal_of site.now text.now) site.now history (G.told device) (G.told result.0) → result.1 ≢ Err (Status.JournalRefused fault) }
     ensures to_end { OnOk result.1 (IsAtEnd (T.left script.new)) }
     ensures accepted { OnOk result.1 (IfSome (still (T.left script.old) (T.left script.new)) (λ text. refused_line (line_says Session) text ≡ None)) }
     ensures refused { (line : ℕ) → result.1 ≡ Err (Status.ScriptRefused line) →
@@ -94,6 +94,7 @@ fn play_site<T: Source, G: Ground>(
     ensures size { G.size result.0 ≡ G.size device }
     ensures read_cause { HasCause (T.faults script.old) (T.faults script.new) (IsErrOf result.1 Status.ReadFault) }
     ensures disk_cause { HasCause (G.disk_faults device) (G.disk_faults result.0) (IsErrOf result.1 Status.DiskFault) }
+    ensures unhidden { IfErr result.1 (λ fault. fault ≢ Status.DiskFault → G.disk_faults result.0 ≡ G.disk_faults device) }
     ensures emit_cause { HasCause (G.emit_faults device) (G.emit_faults result.0) (IsErrOf result.1 Status.EmitFault) }
     ensures no_fault { OnOk result.1 ((T.faults script.new ≡ T.faults script.old) × ((G.disk_faults result.0 ≡ G.disk_faults device) × (G.emit_faults result.0 ≡ G.emit_faults device))) }
 {
@@ -123,8 +124,9 @@ pub fn session<S: Source, T: Source, G: Ground>(
     // A crash at any moment leaves the history and the events of some lines: of each at least whose piece went out.
     ensures keeps { KeepsOnFile (still (S.left site.old) (S.left site.new)) (still (T.left script.old) (T.left script.new)) (G.told device) (G.told result.0) }
 
-    // The journal's octets opened and lead to a state, from which the report goes on; or nothing went out.
-    ensures opened { OpensOnFile (still (S.left site.old) (S.left site.new)) (status_of result.1) (still (T.left script.old) (T.left script.new)) (G.told device) (G.told result.0) }
+    // The journal's octets opened and lead to a state, from which the report goes on; or nothing went out, and what opens is
+    // what opened before.
+    ensures opened { OpensOnFile ((script.new ≡ script.old) × Rose (S.faults site.old) (S.faults site.new)) (still (S.left site.old) (S.left site.new)) (status_of result.1) (still (T.left script.old) (T.left script.new)) (G.told device) (G.told result.0) }
 
     // A session that is played to its end has a site, and no line that is refused.
     ensures to_end { OnOk result.1 (IsAtEnd (T.left script.new)) }
@@ -152,6 +154,7 @@ pub fn session<S: Source, T: Source, G: Ground>(
     ensures size { G.size result.0 ≡ G.size device }
     ensures read_cause { HasCauseInEither (S.faults site.old) (S.faults site.new) (T.faults script.old) (T.faults script.new) (IsErrOf result.1 Status.ReadFault) }
     ensures disk_cause { HasCause (G.disk_faults device) (G.disk_faults result.0) (IsErrOf result.1 Status.DiskFault) }
+    ensures unhidden { IfErr result.1 (λ fault. fault ≢ Status.DiskFault → G.disk_faults result.0 ≡ G.disk_faults device) }
     ensures emit_cause { HasCause (G.emit_faults device) (G.emit_faults result.0) (IsErrOf result.1 Status.EmitFault) }
     ensures no_fault { OnOk result.1 ((T.faults script.new ≡ T.faults script.old) × ((G.disk_faults result.0 ≡ G.disk_faults device) × (G.emit_faults result.0 ≡ G.emit_faults device))) }
     ensures site_read { OnOk result.1 (S.faults site.new ≡ S.faults site.old) }

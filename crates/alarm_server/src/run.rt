@@ -41,7 +41,7 @@ fn carry_out<S: Source, T: Source, G: Ground>(
     ensures site { (promise_of (Some command.now)).leaves_site (site.new ≡ site.old) }
     ensures unread { (promise_of (Some command.now)).leaves_script (still (S.left site.old) (S.left site.new)) (script.new ≡ script.old) }
     ensures keeps { (promise_of (Some command.now)).keeps (still (S.left site.old) (S.left site.new)) (still (T.left script.old) (T.left script.new)) (G.told device) (G.told result.0) }
-    ensures opened { (promise_of (Some command.now)).opens (status_of result.1) (still (S.left site.old) (S.left site.new)) (still (T.left script.old) (T.left script.new)) (G.told device) (G.told result.0) }
+    ensures opened { (promise_of (Some command.now)).opens ((script.new ≡ script.old) × Rose (S.faults site.old) (S.faults site.new)) (status_of result.1) (still (S.left site.old) (S.left site.new)) (still (T.left script.old) (T.left script.new)) (G.told device) (G.told result.0) }
     ensures small { (fault : Refusal) → result.1 ≡ Err (Status.JournalRefused fault) → IsSmall (G.size device) fault }
     ensures below { (promise_of (Some command.now)).refuses_small (G.size device) (still (S.left site.old) (S.left site.new)) (status_of result.1) }
     ensures unplayed { (fault : Refusal) → result.1 ≡ Err (Status.JournalRefused fault) → script.new ≡ script.old }
@@ -54,6 +54,7 @@ fn carry_out<S: Source, T: Source, G: Ground>(
     ensures emit_cause { HasCause (G.emit_faults device) (G.emit_faults result.0) (IsErrOf result.1 Status.EmitFault) }
     ensures no_fault { OnOk result.1 ((T.faults script.new ≡ T.faults script.old) × ((G.disk_faults result.0 ≡ G.disk_faults device) × (G.emit_faults result.0 ≡ G.emit_faults device))) }
     ensures site_read { OnOk result.1 (S.faults site.new ≡ S.faults site.old) }
+    ensures unhidden { IfErr result.1 (λ fault. fault ≢ Status.DiskFault → G.disk_faults result.0 ≡ G.disk_faults device) }
 {
     match command {
         Command::Trial { settings } => {
@@ -124,7 +125,9 @@ pub fn run<S: Source, T: Source, G: Ground>(
     ensures read_cause { HasCauseInEither (S.faults site.old) (S.faults site.new) (T.faults script.old) (T.faults script.new) (result.1 ≡ Status.ReadFault) }
     ensures emit_cause { HasCause (G.emit_faults device) (G.emit_faults result.0) (result.1 ≡ Status.EmitFault) }
 
+    // A call of the disk that failed is told as that, and as nothing else.
     ensures disk_cause { HasCause (G.disk_faults device) (G.disk_faults result.0) (result.1 ≡ Status.DiskFault) }
+    ensures unhidden { result.1 ≢ Status.DiskFault → G.disk_faults result.0 ≡ G.disk_faults device }
 
     // With Done no call has failed: none was made again and passed over.
     ensures no_fault { result.1 ≡ Status.Done → (T.faults script.new ≡ T.faults script.old) × ((G.disk_faults result.0 ≡ G.disk_faults device) × (G.emit_faults result.0 ≡ G.emit_faults device)) }
@@ -138,10 +141,11 @@ pub fn run<S: Source, T: Source, G: Ground>(
     ensures keeps { (promise_of (command_of (map string_bytes words.now))).keeps (still (S.left site.old) (S.left site.new)) (still (T.left script.old) (T.left script.new)) (G.told device) (G.told result.0) }
 
     // A session's or a standby's journal opened, its octets lead to a state, and the report goes on from that, whether a history
-    // leads to it or not; or nothing went out.
-    ensures opened { (promise_of (command_of (map string_bytes words.now))).opens result.1 (still (S.left site.old) (S.left site.new)) (still (T.left script.old) (T.left script.new)) (G.told device) (G.told result.0) }
+    // leads to it or not; or nothing went out, and what opens is what opened before, for want of memory too.
+    ensures opened { (promise_of (command_of (map string_bytes words.now))).opens ((script.new ≡ script.old) × Rose (S.faults site.old) (S.faults site.new)) result.1 (still (S.left site.old) (S.left site.new)) (still (T.left script.old) (T.left script.new)) (G.told device) (G.told result.0) }
 
-    // The journal is refused for what its octets are: it was synced, and nothing else was done, and the script isn't read.
+    // The journal is refused for what its octets are, and never where they stand for a history: it was synced, and nothing else
+    // was done, and the script isn't read.
     ensures unplayed { (fault : Refusal) → result.1 ≡ Status.JournalRefused fault → script.new ≡ script.old }
     ensures refuses_journal { (fault : Refusal) → result.1 ≡ Status.JournalRefused fault →
         (promise_of (command_of (map string_bytes words.now))).refuses_journal (still (S.left site.old) (S.left site.new)) (G.told device) (G.told result.0) fault }

@@ -1,6 +1,6 @@
 //! A session, line by line: each event is kept in the journal before its piece goes out.
 
-ghost use Rattle.std.specs.Prelude.{◌≡◌, ℕ, ◌≤◌, ◌∷◌, [], List, None, IfErr, IfOk, IfSome, IsErrOf, MatchResult, OnOk};
+ghost use Rattle.std.specs.Prelude.{◌≡◌, ◌≢◌, ℕ, ◌≤◌, ◌∷◌, [], List, None, IfErr, IfOk, IfSome, IsErrOf, MatchResult, OnOk};
 ghost use Rattle.std.specs.Io.KnownBytes.{IsAtEnd};
 ghost use Rattle.bac_values.specs.Moments.{IsMoment};
 ghost use Rattle.ground_io.specs.Counts.{HasCause};
@@ -59,6 +59,7 @@ fn keep<G: Ground>(
     ensures cause { MatchResult result
         (λ kept. G.disk_faults kept.device ≡ G.disk_faults press.device)
         (λ lost. HasCause (G.disk_faults press.device) (G.disk_faults lost.0) (lost.1 ≡ Status.DiskFault)) }
+    ensures unhidden { IfErr result (λ lost. lost.1 ≢ Status.DiskFault → G.disk_faults lost.0 ≡ G.disk_faults press.device) }
     ensures same { MatchResult result (λ kept. G.size kept.device ≡ G.size press.device) (λ lost. G.size lost.0 ≡ G.size press.device) }
     ensures emitted { MatchResult result (λ kept. G.emit_faults kept.device ≡ G.emit_faults press.device) (λ lost. G.emit_faults lost.0 ≡ G.emit_faults press.device) }
 {
@@ -102,6 +103,7 @@ fn play_line<G: Ground>(
     ensures disk_cause { MatchResult result
         (λ kept. G.disk_faults kept.device ≡ G.disk_faults press.device)
         (λ lost. HasCause (G.disk_faults press.device) (G.disk_faults lost.0) (lost.1 ≡ Status.DiskFault)) }
+    ensures unhidden { IfErr result (λ lost. lost.1 ≢ Status.DiskFault → G.disk_faults lost.0 ≡ G.disk_faults press.device) }
     ensures emit_cause { MatchResult result
         (λ kept. G.emit_faults kept.device ≡ G.emit_faults press.device)
         (λ lost. HasCause (G.emit_faults press.device) (G.emit_faults lost.0) (lost.1 ≡ Status.EmitFault)) }
@@ -200,6 +202,7 @@ pub fn play_session<T: Source, G: Ground>(
     ensures size { G.size result.0 ≡ G.size press.device }
     ensures read_cause { HasCause (T.faults script.old) (T.faults script.new) (IsErrOf result.1 Status.ReadFault) }
     ensures disk_cause { HasCause (G.disk_faults press.device) (G.disk_faults result.0) (IsErrOf result.1 Status.DiskFault) }
+    ensures unhidden { IfErr result.1 (λ fault. fault ≢ Status.DiskFault → G.disk_faults result.0 ≡ G.disk_faults press.device) }
     ensures emit_cause { HasCause (G.emit_faults press.device) (G.emit_faults result.0) (IsErrOf result.1 Status.EmitFault) }
 
     // No call has failed of one that was played to its end: none was made again and passed over.

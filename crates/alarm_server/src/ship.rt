@@ -17,7 +17,7 @@ ghost use Rattle.state_codec.specs.Sizes.{most_text, need};
 ghost use Rattle.standby.specs.Reaches.{OffersAll};
 ghost use Rattle.alarm_server.specs.Emission.{Sends};
 ghost use Rattle.alarm_server.specs.OnFile.{RefusesFile};
-ghost use Rattle.alarm_server.specs.Openings.{RefusesJournal};
+ghost use Rattle.alarm_server.specs.Openings.{RefusesJournal, StandsForNone};
 ghost use Rattle.alarm_server.specs.Shipping.{KeepsAlike, KeepsShipped, ShipsOnFile, ShipsOnSite, ship_report};
 ghost use Rattle.alarm_server.specs.SmallDevices.{EndsSmall, RefusesSmall};
 ghost use Rattle.alarm_server.specs.Status.{IsShipFault, IsShippedFault, status_of};
@@ -102,12 +102,13 @@ fn ship_site<G: Ground>(
     ensures keeps { KeepsAlike (journal_of site.now text.now) (G.told device) (G.told result.0) }
 
     // The journal is refused for what its octets are; then it was synced, and nothing else was done.
-    ensures refuses_journal { (fault : Refusal) → result.1 ≡ Err (Status.JournalRefused fault) → IsRefusedFor site.now text.now (G.told device) (G.told result.0) fault × Adds (G.told device) (G.told result.0) (Synced ∷ []) }
+    ensures refuses_journal { (fault : Refusal) → result.1 ≡ Err (Status.JournalRefused fault) → IsRefusedFor site.now text.now (G.told device) (G.told result.0) fault × Adds (G.told device) (G.told result.0) (Synced ∷ []) × StandsForNone (journal_of site.now text.now) site.now (G.told device) (G.told result.0) }
     ensures small { (fault : Refusal) → result.1 ≡ Err (Status.JournalRefused fault) → IsSmall (G.size device) fault }
     ensures below { G.size device < need site.now (length text.now) → EndsSmall (G.size device) (need site.now (length text.now)) (status_of result.1) }
     ensures fault { IfErr result.1 IsShippedFault }
     ensures size { G.size result.0 ≡ G.size device }
     ensures disk_cause { HasCause (G.disk_faults device) (G.disk_faults result.0) (IsErrOf result.1 Status.DiskFault) }
+    ensures unhidden { IfErr result.1 (λ fault. fault ≢ Status.DiskFault → G.disk_faults result.0 ≡ G.disk_faults device) }
     ensures emit_cause { HasCause (G.emit_faults device) (G.emit_faults result.0) (IsErrOf result.1 Status.EmitFault) }
     ensures no_fault { OnOk result.1 ((G.disk_faults result.0 ≡ G.disk_faults device) × (G.emit_faults result.0 ≡ G.emit_faults device)) }
 {
@@ -165,6 +166,7 @@ pub fn ship<S: Source, G: Ground>(
     ensures size { G.size result.0 ≡ G.size device }
     ensures read_cause { HasCause (S.faults site.old) (S.faults site.new) (IsErrOf result.1 Status.ReadFault) }
     ensures disk_cause { HasCause (G.disk_faults device) (G.disk_faults result.0) (IsErrOf result.1 Status.DiskFault) }
+    ensures unhidden { IfErr result.1 (λ fault. fault ≢ Status.DiskFault → G.disk_faults result.0 ≡ G.disk_faults device) }
     ensures emit_cause { HasCause (G.emit_faults device) (G.emit_faults result.0) (IsErrOf result.1 Status.EmitFault) }
     ensures no_fault { OnOk result.1 ((S.faults site.new ≡ S.faults site.old) × ((G.disk_faults result.0 ≡ G.disk_faults device) × (G.emit_faults result.0 ≡ G.emit_faults device))) }
 {

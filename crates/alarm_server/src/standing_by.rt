@@ -21,7 +21,7 @@ ghost use Rattle.alarm_server.specs.Causes.{HasCauseInEither};
 ghost use Rattle.alarm_server.specs.Following.{Follows, IsSent, LeavesFollower, Sender, StopsFollowing};
 ghost use Rattle.alarm_server.specs.Keeping.{KeepsFromSync};
 ghost use Rattle.alarm_server.specs.OnFile.{RefusesFile};
-ghost use Rattle.alarm_server.specs.Openings.{RefusesJournal};
+ghost use Rattle.alarm_server.specs.Openings.{RefusesJournal, StandsForNone};
 ghost use Rattle.alarm_server.specs.Script.{refused_line};
 ghost use Rattle.alarm_server.specs.SmallDevices.{EndsSmall, RefusesSmall};
 ghost use Rattle.alarm_server.specs.StandingBy.{AcceptsPackets, FollowsOnFile, GoesOnFromFile, GoesOnFromSite, KeepsBehindFile, StopsStandingBy};
@@ -58,12 +58,13 @@ fn follow_site<T: Source, G: Ground>(
         → WhereTold (T.left script.old) (T.left script.new) (λ text rest. StopsFollowing Emits (state_of site.now older) text rest (G.told device) (G.told result.0)) }
     ensures script_told { result.1 ≡ Err Status.ReadFault → WhereTold (T.left script.old) (T.left script.new) (λ text rest. ⊤) }
 
-    // The journal's octets opened and lead to a state, from which the table's lines go on; or nothing went out.
-    ensures opened { IfSome (still (T.left script.old) (T.left script.new)) (λ script. GoesOnFromSite (status_of result.1) text.now (Ok site.now) script (G.told device) (G.told result.0)) }
+    // The journal's octets opened and lead to a state, from which the table's lines go on; or nothing went out, and what opens
+    // is what opened before.
+    ensures opened { IfSome (still (T.left script.old) (T.left script.new)) (λ script. GoesOnFromSite ⊥ (status_of result.1) text.now (Ok site.now) script (G.told device) (G.told result.0)) }
 
     // The journal is refused for what its octets are, and never where they stood for a history; then it was synced, nothing
     // else was done, and the script isn't read.
-    ensures refuses_journal { (fault : Refusal) → result.1 ≡ Err (Status.JournalRefused fault) → IsRefusedFor site.now text.now (G.told device) (G.told result.0) fault × Adds (G.told device) (G.told result.0) (Synced ∷ []) }
+    ensures refuses_journal { (fault : Refusal) → result.1 ≡ Err (Status.JournalRefused fault) → IsRefusedFor site.now text.now (G.told device) (G.told result.0) fault × Adds (G.told device) (G.told result.0) (Synced ∷ []) × StandsForNone (journal_of site.now text.now) site.now (G.told device) (G.told result.0) }
     ensures small { (fault : Refusal) → result.1 ≡ Err (Status.JournalRefused fault) → IsSmall (G.size device) fault }
     ensures below { G.size device < need site.now (length text.now) → EndsSmall (G.size device) (need site.now (length text.now)) (status_of result.1) }
     ensures unplayed { (fault : Refusal) → result.1 ≡ Err (Status.JournalRefused fault) → script.new ≡ script.old }
@@ -76,6 +77,7 @@ fn follow_site<T: Source, G: Ground>(
     ensures size { G.size result.0 ≡ G.size device }
     ensures read_cause { HasCause (T.faults script.old) (T.faults script.new) (IsErrOf result.1 Status.ReadFault) }
     ensures disk_cause { HasCause (G.disk_faults device) (G.disk_faults result.0) (IsErrOf result.1 Status.DiskFault) }
+    ensures unhidden { IfErr result.1 (λ fault. fault ≢ Status.DiskFault → G.disk_faults result.0 ≡ G.disk_faults device) }
     ensures emit_cause { HasCause (G.emit_faults device) (G.emit_faults result.0) (IsErrOf result.1 Status.EmitFault) }
     ensures no_fault { OnOk result.1 ((T.faults script.new ≡ T.faults script.old) × ((G.disk_faults result.0 ≡ G.disk_faults device) × (G.emit_faults result.0 ≡ G.emit_faults device))) }
 {
@@ -101,8 +103,9 @@ pub fn stand_by<S: Source, T: Source, G: Ground>(
     // no snapshot, one that goes on from the one before; and it has all that was acknowledged by then.
     ensures keeps { KeepsBehindFile (still (S.left site.old) (S.left site.new)) (still (T.left script.old) (T.left script.new)) (G.told device) (G.told result.0) }
 
-    // The journal's octets opened and lead to a state, from which the table's lines go on; or nothing went out.
-    ensures opened { GoesOnFromFile (status_of result.1) (still (S.left site.old) (S.left site.new)) (still (T.left script.old) (T.left script.new)) (G.told device) (G.told result.0) }
+    // The journal's octets opened and lead to a state, from which the table's lines go on; or nothing went out, and what opens
+    // is what opened before.
+    ensures opened { GoesOnFromFile ((script.new ≡ script.old) × Rose (S.faults site.old) (S.faults site.new)) (status_of result.1) (still (S.left site.old) (S.left site.new)) (still (T.left script.old) (T.left script.new)) (G.told device) (G.told result.0) }
 
     // A standby that took its script to the end has a site, and no line that is refused.
     ensures to_end { OnOk result.1 (IsAtEnd (T.left script.new)) }
@@ -130,6 +133,7 @@ pub fn stand_by<S: Source, T: Source, G: Ground>(
     ensures size { G.size result.0 ≡ G.size device }
     ensures read_cause { HasCauseInEither (S.faults site.old) (S.faults site.new) (T.faults script.old) (T.faults script.new) (IsErrOf result.1 Status.ReadFault) }
     ensures disk_cause { HasCause (G.disk_faults device) (G.disk_faults result.0) (IsErrOf result.1 Status.DiskFault) }
+    ensures unhidden { IfErr result.1 (λ fault. fault ≢ Status.DiskFault → G.disk_faults result.0 ≡ G.disk_faults device) }
     ensures emit_cause { HasCause (G.emit_faults device) (G.emit_faults result.0) (IsErrOf result.1 Status.EmitFault) }
     ensures no_fault { OnOk result.1 ((T.faults script.new ≡ T.faults script.old) × ((G.disk_faults result.0 ≡ G.disk_faults device) × (G.emit_faults result.0 ≡ G.emit_faults device))) }
     ensures site_read { OnOk result.1 (S.faults site.new ≡ S.faults site.old) }

@@ -1,6 +1,6 @@
 //! A floor that callers share, each in a thread of its own.
 
-ghost use Rattle.std.specs.Prelude.{◌≡◌, ◌<◌, ◌≤◌, List, [], ◌∷◌, ℕ, IfErr, IfOk, IsOkAnd, MatchResult, length};
+ghost use Rattle.std.specs.Prelude.{◌≡◌, ◌≢◌, ◌<◌, ◌≤◌, List, [], ◌∷◌, ℕ, IfErr, IfOk, IsOkAnd, MatchResult, length};
 ghost use Rattle.ground_io.specs.Counts.{HasCause};
 ghost use Rattle.ground_io.specs.Trace.{Adds};
 ghost use Rattle.ground_io.specs.declared.entry.Entry.TheVariants.{Synced};
@@ -146,6 +146,8 @@ impl<G: Ground> Desk<G> {
         ensures cause { MatchResult result
             (λ opened. G.disk_faults opened.0.origin.1.device ≡ G.disk_faults device)
             (λ lost. HasCause (G.disk_faults device) (G.disk_faults lost.0) (lost.1 ≡ refusals.DiskFault)) }
+        // A call of the device that failed is told as that, and not as want of memory.
+        ensures unhidden { IfErr result (λ lost. lost.1 ≢ refusals.DiskFault → G.disk_faults lost.0 ≡ G.disk_faults device) }
     {
         let (press, core, _opened) = match open_journal(alloc, site, text, device) {
             Ok(opened) => opened,

@@ -1,5 +1,5 @@
 use Rattle.std.proofs.Common.{rules}
 use Rattle.alarm_server.proofs.serve_on_files.Goals as goal
 
-pub serve_real-requires : goal.serve_real-requires
-serve_real-requires g c κs within = (search rules, (search rules, (search rules, search rules)))
+pub serve_real-source-requires : goal.serve_real-source-requires
+serve_real-source-requires g c κs within = (search rules, (search rules, (search rules, search rules)))

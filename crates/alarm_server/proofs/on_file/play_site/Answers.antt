@@ -21,7 +21,7 @@ use Rattle.alarm_server.specs.Stopping.{StopsReading}
 use Rattle.alarm_server.proofs.BehindOpening.{ends_refused, ends_session, keeps_session, opens_refused, opens_session, stops_session}
 use Rattle.alarm_server.proofs.KeptOpenings.{opening_kept}
 use Rattle.alarm_server.proofs.Known.{in_any}
-use Rattle.alarm_server.proofs.OfOpenFault.{disk_cause, is_session_fault, refusal_is}
+use Rattle.alarm_server.proofs.OfOpenFault.{disk_cause, is_session_fault, refusal_is, unhidden}
 use Rattle.alarm_server.proofs.OnFile.{told_more}
 use Rattle.alarm_server.proofs.SmallDevices.{small_end}
 use Rattle.alarm_server.proofs.on_file.play_site.Goals as goal
@@ -42,16 +42,11 @@ returns-in-Err-clause-keeps g c = λ history stood.
     in_any (λ t. KeepsOpened journal c.args.site.now history (spelled_in (line_says Session) 0 (lines_of t)) 1 old new) (still (g.T.Source.left c.args.script.now) (g.T.Source.left c.args.script.now))
     (λ t. opening_kept journal c.args.site.now history (spelled_in (line_says Session) 0 (lines_of t)) 1 old new stood c.in-Err.ensures.reopens)
 
-pub returns-in-Err-clause-stands : goal.returns-in-Err-clause-stands
-returns-in-Err-clause-stands g c = λ history fault stood same.
-    let came : of_open_fault c.in-Err.fault ≡ JournalRefused fault = cc in
-    c.in-Err.ensures.stands history stood (refusal_is c.in-Err.fault fault came).0
-
 pub returns-in-Err-clause-refuses_journal : goal.returns-in-Err-clause-refuses_journal
 returns-in-Err-clause-refuses_journal g c = λ fault same.
     let came : of_open_fault c.in-Err.fault ≡ JournalRefused fault = cc in
     let is = refusal_is c.in-Err.fault fault came in
-    (subst (λ f. IsRefusedFor c.args.site.now c.args.text.now (g.G.Ground.told c.args.device) (g.G.Ground.told c.in-Err.device) f) is.1 (c.in-Err.ensures.refused is.0), c.in-Err.ensures.unchanged is.0)
+    (subst (λ f. IsRefusedFor c.args.site.now c.args.text.now (g.G.Ground.told c.args.device) (g.G.Ground.told c.in-Err.device) f) is.1 (c.in-Err.ensures.refused is.0), c.in-Err.ensures.unchanged is.0, λ history stood. c.in-Err.ensures.stands history stood is.0)
 
 pub returns-in-Err-clause-small : goal.returns-in-Err-clause-small
 returns-in-Err-clause-small g c = λ fault same.
@@ -125,9 +120,12 @@ returns-clause-script_told g c = λ e.
     let new = g.G.Ground.told c.play_session-device.result.0 in
     told_more (λ t rest. StopsReading Emits piece_text (state_front c.in-Ok.opened.1) (line_says Session) t rest old new) (g.T.Source.left c.args.script.now) (g.T.Source.left c.play_session-device.new.script) (c.play_session-device.ensures.stops (c.in-Err-played.is ∙ ap Err same))
 
+pub returns-in-Err-clause-unhidden : goal.returns-in-Err-clause-unhidden
+returns-in-Err-clause-unhidden g c = rw c.from.ensures (unhidden c.in-Err.fault _ _ c.in-Err.ensures.unhidden)
+
 pub returns-in-Err-clause-opened : goal.returns-in-Err-clause-opened
 returns-in-Err-clause-opened g c =
-    rw c.from.ensures (opens_refused c.args.site.now c.args.text.now c.in-Err.fault (g.G.Ground.told c.args.device) (g.G.Ground.told c.in-Err.device) (still (g.T.Source.left c.args.script.now) (g.T.Source.left c.args.script.now)) c.in-Err.ensures.quiet)
+    rw c.from.ensures (opens_refused c.args.site.now c.args.text.now c.in-Err.fault (g.G.Ground.told c.args.device) (g.G.Ground.told c.in-Err.device) (still (g.T.Source.left c.args.script.now) (g.T.Source.left c.args.script.now)) c.in-Err.ensures.quiet c.in-Err.ensures.reopens)
 
 pub returns-in-Ok-played-clause-opened : goal.returns-in-Ok-played-clause-opened
 returns-in-Ok-played-clause-opened g c =

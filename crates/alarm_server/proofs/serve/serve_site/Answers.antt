@@ -21,6 +21,7 @@ returns-in-Err-clause-serves g c =
         reopens = e.reopens;
         quiet = e.quiet;
         cause = e.cause;
+        unhidden = e.unhidden;
       },
       refl,
     )

@@ -12,7 +12,7 @@ use Rattle.alarm_server.specs.declared.status.Status.TheVariants.{Done, JournalR
 use Rattle.alarm_server.specs.Emission.{Sends}
 use Rattle.alarm_server.specs.Shipping.{ship_report}
 use Rattle.alarm_server.specs.Status.{of_open_fault, of_unsent}
-use Rattle.alarm_server.proofs.OfOpenFault.{disk_cause, is_shipped_fault, refusal_is}
+use Rattle.alarm_server.proofs.OfOpenFault.{disk_cause, is_shipped_fault, refusal_is, unhidden}
 use Rattle.alarm_server.proofs.ShippedSite.{ends_sent, ends_unsent, keeps_behind, keeps_opening, leads_heard, made_at, nothing_added, sends_added, ships, ships_refused, went_as}
 use Rattle.alarm_server.proofs.SmallDevices.{small_end}
 use Rattle.alarm_server.proofs.ship.ship_site.Goals as goal
@@ -28,13 +28,16 @@ pub returns-in-Err-clause-refuses_journal : goal.returns-in-Err-clause-refuses_j
 returns-in-Err-clause-refuses_journal g c = λ fault same.
     let came : of_open_fault c.in-Err.fault ≡ JournalRefused fault = cc in
     let is = refusal_is c.in-Err.fault fault came in
-    (subst (λ f. IsRefusedFor c.args.site.now c.args.text.now (g.G.Ground.told c.args.device) (g.G.Ground.told c.in-Err.device) f) is.1 (c.in-Err.ensures.refused is.0), c.in-Err.ensures.unchanged is.0)
+    (subst (λ f. IsRefusedFor c.args.site.now c.args.text.now (g.G.Ground.told c.args.device) (g.G.Ground.told c.in-Err.device) f) is.1 (c.in-Err.ensures.refused is.0), c.in-Err.ensures.unchanged is.0, λ history stood. c.in-Err.ensures.stands history stood is.0)
 
 pub returns-in-Err-clause-fault : goal.returns-in-Err-clause-fault
 returns-in-Err-clause-fault g c = rw c.from.ensures (is_shipped_fault c.in-Err.fault)
 
 pub returns-in-Err-clause-disk_cause : goal.returns-in-Err-clause-disk_cause
 returns-in-Err-clause-disk_cause g c = rw c.from.ensures (disk_cause c.in-Err.fault _ _ c.in-Err.ensures.cause)
+
+pub returns-in-Err-clause-unhidden : goal.returns-in-Err-clause-unhidden
+returns-in-Err-clause-unhidden g c = rw c.from.ensures (unhidden c.in-Err.fault _ _ c.in-Err.ensures.unhidden)
 
 pub returns-in-Err-led-clause-ships : goal.returns-in-Err-led-clause-ships
 returns-in-Err-led-clause-ships g c = rw c.into_ground-device.ensures.same (inl (tt, c.in-Ok.ensures.quiet))

@@ -10,7 +10,7 @@ use Rattle.state_codec.specs.Openings.{IsRefusedFor}
 use Rattle.state_codec.proofs.Openings.{opened_to}
 use Rattle.alarm_server.specs.Following.{StopsFollowing}
 use Rattle.alarm_server.specs.Status.{of_open_fault, status_of}
-use Rattle.alarm_server.proofs.OfOpenFault.{disk_cause, is_session_fault, refusal_is}
+use Rattle.alarm_server.proofs.OfOpenFault.{disk_cause, is_session_fault, refusal_is, unhidden}
 use Rattle.alarm_server.proofs.OnFile.{told_more}
 use Rattle.alarm_server.proofs.StoodBy.{ends_refused, ends_standby, keeps_refused, keeps_standby, opens_refused, opens_standby, stops_standby}
 use Rattle.alarm_server.proofs.SmallDevices.{small_end}
@@ -26,7 +26,7 @@ returns-in-Err-clause-keeps g c = λ sender begun stood.
 
 pub returns-in-Err-clause-opened : goal.returns-in-Err-clause-opened
 returns-in-Err-clause-opened g c =
-    rw c.from.ensures (opens_refused c.args.site.now c.args.text.now c.in-Err.fault (g.G.Ground.told c.args.device) (g.G.Ground.told c.in-Err.device) (still (g.T.Source.left c.args.script.now) (g.T.Source.left c.args.script.now)) c.in-Err.ensures.quiet)
+    rw c.from.ensures (opens_refused c.args.site.now c.args.text.now c.in-Err.fault (g.G.Ground.told c.args.device) (g.G.Ground.told c.in-Err.device) (still (g.T.Source.left c.args.script.now) (g.T.Source.left c.args.script.now)) c.in-Err.ensures.quiet c.in-Err.ensures.reopens)
 
 pub returns-in-Err-clause-stands : goal.returns-in-Err-clause-stands
 returns-in-Err-clause-stands g c = λ history fault stood same.
@@ -37,13 +37,16 @@ pub returns-in-Err-clause-refuses_journal : goal.returns-in-Err-clause-refuses_j
 returns-in-Err-clause-refuses_journal g c = λ fault same.
     let came : of_open_fault c.in-Err.fault ≡ JournalRefused fault = cc in
     let is = refusal_is c.in-Err.fault fault came in
-    (subst (λ f. IsRefusedFor c.args.site.now c.args.text.now (g.G.Ground.told c.args.device) (g.G.Ground.told c.in-Err.device) f) is.1 (c.in-Err.ensures.refused is.0), c.in-Err.ensures.unchanged is.0)
+    (subst (λ f. IsRefusedFor c.args.site.now c.args.text.now (g.G.Ground.told c.args.device) (g.G.Ground.told c.in-Err.device) f) is.1 (c.in-Err.ensures.refused is.0), c.in-Err.ensures.unchanged is.0, λ history stood. c.in-Err.ensures.stands history stood is.0)
 
 pub returns-in-Err-clause-fault : goal.returns-in-Err-clause-fault
 returns-in-Err-clause-fault g c = rw c.from.ensures (is_session_fault c.in-Err.fault)
 
 pub returns-in-Err-clause-disk_cause : goal.returns-in-Err-clause-disk_cause
 returns-in-Err-clause-disk_cause g c = rw c.from.ensures (disk_cause c.in-Err.fault _ _ c.in-Err.ensures.cause)
+
+pub returns-in-Err-clause-unhidden : goal.returns-in-Err-clause-unhidden
+returns-in-Err-clause-unhidden g c = rw c.from.ensures (unhidden c.in-Err.fault _ _ c.in-Err.ensures.unhidden)
 
 pub returns-clause-ends : goal.returns-clause-ends
 returns-clause-ends g c = λ older stood.

@@ -1,4 +1,5 @@
-use Rattle.std.proofs.Common.{◌≡◌, ◌⊎◌, ◌<◌, ◌∙◌, Err, None, IfOk, IfSome, IsOk, OnErr, ap, length, refl, inr}
+use Rattle.std.proofs.Common.{◌≡◌, ◌⊎◌, ◌<◌, ◌∙◌, Ok, Err, None, IfOk, IfSome, IsOk, OnErr, ap, length, refl, inr}
+use Rattle.ground_io.specs.Counts.{Rose}
 use Rattle.ground_io.specs.Trace.{WhereTold, still}
 use Rattle.script_lines.specs.PacketLine.{packet_says}
 use Rattle.alarm_core.specs.State.{state_of}
@@ -16,7 +17,7 @@ use Rattle.alarm_server.specs.StandingBy.{AcceptsPackets, FollowsOnSite, GoesOnF
 use Rattle.alarm_server.specs.Status.{status_of}
 use Rattle.alarm_server.proofs.OnFile.{each_script, each_told, on_ok_more, on_read}
 use Rattle.alarm_server.proofs.SmallDevices.{small_unopened}
-use Rattle.alarm_server.proofs.StoodBy.{each_leader, ends_unopened, keeps_unopened, opens_unopened}
+use Rattle.alarm_server.proofs.StoodBy.{each_leader, ends_unopened, keeps_unopened, opens_behind, opens_unopened}
 use Rattle.alarm_server.proofs.standing_by.stand_by.Goals as goal
 
 pub returns-in-Err-clause-ends : goal.returns-in-Err-clause-ends
@@ -84,16 +85,19 @@ returns-clause-stops g c = λ e.
 
 pub returns-in-Err-clause-opened : goal.returns-in-Err-clause-opened
 returns-in-Err-clause-opened g c =
-    opens_unopened (still (g.S.Source.left c.args.site.now) (g.S.Source.left c.open_site.new.source)) (still (g.T.Source.left c.args.script.now) (g.T.Source.left c.args.script.now)) c.in-Err.status (g.G.Ground.told c.args.device) c.in-Err.ensures.fault
+    opens_unopened _ (still (g.S.Source.left c.args.site.now) (g.S.Source.left c.open_site.new.source)) (still (g.T.Source.left c.args.script.now) (g.T.Source.left c.args.script.now)) c.in-Err.status (g.G.Ground.told c.args.device) c.in-Err.ensures.fault
     (λ own same. c.open_site.ensures.refused own (c.in-Err.is ∙ ap Err same))
+    (λ read. (refl, c.open_site.ensures.cause.rose (c.in-Err.is ∙ ap Err read)))
 
 pub returns-clause-opened : goal.returns-clause-opened
 returns-clause-opened g c =
+    let failed = (c.follow_site.new.script ≡ c.args.script.now) × Rose (g.S.Source.faults c.args.site.now) (g.S.Source.faults c.open_site.new.source) in
     let old = g.G.Ground.told c.args.device in
     let new = g.G.Ground.told c.follow_site.result.0 in
     let script = still (g.T.Source.left c.args.script.now) (g.T.Source.left c.follow_site.new.script) in
     let ended = status_of c.follow_site.result.1 in
-    on_read (λ octets says. IfSome script (λ t. GoesOnFromSite ended octets says t old new)) (still (g.S.Source.left c.args.site.now) (g.S.Source.left c.open_site.new.source)) c.in-Ok.read.0 c.in-Ok.read.1.items c.as_slice.result.now c.as_slice.ensures.value c.in-Ok.ensures.site c.follow_site.ensures.opened
+    on_read (λ octets says. IfSome script (λ t. GoesOnFromSite failed ended octets says t old new)) (still (g.S.Source.left c.args.site.now) (g.S.Source.left c.open_site.new.source)) c.in-Ok.read.0 c.in-Ok.read.1.items c.as_slice.result.now c.as_slice.ensures.value c.in-Ok.ensures.site
+    (opens_behind failed c.as_slice.result.now script ended old new (Ok c.in-Ok.read.0) c.follow_site.ensures.opened)
 
 pub returns-in-Err-clause-below : goal.returns-in-Err-clause-below
 returns-in-Err-clause-below g c =
