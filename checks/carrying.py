@@ -106,8 +106,9 @@ class Scene:
     def __init__(self, told, program, folder, octets=0, other=None):
         self.told, self.program, self.folder, self.port = told, program, folder, serving.free_port()
         self.command = installed(program, folder / "installed")
-        self.site, self.leader, self.standby = folder / "site.toml", folder / "leader" / "journal", folder / "standby"
-        self.leader.parent.mkdir()
+        self.site, self.leader, self.standby = folder / "site.toml", folder / "leader" / "journal", folder / "follower" / "standby"
+        for journal_of in (self.leader, self.standby):
+            journal_of.parent.mkdir(exist_ok=True)
         self.site.write_text(site_text(), encoding="utf-8")
         self.other = folder / "other.toml"
         self.other.write_text(other or site_text(), encoding="utf-8")
@@ -397,7 +398,7 @@ def try_recipe(told, program, folder):
 def try_way(told, program, folder):
     """A way that hangs is given up, and its standby ends and frees its journal; a new one is found, and the old one's return does no harm.
 
-    Both journals are compared again in time, a standby is begun anew before a script's last line, and a disk that fails ends the carrying.
+    Both journals are compared again in time, a standby is begun anew before a script's last line, and one that opens late is waited for.
     """
     with Scene(told, program, folder) as it:
         it.serve()
@@ -406,6 +407,12 @@ def try_way(told, program, folder):
         it.await_level()
         ways = it.stands()["ways"]
         until(lambda: it.stands()["ways"] > ways + 1, "another comparison", it.stands)
+        it.stop("carrier")
+        it.await_free()
+        before = it.number("far")
+        it.carry()
+        until(lambda: it.number("far") != before, "a way that lasts")
+        it.await_level()
         hung = it.number("far")
         os.kill(hung, signal.SIGSTOP)
         it.write(52, 53, 54)
@@ -423,22 +430,33 @@ def try_way(told, program, folder):
         it.write(58)
         it.await_level()
         told.same("same, behind several standbys", it.same(), 0)
-
-
-def try_full_disk(told, program, folder):
-    """A standby whose disk takes no more ends the carrying with 7, and it goes on once that is mended."""
-    with Scene(told, program, folder) as it:
-        put(it.folder / "installed" / "bin" / "alarm-server", it.folder / "installed" / "bin" / "whole")
-        it.command.write_text(f'#!/bin/bash\ntrap "" XFSZ\n[ -e {folder}/room ] || ulimit -f 1\nexec {it.folder}/installed/bin/whole "$@"\n', encoding="utf-8")
-        it.serve()
-        it.write(*range(21, 66))
+        it.stop("carrier")
+        it.await_free()
+        open_late(it)
         it.carry()
-        told.same("the carrying to a disk that is full", it.carrier.wait(DEADLINE), 7)
-        told.want("disk" in it.check()[1], f"--check behind a disk that is full: {it.check()}")
-        (folder / "room").touch()
-        it.carry()
+        it.write(59)
         it.await_level()
-        told.same("same, behind a disk that was full", it.same(), 0)
+        told.same("same, behind a standby that opens late", it.same(), 0)
+
+
+def open_late(it):
+    """Has the standby's program begin later than an answer is waited for, as with a journal that takes long to be opened."""
+    program = it.folder / "installed" / "libexec" / "alarm-server" / "alarm_server"
+    whole = program.rename(program.with_name("whole"))
+    program.write_text(f'#!/bin/sh\nsleep {2 * PATIENCE}\nexec {whole} "$@"\n', encoding="utf-8")
+    program.chmod(0o755)
+
+
+def try_full_disks(told, program, folder):
+    """Disks that are full, of either side: checks/carrying_disks.py, in a mount namespace, so that nothing else sees them. It wants root."""
+    words = ["unshare", "--mount", sys.executable, "-B", str(TOP / "checks" / "carrying_disks.py"), program, str(folder)]
+    ended = subprocess.run(words, capture_output=True, text=True, check=False, timeout=4 * DEADLINE)
+    print("".join(f"{line}\n" for line in ended.stdout.splitlines()[:-1]), end="", flush=True)
+    found = re.search(r"^(\d+) passed, (\d+) failed$", ended.stdout, re.M)
+    told.want(found and ended.returncode == 0, f"full disks: {ended.returncode}, {ended.stdout[-300:]}{ended.stderr[-300:]}")
+    if found:
+        told.passed += int(found[1])
+        told.failed += int(found[2])
 
 
 # Kills.
@@ -564,7 +582,7 @@ def try_behind(told, program, folder, seconds):
 
 
 PLAYS = {
-    "same": try_same, "parted": try_parted, "other text": try_other_text, "recipe": try_recipe, "way": try_way, "full disk": try_full_disk,
+    "same": try_same, "parted": try_parted, "other text": try_other_text, "recipe": try_recipe, "way": try_way, "full disks": try_full_disks,
 }
 
 

@@ -287,20 +287,20 @@ class Desk(Beside):
             except (OSError, ValueError):
                 continue
             self.told.append(message)
-            if message.kind == "confirmed-request":
+            if message.kind == "request":
                 self.socket.sendto(octets.simple_ack(message.invoke, message.number), sender)
 
 
 class Writer(Beside):
     """Writes ever greater numbers to the ward's counter, each until it is answered, in a block. It knows for how long nobody answered."""
 
-    def __init__(self, unit, pause=0.1):
+    def __init__(self, unit, pause=0.1, behind=100_000):
         super().__init__(self.write)
-        self.unit, self.pause, self.answered, self.longest = unit, pause, [], 0.0
+        self.unit, self.pause, self.behind, self.answered, self.longest = unit, pause, behind, [], 0.0
 
     def write(self):
         asking = socket.socket(socket.AF_INET, socket.SOCK_DGRAM)
-        number, last = 100_000, time.monotonic()
+        number, last = self.behind, time.monotonic()
         while not self.stops:
             number, patience = number + 1, 0.05
             request = octets.write_property(number % 256, COUNTER, PRESENT_VALUE, octets.application(2, number))

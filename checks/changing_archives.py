@@ -1,12 +1,13 @@
 """The parts of checks/replay for histories that were folded: archives, and a state that is translated."""
 import json
 import random
+import unittest.mock
 
 import bacnet
 import changing_reads
 import changing_replay
 import serving
-from alarm_tools import journal
+from alarm_tools import archive_search, journal, replay_packets, replay_source
 from changing_replay import run
 from changing_sites import START, TOOL, History, draw_site, play
 from tooling import lines_of_json
@@ -78,6 +79,41 @@ def try_archive(told, program, folder, _):
     play(program, other, folder / "other", [f"tick {START}"])
     told.same("an archive of another text", run("alarm-journal", "archive", folder / "other", kept_in, **keys)[0], 8)
     told.same("an archive behind it", run("alarm-journal", "archive", folder / "other", folder / "next", "--behind", kept_in, **keys)[0], 0)
+    see_unchanged(told, program, folder)
+
+
+def see_unchanged(told, program, folder):
+    """An event that came with a snapshot and changed nothing is found as one that a session makes too, so that it can be played."""
+    site, kept = changing_replay.small(folder, program, *sections(), name="unchanged")
+    play(program, site, kept, [f"set {START + 1000} integer-value:1 signed:90"])
+    moment = fill_up(kept, START + 1000)
+    play(program, site, kept, [f"set {moment + 1} integer-value:1 signed:90", f"set {moment + 2} integer-value:1 signed:50"])
+    with journal.Journal(kept) as it:
+        told.want(it.settled().snapshot.events, "the journal isn't folded by a write of the value that is there")
+    changed = folder / "unchanged-next.toml"
+    changed.write_text(site.read_text(encoding="utf-8").replace("deadband = 5", "deadband = 6"), encoding="utf-8")
+    status, output, said = run("alarm-journal", "replay", kept, changed, folder / "unchanged-new", ALARM_SERVER_PROGRAM=program)
+    told.want(status == 0, f"a replay over a write of the value that is there: {status}, {output!r}, {said!r}")
+
+
+def fill_up(kept, moment):
+    """Fills an area to its last octet by writes of the note, one in each batch, as a session's are. Gives the last moment."""
+    with journal.Journal(kept) as it:
+        area = it.settled()
+        place, left = area.place + len(area.octets), it.header.area_octets - len(area.octets)
+    head, written = 5 + len(archive_search.write_of(moment, NOTE, 85, archive_search.value_octets(7, ""))), b""
+    while left:
+        length = min(LONG, left - head)
+        # What is left behind it has room for another one, or there is nothing left.
+        length -= 2 * head if 0 < left - head - length <= head else 0
+        moment += 1
+        record = archive_search.write_of(moment, NOTE, 85, archive_search.value_octets(7, f"{moment:0{length}}"[-length:]))
+        written += b"\x01" + len(record).to_bytes(4, "big") + record
+        left -= head + length
+    with open(kept, "r+b") as file:
+        file.seek(place)
+        file.write(written)
+    return moment
 
 
 def see_again(told, program, folder, site, kept, kept_in):
@@ -92,6 +128,18 @@ def see_again(told, program, folder, site, kept, kept_in):
     document = changing_replay.document_of(site.read_bytes())
     same = status == 0 and changing_reads.read(program, site, kept, document) == changing_reads.read(program, site, folder / "again", document)
     told.want(same, f"the replay of an archive reads otherwise, or ended with {status}, {said!r}")
+    see_many_standbys(told, program, folder, site, kept_in)
+
+
+def see_many_standbys(told, program, folder, site, kept_in):
+    """A history of more packets than a script has lines goes to several standbys, one after the other."""
+    events = [event.octets for event in replay_source.Source(kept_in).more()]
+    serving.make_journal(program, site, folder / "many", 16_000_000)
+    with unittest.mock.patch.object(replay_packets, "MOST_LINES", 60), replay_packets.Standby(program, site, folder / "many") as standby:
+        told.want(all(standby.add(octets) for octets in events) and standby.flush(), "a packet to one of many standbys wasn't taken")
+        told.want(standby.lines < 60 < len(events) * LONG / replay_packets.MOST, f"{len(events)} events went to one standby")
+        standby.end()
+    told.same("the events behind many standbys", [event.octets for event in replay_source.Source(folder / "many").more()], events)
 
 
 def see_report(told, program, folder):

@@ -9,6 +9,7 @@ import subprocess
 import time
 
 import changing
+import changing_archives
 import serving
 import tooling
 from changing import HOUSE, IN_ALARM, TECHNICAL, THIRTEENTH, TOP, VITAL, Desk, Writer, lonely_ward, missing, ward
@@ -188,7 +189,7 @@ def try_ward(told, program, folder):
         told.same("the text in force", unit.text(), old + THIRTEENTH)
         see_ward(told, "there", unit, before)
         told.same("the 13th point", unit.client("read", "positive-integer-value:13", "present-value").split()[-1], "100")
-        told.same("what the desk was told of the change", [it for it in desk.told[waits:] if it.kind == "unconfirmed-request"], [])
+        told.same("what the desk was told of the change", [it for it in desk.told[waits:] if it.kind in ("request", "unconfirmed")], [])
         print(f"ward: nobody was served for {writer.longest:.2f} s; {len(writer.answered)} writes were answered", flush=True)
         see_there_and_back(told, unit, before, old)
 
@@ -198,18 +199,43 @@ def see_there_and_back(told, unit, before, old):
     unit.client("write", "positive-integer-value:13", 300)
     unit.client("write", "integer-value:4", 215)
     before = before | {"integer-value:4": unit.client("read", "integer-value:4", "--each")}
-    status, said = until_done(unit, "--back", "--yes")
-    told.want(status == 0 and "left out: event" in said, f"back: {status}, {said}")
-    told.same("the text behind the way back", unit.text(), old)
-    see_ward(told, "back", unit, before)
-    told.want("unknown-object" in unit.run("alarm-client", "read", "positive-integer-value:13")[1], "the 13th point is still there")
-    told.same("there again", until_done(unit, "--back", "--yes")[0], 0)
+    with Writer(unit, behind=200_000) as writer:
+        status, said = until_done(unit, "--back", "--yes")
+        told.want(status == 0 and "left out: event" in said, f"back: {status}, {said}")
+        told.same("the text behind the way back", unit.text(), old)
+        see_ward(told, "back", unit, before)
+        told.want("unknown-object" in unit.run("alarm-client", "read", "positive-integer-value:13")[1], "the 13th point is still there")
+        told.same("there again", until_done(unit, "--back", "--yes")[0], 0)
+    told.same("answered on the way there and back, and not in the journal", missing(unit, writer.answered), [])
+    told.want(len(writer.answered) > 5, f"{len(writer.answered)} writes were answered on the way there and back")
     see_ward(told, "there again", unit, before)
     unit.client("write", "integer-value:4", 216)
     status, said = until_done(unit, "--back", "--forget", "--yes")
     told.want(status == 0 and "will not have happened" in said, f"back as it was: {status}, {said}")
     told.same("the text as it was", unit.text(), old)
     told.same("what was written since", unit.client("read", "integer-value:4", "present-value").split()[-1], "215")
+
+
+def try_full_area(told, program, folder):
+    """There and back, under writes, where an area was full when a write came twice: the event that came with the snapshot is played too."""
+    with changing.Unit(folder / "unit", program) as unit:
+        counter = "[[object]]", {"kind": "positive-integer-value", "instance": changing.COUNTER[1], "value": 0}
+        unit.site.write_text(serving.site_text(*changing_archives.sections(counter)), encoding="utf-8")
+        kept, first = unit.state / "journal", serving.START + 1000
+        told.same("a journal", unit.run("alarm-server", "new-journal", unit.site, kept)[0], 0)
+        unit.play(f"set {first} integer-value:1 signed:90\n")
+        last = changing_archives.fill_up(kept, first)
+        unit.play(f"set {last + 1} integer-value:1 signed:90\nset {last + 2} integer-value:1 signed:50\n")
+        told.same("a start before the server", unit.change("--finish")[0], 0)
+        unit.begin()
+        old, changed = unit.text(), unit.folder / "next.toml"
+        changed.write_text(old.replace("deadband = 5", "deadband = 6"), encoding="utf-8")
+        with Writer(unit) as writer:
+            for words, text in ((["next.toml"], changed.read_text(encoding="utf-8")), (["--back"], old)):
+                status, said = until_done(unit, *words, "--yes")
+                told.want(status == 0 and unit.text() == text, f"{words[0]}, over a fold: {status}, {said}")
+        told.same("over a fold: answered, and not in the journal", missing(unit, writer.answered), [])
+        told.want(len(writer.answered) > 3, f"{len(writer.answered)} writes were answered over a fold")
 
 
 # What is told, and what is refused.
@@ -448,13 +474,13 @@ def try_wrong(told, program, folder):
         told.want(quiet.failed, f"a tool that {name} isn't seen")
 
 
-def parts(kills, made):
-    """Each part by its name. What they share is made in a folder."""
+def parts(numbers, kills, made):
+    """Each part by its name, with the kills of these numbers, of so many. What they share is made in a folder."""
     found = {
-        "ward": try_ward, "refusals": try_refusals, "folder": try_folder, "taking in": try_taking_in, "blank": try_blank, "other text": try_other_text,
+        "ward": try_ward, "full area": try_full_area, "refusals": try_refusals, "folder": try_folder, "taking in": try_taking_in, "blank": try_blank, "other text": try_other_text,
         "late": try_late, "wrong tools": try_wrong,
     }
-    for number in range(kills):
+    for number in numbers:
         step = kill_of(number, kills)
         found[f"kill {number + 1}{f' {step}' if step else ''}"] = try_kill(number, step, made)
     return found

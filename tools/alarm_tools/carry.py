@@ -13,10 +13,10 @@ COUNT, EMPTY = 15, 20
 # For how long is waited behind a way that was lost; and before two that have parted are compared again, which takes the longer the
 # larger they are.
 SOONEST, LATEST, PARTED_WAIT = 0.2, 15, 2
-# The statuses of `alarm-server standby` by which nothing more is to be done until somebody has seen to it, and what they mean.
-OTHER_TEXT, DISK_FAULT = 3, 7
+# What the statuses of `alarm-server standby` mean.
+OTHER_TEXT = 3
 MEANINGS = {
-    1: "the standby's files can't be opened", 3: "the standby's site has another text, or is refused", 4: "a line was refused: the other end is no standby, or one of another version", 7: "the disk of the standby failed",
+    1: "the standby's files can't be opened", 3: "the standby's site has another text, or is refused", 4: "a line was refused: the other end is no standby, or one of another version", 7: "the disk of the standby is full, or fails",
     8: "the standby's journal is refused", 75: "the standby's journal is in use", 255: "ssh can't reach it",
 }
 GOOD, UNTOLD, PARTED, OTHER_SITE, NO_DIGEST = "same", "untold", "parted", "other-site", "not-compared"
@@ -27,10 +27,6 @@ class Parted(Exception):
     """The two don't go together: nothing is carried."""
 
 
-class Ended(Exception):
-    """Nothing is to be carried until somebody has seen to the standby."""
-
-
 class State:
     """How the carrying stands: for lines, metrics and people."""
 
@@ -38,7 +34,7 @@ class State:
         self.say, self.text = say, ""
         self.leader = self.standby = 0
         self.acknowledged_at, self.verdict, self.compared_at = None, NO_DIGEST, None
-        self.begun, self.ways, self.is_carried = time.monotonic(), 0, False
+        self.begun, self.ways, self.is_carried, self.pause = time.monotonic(), 0, False, 0.0
         # Numbers of events that aren't acknowledged yet, each with when it was seen.
         self.seen = collections.deque()
 
@@ -71,7 +67,7 @@ class State:
             "leader_events": self.leader, "standby_events": self.standby, "behind_events": behind,
             "behind_seconds": round(time.monotonic() - self.seen[0][1], 3) if self.seen else 0, "acknowledged_seconds": round(self.age(), 3),
             "parted": int(self.verdict in (PARTED, OTHER_SITE)), "compared": int(self.verdict == GOOD), "verdict": self.verdict,
-            "carried": int(self.is_carried), "ways": self.ways, "text": self.text, "moment": round(time.time(), 3),
+            "carried": int(self.is_carried), "ways": self.ways, "pause_seconds": round(self.pause, 3), "text": self.text, "moment": round(time.time(), 3),
         }
 
 
@@ -81,10 +77,10 @@ class Carry:
     def __init__(self, path, words, state, note, patience, compare_every):
         self.path, self.words, self.state, self.note = path, words, state, note
         self.patience, self.compare_every = patience, compare_every
-        self.wait, self.counted = SOONEST, 0.0
+        self.wait, self.counted, self.good = SOONEST, 0.0, ""
 
     def run(self):
-        """Carries for good. It ends by `Ended` alone."""
+        """Carries for good: whatever comes in between, it is tried again."""
         while True:
             begun = time.monotonic()
             try:
@@ -96,15 +92,13 @@ class Carry:
                 wait = PARTED_WAIT + 10 * (time.monotonic() - begun)
             except (WayLost, Changed, OSError, journal.NoJournal) as fault:
                 wait = self.failed(fault)
-            self.state.is_carried = False
+            self.state.is_carried, self.state.pause = False, wait
             self.idle(wait)
 
     def failed(self, fault):
         """What comes of a fault: for how long is waited."""
         status = getattr(fault, "status", None)
         self.state.tell(f"not carried: {fault}{f': {MEANINGS[status]}' if status in MEANINGS else ''}")
-        if status == DISK_FAULT:
-            raise Ended("the standby's disk failed: see to it, and begin the carrying again")
         if status == OTHER_TEXT:
             self.state.verdict = OTHER_SITE
         wait, self.wait = self.wait, min(self.wait * 2, LATEST)
@@ -137,7 +131,7 @@ class Carry:
                 raise Changed("the journal is blank: nothing was kept in it yet")
             self.state.ways += 1
             with Way(self.words, self.patience) as way:
-                digest, events = opened(way, source.site())
+                digest, events = opened(way, source.site(), self.note)
                 self.compare(source, digest, events)
                 self.stream(source, way, events)
         finally:
@@ -159,12 +153,18 @@ class Carry:
             self.state.verdict = PARTED
             raise Parted(f"they have parted: the leader has {total} events, and the standby {events}")
         self.state.acknowledge(events)
-        self.state.is_carried, self.wait = True, SOONEST
-        self.state.tell(f"carried from event {events} on; {TEXTS[self.state.verdict]}")
+        self.good = f"carried from event {events} on; {TEXTS[self.state.verdict]}"
+
+    def is_well(self):
+        """The standby takes what it is sent. Only then the next pause is a short one: its disk may be full, which it says of no comparison."""
+        self.state.is_carried, self.state.pause, self.wait = True, 0.0, SOONEST
+        self.state.tell(self.good)
 
     def stream(self, source, way, events):
         """Sends what comes, and takes what is answered, until the standby is to be begun anew."""
         offers = Offers(source, 0 if self.state.verdict == UNTOLD else events)
+        if not offers.has_some():
+            self.is_well()
         until, beat = time.monotonic() + (self.compare_every if offers.has_some() else EMPTY), 0.0
         while time.monotonic() < until and way.sent < MOST_LINES or way.owed:
             anew = time.monotonic() >= until or way.sent >= MOST_LINES
@@ -198,6 +198,7 @@ class Carry:
         way.owed -= 1
         if word in ("taken", "repeat") and number.isdigit():
             self.state.acknowledge(int(number))
+            self.is_well()
         elif word != "part":
             raise WayLost(f"the standby answers {line[:100]!r}")
 

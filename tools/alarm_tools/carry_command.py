@@ -8,10 +8,10 @@ import sys
 import time
 
 from . import journal, words
-from .carry import Carry, Ended, State
+from .carry import NO_DIGEST, Carry, State
 from .words import CANNOT_OPEN, DONE, Ends
 
-DISK, BEHIND, PARTED, SILENT = 7, 9, 10, 13
+BEHIND, PARTED, SILENT = 9, 10, 13
 # How often the state is written, and metrics are; and how many seconds without an acknowledgement are too many.
 STATE_EVERY, TEXT_EVERY, LIMIT = 1, 5, 60
 STATE = "/run/alarm-carry/state"
@@ -20,13 +20,12 @@ Carries the journal of a server that runs to a standby on another machine, as it
 end `alarm-server standby SITE STANDBY` reads and answers, as `ssh -T root@standby.example` with that as its only command.
 
 It runs for good, beside the server: it only reads the journal, and sends what is on its disk. It begins by comparing both
-journals, and compares them again each hour; two that have parted aren't carried, and it says so. When the way is lost, or
-either side was killed, it goes on from what the standby has."""
+journals, and compares them again each hour; two that have parted aren't carried, and it says so. When the way is lost, either
+side was killed, or a disk was full, it goes on from what the standby has."""
 STATUSES = [
     (0, "--check: all that the leader had is acknowledged, within the limit"),
     (1, "a file can't be opened"),
     (2, "the words are none that it knows"),
-    (7, "the standby's disk failed: nothing is carried until somebody has seen to it"),
     (9, "--check: the standby is behind by more than the limit, or nothing was acknowledged for so long"),
     (10, "--check: the two have parted, or their sites have different texts"),
     (13, "--check, --standby: nothing is known: it doesn't run, or the leader isn't heard"),
@@ -42,7 +41,7 @@ LEADER = {
     "acknowledged_seconds": "how old the last acknowledgement was when this was written",
     "parted": "1 where the two have parted, or their sites have different texts: nothing is carried",
     "compared": "1 where both were found to be of one history", "carried": "1 while a way is open and the standby answers",
-    "ways": "how many ways were opened since it began",
+    "ways": "how many ways were opened since it began", "pause_seconds": "how long it waits before it tries again, 0 where all is well",
 }
 FOLLOWER = {"standby_events": "events that the standby's journal has", "heard_timestamp_seconds": "when the leader was heard last"}
 
@@ -81,7 +80,11 @@ def carry(given):
 
 
 def say(text):
-    print(text, flush=True)
+    """Says a line. Where nobody takes it, as on a full disk, it is lost, and ends nothing."""
+    try:
+        print(text, flush=True)
+    except OSError:
+        pass
 
 
 def replace(path, text):
@@ -122,15 +125,9 @@ class Notes:
 def carry_for_good(given):
     state = State(say)
     notes = Notes(given, state)
-    try:
-        with words.opened(given.journal, "rb"):
-            pass
-        Carry(given.journal, given.way, state, notes.write, given.patience, given.compare_every).run()
-    except Ended as end:
-        state.is_carried, state.text = False, str(end)
-        notes.next = [0.0, 0.0]
-        notes.write()
-        raise Ends(DISK, str(end)) from None
+    with words.opened(given.journal, "rb"):
+        pass
+    Carry(given.journal, given.way, state, notes.write, given.patience, given.compare_every).run()
 
 
 # Metrics.
@@ -170,7 +167,8 @@ def check(given):
 
 
 def status_of(told, since, limit):
-    if since > limit:
+    # Before the first comparison nothing is known of the standby.
+    if since > limit or not told["carried"] and told["verdict"] == NO_DIGEST:
         return SILENT
     if told["parted"]:
         return PARTED

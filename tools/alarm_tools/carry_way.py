@@ -115,13 +115,18 @@ class Way:
             self.child.wait()
 
 
-def opened(way, site):
-    """The digest that the other end tells of its journal, or None where it tells none, and how many events it opened with."""
+def opened(way, site, note):
+    """The digest that the other end tells of its journal, or None where it tells none, and how many events it opened with. `note` is done meanwhile."""
     way.say(f"# compare {way.patience}\n# site {site}\n".encode())
     told, digest, until = [], None, time.monotonic() + OPENING
     while time.monotonic() < until:
+        note()
         way.wait(1)
-        for line in way.lines():
+        found = way.lines()
+        if not found:
+            # Its journal may take long to be opened, and where nothing is heard for so long it takes the way as lost.
+            way.say(b"\n")
+        for line in found:
             if line == COMPARED:
                 digest = same.digest_from(told) if told else None
             elif line.startswith("# "):

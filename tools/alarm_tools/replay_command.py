@@ -5,7 +5,7 @@ import shutil
 import tempfile
 import time
 
-from . import archive, archive_search, from_state, journal, journal_command, names, replay, replay_source, replay_words, site_command, words
+from . import archive, archive_search, from_state, given_up, journal, journal_command, names, replay, replay_source, replay_words, site_command, words
 from .replay_packets import Standby
 from .replay_source import Source
 from .words import CANNOT_OPEN, DONE, Ends
@@ -237,7 +237,7 @@ def is_archive(path):
 
 
 def archived(path):
-    """The text of an archive, and each of its events with its number. What is missing, and what was found by trying, is told."""
+    """The text of an archive, and each of its events as a row. What is missing, and what was found by trying, is told."""
     with archive.Archive(path) as it:
         for first, last in it.gaps():
             journal_command.tell_gap(first, last)
@@ -247,10 +247,9 @@ def archived(path):
 def list_of(path):
     """Each event of an archive."""
     try:
-        with archive.Archive(path) as it:
-            for event in it.events():
-                if event.found:
-                    words.say(f"alarm-journal: event {event.number:,} came with a snapshot, and was {WHERE_FOUND}")
-                yield event.number, event.record
+        for row in given_up.rows_of_archive(path):
+            if row.found:
+                words.say(f"alarm-journal: event {row.number:,} came with a snapshot, and was {WHERE_FOUND}")
+            yield row
     except journal.NoJournal as fault:
         raise Ends(journal_command.REFUSED, f"{path}: {fault}") from None

@@ -1,7 +1,11 @@
-"""Packets of a standby (docs/STANDBY.md), by which events and a state go into a blank journal as they are: nothing is translated."""
+"""Packets of a standby (docs/STANDBY.md), by which events and a state go into a blank journal as they are: nothing is translated.
+
+A script has at most a million lines, so a long history takes several standbys on one journal, one after the other.
+"""
 import subprocess
 
 from . import running
+from .replay_session import MOST_LINES
 from .words import CANNOT_OPEN, Ends
 
 RECORDS, PIECE = 1, 2
@@ -13,9 +17,12 @@ class Standby:
     """The program as a standby, which says of each packet what came of it."""
 
     def __init__(self, program, site, kept):
-        self.run = subprocess.Popen([program, "standby", str(site), str(kept)], stdin=subprocess.PIPE, stdout=subprocess.PIPE, stderr=subprocess.PIPE)
-        self.waiting, self.size = [], 0
-        self.events = int(self.said().split()[1])
+        self.words, self.waiting, self.size = [program, "standby", str(site), str(kept)], [], 0
+        self.begin()
+
+    def begin(self):
+        self.run = subprocess.Popen(self.words, stdin=subprocess.PIPE, stdout=subprocess.PIPE, stderr=subprocess.PIPE)
+        self.lines, self.events = 0, int(self.said().split()[1])
 
     def said(self):
         line = self.run.stdout.readline()
@@ -26,6 +33,7 @@ class Standby:
 
     def give(self, packet):
         """The words of the answer to a packet."""
+        self.lines += 1
         try:
             self.run.stdin.write(b"packet " + packet.hex().encode() + b"\n")
             self.run.stdin.flush()
@@ -51,6 +59,9 @@ class Standby:
         if answer != ["taken", str(wanted)]:
             return False
         self.events = wanted
+        if self.lines >= MOST_LINES:
+            self.end()
+            self.begin()
         return True
 
     def snapshot(self, events, octets):

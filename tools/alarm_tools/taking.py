@@ -9,7 +9,11 @@ The lines of its input go to the program as they come, but for those that are fo
                           no line has come for so many seconds.
 
 The program begins once the first line has come, or after two seconds without one.
+
+What is read back behind a failed sync need not be on the disk, and a standby tells that it is. So a run that ended well leaves a file
+JOURNAL.settled, and where there is none the journal is first written once more as it is read, and synced.
 """
+import errno
 import os
 import re
 import select
@@ -22,7 +26,9 @@ import time
 
 from . import journal, same
 
-SITE_REFUSED, FIRST_SECONDS, MOST, COMPARED = 3, 2, 1 << 16, "# compared"
+SITE_REFUSED, DISK_FAULT, FIRST_SECONDS, MOST, COMPARED = 3, 7, 2, 1 << 16, "# compared"
+# How many octets of a journal are written once more at once, and with how many left a disk is full.
+WRITTEN_AT_ONCE, LITTLE = 1 << 20, 1 << 16
 SITE = re.compile(rb"# site ([0-9a-f]{64})\r?\n?")
 COMPARE = re.compile(rb"# compare ([1-9][0-9]{0,4})\r?\n?")
 
@@ -109,6 +115,70 @@ class Guard:
             pass
 
 
+# The disk.
+
+
+def settle(path):
+    """Sees that what is read of a journal is on its disk: where the last run didn't end well each octet is written anew, and synced."""
+    try:
+        os.unlink(settled_mark(path))
+        return
+    except OSError:
+        # There is none, or it stays and says nothing.
+        pass
+    try:
+        opened = os.open(path, os.O_RDWR)
+    except OSError:
+        # The program says why.
+        return
+    try:
+        for at, end in data_of(opened):
+            while at < end:
+                octets = os.pread(opened, min(WRITTEN_AT_ONCE, end - at), at)
+                at += os.pwrite(opened, octets, at) if octets else end - at
+        os.fsync(opened)
+    finally:
+        os.close(opened)
+
+
+def data_of(opened):
+    """Where a file has octets on its disk, each part with its end: what has none stays without. A device has them everywhere."""
+    at, size = 0, os.lseek(opened, 0, os.SEEK_END)
+    while at < size:
+        try:
+            at = os.lseek(opened, at, os.SEEK_DATA)
+            end = os.lseek(opened, at, os.SEEK_HOLE)
+        except OSError as fault:
+            if fault.errno == errno.ENXIO:
+                return
+            end = size
+        yield at, end
+        at = end
+
+
+def settled_mark(path):
+    return f"{path}.settled"
+
+
+def note_settled(path):
+    """A run has ended well. Where that can't be noted, as on a full disk, the next one writes the journal anew."""
+    try:
+        with open(settled_mark(path), "wb"):
+            pass
+    except OSError:
+        pass
+
+
+def tell_full(path):
+    """Says where the disk has no room left, since the program tells of a fault alone."""
+    try:
+        told = os.statvfs(path)
+    except OSError:
+        return
+    if told.f_bavail * told.f_frsize < LITTLE:
+        say(f"the disk of {path} is full")
+
+
 def can_read():
     """Whether the input is there to be read. What isn't is told by the program."""
     try:
@@ -161,8 +231,17 @@ def main(words):
     if not can_read():
         os.execvp(words[2], words[2:])
     guard = Guard(*words[:2])
+    try:
+        settle(guard.path)
+    except OSError as fault:
+        say(f"{guard.path} can't be written: {fault.strerror}")
+        return DISK_FAULT
     first = guard.first()
     status = 0 if guard.refused and not first else run(guard, words[2:], first)
+    if status == DISK_FAULT:
+        tell_full(guard.path)
+    elif status == 0:
+        note_settled(guard.path)
     if guard.refused:
         say(guard.refused)
         return SITE_REFUSED
