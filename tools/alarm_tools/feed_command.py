@@ -19,6 +19,10 @@ out, but for an Abort 0, where the outbox is full: that one is written again unt
 Each minute, and with each pair of --alive, it reads back what it wrote. What differs is written again, and told on standard error, as
 where a server began on another journal. An object that is out of service is left as it is.
 
+With --settle an object changes at most once in so many seconds: what comes sooner behind a change is held back, and of that the last
+value is written once the time is over, also where the input has ended meanwhile. So the first change of a contact that chatters is
+written at once, and the state in which it stays is never lost.
+
 With --keep the last value of each object is kept in a file before it is written, and all of them are written at the start.
 With --alive a binary value is set to inactive and then to active again and again, so that an alarm comes where this tool is gone.
 
@@ -34,6 +38,7 @@ EXAMPLES = [
     ("read-the-field | alarm-feed --keep values", "writes what a program prints that reads the field"),
     ("alarm-feed --curves school.curves --speed 60", "an hour of a plant in a minute"),
     ("alarm-feed --curves school.curves --script 1704110400000 --for 7200 > lines", "the same as a script for a session"),
+    ("read-the-field | alarm-feed --settle 2", "a contact that chatters is written once in two seconds"),
     ("read-the-field | alarm-feed --alive binary-value:9 --alive-within 300", "a dead-man alarm, also where the field has gone silent"),
 ]
 # How long is waited behind a full outbox, in seconds, and of how many objects a look back tells by name.
@@ -44,6 +49,7 @@ def parser():
     made = words.parser_of("alarm-feed", WHAT, STATUSES, EXAMPLES)
     client.add_words(made)
     made.add_argument("--keep", metavar="FILE", help="keep the last value of each object, and write all of them at the start")
+    made.add_argument("--settle", type=client.seconds, metavar="SECONDS", help="change each object at most once in so long; of what comes sooner the last value is written once it is over")
     made.add_argument("--look-every", type=client.seconds, default=60.0, metavar="SECONDS", help="how often what was written is read back (%(default)s)")
     made.add_argument("--site", metavar="SITE", help="take names of objects from a site's text; without it the server is asked for them")
     made.add_argument("--alive", metavar="OBJECT", help="a binary value that is set to inactive and active again and again")
@@ -56,7 +62,7 @@ def parser():
     made.add_argument("--for", dest="length", type=client.seconds, metavar="SECONDS", help="end after so long in the plant's time")
     made.add_argument("--print", dest="prints", action="store_true", help="print lines in place of writing values")
     made.add_argument("--script", type=int, metavar="MOMENT", help="print a session's script that begins at a moment, at once")
-    made.add_argument("--json", action="store_true", help="a line of JSON for each value, once it was taken or refused")
+    made.add_argument("--json", action="store_true", help="a line of JSON for each value, once it was taken or refused, or passed over for a later one")
     made.set_defaults(call=feed)
     return made
 
@@ -91,6 +97,10 @@ class Kept:
         self.last[of] = word
         if not word:
             del self.last[of]
+        self.note(of, word)
+
+    def note(self, of, word):
+        """Has a value in the file alone: one that is to be written yet."""
         if self.file:
             self.file.write(f"{names.object_text(of)} {word}\n")
             self.file.flush()
@@ -213,19 +223,52 @@ def print_script(given, made):
 # Writing.
 
 
+class Settling:
+    """What is held back: of each object the last value that came within so many seconds of a change that the server took."""
+
+    def __init__(self, seconds, words):
+        self.seconds, self.words, self.taken, self.held = seconds, dict(words), {}, {}
+
+    def took(self, of, word):
+        """Notes that the server took a value. One that it had already is no change."""
+        if self.seconds and self.words.get(of) != word:
+            self.words[of], self.taken[of] = word, time.monotonic()
+
+    def over(self, of):
+        """When an object may be written again."""
+        return self.taken[of] + self.seconds if of in self.taken else 0.0
+
+    def holds(self, of, word):
+        """Whether a value is held back, in place of one that was held before."""
+        if self.over(of) <= time.monotonic():
+            self.held.pop(of, None)
+            return False
+        self.held[of] = word
+        return True
+
+    def next_over(self):
+        """When the first of those that are held may be written."""
+        return min(map(self.over, self.held), default=None)
+
+    def due(self):
+        """A value that may be written now, which is held no more; or None."""
+        of = min(self.held, key=self.over, default=None)
+        return None if of is None or self.over(of) > time.monotonic() else (of, self.held.pop(of))
+
+
 class Feeder:
     """Writes values one by one until each is taken or refused."""
 
     def __init__(self, given, asked, kept, queue, counts):
         self.given, self.asked, self.kept, self.queue, self.counts = given, asked, kept, queue, counts
         self.silent, self.alive_at, self.look_at = False, time.monotonic(), time.monotonic() + given.look_every
-        self.alive, self.left = None, {}
+        self.alive, self.left, self.settling = None, {}, Settling(given.settle, kept.last)
 
     def run(self):
         self.queue.put_again(self.kept.last)
         self.queue.came = time.monotonic()
-        while not self.queue.is_done():
-            found = self.queue.next(min(self.alive_at, self.look_at) if self.alive else self.look_at)
+        while not self.queue.is_done() or self.settling.held:
+            found = self.settling.due() or self.next_settled()
             if found:
                 before = self.kept.last.get(found[0], "")
                 self.kept.keep(*found)
@@ -238,16 +281,39 @@ class Feeder:
             self.write_counts()
         return words.REFUSED if self.counts["refused"] else DONE
 
+    def next_settled(self):
+        """The next value that isn't held back, or None where none comes until something else is to be done."""
+        moments = [self.look_at, *[self.alive_at] * bool(self.alive), *[self.settling.next_over()] * bool(self.settling.held)]
+        found = self.queue.next(min(moments))
+        if not found:
+            if self.queue.is_done() and self.settling.held:
+                time.sleep(max(0.0, min(moments) - time.monotonic()))
+            return None
+        of, word = found
+        passed = self.settling.held.get(of)
+        if passed is not None:
+            self.counts["passed"] += 1
+            self.tell(of, passed, "passed over")
+        if not self.settling.holds(of, word):
+            return found
+        self.kept.note(of, word)
+        return None
+
+    def put_again(self, kept):
+        """Has kept values written again, but for those of objects of which a later one is held back."""
+        self.queue.put_again({of: word for of, word in kept.items() if of not in self.settling.held})
+
     def is_possible(self, of, word):
         """Writes a value, and says whether it isn't one that the server refuses for good. One that isn't answered goes back into the queue."""
         try:
             self.asked.write(of, octets.PRESENT_VALUE, values.element_from(of, octets.PRESENT_VALUE, word))
             self.counts["written"] += 1
+            self.settling.took(of, word)
             self.tell(of, word, "taken")
             if self.silent:
                 self.silent = False
                 say(f"{self.asked.where()} answers again: all {len(self.kept.last)} values are written again")
-                self.queue.put_again(self.kept.last)
+                self.put_again(self.kept.last)
         except NoAnswer as fault:
             self.counts["unanswered"] += 1
             if not self.silent:
@@ -275,7 +341,7 @@ class Feeder:
     def look_back(self):
         """Reads back what was written, and has written again what differs, as where the server began on another journal."""
         self.look_at = time.monotonic() + self.given.look_every
-        waiting = self.queue.waiting()
+        waiting = self.queue.waiting() | set(self.settling.held)
         mine = {of: word for of, word in self.kept.last.items() if of not in waiting}
         try:
             found = self.asked.read_many([(of, number, None) for of in mine for number in (octets.PRESENT_VALUE, octets.OUT_OF_SERVICE)])
@@ -293,7 +359,7 @@ class Feeder:
             self.silent = False
             say(f"{self.asked.where()} answers again")
         told = []
-        self.queue.put_again({of: word for of, word in mine.items() if self.differs(of, word, found, told)})
+        self.put_again({of: word for of, word in mine.items() if self.differs(of, word, found, told)})
         for line in told[:MOST_TOLD]:
             say(line)
         if told[MOST_TOLD:]:
@@ -353,7 +419,7 @@ class Feeder:
 COUNTED = {
     "written": "values that the server took", "refused": "values that it refused, and lines that are none",
     "full": "writes that an Abort 0 answered, since the outbox was full", "unanswered": "writes that nobody answered",
-    "restored": "values that the server no longer had, and that were written again",
+    "restored": "values that the server no longer had, and that were written again", "passed": "values that were held back by --settle, and passed over for a later one",
 }
 
 
@@ -378,6 +444,8 @@ def feed(given):
     made = read_curves(given.curves, finder.find) if given.curves else None
     if (given.prints or given.script is not None) and made is None:
         raise Ends(USAGE, "--print and --script want --curves")
+    if given.settle and (given.prints or given.script is not None):
+        raise Ends(USAGE, "--settle holds back what is written, and --print and --script write nothing")
     if given.script is not None:
         return print_script(given, made)
     if given.prints:

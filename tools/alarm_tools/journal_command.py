@@ -4,7 +4,7 @@ import pathlib
 import sys
 import time
 
-from . import finding, glance, journal, names, replay_command, same, site_text, words
+from . import finding, given_up, glance, journal, names, plan, replay_command, same, site_command, site_text, words
 from .journal import NoJournal
 from .words import CANNOT_OPEN, DONE, Ends
 from .zone import moment_from
@@ -31,6 +31,7 @@ STATUSES = [
 EXAMPLES = [
     ("alarm-journal show journal", "the number of events, the last one against the clock, and what room is left"),
     ("alarm-journal events journal --since 12h --object integer-value:1", "what happened to an object in the last twelve hours"),
+    ("alarm-journal events journal --given-up --text", "whom the server gave up, when, and how many notifications each time"),
     ("alarm-journal copy journal backup", "a copy, also while the server runs"),
     ("alarm-journal same journal standby", "whether two journals are of one history, or where they part"),
     ("alarm-journal site journal > the-text-of-it.toml", "the site's text that it was made for"),
@@ -54,7 +55,10 @@ def parser():
     events = words.command_of(commands, "events", "writes each event as a line of JSON", show_events)
     events.add_argument("--since", metavar="MOMENT", help="from a moment on: 2024-01-13T02:30 by the site's clock, or 90m, 12h, 3d ago")
     events.add_argument("--object", metavar="OBJECT", help="of one object alone: KIND:INSTANCE, or its name")
+    events.add_argument("--given-up", action="store_true", help="only those by which notifications were given up")
     events.add_argument("--text", action="store_true", help="as text for people in place of JSON")
+    events.add_argument("--program", metavar="PROGRAM", help="the program to which the events are played, so that each pump tells what it gave up "
+                        "(ALARM_SERVER_PROGRAM, else the one that was built or installed beside this tool); none: that isn't told")
     check = words.command_of(commands, "check", "looks at each record by its grammar", check_journal)
     copy = words.command_of(commands, "copy", "copies a journal, also one in use", copy_journal)
     site = words.command_of(commands, "site", "writes the site's text that a journal was made for", show_site)
@@ -166,6 +170,7 @@ def whole_text(told):
 
 
 def show_events(given):
+    program = program_asked(given)
     if replay_command.is_archive(given.journal):
         text, rows = replay_command.archived(given.journal)
     else:
@@ -173,22 +178,39 @@ def show_events(given):
     view = glance.glance(text)
     wanted = None if given.object is None else object_wanted(given.object, view)
     since = since_of(given.since, view)
-    for number, record in rows:
-        if (since is None or record.moment >= since) and (wanted is None or record.fields.get("object") == wanted):
-            event = event_of(number, record, view)
+    told = given_up.Told(program, text)
+    for row, found in told.over(rows) if program else ((row, []) for row in rows):
+        record = row.record
+        if (since is None or record.moment >= since) and (wanted is None or record.fields.get("object") == wanted) and (found or not given.given_up):
+            event = event_of(row.number, record, view) | given_up_of(found)
             words.put(event_text(event) if given.text else words.json_line(event))
+    if told.fault:
+        words.say(f"alarm-journal: what was given up isn't told: {told.fault}")
+        return CANNOT_OPEN if given.given_up else DONE
     return DONE
 
 
+def program_asked(given):
+    """The program, without which it isn't told what was given up; where that alone is asked for it has to be there."""
+    program = site_command.program_of(given)
+    if program is None and given.given_up:
+        raise Ends(CANNOT_OPEN, "there is no program, and only it says what was given up: build or install it, or name it by --program")
+    return program
+
+
+def given_up_of(found):
+    """What a pump gave up, as a line of JSON has it."""
+    return {"given_up": [{"peer": one.peer, "notifications": one.count} for one in found]} if found else {}
+
+
 def kept_events(path):
-    """The text of a journal, and each event that a record tells, with its number."""
+    """The text of a journal, and each event that a record tells, as a row."""
     with opened(path) as it:
         older, area = it.history()
         text = it.header.text
     if older:
         tell_gap(journal.events_in(older) + 1, area.snapshot.events)
-    parts = filter(None, (older, area))
-    return text, (row for part in parts for row in enumerate(records_of(part, path), part.snapshot.events + 1))
+    return text, rows_of(older, area, path)
 
 
 def tell_gap(first, last):
@@ -216,9 +238,9 @@ def since_of(text, view):
         raise Ends(words.USAGE, str(error)) from None
 
 
-def records_of(area, path):
+def rows_of(older, area, path):
     try:
-        yield from journal.records_in(area)
+        yield from given_up.rows_of_journal(older, area)
     except NoJournal as fault:
         raise Ends(REFUSED, f"{path}: {fault}") from None
 
@@ -258,6 +280,7 @@ def event_text(event):
     if "property" in event:
         rest += [event["property"], "=", str(event["value"])]
     rest += [str(event[key]) for key in ("reliability", "transition", "state", "peer", "answer") if key in event]
+    rest += [", ".join(f"gave up {plan.counted(it['notifications'], 'notification')} to {it['peer']}" for it in event.get("given_up", []))]
     return words.printable(f"{head}{' '.join(rest)}".rstrip())
 
 

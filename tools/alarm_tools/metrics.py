@@ -3,13 +3,14 @@ import os
 import pathlib
 import time
 
-from . import client, copies_command, glance, journal, names, octets, values, words
+from . import client, copies_command, given_up, glance, journal, names, octets, site_command, values, words
 from .client import NoAnswer, Refusal
 from .words import CANNOT_OPEN, DONE, Ends
 from .zone import MachineZone, datetime_of
 
 # Where the kernel lists the sockets of UDP, with how many datagrams it dropped at each.
 SOCKETS = os.path.join(os.sep, "proc", "net", "udp")
+HOUR = 3600
 # Each metric: its name behind alarm_server_, its type, and what it is.
 METRICS = {
     "up": ("gauge", "1 where the server answers GetEventInformation, else 0"),
@@ -19,6 +20,7 @@ METRICS = {
     "log_records": ("gauge", "Total_Record_Count of each event log, which goes on over what the log drops"),
     "last_event_seconds": ("gauge", "how old the last event is that the journal, else the first log, has; below 0 it is ahead of the clock"),
     "journal_room_left_octets": ("gauge", "octets that are left in the area in use of the journal"),
+    "given_up_last_hour": ("gauge", "notifications that were given up in the last hour, since their recipients didn't answer"),
     "newest_copy_seconds": ("gauge", "how old the newest copy of the journal is, by its name; left out where there is none"),
     "datagrams_lost_total": ("counter", "datagrams that the system lost at the server's socket, as the kernel counts them for each"),
     "scrape_timestamp_seconds": ("gauge", "when this was written"),
@@ -29,6 +31,8 @@ def add_command(commands):
     command = words.command_of(commands, "metrics", "writes the server's state for Prometheus", write_metrics)
     command.add_argument("--textfile", metavar="FILE", help="write to a file, which is replaced at once (standard output)")
     command.add_argument("--journal", metavar="JOURNAL", help="take the last event and the room left from the server's journal")
+    command.add_argument("--given-up", action="store_true", help="tell how many notifications were given up in the last hour, by the journal's events, which are played to the program")
+    command.add_argument("--program", metavar="PROGRAM", help="that program (ALARM_SERVER_PROGRAM, else the one that was built or installed beside this tool)")
     command.add_argument("--copies", metavar="FOLDER", help="tell how old the newest copy of the journal is that alarm-copies made there")
     command.add_argument("--site", metavar="SITE", help="take the clock of the device from its site's text (this machine's)")
     command.add_argument("--log", action="append", default=[], metavar="N", help="the instance of an event log; again for each (1)")
@@ -37,6 +41,8 @@ def add_command(commands):
 
 
 def write_metrics(given):
+    if given.given_up and not given.journal:
+        raise Ends(words.USAGE, "--given-up wants --journal")
     rows = rows_of(given)
     if given.json:
         words.put(words.json_line({name + (f"{{{labels}}}" if labels else ""): value for name, labels, value in rows}))
@@ -87,6 +93,7 @@ def rows_of(given):
             rows = [("up", "", 0)]
         address = asked.address
     rows += rows_of_journal(given.journal) if given.journal else last or []
+    rows += rows_of_given_up(given, now) if given.given_up else []
     rows += rows_of_copies(given.copies) if given.copies else []
     lost = datagrams_lost(address[1])
     rows += [] if lost is None else [("datagrams_lost_total", "", lost)]
@@ -147,6 +154,18 @@ def rows_of_journal(path):
     last = journal.last_of(area)
     rows = [] if last is None else [("last_event_seconds", "", time.time() - last / 1000)]
     return [*rows, ("journal_room_left_octets", "", left)]
+
+
+def rows_of_given_up(given, now):
+    """How many notifications were given up in the last hour. Where it can't be told that is said, and the rest is written."""
+    program = site_command.program_of(given)
+    try:
+        if program is None:
+            raise Ends(CANNOT_OPEN, "there is no program that tells what was given up: build or install it, or name it by --program")
+        return [("given_up_last_hour", "", given_up.since(program, given.journal, int(1000 * (now - HOUR))))]
+    except (OSError, journal.NoJournal, Ends) as fault:
+        words.say(f"alarm-client: {given.journal}: {getattr(fault, 'strerror', None) or fault}")
+        return []
 
 
 def rows_of_copies(folder):

@@ -2,7 +2,7 @@
 import collections
 import time
 
-from . import names, site_text, week, words
+from . import names, outbox_room, site_text, week, words
 from .site_text import alarm_objects, lists, name_of
 
 Warning = collections.namedtuple("Warning", "line kind text")
@@ -176,12 +176,7 @@ def grouped_gaps(destinations, members):
 def device(site):
     it = site.device
     line = lambda key: site.places.line("device", 0, key) or it["line"]
-    least = site_text.notes_at_once(site)
-    wanted = min(10 * least, MOST_NOTES)
-    if it["outbox"] < wanted:
-        much = "ten times as many" if wanted < MOST_NOTES else "the most that it may have"
-        has = f"the outbox has room for {it['outbox']} notifications, and all objects at once make {least}"
-        yield Warning(line("outbox"), "small-outbox", f"{has}: one dead recipient can stop every write; {wanted} is {much}")
+    yield from small_outbox(site, line("outbox"))
     if it["vendor"] == 0:
         yield Warning(line("vendor"), "vendor", "vendor is 0, which is ASHRAE's own number: take yours, or 999 for trying")
     if it["start"] > time.time() * 1000:
@@ -192,10 +187,53 @@ def device(site):
         yield Warning(line("zone_minutes"), "no-summer", f"{by_clock}: where clocks are put forward in summer, give a zone_rule")
 
 
+def small_outbox(site, line):
+    """Without `flush_silent` ten times what all objects make at once; with it that, and what waits while one recipient is silent and objects change once a second."""
+    it, least = site.device, site_text.notes_at_once(site)
+    wanted = min(10 * least, MOST_NOTES)
+    has = f"the outbox has room for {it['outbox']} notifications, and all objects at once make {least}"
+    if it["flush_silent"]:
+        wanted = outbox_room.total(outbox_room.room(site, outbox_room.Load(1)))
+        if it["outbox"] < wanted:
+            yield Warning(line, "small-outbox", f"{has}: with one recipient that is silent and a change a second it is {wanted} (alarm-site size --changes tells more)")
+    elif it["outbox"] < wanted:
+        much = "ten times as many" if wanted < MOST_NOTES else "the most that it may have"
+        yield Warning(line, "small-outbox", f"{has}: one dead recipient can stop every write; {wanted} is {much}")
+
+
+def silence(site):
+    """Classes of which one silent recipient fills the outbox, where the text doesn't say whether that may be: by an object that changes without a delay."""
+    if site.device["flush_silent"] or ("device", 0, "flush_silent") in site.places.keys:
+        return
+    told = lists(site)
+    for it in site.classes:
+        quick = [one for one in alarm_objects(site) if one["class"] == it["instance"] and is_quick(one)]
+        confirm = [one for one in outbox_room.recipients(told[it["instance"]]) if one.confirms]
+        of_change = max((changes_told(one, whom) for one in quick for whom in confirm), default=0)
+        times = [outbox_room.full_after(site.device, rate * of_change) for rate in (1, 4)]
+        if times[1] is None:
+            continue
+        once = f"once a second fills the outbox of {site.device['outbox']} after {words.length_text(times[0])}" if times[0] else f"once a second doesn't fill the outbox of {site.device['outbox']}"
+        whose = f"class {it['instance']} {of_name(it)}".rstrip()
+        why = f"where a recipient is silent that is to confirm, an object without time_delay that changes {once}, and four times a second after {words.length_text(times[1])}"
+        then = "from then on what would be told is refused. flush_silent = true in [device] ends that, and so does a time_delay"
+        yield Warning(it["line"], "silent-recipient", f"{whose}: {why}; {then} ({members_text(quick)})")
+
+
+def is_quick(it):
+    """Whether each change of an object is told at once, there and back."""
+    return it["detection"] and not it["inhibit"] and not it["time_delay"] and not it["time_delay_normal"] and it["enable"] != "000"
+
+
+def changes_told(it, recipient):
+    """How many notifications a recipient has of a change of an object that goes into alarm and back in turn."""
+    return sum(recipient.notes[place] for place in (0, 2) if it["enable"][place] == "1") / 2
+
+
 def enrollments(site):
     for it in site.enrollments:
         if it.get("feedback") == it["monitored"]:
             yield Warning(it["line"], "own-feedback", f"{of(it)}: its feedback is the monitored object itself, so it is never in alarm")
 
 
-LOOKS = (names_twice, limits, faults, lengths, first_values, delays, windows, gaps_of_classes, device, enrollments)
+LOOKS = (names_twice, limits, faults, lengths, first_values, delays, windows, gaps_of_classes, device, silence, enrollments)
