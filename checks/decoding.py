@@ -10,7 +10,7 @@ FIELDS = [
     "bacapp.confirmed_service", "bacapp.unconfirmed_service", "bacapp.reject_reason", "bacapp.abort_reason",
 ]
 NUMBERS = {kind: str(number) for number, kind in bacnet.KINDS.items()}
-SECONDS = 60
+SECONDS = 300
 
 
 def packet(number, was_sent, octets):

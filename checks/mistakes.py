@@ -56,6 +56,9 @@ OF_VALUES = [
     Mistake("a vendor that can't be", "vendor = 999", "vendor = 70000", "bad-value device 0 vendor", ["65535"]),
     Mistake("too many retries", DEVICE, f"{DEVICE}\nretries = 20", "bad-value device 0 retries", ["from 0 to 15"]),
     Mistake("no time for an answer", DEVICE, f"{DEVICE}\napdu_timeout = 0", "bad-value device 0 apdu_timeout", ["from 1 to 3600000"]),
+    Mistake("a truth in quotes", DEVICE, f'{DEVICE}\nflush_silent = "true"', "bad-value device 0 flush_silent", ["true or false", "without quotes"]),
+    Mistake("a number for a truth", DEVICE, f"{DEVICE}\nflush_silent = 1", "bad-value device 0 flush_silent", ["true or false"]),
+    Mistake("a hyphen in a key of the device", DEVICE, f"{DEVICE}\nflush-silent = true", "unknown device 0 flush-silent", ["flush_silent"]),
     Mistake("a device's number that can't be", "instance = 2001", "instance = 4194303", "bad-value device 0 instance", ["4194302"]),
 ]
 # Keys.

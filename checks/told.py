@@ -6,6 +6,7 @@
   of code begins with a comment that says what it is.
 - SITE says of each key in which definition it acts.
 - The program, the page of the manual, the first start and CHANGELOG have the number of VERSION, and what CHANGELOG has above it isn't tagged.
+- Each version of CHANGELOG but the first one has two lists: for who runs the program, and for who checks it.
 - README leads to every page of docs/, and from there a newcomer finds in at most three steps what SEARCHES asks. Each step is a link of
   the page to which the one before it led, or a file that is named there, and words that stand in the same line; the last is what stands
   there.
@@ -20,6 +21,8 @@ from small_trees import unfound
 
 PROMISES, ARCHITECTURE, SITE, PAST = "docs/PROMISES.md", "docs/ARCHITECTURE.md", "docs/SITE.md", "docs/DECISIONS.md"
 MAIN, TOP = "crates/alarm_server/src/main.rt", ("run", "serve")
+# The lists of a version.
+LISTS = ("For who runs it", "For who checks it")
 VERSIONED = {MAIN: '"alarm-server {}"', "packaging/alarm-server.8": '"alarm-server {}"', "docs/OPERATE.md": "alarm-server_{}_amd64.deb", "CHANGELOG.md": "\n## {}, 20"}
 WALKED = (
     "alarm_server::serve", "floor_desk::serve_desk", "floor_desk::receive_all", "floor_desk::Desk::enter", "turnstile::Turnstile::take",
@@ -92,6 +95,12 @@ def faults_of_version():
     yield from (f"CHANGELOG.md: {one} is newer than VERSION, and isn't told as not tagged yet" for one in newer if "not tagged yet" not in one)
 
 
+def faults_of_lists():
+    """Versions of CHANGELOG without both lists: for who runs the program, and for who checks it. The first version is told by its days."""
+    for part in re.split(r"^## ", text_of("CHANGELOG.md"), flags=re.M)[1:]:
+        yield from (f"CHANGELOG.md: {part.split(',')[0]} has no list '{it}'" for it in LISTS if not part.startswith("0.1.0,") and f"\n### {it}\n" not in part)
+
+
 def faults_of_doors():
     """Pages that nobody comes to from the first one."""
     yield from (f"README.md doesn't lead to {page}" for page in sorted(glob.glob("docs/*.md")) if f"({page})" not in text_of("README.md"))
@@ -127,7 +136,7 @@ def faults_of_searches():
 
 def faults(pages):
     found = [fault for page in pages for fault in faults_of_files(page)]
-    return found + [*faults_of_promises(), *faults_of_walk(), *faults_of_heads(), *faults_of_keys(), *faults_of_version(), *faults_of_doors(), *faults_of_searches()]
+    return found + [*faults_of_promises(), *faults_of_walk(), *faults_of_heads(), *faults_of_keys(), *faults_of_version(), *faults_of_lists(), *faults_of_doors(), *faults_of_searches()]
 
 
 def test_itself():
@@ -137,7 +146,7 @@ def test_itself():
         "crates/a_tests/src/lib.rt": "//! Tests.\nmod hold_tests;\n",
         MAIN: "//! `run` and `serve`.\nconst VERSION: &str = \"alarm-server 1.2.3\";\n",
         "VERSION": "1.2.3\n", "packaging/alarm-server.8": "\"alarm-server 1.2.3\"\n", "docs/OPERATE.md": "alarm-server_1.2.3_amd64.deb",
-        "CHANGELOG.md": "\n## 1.3.0, not tagged yet\n\n## 1.2.3, 2026-11-29\n",
+        "CHANGELOG.md": "".join(f"\n## {it}\n\n### For who runs it\n\n- It.\n\n### For who checks it\n" for it in ("1.3.0, not tagged yet", "1.2.3, 2026-11-29")) + "\n## 0.1.0, 2026-11-01\n",
         "crates/a/specs/Held.antt": "held =\n",
         "README.md": f"[operate](docs/OPERATE.md), [promises]({PROMISES}), [architecture]({ARCHITECTURE}), [names]({ARCHITECTURE}#names), [site]({SITE})\n",
         PROMISES: "| It holds | `a::hold`: `holds` |\n",
@@ -157,6 +166,8 @@ def test_itself():
         "packaging/alarm-server.8: it doesn't have": {"packaging/alarm-server.8": "\"alarm-server 1.2.2\"\n"},
         "CHANGELOG.md: it doesn't have ## 1.2.3, 20": {"CHANGELOG.md": "\n## 1.2.3, not tagged yet\n"},
         "1.3.0, 2026-11-30 is newer than VERSION": {"CHANGELOG.md": right["CHANGELOG.md"].replace("not tagged yet", "2026-11-30")},
+        "CHANGELOG.md: 1.2.3 has no list 'For who checks it'": {"CHANGELOG.md": right["CHANGELOG.md"].replace("\n### For who checks it\n\n## 0.1.0", "\n## 0.1.0")},
+        "CHANGELOG.md: 1.3.0 has no list 'For who runs it'": {"CHANGELOG.md": right["CHANGELOG.md"].replace("For who runs it", "More", 1)},
         "doesn't lead to docs/SITE.md": {"README.md": right["README.md"].replace(SITE, "docs")},
         "looks for it finds no (docs/SITE.md) beside 'site'": {"README.md": right["README.md"].replace("[site]", "[keys]")},
         "looks for it finds no `a/Held.antt` beside '12'": {SITE: right[SITE].replace("Acts", "acts").replace("a/Held.antt", "a/Kept.antt")},

@@ -67,12 +67,14 @@ def unacknowledged(it):
 
 
 def try_terminal(told, program, folder):
-    """The page shows the alarms, acknowledges the chosen one by a key, says when nobody answers, and goes on behind a kill."""
-    with Plant(program, folder) as it:
+    """The page shows the alarms by the device's clock, acknowledges the chosen one by a key, says when nobody answers, and goes on behind a kill."""
+    with Plant(program, folder, zone_minutes=120) as it:
         it.write("integer-value:1", "90")
         it.write("binary-value:1", "active")
         page = Terminal("alarm-console", "--to", it.relay.to(), "--every", "0.3", "--wait", "0.3", "--retries", "1")
         told.want(page.shows(b"Freezer 1") and page.shows(b"2 in alarm, 2 to be acknowledged"), f"the page is {page.drawn!r}")
+        told.want(page.shows(b" s ago"), f"the page doesn't say how long ago it asked: {page.drawn!r}")
+        see_clock(told, it, page.drawn.decode("utf-8", "replace"))
         page.press(b"\x1bOB")
         time.sleep(0.4)
         page.press(b"a")
@@ -94,6 +96,13 @@ def try_terminal(told, program, folder):
         return it.relay.datagrams
 
 
+def see_clock(told, it, text):
+    """Each time of the day on a page is that of a stamp of the device, whose clock is two hours ahead of this machine's."""
+    stamps = {stamp[11:19] for row in it.rows() for stamp in row["times"].values() if stamp}
+    shown = set(re.findall(r"\b\d\d:\d\d:\d\d\b", text))
+    told.want(shown and shown <= stamps, f"the page shows {shown}, and the device's stamps are {stamps}")
+
+
 # Over HTTP.
 
 
@@ -111,7 +120,7 @@ def asked(port, method, path, fields=None, **heads):
 
 
 def try_web(told, program, folder):
-    with Plant(program, folder) as it:
+    with Plant(program, folder, zone_minutes=120) as it:
         it.write("integer-value:1", "90")
         it.write("binary-value:1", "active")
         port = tooling.free_port_of_tcp()
@@ -128,6 +137,8 @@ def see_http(told, it, port):
     until(lambda: "Freezer 1" in asked(port, "GET", "/")[2])
     status, heads, text = asked(port, "GET", "/")
     told.want(status == 200 and "Freezer 1" in text and "Ann &lt;b&gt;" in text and "Ann <b>" not in text, f"the page is {text}")
+    told.want(" s ago" in text, f"the page doesn't say how long ago it asked: {text}")
+    see_clock(told, it, text)
     told.want("default-src 'none'" in heads["Content-Security-Policy"] and heads["Cache-Control"] == "no-store", f"its heads are {heads}")
     token = re.search(r'data-token="([^"]+)"', text)[1]
     for host, wanted in [("plant.example", 403), (f"localhost:{port}", 200), ("[::1]", 200)]:

@@ -1,5 +1,6 @@
 """The parts of checks/tools that read files: octets and clocks, sites, journals with their copies, and reports."""
 import argparse
+import concurrent.futures
 import datetime
 import errno
 import json
@@ -16,6 +17,7 @@ import zoneinfo
 
 import bacnet
 import mistakes
+import mistakes_of_a_ward
 import serving
 import tooling
 from serving import MANY, START, Server
@@ -147,6 +149,35 @@ def try_mistakes(told, program, folder):
         told.want(status == 3 and good, f"{mistake.name}: {status}, line {line} is wanted, {output}{said}")
     told.want(len(rows) >= 93, f"{len(rows)} mistakes")
     see_many_faults(told, folder)
+    see_ward(told, program, folder)
+
+
+def refusal(program, site):
+    """What the program says of a site that is none: its refusal, and the line where it tells one."""
+    ended = subprocess.run([program, "session", site, "/dev/null"], input="", capture_output=True, text=True, errors="replace", timeout=tooling.SECONDS, check=False)
+    found = re.fullmatch(r"site refused: (.*)\n(?:line (\d+)\n)?", ended.stderr)
+    return (found[1], found[2]) if found else (ended.stderr, None)
+
+
+def see_ward(told, program, folder):
+    """Each mistake in a ward's text is refused as the program refuses it, in the line that was changed, with what is wanted, and once."""
+    was, rows = mistakes_of_a_ward.texts()
+    paths = [folder / f"ward-{number}.toml" for number in range(len(rows))]
+    for path, (_, text, _, _) in zip(paths, rows):
+        path.write_text(text, encoding="utf-8", newline="")
+    with concurrent.futures.ThreadPoolExecutor(4) as pool:
+        said = list(pool.map(lambda path: refusal(program, path), paths))
+    for path, (name, text, number, wanted), by_program, ended in zip(paths, rows, said, tooling.run_many("site_command", [["check", path, "--program", "none"] for path in paths])):
+        status, output, _ = ended
+        found = re.findall(rf"^{re.escape(str(path))}(?::(\d+))?: site refused: (.*)$", output, re.M)
+        told.want(status == 3 and found and found[0][1] == by_program[0], f"{name}: {status}, {output[:300]}, and the program says {by_program}")
+        line = mistakes_of_a_ward.line_of(name, text, number, found[0][1] if found else "")
+        told.want(found and line in (None, int(found[0][0] or 0)) and (by_program[1] in (None, found[0][0]) or name in mistakes_of_a_ward.BEHIND), f"{name}: line {line} is wanted, the program says {by_program[1]}, and alarm-site {output[:200]}")
+        told.want(wanted in output and (len(found) == 1 or name in mistakes_of_a_ward.SEVERAL), f"{name}: {wanted!r} is wanted, once: {output[:400]}")
+    path = folder / "ward.toml"
+    path.write_text(was, encoding="utf-8")
+    found = refusal(program, path)[0], run("alarm-site", "check", path, "--program", "none")[0]
+    told.want("site refused" not in found[0] and found[1] == 0, f"the ward without a mistake: {found}")
 
 
 def see_many_faults(told, folder):
@@ -213,6 +244,8 @@ name = "History"
 size = 100
 classes = [1]
 """
+# The recipient of the clean site, as one that confirms, and once more at another process.
+CONFIRMS = 'address = "10.1.0.5:47808"', 'address = "10.1.0.5:47808"\nconfirmed = true', '\n[[destination]]\nclass = 1\naddress = "10.1.0.5:47808"\nprocess = 2'
 # A change of the clean site, the kind of its one warning, and what it says.
 HARDLY_MEANT = [
     ('name = "Valves"', 'name = "Freezer"', "name-twice", "line 14"), ('name = "Valves"', 'name = ""', "empty-name", "bitstring-value:1"),
@@ -231,6 +264,16 @@ HARDLY_MEANT = [
     ("deadband = 10", "detection = false", "no-detection", "never in alarm"), ("instance = 7", "instance = 7\noutbox = 64\n", None, ""),
     ("start = 1700000000000", "start = 4000000000000", "start-ahead", "to come"),
     ("[[object]]", "".join(f'[[destination]]\nclass = 1\naddress = "10.1.1.{number}:47808"\n' for number in range(9)) + "[[object]]", "small-outbox", "300 is ten times as many"),
+    # 256 at four changes a second, of which one is given up each 12 s, and at one: 256 / (4 - 1/12) and 256 / (1 - 1/12) seconds.
+    (CONFIRMS[0], CONFIRMS[1], "silent-recipient", "once a second fills the outbox of 256 after 4 min, and four times a second after 66 s; from then on"),
+    (CONFIRMS[0], CONFIRMS[1] + "\ntransitions = \"110\"", "silent-recipient", "four times a second after 2 min"),
+    (CONFIRMS[0], CONFIRMS[1] + CONFIRMS[2], "silent-recipient", "four times a second after 33 s"),
+    ("instance = 7\n", "instance = 7\nflush_silent = true\noutbox = 64\n", None, ""),
+]
+# What has no warning though a recipient confirms: the text says what it wants, nothing changes without a delay, or nobody is told of it.
+CALM = [
+    ("instance = 7\n", "instance = 7\nflush_silent = true\n"), ("instance = 7\n", "instance = 7\nflush_silent = false\n"),
+    ("class = 1\nlow", "class = 1\ntime_delay = 1\nlow", "class = 1\nalarm_values = [\"1", "class = 1\ntime_delay = 1\nalarm_values = [\"1", "class = 1\nalarm_values = [3", "class = 1\ntime_delay_normal = 1\nalarm_values = [3"),
 ]
 
 
@@ -249,6 +292,7 @@ def try_lint(told, program, folder):
         rows = site_lint.warnings_of(site_text.read(CLEAN.replace(old, new, 1).encode()))
         told.same(f"the warnings with {new!r}", [row.kind for row in rows], [kind] if kind else [])
         told.want(all(text in row.text and row.line for row in rows), f"with {new!r} it warns {rows}")
+    see_calm(told)
     site = folder / "site.toml"
     site.write_text(CLEAN.replace("deadband = 10", "deadband = 150"))
     status, output, _ = run("alarm-site", "check", site, "--program", program)
@@ -259,6 +303,52 @@ def try_lint(told, program, folder):
         site.write_text(CLEAN.replace(old, new, 1))
         status, output, _ = run("alarm-site", "check", site, "--program", program if by else "none")
         told.want(status == 3 and text in output and f"site.toml:{line}: " in output and f"said by {program if by else 'this tool'}" in output, f"with {new!r}: {status}, {output}")
+
+
+def see_calm(told):
+    """No silent recipient is warned of where the text says what it wants of one, or where nothing changes without a delay."""
+    for changes in CALM:
+        text = CLEAN.replace(CONFIRMS[0], CONFIRMS[1])
+        for old, new in zip(changes[::2], changes[1::2]):
+            told.want(old in text, f"{old!r} isn't there to be changed")
+            text = text.replace(old, new)
+        rows = site_lint.warnings_of(site_text.read(text.encode()))
+        told.same(f"the warnings with {changes[1]!r}", [row.kind for row in rows], [])
+
+
+# What an outbox has to hold, counted by hand: the device's timing, the load, the number of destinations of one recipient that confirm, of another one
+# that confirms, and of one that doesn't; what waits for those that are silent, that answer, and that don't confirm; all of it; or None where some are slow.
+ROOMS = [
+    # Four sendings of 3 s and 0.1 s, and 0.1 s more are 12.5 s, in which 4 + 50 changes come; an answer within 0.2 s is quick enough for four a second.
+    ((3000, 3), ("4", "1"), (1, 1, 1), (54, 4, 4), True), ((3000, 3), ("4", "2"), (1, 1, 1), (108, 0, 4), True), ((3000, 3), ("4", "0"), (1, 1, 0), (0, 8, 0), True),
+    # Two for each change: 0.2 s for each of eight a second are too long.
+    ((3000, 3), ("4", "1"), (2, 2, 0), (108, 8, 0), False),
+    # One sending of 1 s: 1 + 0.1 + 0.1 = 1.2 s, in which 10 + 12 changes come.
+    ((1000, 0), ("10", "1"), (3, 0, 0), (66, 0, 0), True), ((1000, 0), ("0.5", "1"), (1, 0, 0), (1, 0, 0), True),
+]
+
+
+def see_rooms(told, folder):
+    """How large an outbox is to be, beside what was counted by hand; without the key there is none for a recipient that stays silent."""
+    path, class_of = folder / "room.toml", CLEAN.index("[[destination]]")
+    for (timeout, retries), (changes, silent), counts, wanted, quick in ROOMS:
+        them = "".join(
+            f'[[destination]]\nclass = 1\naddress = "10.1.0.{place}:47808"\nprocess = {number}\nconfirmed = {str(place < 7).lower()}\n'
+            for place, count in zip((5, 6, 7), counts) for number in range(count)
+        )
+        text = CLEAN[:class_of] + them + CLEAN[CLEAN.index("[[object]]") :]
+        for key in ("true", "false"):
+            path.write_text(text.replace("instance = 7\n", f"instance = 7\napdu_timeout = {timeout}\nretries = {retries}\nflush_silent = {key}\n", 1))
+            words = ["alarm-site", "size", path, "--program", "none", "--changes", changes, "--silent", silent]
+            status, output, said = run(*words, "--json")
+            found = json.loads(output)["room"] if status == 0 else {}
+            # Three objects have an alarm.
+            parts = [3 * sum(counts)] + [sum(octets for what, octets in found["parts"].items() if what.startswith(f"recipients that {it}")) for it in ("are", "answer", "don't")]
+            told.same(f"what {counts} want at {changes} changes a second", (status, parts, sum(found["parts"].values())), (0, [3 * sum(counts), *wanted], 3 * sum(counts) + sum(wanted)))
+            told.same("the outbox that is wanted", found["wanted"], sum(parts) if quick and key == "true" else None)
+            text_of = run(*words)[1]
+            told.want(("no outbox is large enough" in text_of) == (key == "false") and ("it fills any outbox" in text_of) == (not quick), f"{counts}: {text_of}")
+    told.same("without the key it is full after", (json.loads(run(*words[:4], "none", "--changes", "4", "--json")[1])["room"]["full_after"]), 86)
 
 
 def try_plans(told, program, folder):
@@ -282,6 +372,11 @@ def try_plans(told, program, folder):
         'integer-value:1 "Flow temperature": above 85 or below 40 for 10 s is an alarm, which ends above 43 and below 82',
         "B  10.0.0.7:47808 process 2, confirms: sent up to 4 times, given up after 12 s",
     )), f"the plan is {output}")
+    text = (TOP / "examples" / "plant.toml").read_text(encoding="utf-8").replace("outbox = 512", "outbox = 512\nflush_silent = true", 1)
+    (folder / "flushing.toml").write_text(text, encoding="utf-8")
+    status, output, _ = run("alarm-site", "describe", folder / "flushing.toml")
+    told.want(status == 0 and "given up after 12 s, with all that waits behind it" in output, f"the plan with flush_silent: {output}")
+    see_rooms(told, folder)
     told.same("the plan as JSON", json.loads(run("alarm-site", "describe", TOP / "examples" / "plant.toml", "--json")[1])["recipients"]["A"]["address"], "10.0.0.5:47808")
 
 

@@ -29,6 +29,7 @@ def plant(port, **keys):
     return [
         serving.device(name="Kitchen", apdu_timeout=300, retries=15, **keys), serving.of_class(7), serving.told_at(port, 7, True),
         serving.tank(1, 7, name="Freezer 1"), serving.tank(2, 7, name="Freezer 2"), serving.integer(3, name="Counter"), door, log,
+        ("[[binding]]", {"device": 5001, "address": "127.0.0.1:9"}),
     ]
 
 
@@ -135,7 +136,7 @@ def see_refusals(told, it):
 
 
 def see_recipients(told, it):
-    """A recipient is added, shown, kept where it is added again, and removed; the others stay."""
+    """A recipient is added, shown, kept where it is added again, and removed; the others stay. A device is added by its number where the site binds it."""
     address = "127.0.0.1:9"
     had = it.client("recipients", "show", "7", "--json")[1]
     added, again = (it.client("recipients", "add", "7", address, "--process", "2", "--transitions", "001", "--json") for _ in range(2))
@@ -145,6 +146,15 @@ def see_recipients(told, it):
     told.same("one that is added again", (again[0], again[1]), (0, added[1]))
     told.same("a list that is shown behind it", (shown[0], shown[1]), (0, added[1]))
     told.same("one that is removed", (removed[0], removed[1]), (0, had))
+    bound, other, wrong, gone = it.clients([
+        ["recipients", "add", "7", "device:5001", "--process", "3", "--json"], ["recipients", "add", "7", "device:77"], ["recipients", "add", "7", "device:x"],
+        ["recipients", "remove", "7", address, "--json"],
+    ])
+    listed = [(it["address"], it["process"]) for it in json.loads(bound[1] or "{}").get("recipients", [])]
+    told.same("a device that is added", (bound[0], listed[-1:], len(listed)), (0, [(address, 3)], len(json.loads(had)["recipients"]) + 1))
+    told.want(other[0] == 4 and "value-out-of-range" in other[2], f"a device that isn't bound: {other}")
+    told.want(wrong[0] == 2 and "device:INSTANCE" in wrong[2], f"what is no recipient: {wrong}")
+    told.same("a device that is removed by its address", (gone[0], gone[1]), (0, had))
 
 
 def see_alarms(told, it):
@@ -422,6 +432,49 @@ def restored(it):
     return tuple(it.number(f"integer-value:{number}") for number in (1, 2, 3))
 
 
+def changes_of(feeder, of):
+    """The values of an object that the server took, in turn."""
+    return [row["value"] for row in lines_of_json(feeder.output()) if row["answer"] == "taken" and row["object"] == of]
+
+
+def try_settled(told, program, folder):
+    """Writes an object at most once in so long, the last of what came meanwhile, also where the input ends or the feeder is killed; and others at once."""
+    with Plant(program, folder) as it:
+        words = ["--to", it.relay.to(), "--json", "--settle", "1.5", "--keep", folder / "kept", "--alive", "binary-value:1", "--alive-every", "0.3", "--textfile", folder / "feed.prom"]
+        with Running(folder, "alarm-feed", *words) as feeder:
+            begun = time.monotonic()
+            for number in range(1, 41):
+                feeder.say(f"integer-value:3 {number}\ninteger-value:1 {50 + number % 2}\n" + ("integer-value:2 61\n" if number == 3 else ""))
+                time.sleep(0.1)
+            feeder.child.stdin.close()
+            feeder.child.stdin = None
+            told.same("the end of a feeder that settles", feeder.ended(), 0)
+            took = time.monotonic() - begun
+            found = changes_of(feeder, "integer-value:3")
+            # Between two writes lie 1.5 s at least, and the first is at once.
+            told.want(found[:1] == ["1"] and found[-1:] == ["40"] and 3 <= len(found) <= 1 + took / 1.5, f"in {took:.1f} s it wrote {found}")
+            told.same("what is there behind it", (it.number(), it.number("integer-value:1"), it.number("integer-value:2")), (40, 50, 61))
+            told.same("an object that changed once", changes_of(feeder, "integer-value:2"), ["61"])
+            passed = [row["value"] for row in lines_of_json(feeder.output()) if row["answer"] == "passed over" and row["object"] == "integer-value:3"]
+            told.same("each value was taken or passed over", sorted(map(int, passed + found)), list(range(1, 41)))
+            counts = metrics_of((folder / "feed.prom").read_text())
+            told.same("how many were passed over", counts["alarm_feed_passed_total"], sum(row["answer"] == "passed over" for row in lines_of_json(feeder.output())))
+            pairs = sum(octets[9:10] == b"\x0f" and octets.endswith(b"\x3e\x91\x01\x3f") for octets in it.relay.sent())
+            told.want(pairs >= 4, f"meanwhile --alive wrote {pairs} pairs")
+        with Running(folder, "alarm-feed", "--to", it.relay.to(), "--json", "--settle", "600", "--keep", folder / "kept") as feeder:
+            feeder.say("integer-value:3 70\n")
+            told.want(until(lambda: it.number() == 70), f"a first value: {feeder.errors()}")
+            feeder.say("integer-value:3 71\ninteger-value:3 72\ninteger-value:2 62\n")
+            told.want(until(lambda: it.number("integer-value:2") == 62), f"another object: {feeder.errors()}")
+            told.same("what is held back", it.number(), 70)
+            feeder.kill()
+        with Running(folder, "alarm-feed", "--to", it.relay.to(), "--keep", folder / "kept") as feeder:
+            told.same("the end of the next one", feeder.ended(), 0)
+        told.same("what was held when it was killed", it.number(), 72)
+        told.same("--settle where nothing is written", run("alarm-feed", "--curves", tooling.TOOLS / "school.curves", "--print", "--settle", 1)[0], 2)
+        return it.relay.datagrams
+
+
 def try_full_outbox(told, program, folder):
     """A value that an Abort 0 refuses is written again until there is room."""
     sections = [serving.device(outbox=64, apdu_timeout=200, retries=1), serving.of_class(7), *[serving.told_at(serving.free_port(), 7, True)] * 32, serving.tank(1, 7), serving.tank(2, 7)]
@@ -451,7 +504,7 @@ def try_metrics(told, program, folder):
     with Plant(program, folder) as it:
         it.write("integer-value:1", "90")
         (folder / "journal-20260101T000000Z").write_bytes(b"")
-        words = ["metrics", "--textfile", folder / "server.prom", "--journal", it.journal, "--site", it.site, "--copies", folder]
+        words = ["metrics", "--textfile", folder / "server.prom", "--journal", it.journal, "--site", it.site, "--copies", folder, "--given-up", "--program", program]
         told.same("metrics", it.client(*words)[0], 0)
         found = metrics_of((folder / "server.prom").read_text())
         wanted = {
@@ -473,7 +526,7 @@ def see_rules(told, known):
     """The rules for Prometheus name metrics that are written, and no others."""
     text = (tooling.TOOLS / "alarm-server.rules.yml").read_text(encoding="utf-8")
     named = set(re.findall(r"\balarm_(?:server|feed)_\w+", "\n".join(re.findall(r"expr: (.*)", text))))
-    of_feed = {f"alarm_feed_{it}_total" for it in ("written", "refused", "full", "unanswered", "restored")}
+    of_feed = {f"alarm_feed_{it}_total" for it in ("written", "refused", "full", "unanswered", "restored", "passed")}
     told.want(len(named) >= 6 and named <= known | of_feed, f"the rules name {sorted(named - known - of_feed)}")
     if not shutil.which("promtool"):
         told.skip("promtool isn't installed: the rules aren't read")

@@ -124,7 +124,7 @@ def try_record(told, program, folder):
     with Ward(program, folder) as it:
         by = ["--by", "Ann, ward 3", "--audit", it.record]
         lines = [
-            ["write", "Twin", "90", *by], ["write", "integer-value:3", "90", *by], ["write", "integer-value:6", "1", "--property", "object-name", "--type", "unsigned", *by], ["ack", "integer-value:3", *by],
+            ["write", "Twin", "90", *by], ["write", "integer-value:3", "90", *by], ["write", "integer-value:6", "x", "--property", "object-name", "--type", "text", *by], ["ack", "integer-value:3", *by],
             ["recipients", "add", "7", "127.0.0.1:9", *by], ["recipients", "remove", "7", "127.0.0.1:9", *by], ["ack", "integer-value:3", *by],
             ["write", "integer-value:3", "50", "--audit", folder / "none" / "record"],
         ]

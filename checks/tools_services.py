@@ -167,6 +167,7 @@ ALERTED = {
     "AlarmServerClockAhead": ("alarm_server_last_event_seconds 5 -61x20", 2, 0), "AlarmServerDatagramsLost": ("alarm_server_datagrams_lost_total 0x10 5x20", 13, 9),
     "AlarmCopyOld": ("alarm_server_newest_copy_seconds 129000+60x60", 11, 9), "AlarmWritesNotTaken": ("alarm_feed_full_total 0x10 1x20", 13, 9),
     "AlarmWritesRefused": ("alarm_feed_refused_total 0x10 1x20", 13, 9), "AlarmWritesUnanswered": ("alarm_feed_unanswered_total 0x10 7x20", 13, 9),
+    "AlarmRecipientSilent": ("alarm_server_given_up_last_hour 0x10 48x20", 13, 9),
 }
 
 
@@ -174,7 +175,7 @@ def try_rules(told, program, folder):
     """Prometheus itself says of each rule when it alerts, and when not yet, by a series that somebody wrote by hand."""
     del program
     if not shutil.which("promtool"):
-        print("promtool isn't installed: no rule is played")
+        told.skip("promtool isn't installed: no rule is played")
         return
     rules = tooling.TOOLS / "alarm-server.rules.yml"
     parts = []

@@ -108,6 +108,8 @@ class Archive:
     def __init__(self, path):
         self.path = str(path)
         self.file = open(path, "rb")
+        # The snapshot that was passed over last.
+        self.passed = None
         try:
             self.head = head_of(self.file)
         except BaseException:
@@ -119,7 +121,7 @@ class Archive:
         last = None
         for frame in frames(self.file, self.head.end):
             if frame.kind == SNAPSHOT:
-                last = frame.number
+                last, self.passed = frame.number, frame.octets
                 continue
             if last is not None and frame.number != last + 1:
                 raise NoJournal(f"event {frame.number:,} stands behind event {last:,}", frame.end)

@@ -2,7 +2,7 @@
 
 The older area's end is a state, and the snapshot is the next one. Each event by which the two may part is given to a standby whose
 journal has the first state and no room; the one behind which the snapshot is the same, octet for octet, is the one. Where events do
-the same, as a write of a value that an object has and a tick, one of them stands for all: no state ever tells them apart.
+the same, as writes of values that two objects have, one of them stands for all: no state ever tells them apart.
 """
 import os
 import pathlib
@@ -155,15 +155,17 @@ def candidates(site, before, behind):
             yield write_of(moment, of, replay_site.LOG_ENABLE, bytes([1, now.enable]))
         if before.logs[of].records and len(now.records) < len(before.logs[of].records):
             yield write_of(moment, of, RECORD_COUNT, value_octets(2, 0))
-    yield record_of(moment, TICK)
-    yield record_of(moment, PUMP)
+    if before != behind._replace(events=before.events, moment=before.moment):
+        # A tick or a pump behind which all is as before is no event of a session or a server.
+        yield record_of(moment, TICK)
+        yield record_of(moment, PUMP)
     for it in before.peers:
         if it.deadline:
             for invoke in dict.fromkeys(((it.invoke - 1) % 256, it.invoke)):
                 yield record_of(moment, ANSWER, it.peer + bytes([invoke, 2]))
-    # What a write of the value that is there does, all other writes that change nothing do.
-    of = site.objects[0]["object"]
-    yield write_of(moment, of, PRESENT_VALUE, behind.objects[of]["value"])
+    # What a write of the value that is there does, most other writes that change nothing do.
+    for item in site.objects:
+        yield write_of(moment, item["object"], PRESENT_VALUE, behind.objects[item["object"]]["value"])
 
 
 def of_object(moment, of, before, now):

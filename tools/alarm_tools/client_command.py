@@ -94,7 +94,7 @@ def add_recipients(commands):
         deed.add_argument("of_class", metavar="CLASS", help=of_class, **({"nargs": "?"} if name == "show" else {}))
         if name != "show":
             audit.add_words(deed, f"{name}s it")
-            deed.add_argument("address", metavar="A.B.C.D:PORT")
+            deed.add_argument("address", metavar="A.B.C.D:PORT", help="its address" + (", or device:INSTANCE of one that the site's text binds to an address" if name == "add" else ""))
             deed.add_argument("--process", type=int, default=0 if name == "add" else None, metavar="N", help="the process identifier")
         if name == "add":
             deed.add_argument("--days", default="1111111", help="seven digits 0 and 1, Monday first (%(default)s)")
@@ -420,6 +420,17 @@ def station_of(text):
     return 0, bytes(numbers[:4]) + numbers[4].to_bytes(2, "big")
 
 
+def recipient_of(text):
+    """Where a recipient is: its address, or the instance of a device that the site binds to one."""
+    found = re.fullmatch(r"device:(0|[1-9]\d{0,6})", text)
+    if found and int(found[1]) < names.LAST_INSTANCE:
+        return int(found[1])
+    try:
+        return station_of(text)
+    except ValueError:
+        raise ValueError(f"{text!r} is no recipient: A.B.C.D:PORT is wanted, or device:INSTANCE") from None
+
+
 def time_of(text):
     found = re.fullmatch(r"(\d\d):(\d\d)(?::(\d\d)(?:\.(\d\d))?)?", text)
     parts = [int(it or 0) for it in found.groups()] if found else [99]
@@ -450,7 +461,7 @@ def edited(given, asked, service, of, wanted_ones):
 
 def add_recipient(given):
     made = octets.Destination(
-        wanted(digits_of, given.days, 7), wanted(time_of, given.begin), wanted(time_of, given.end), wanted(station_of, given.address), given.process,
+        wanted(digits_of, given.days, 7), wanted(time_of, given.begin), wanted(time_of, given.end), wanted(recipient_of, given.address), given.process,
         given.confirmed, wanted(digits_of, given.transitions, 3),
     )
     with client.client_of(given) as asked:

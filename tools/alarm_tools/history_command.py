@@ -7,16 +7,19 @@ import json
 import pathlib
 import sys
 
-from . import client, drawing, glance, names, octets, report, values, words
+from . import client, drawing, glance, history_archive, names, octets, report, site_command, values, words
 from .words import CANNOT_OPEN, DONE, USAGE, Ends
 from .zone import MachineZone, moment_from
 
 UNREADABLE = 5
 COLUMNS = ("time", "object", "name", "from", "to", "notify", "values", "priority", "class", "text", "log", "number")
 WHAT = """\
-Tells what event logs have of any days: from files of lines that `alarm-client follow` wrote, one or many and also with lines that came
-twice, or with --log from the logs of a server themselves, as far as they reach back. Without a file and without --log it reads lines from
-standard input. Times are those of the device's clock.
+Tells what came of alarms in any days: from archives of `alarm-journal archive`, from files of lines that `alarm-client follow` wrote, one
+or many and also with records that stand in several, or with --log from the logs of a server themselves, as far as they reach back. Without
+a file and without --log it reads lines from standard input. Times are those of the device's clock.
+
+An archive has all events, and the program plays them once more: so its history has each alarm of each class, also where no log was kept or
+a log has dropped it. A journal that is whole is read so too, also while a server runs on it.
 
 Without another word it prints a table. --csv, --page and --svg write files: the records, a page with them and with a picture of each
 object's states, and that picture alone. An object's state before its first record is the one from which this record came."""
@@ -27,25 +30,28 @@ STATUSES = [
     (3, "nobody answers"),
     (4, "the answer is an Error, a Reject or an Abort, which is told"),
     (5, "a line is none of a log, or an answer can't be read"),
+    (8, "a journal or an archive can't be played, as where its first events are gone"),
 ]
 EXAMPLES = [
     ("alarm-history --log 1 --since 2026-11-30 --until 2026-12-01 --page night.html", "a page of one day, from the server's log"),
     ("alarm-history --csv year.csv alarms-2026-*.jsonl", "a table of all that was followed"),
+    ("alarm-history --since 2026-03-01 --until 2026-04-01 --page march.html archive", "a page of a month, from an archive"),
     ("alarm-history --since 7d --object integer-value:1 --svg week.svg alarms.jsonl", "the states of an object in the last week"),
 ]
 
 
 def parser():
     made = words.parser_of("alarm-history", WHAT, STATUSES, EXAMPLES)
-    made.add_argument("files", nargs="*", metavar="FILE", help="lines that alarm-client follow wrote")
+    made.add_argument("files", nargs="*", metavar="FILE", help="an archive, a journal that is whole, or lines that alarm-client follow wrote")
     made.add_argument("--log", action="append", default=[], metavar="N", help="read the server's event log of this instance; again for further ones")
     made.add_argument("--since", metavar="MOMENT", help="from a moment on: 2024-01-13 or 2024-01-13T02:30 by the device's clock, or 90m, 12h, 3d ago")
     made.add_argument("--until", metavar="MOMENT", help="before a moment")
     made.add_argument("--object", action="append", default=[], metavar="KIND:INSTANCE", help="of this object alone; again for further ones")
-    made.add_argument("--site", metavar="SITE", help="take names and the clock of the device from its site's text (this machine's clock)")
+    made.add_argument("--site", metavar="SITE", help="take names and the clock of the device from its site's text (those of the first archive, else this machine's clock)")
     for name, what in [("csv", "write the records as CSV; - is standard output"), ("page", "write a page for a browser"), ("svg", "write a picture of the states")]:
         made.add_argument(f"--{name}", metavar="FILE", help=what)
     made.add_argument("--json", action="store_true", help="print the records as lines of JSON in place of a table")
+    made.add_argument("--program", metavar="PROGRAM", help="the program that plays an archive (ALARM_SERVER_PROGRAM, else the one that was built or installed beside this tool)")
     client.add_words(made)
     made.set_defaults(call=tell)
     return made
@@ -88,18 +94,27 @@ def records_of_log(asked, number):
         if not found:
             return
         for place, stamp, note in found:
-            yield {"log": names.object_text(of), "number": place, **values.notification_words(note, asked.name(note.object)), "time": values.stamp_text(stamp)}
+            yield {"log": names.object_text(of), "number": place, **history_archive.record_of(stamp, note, asked.name(note.object))}
         at = found[-1][0] + 1
 
 
-def records_of(given):
+def histories_of(given):
+    """The archives and journals among the files, each with the program that plays it, by their paths."""
+    paths = [it for it in given.files if history_archive.is_history(it)]
+    program = site_command.program_of(given) if paths else None
+    if paths and program is None:
+        raise Ends(CANNOT_OPEN, "there is no program, which plays an archive: build or install it, or name it by --program")
+    return {path: history_archive.Played(program, path) for path in paths}
+
+
+def records_of(given, histories):
     """All records, each once, in the order of their times."""
-    found = []
+    found = [record for it in histories.values() for record in it.records()]
     if given.log:
         with client.client_of(given) as asked:
             for number in given.log:
                 found += records_of_log(asked, number)
-    for path in given.files:
+    for path in (it for it in given.files if it not in histories):
         with words.opened(path, encoding="utf-8", errors="replace") as file:
             found += lines_in(file, path)
     if not given.log and not given.files:
@@ -182,18 +197,24 @@ def write(path, text):
         raise Ends(CANNOT_OPEN, f"{path}: {error.strerror}") from None
 
 
-def tell(given):
-    view = None
+def view_of(given, histories):
+    """Names and the clock: of the site's text that is given, else of the first archive, else none."""
     if given.site:
         with words.opened(given.site, "rb") as file:
-            view = glance.glance(file.read())
+            return glance.glance(file.read())
+    return next((it.view for it in histories.values()), None)
+
+
+def tell(given):
+    histories = histories_of(given)
+    view = view_of(given, histories)
     zone = view.zone if view else MachineZone()
     bounds = bound_of(given.since, zone, "since"), bound_of(given.until, zone, "until")
     try:
         objects = {names.object_text(names.object_from(it)) for it in given.object}
     except ValueError as error:
         raise Ends(USAGE, str(error)) from None
-    found = [it for it in records_of(given) if not objects or it["object"] in objects]
+    found = [it for it in records_of(given, histories) if not objects or it["object"] in objects]
     found = [it for it in found if (bounds[0] is None or it["time"] >= bounds[0]) and (bounds[1] is None or it["time"] < bounds[1])]
     if view:
         found = [it | {"name": it.get("name") or view.names.get(names.object_from(it["object"]))} for it in found]

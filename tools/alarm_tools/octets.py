@@ -177,10 +177,17 @@ def edit_list(invoke, service, the_object, number, elements_of):
     return request(invoke, service, property_of(the_object, number) + between(3, elements_of))
 
 
+def recipient(address):
+    """A BACnetRecipient (clause 21): a network and a station, or the instance of a device, which the server knows the address of."""
+    if isinstance(address, int):
+        return tagged(0, (8 << 22 | address).to_bytes(4, "big"))
+    network, station = address
+    return between(1, application(UNSIGNED, network) + tagged(OCTETS, station, context=False))
+
+
 def destination(of):
     """The octets of a recipient."""
-    network, station = of.address
-    address = between(1, application(UNSIGNED, network) + tagged(OCTETS, station, context=False))
+    address = recipient(of.address)
     times = tagged(TIME, of.begin, context=False) + tagged(TIME, of.end, context=False)
     return bits(of.days) + times + address + application(UNSIGNED, of.process) + boolean(of.confirmed) + bits(of.transitions)
 

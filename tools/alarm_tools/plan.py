@@ -55,7 +55,8 @@ def sent_text(site, confirmed):
     if not confirmed:
         return "isn't asked to confirm: sent once"
     timeout, retries = site.device["apdu_timeout"] / 1000, site.device["retries"]
-    return f"confirms: sent up to {retries + 1} times, given up after {timeout * (retries + 1):g} s"
+    behind = ", with all that waits behind it" if site.device["flush_silent"] else ""
+    return f"confirms: sent up to {retries + 1} times, given up after {timeout * (retries + 1):g} s{behind}"
 
 
 def letters_of(site):

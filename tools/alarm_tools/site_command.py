@@ -5,7 +5,7 @@ import re
 import subprocess
 import tempfile
 
-from . import glance, journal, place, plan, site_lint, site_text, texts, words
+from . import client, glance, journal, outbox_room, place, plan, site_lint, site_text, texts, words
 from .words import CANNOT_OPEN, DONE, Ends
 
 SITE_REFUSED = 3
@@ -33,6 +33,7 @@ EXAMPLES = [
     ("alarm-site check site.toml", "all its faults, or what in it is hardly meant"),
     ("alarm-site describe site.toml", "what is an alarm, and a table of the week for each class"),
     ("alarm-site size site.toml", "how many octets its journal has, part by part, and whether the outbox is large enough"),
+    ("alarm-site size site.toml --changes 4 --silent 2", "how large the outbox is to be where objects change four times a second and two recipients are silent"),
 ]
 
 
@@ -44,6 +45,10 @@ def parser():
     check.add_argument("--journal", metavar="JOURNAL", help="the journal with whose text it is compared; else that of this machine's server, where it is of the same device")
     describe = words.command_of(commands, "describe", "says in words what is an alarm and who is told when", describe_site)
     size = words.command_of(commands, "size", "says how large its journal is, and what the outbox takes", size_site)
+    size.add_argument("--changes", type=client.seconds, metavar="N", help="say how large the outbox is to be where objects change N times a second, all of one class")
+    size.add_argument("--silent", type=whole, default=1, metavar="N", help="of a class, so many recipients are silent (%(default)s)")
+    size.add_argument("--within", type=client.seconds, default=0.1, metavar="SECONDS", help="and the others answer within so long (%(default)s)")
+    size.add_argument("--gap", type=client.seconds, default=0.1, metavar="SECONDS", help="the longest time between two looks of the server at what it sends (%(default)s)")
     for command in (check, describe, size):
         command.add_argument("site", metavar="SITE")
         command.add_argument("--json", action="store_true", help="as JSON, a line for each fault and warning")
@@ -51,6 +56,13 @@ def parser():
     for command in (check, size):
         command.add_argument("--program", metavar="PROGRAM", help=which)
     return made
+
+
+def whole(text):
+    """A number of recipients."""
+    if not text.isdecimal():
+        raise ValueError(text)
+    return int(text)
 
 
 def octets_of(path):
@@ -205,17 +217,54 @@ def size_site(given):
         return SITE_REFUSED
     program, need, least = program_of(given), site_text.need(site, len(octets)), site_text.notes_at_once(site)
     said = program_says(program, given.site)[2] if program else None
+    room = None if given.changes is None else outbox_room.room(site, outbox_room.Load(given.changes, given.silent, given.within, given.gap))
     if given.json:
         parts = {what: count * each for what, count, each in site_text.parts_of_need(site, len(octets))}
-        words.put(words.json_line({"site": given.site, "octets": need, "program": said, "parts": parts, "outbox": site.device["outbox"], "notes_at_once": least}))
+        told = {"site": given.site, "octets": need, "program": said, "parts": parts, "outbox": site.device["outbox"], "notes_at_once": least}
+        words.put(words.json_line(told | ({} if room is None else {"room": told_room(site, given, room)})))
         return DONE
-    rows = [[what, f"{count:,}", f"{each:,}", f"{count * each:,}"] for what, count, each in site_text.parts_of_need(site, len(octets))]
-    print("\n".join(words.table(["WHAT", "COUNT", "EACH", "OCTETS"], rows)))
+    print("\n".join(rows_of("OCTETS", site_text.parts_of_need(site, len(octets)))))
     agreed = "" if said is None else f"; so says {program}" if said == need else f"; {program} says {said:,}"
     print(f"the smallest journal has {words.octets_text(need)}{agreed}")
     times = f", {site.device['outbox'] / least:.1f} times as many as all objects at once make ({least})" if least else ""
     print(f"the outbox has room for {site.device['outbox']} notifications{times}")
+    if room is not None:
+        print("\n".join(room_lines(site, given, room)))
     return DONE
+
+
+def rows_of(what, parts):
+    """A table of parts, each with how many there are and what each takes."""
+    return words.table(["WHAT", "COUNT", "EACH", what], [[part, f"{count:,}", f"{each:,}", f"{count * each:,}"] for part, count, each in parts])
+
+
+def told_room(site, given, room):
+    """What the outbox is to have room for, by name: no number where no outbox is large enough."""
+    enough = site.device["flush_silent"] and room.quick
+    return {
+        "class": room.of_class, "changes": given.changes, "silent": given.silent, "within": given.within, "gap": given.gap, "flush_silent": site.device["flush_silent"],
+        "seconds": outbox_room.longest(site.device, given.gap), "wanted": outbox_room.total(room) if enough else None,
+        "full_after": None if site.device["flush_silent"] else room.full_after,
+        "parts": {f"{what}, {each} each": count * each for what, count, each in room.parts},
+    }
+
+
+def room_lines(site, given, room):
+    """How large the outbox is to be, for people."""
+    told = told_room(site, given, room)
+    yield f"where objects of class {room.of_class} change {given.changes:g} times a second, and the server looks at what it sends at least each {given.gap:g} s:"
+    if not told["flush_silent"]:
+        full = "" if told["full_after"] is None else f": this one is full {words.length_text(told['full_after'])} after the first change"
+        yield f"no outbox is large enough for a recipient that stays silent{full}. With flush_silent = true in [device]"
+    yield f"what waits for a silent recipient was queued within the last {told['seconds']:g} s, since a giving up takes all that stands behind it"
+    yield from rows_of("NOTIFICATIONS", room.parts)
+    if not room.quick:
+        yield f"and a recipient that takes {given.within:g} s for an answer is too slow for so many changes: it fills any outbox"
+        return
+    wanted = outbox_room.total(room)
+    most = f", more than the {outbox_room.MOST_NOTES:,} that it may have: a time_delay, fewer retries or a smaller apdu_timeout help" if wanted > outbox_room.MOST_NOTES else ""
+    has = "" if most else ": this one has room for it" if site.device["outbox"] >= wanted else f": this one has room for {site.device['outbox']:,}"
+    yield f"an outbox of {wanted:,} holds that{most}{has}"
 
 
 def main():

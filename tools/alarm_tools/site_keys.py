@@ -28,12 +28,12 @@ def yes(_):
 # What a value may be: each gives why it isn't, or None.
 
 
-def whole(low, high):
-    """A whole number within bounds."""
+def whole(low, high, unit=None):
+    """A whole number within bounds, of a unit where it has one."""
 
     def reason(value, _):
         if isinstance(value, float):
-            return f"{value} is no whole number: say it in tenths or hundredths, with its limits"
+            return f"{value} is no whole number: " + (f"whole {unit} are wanted" if unit else "say it in tenths or hundredths, with its limits")
         if isinstance(value, bool) or not isinstance(value, int):
             return f"a whole number from {low} to {high} is wanted, without quotes"
         return None if low <= value <= high else f"{value} isn't from {low} to {high}"
@@ -44,7 +44,7 @@ def whole(low, high):
 def text(value, _):
     if not isinstance(value, str):
         return "a text in quotes is wanted"
-    return None if len(value.encode()) <= 256 else "it has more than 256 octets"
+    return None if len(value.encode()) <= 256 else f"it has {len(value.encode())} octets, and at most 256 are wanted"
 
 
 def truth(value, _):
@@ -172,8 +172,8 @@ CLASS = whole(0, LAST_INSTANCE)
 
 DEVICE = [
     INSTANCE, NAME, Key("vendor", whole(0, 65535), no, 0), Key("start", moment, yes, None), Key("zone_minutes", whole(-840, 840), no, 0),
-    Key("zone_rule", zone_rule, no, None), Key("apdu_timeout", whole(1, 3_600_000), no, 3000), Key("retries", whole(0, 15), no, 3),
-    Key("outbox", whole(64, 16384), no, 256),
+    Key("zone_rule", zone_rule, no, None), Key("apdu_timeout", whole(1, 3_600_000, "milliseconds"), no, 3000), Key("retries", whole(0, 15), no, 3),
+    Key("outbox", whole(64, 16384), no, 256), Key("flush_silent", truth, no, False),
 ]
 CLASSES = [
     INSTANCE, NAME, Key("priority", three(whole(0, 255)), yes, None), Key("ack_required", three(truth), no, [False, False, False]),
@@ -194,8 +194,8 @@ FAULT_LIMITS = [
 ]
 FAULT_VALUES = [Key("fault_values", listed(0, 32, of_kind), no, [])]
 ALARM = [
-    Key("notify", one_of("alarm", "event"), no, "alarm"), Key("enable", digits(3), no, "111"), Key("time_delay", whole(0, UNSIGNED), no, 0),
-    Key("time_delay_normal", whole(0, UNSIGNED), no, None), Key("detection", truth, no, True), Key("inhibit", truth, no, False),
+    Key("notify", one_of("alarm", "event"), no, "alarm"), Key("enable", digits(3), no, "111"), Key("time_delay", whole(0, UNSIGNED, "seconds"), no, 0),
+    Key("time_delay_normal", whole(0, UNSIGNED, "seconds"), no, None), Key("detection", truth, no, True), Key("inhibit", truth, no, False),
     Key("inhibit_ref", inhibiting, no, None), Key("texts", three(text), no, []),
 ]
 LIMITS = [

@@ -4,11 +4,14 @@ import re
 import tomllib
 
 from . import names, site_hints
-from .site_keys import SECTIONS
+from .site_keys import ALARM, SECTIONS
 from .zone import Zone
 
 MOST_OCTETS = 1_048_576
 Site = collections.namedtuple("Site", "device classes destinations objects enrollments logs bindings zone places")
+# The key that says which other keys an item has, and those that it has in any case.
+OF_A_KIND = {"object": "kind", "enrollment": "algorithm"}
+OF_ALL_KINDS = {"instance", "name", "out_of_service", "reliability_inhibit", "class", "monitored", *(key.name for key in ALARM)}
 SECTION_KINDS = {"device": "device", "class": "notification-class", "enrollment": "event-enrollment", "log": "event-log", "binding": "device"}
 
 
@@ -23,7 +26,7 @@ class SiteRefused(ValueError):
 # Where things stand.
 
 HEAD = re.compile(r"\s*(\[\[?)\s*([A-Za-z0-9_-]+|\"[^\"]*\")\s*\]\]?\s*(?:#.*)?")
-ASSIGNED = re.compile(r"\s*([A-Za-z0-9_-]+|\"[^\"]*\")\s*=")
+ASSIGNED = re.compile(r"\s*([A-Za-z0-9_-]+|\"[^\"]*\")\s*(?:\.[^=]*)?=")
 
 
 class Places:
@@ -103,8 +106,9 @@ def given_in(document):
     """The identifiers that the text gives, also in items that have a fault: what refers to them isn't wrong."""
     found = {section: set() for section in SECTIONS}
     for section in SECTIONS:
-        items = document.get(section)
-        for item in items if isinstance(items, list) else []:
+        # Those of a section that is misspelled are meant for it.
+        called = [section, *(it for it in document if it not in SECTIONS and section_meant(it) == section)]
+        for item in (item for it in called if isinstance(document.get(it), list) for item in document[it]):
             number = names.OBJECT_NUMBERS.get(SECTION_KINDS.get(section) or item.get("kind")) if isinstance(item, dict) else None
             if number is not None and isinstance(item.get("instance"), int):
                 found[section].add((number, item["instance"]))
@@ -164,14 +168,31 @@ def item_faults(section, number, item, places, outside=()):
         told = key if len(key.encode()) <= 256 else ""
         return SiteRefused(f"{word} {section} {number} {told}", reason, line or places.line(section, number, key), None if key in outside else whose)
 
+    # What is meant by a key that it doesn't have isn't missing besides, and without a kind nobody knows what else is wanted.
+    meant, looked_at = set(), known
     for key in sorted([it for it in item if it not in known] + list(outside), key=str.encode):
+        meant |= meant_by(key, section, known, outside)
         yield fault("unknown", key, unknown_reason(section, key, item, outside), places.items.get((key, 1)) or places.items.get((key, 0)) if key in outside else None)
     for key in keys:
-        if key.name not in item:
-            if key.needed(item):
-                yield fault("missing", key.name, site_hints.of_missing(section, key.name, item))
-        elif reason := key.reason(item[key.name], item):
+        reason = key.reason(item[key.name], item) if key.name in item else None
+        if key.name not in item and key.needed(item) and key.name in looked_at - meant:
+            yield fault("missing", key.name, site_hints.of_missing(section, key.name, item))
+        elif reason and key.name in looked_at:
             yield fault("bad-value", key.name, reason)
+        if key.name == OF_A_KIND.get(section) and (reason or key.name not in item):
+            looked_at = OF_ALL_KINDS
+
+
+def section_meant(key):
+    """The section that a key outside all sections was most likely to be."""
+    return site_hints.nearest(key, SECTIONS) or next((it for it in SECTIONS if it in key or key in it), None)
+
+
+def meant_by(key, section, known, outside):
+    """The keys for which one stands that isn't there."""
+    if key not in outside:
+        return {site_hints.nearest(key, known)}
+    return known if section_meant(key) == "device" or key in known else set()
 
 
 def filled(section, number, item, places):
@@ -196,14 +217,19 @@ def whose_of(section, item):
 
 def unknown_reason(section, key, item, outside):
     if key in outside:
-        near = site_hints.nearest(key, SECTIONS) or next((it for it in SECTIONS if it in key or key in it), None)
+        if any(it.name == key for it in SECTIONS["device"](item)):
+            return "it is a key of [device], and there is no line [device] before it" if not item else "it is a key of [device], and stands before it"
+        near = section_meant(key)
         return f"there is no section {key}" + (f": {near} is one" if near else f": {', '.join(SECTIONS)} are")
+    if isinstance(item[key], dict):
+        return "a key is one word, without a dot, as time_delay"
     if section == "object" and "class" not in item and any(it.name == key for it in SECTIONS[section](item | {"class": 0})):
         return "it is a key of an object with a class, and this one has none"
     if section == "object" and any(it.name == key for it in SECTIONS[section]({"class": 0})):
-        return f"an object of the kind {item.get('kind')} doesn't have it"
+        near = site_hints.nearest(key, [it.name for it in SECTIONS[section](item | {"class": 0})])
+        return f"an object of the kind {item.get('kind')} doesn't have it" + (f": {near} is the nearest" if near else "")
     what = f"it is no key of [[{section}]]" if section != "device" else "it is no key of [device]"
-    return what + site_hints.of_unknown(key, [it.name for it in SECTIONS[section](item | ({"class": 0} if section == "object" else {}))])
+    return what + site_hints.of_unknown(key, [it.name for it in SECTIONS[section](item | ({"class": 0} if section == "object" else {}))], section)
 
 
 def zone_of(device):
@@ -253,7 +279,7 @@ def duplicates(site, _=None):
     for twice in sorted(it for it, count in counts.items() if count > 1):
         lines = [it["line"] for it in given if it["object"] == twice]
         text = " and ".join(f"line {line}" for line in lines[:2] if line)
-        found.append(SiteRefused(f"duplicate {names.object_text(twice)}", f"it is given twice: {text}", lines[-1]))
+        found.append(SiteRefused(f"duplicate {names.object_text(twice)}", f"it is given twice: {text}: each wants a number of its own", lines[-1]))
     return found
 
 
@@ -264,9 +290,9 @@ def danglings(site, given):
     found = []
     for it in [*alarm_objects(site), *site.destinations]:
         if it["class"] not in classes:
-            found.append((it["object"] or (15, it["class"]), it, f"there is no class {it['class']}"))
+            found.append((it["object"] or (15, it["class"]), it, no_class(it["class"], classes)))
     for it in site.logs:
-        found += [(it["object"], it, f"there is no class {one}") for one in it["classes"] if one not in classes]
+        found += [(it["object"], it, no_class(one, classes)) for one in it["classes"] if one not in classes]
     for it in alarm_objects(site):
         if it["inhibit_ref"] is not None and names.object_from(it["inhibit_ref"]) not in values:
             found.append((it["object"], it, f"there is no value object {it['inhibit_ref']}"))
@@ -274,6 +300,12 @@ def danglings(site, given):
         found += [(it["object"], it, reason) for reason in reference_faults(it, values)]
     found.sort(key=lambda row: row[0])
     return [SiteRefused(f"dangling {names.object_text(of)}", reason, it["line"], whose_of(it["section"], it)) for of, it, reason in found]
+
+
+def no_class(instance, classes):
+    """That there is no such class, and which there are."""
+    there = ", ".join(map(str, sorted(classes)[:8]))
+    return f"there is no class {instance}" + (f": one of {there} is wanted" if there else ": a [[class]] is wanted")
 
 
 def reference_faults(it, values):

@@ -119,7 +119,7 @@ def named_value(the_object, name, value, number):
 def destination_words(of):
     """A recipient by names."""
     return {
-        "address": address_text(of.address), "process": of.process, "days": of.days, "from": time_text(of.begin), "to": time_text(of.end),
+        "address": f"device:{of.address}" if isinstance(of.address, int) else address_text(of.address), "process": of.process, "days": of.days, "from": time_text(of.begin), "to": time_text(of.end),
         "confirmed": of.confirmed, "transitions": names.transitions_in([it == "1" for it in of.transitions]),
     }
 
