@@ -3,6 +3,7 @@ import csv
 import datetime
 import json
 import subprocess
+import time
 import xml.etree.ElementTree
 
 import serving
@@ -32,6 +33,8 @@ def see_followed(told, program, folder, keys):
         for number in range(14):
             of, word = [("integer-value:1", ("90", "50")), ("binary-value:1", ("active", "inactive")), ("integer-value:2", ("5", "50"))][number % 3]
             it.write(of, word[number // 3 % 2])
+            # What is the same in the same hundredth of a second is one record to a history.
+            time.sleep(0.02)
             if number == 3:
                 told.same("an acknowledgement", it.client("ack", "Door", "--by", "Ann", "--audit", folder / "audit")[0], 0)
             if number % 7 == 6:
