@@ -6,21 +6,6 @@ import tooling
 from changing import Desk, ward
 from changing_parts import asked, see_to_alarms, see_ward, until_done
 
-from alarm_tools import octets
-
-class Answering(Desk):
-    """The recipient who confirms each notification that is to be confirmed."""
-
-    def confirm(self):
-        while not self.stops:
-            try:
-                datagram, sender = self.socket.recvfrom(2048)
-                message = octets.read(datagram)
-            except (OSError, ValueError):
-                continue
-            if message.kind == "request":
-                self.socket.sendto(octets.simple_ack(message.invoke, message.number), sender)
-
 
 # What the ward's past and its people tell of the class Vital: four alarms, and two acknowledgements. All of it waits for the one who is dead.
 WAITING = 6
@@ -43,7 +28,7 @@ def given_up(unit):
 
 def try_silent(told, program, folder):
     """By the change alone the ward comes into use of the key: all that happened is as before, and what waits for the dead one goes with one giving up."""
-    with ward(folder / "unit", program) as unit, Answering(unit.desk):
+    with ward(folder / "unit", program) as unit, Desk(unit.desk):
         unit.begin()
         see_to_alarms(unit)
         before, old = asked(unit), unit.text()
